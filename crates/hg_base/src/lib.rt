@@ -1,0 +1,32 @@
+//! The ground of the dirstate tracker: paths, times, kinds of things, identifiers of commits, owned bytes and texts.
+//!
+//! A path is one or more components joined by `/`, as Mercurial names files: relative to the root of the working copy, in UTF-8,
+//! with no component that is empty, `.` or `..`, and never below `.hg`. `PathRef` borrows the text of a path and `Path` owns it;
+//! both exist only for texts that are paths, so nothing above this crate tests one again.
+//!
+//! ```text
+//! let path = PathRef::read("src/main.c")?;
+//! path.base();    // "main.c"
+//! path.parent();  // Some(PathRef("src"))
+//! PathRef::read("a//b");  // Err(PathFault::Component { at: 2 })
+//! ```
+//!
+//! Devices (the working copy, `.hg`, input and output) count their failures; what "a count rose" means stands here once, in
+//! `specs/Fault.antt`.
+#![tactic(auto)]
+
+mod fault;
+mod id;
+mod owned;
+mod path;
+mod stat;
+mod time;
+mod words;
+
+pub use fault::{Failed, OutOfMemory, risen};
+pub use id::Id20;
+pub use owned::{Blob, Text};
+pub use path::{Path, PathFault, PathRef};
+pub use stat::{Got, Kind, Stat};
+pub use time::{Stamp, Time};
+pub use words::Words;
