@@ -1,2 +1,9 @@
-//! To be written.
+//! The letters of `hg status`, and which of them a tracked path has.
+//!
+//! The conditions stand in `specs/Tracked.antt`, after the help topic `status`: what is recorded of a path, what the first parent has
+//! of it, and what stands there now decide its letter.
 #![tactic(auto)]
+
+mod letter;
+
+pub use letter::Letter;
