@@ -1,2 +1,31 @@
-//! To be written.
+//! The working copy as a device: what stands at which path, and how one looks at it.
+//!
+//! `Tree` is the trait: `stat` looks at one path and follows no link, `list` names what stands in a directory. `MemTree` is the
+//! tree in memory that tests place things into.
+//!
+//! A tree has a *history*: its moments so far, each a clock and a map from path to thing, who made each step from one moment to
+//! the next, and which directories it was asked to list. Others may add moments at any call, and each call answers from the last
+//! moment at its end. A tree may also tell nothing of its history, as one over real files does; what is promised of every tree
+//! (names that fit into paths, a failure only where the count of failures rose) holds of that one too.
+//!
+//! ```text
+//! let mut tree = MemTree::new(alloc, clock);
+//! tree.place(PathRef::read("src/main.c")?, Thing::File { exec: false, bytes }, mtime)?;
+//! tree.stat(PathRef::read("src")?)?;  // Some(Stat { kind: Kind::Dir, .. })
+//! tree.list(alloc, None)?;            // Some([src])
+//! ```
+//!
+//! What the words of the contracts mean stands in `specs/`: `Moment.antt` for one moment, `History.antt` for many.
 #![tactic(auto)]
+
+mod asked;
+mod device;
+mod fault;
+mod name;
+mod thing;
+
+pub use asked::{Asked, Outside};
+pub use device::Tree;
+pub use fault::TreeFault;
+pub use name::Name;
+pub use thing::{Placed, Thing};
