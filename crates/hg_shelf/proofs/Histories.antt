@@ -1,0 +1,32 @@
+-- Histories over spans: what holds of two spans holds of both, and a quiet span has quiet parts.
+use Rattle.std.proofs.Common.{◌≡◌, ℕ, ◌≤◌, ◌<◌, List, Option, refl, sym, ap, ◌∙◌, arith}
+use Rattle.hg_shelf.specs.History.{History, Moment, Stays, Extends, Passes, IsQuiet, Files, now}
+
+pub stays_same : (m : Moment) → Stays m m
+stays_same m = record { shown = refl }
+
+pub stays_trans : (a b c : Moment) → Stays a b → Stays b c → Stays a c
+stays_trans a b c p q = record { shown = q.shown ∙ p.shown }
+
+pub extends_same : (h : History) → Extends h h
+extends_same h = record { told = refl; later = omega arith; who = λ k below. refl; stay = λ k below. stays_same (h.at k) }
+
+pub extends_trans : (a b c : History) → Extends a b → Extends b c → Extends a c
+extends_trans a b c p q = record {
+  told = q.told ∙ p.told;
+  later = omega (arith, p.later, q.later);
+  who = λ k below. q.who k (omega (arith, p.later, below)) ∙ p.who k below;
+  stay = λ k below. stays_trans _ _ _ (p.stay k below) (q.stay k (omega (arith, p.later, below)));
+}
+
+pub passes_same : (h : History) → Passes h h
+passes_same h = record { past = extends_same h; ours = refl; by_others = λ k from to. absurd (omega (arith, from, to)) }
+
+pub quiet_first : (a b c : History) → Extends a b → Extends b c → IsQuiet a c → IsQuiet a b
+quiet_first a b c p q quiet = record { told = quiet.told; none = omega (arith, p.later, q.later, quiet.none) }
+
+pub quiet_second : (a b c : History) → Extends a b → Extends b c → IsQuiet a c → IsQuiet b c
+quiet_second a b c p q quiet = record { told = p.told ∙ quiet.told; none = omega (arith, p.later, q.later, quiet.none) }
+
+pub files_same : (a b : History) → Extends a b → IsQuiet a b → (now b).files ≡ (now a).files
+files_same a b p quiet = ap (λ (k : ℕ). (b.at k).files) quiet.none ∙ (p.stay a.last (omega arith)).shown

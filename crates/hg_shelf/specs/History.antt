@@ -1,0 +1,62 @@
+-- What happened to the files of a shelf: its moments, and who made the step from each to the next.
+use Rattle.std.specs.Prelude.{ℕ, ◌≡◌, ◌≤◌, ◌<◌, Bool, false, if◌then◌else◌, List, Option, None, IsTrue}
+
+-- a map from name to bytes
+abbrev pub Files : Type 0
+Files = List ℕ → Option (List ℕ)
+
+-- who made a step: the caller; another while the caller holds the lock; another otherwise
+pub data Who : Type 0 where
+  us : Who
+  readers : Who
+  others : Who
+
+-- a moment: the files that reads show
+pub record Moment : Type 0 where
+  pub files : Files
+
+-- the moments up to the last, where they are told
+pub record History : Type 0 where
+  pub ours : Bool  -- the caller holds the lock
+  pub told : Bool
+  pub last : ℕ
+  pub at : ℕ → Moment
+  pub who : ℕ → Who  -- who made the step from a moment to the next
+
+-- the last moment
+abbrev pub now : History → Moment
+now h = h.at h.last
+
+-- the history of a shelf that tells nothing and has no lock
+abbrev pub untold : History
+untold = record { ours = false; told = false; last = 0; at = λ k. record { files = λ name. None }; who = λ k. others }
+
+-- a moment stays as it was
+pub record Stays (old new : Moment) : Type 0 where
+  pub shown : new.files ≡ old.files
+
+-- the moments so far stay
+pub record Extends (old new : History) : Type 0 where
+  pub told : new.told ≡ old.told
+  pub later : old.last ≤ new.last
+  pub who : (k : ℕ) → k < old.last → new.who k ≡ old.who k
+  pub stay : (k : ℕ) → k ≤ old.last → Stays (old.at k) (new.at k)
+
+-- as whom another makes a step, by whether the caller holds the lock
+abbrev pub label : Bool → Who
+label ours = if ours then readers else others
+
+-- each step of a span is made by one
+abbrev pub By : Who → History → ℕ → ℕ → Type 0
+By who h from to = (k : ℕ) → from ≤ k → k < to → h.who k ≡ who
+
+-- the caller made no step, and its lock stays
+pub record Passes (old new : History) : Type 0 where
+  pub past : Extends old new
+  pub ours : new.ours ≡ old.ours
+  pub by_others : By (label old.ours) new old.last new.last
+
+-- no step was made between two states of a shelf that tells its moments
+pub record IsQuiet (old new : History) : Type 0 where
+  pub told : IsTrue old.told
+  pub none : new.last ≡ old.last
