@@ -1,5 +1,5 @@
 -- The paths of a working copy, as Mercurial names them: components joined by `/`, relative to the root.
-use Rattle.std.specs.Prelude.{ℕ, ◌≡◌, ◌+◌, Bool, true, false, not, ◌&&◌, ◌||◌, List, [], ◌∷◌, ◌++◌, length, Option, Some, None, codes, ◌==◌, nat_le}
+use Rattle.std.specs.Prelude.{ℕ, ◌≡◌, ◌+◌, if◌then◌else◌, Bool, true, false, not, ◌&&◌, ◌||◌, List, [], ◌∷◌, ◌++◌, length, Option, Some, None, codes, ◌==◌, nat_le}
 use Rattle.std.specs.Str.{bytes_eq}
 use Rattle.std.specs.List.{slice_split, list_any, list_all}
 
@@ -7,10 +7,17 @@ use Rattle.std.specs.List.{slice_split, list_any, list_all}
 abbrev pub components : List ℕ → List (List ℕ)
 components text = slice_split (λ b. b == 47) text
 
+-- a NUL stands in the text
+abbrev pub has_nul : List ℕ → Bool
+has_nul text = list_any (λ b. b == 0) text
+
+-- a slash stands in the text
+abbrev pub has_slash : List ℕ → Bool
+has_slash text = list_any (λ b. b == 47) text
+
 -- what may stand between two slashes: a text that isn't empty, `.` or `..`, without NUL and without a slash
 abbrev pub is_component : List ℕ → Bool
-is_component name =
-    not (length name == 0 || bytes_eq name (codes ".") || bytes_eq name (codes "..") || list_any (λ b. b == 0) name || list_any (λ b. b == 47) name)
+is_component name = not (length name == 0 || bytes_eq name (codes ".") || bytes_eq name (codes "..") || has_nul name || has_slash name)
 
 -- the first component is `.hg`, where Mercurial keeps its own files
 abbrev pub is_reserved : List (List ℕ) → Bool
@@ -57,9 +64,20 @@ base_of text = last_piece (components text)
 abbrev pub parent_of : List ℕ → Option (List ℕ)
 parent_of text = joined_pieces (all_but_last (components text))
 
+-- two directories are one, where no directory is the root
+abbrev pub is_same_dir : Option (List ℕ) → Option (List ℕ) → Bool
+is_same_dir None None = true
+is_same_dir None (Some other) = false
+is_same_dir (Some dir) None = false
+is_same_dir (Some dir) (Some other) = bytes_eq dir other
+
 -- a path stands below a directory: it begins with the directory and a slash
 abbrev pub is_below : List ℕ → List ℕ → Bool
 is_below [] [] = false
 is_below [] (b ∷ path) = b == 47
 is_below (a ∷ dir) [] = false
 is_below (a ∷ dir) (b ∷ path) = a == b && is_below dir path
+
+-- the name of a path in the directory, where it stands right in it
+abbrev pub child_of : Option (List ℕ) → List ℕ → Option (List ℕ)
+child_of dir path = if is_same_dir dir (parent_of path) then Some (base_of path) else None

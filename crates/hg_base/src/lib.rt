@@ -17,8 +17,10 @@
 
 mod fault;
 mod id;
+mod order;
 mod owned;
 mod path;
+mod rules;
 mod stat;
 mod time;
 mod words;
@@ -27,6 +29,7 @@ pub use fault::{Failed, OutOfMemory, risen};
 pub use id::Id20;
 pub use owned::{Blob, Text};
 pub use path::{Path, PathFault, PathRef};
+pub use rules::{child_name, is_below, is_component};
 pub use stat::{Got, Kind, Stat};
 pub use time::{Stamp, Time};
 pub use words::Words;

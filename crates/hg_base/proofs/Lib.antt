@@ -1,0 +1,4 @@
+pub mod Below
+pub mod Components
+pub mod Cuts
+pub mod Paths
