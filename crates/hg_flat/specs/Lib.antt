@@ -1,1 +1,5 @@
+pub mod Cause
 pub mod Full
+pub mod Kept
+pub mod Listing
+pub mod Shown

@@ -1,0 +1,137 @@
+//! Everything that stands in the working copy, directory by directory.
+
+ghost use Rattle.std.specs.Prelude.{◌≡◌, IsTrue, IfOk, OnOk, Some, option_map, codes};
+ghost use Rattle.hg_base.specs.PathText.{is_path, joined};
+ghost use Rattle.hg_tree.specs.History.{IsQuiet, Passes, now};
+ghost use Rattle.hg_tree.specs.Moment.{AreFit, AreNames, has_dir, is_among, is_dir, stat_at};
+ghost use Rattle.hg_flat.specs.Cause.{HasStatusCause};
+ghost use Rattle.hg_flat.specs.Listing.{IsUnknownAmong, IsUnknownFrom, IsUnknownIn, Lists, holds_repository, shows_dir};
+ghost use Rattle.hg_flat.specs.Shown.{kept_of};
+
+use hg_base::{Kind, Path, PathRef, Stat};
+use hg_tree::{Name, Tree};
+use std::alloc::Global;
+
+use crate::fault::StatusFault;
+use crate::flat::Flat;
+use crate::letter::add_unknown;
+use crate::row::Row;
+
+fn is_dir_stat(found: Option<Stat>) -> bool
+    ensures { result ≡ shows_dir found }
+{
+    match found {
+        None => false,
+        Some(stat) => stat.kind == Kind::Dir,
+    }
+}
+
+fn has_name(names: &[Name], wanted: &str) -> bool
+    ensures { result ≡ is_among wanted.now names.now }
+{
+    names.iter().any(|name| name.as_str() == wanted)
+}
+
+// A directory `.hg` makes its directory a repository of its own.
+fn holds_hg<T: Tree>(alloc: Global, tree: &mut T, dir: PathRef<'_>) -> Result<bool, StatusFault>
+    requires { IsTrue (is_path (joined (Some dir.text.now) (codes ".hg"))) }
+    ensures passes { Passes (T.history tree.old) (T.history tree.new) }
+    ensures found { IsQuiet (T.history tree.old) (T.history tree.new)
+        → IfOk result (λ holds. holds ≡ holds_repository (now (T.history tree.old)) (Some dir.entry.text.now)) }
+    ensures cause { HasStatusCause (T.faults tree.old) (T.faults tree.new) result }
+{
+    let path = Path::within(alloc, Some(dir), ".hg")?;
+    let found = tree.stat(path.as_ref())?;
+    Ok(is_dir_stat(found))
+}
+
+fn is_nested<T: Tree>(alloc: Global, tree: &mut T, dir: Option<PathRef<'_>>, names: &[Name]) -> Result<bool, StatusFault>
+    requires { AreFit (option_map (λ d. d.text.now) dir) names.now }
+    ensures passes { Passes (T.history tree.old) (T.history tree.new) }
+    ensures found { IsQuiet (T.history tree.old) (T.history tree.new)
+        → AreNames (now (T.history tree.old)) (option_map (λ d. d.text.now) dir.entry) names.now
+        → IfOk result (λ holds. holds ≡ holds_repository (now (T.history tree.old)) (option_map (λ d. d.text.now) dir.entry)) }
+    ensures cause { HasStatusCause (T.faults tree.old) (T.faults tree.new) result }
+{
+    let Some(dir) = dir else {
+        return Ok(false);
+    };
+    if !has_name(names, ".hg") {
+        return Ok(false);
+    }
+    holds_hg(alloc, tree, dir)
+}
+
+// What stands at a path or below it.
+#[cycle(listing)]
+fn look<T: Tree>(alloc: Global, tree: &mut T, flat: &Flat, path: Path, rows: &mut Vec<Row>) -> Result<(), StatusFault>
+    ensures passes { Passes (T.history tree.old) (T.history tree.new) }
+    ensures listed { IsQuiet (T.history tree.old) (T.history tree.new)
+        → OnOk result (Lists (IsUnknownFrom (kept_of flat.now) (now (T.history tree.old)) path) rows.old.items rows.new.items) }
+    ensures cause { HasStatusCause (T.faults tree.old) (T.faults tree.new) result }
+{
+    let Some(stat) = tree.stat(path.as_ref())? else {
+        return Ok(());
+    };
+    match stat.kind {
+        Kind::File | Kind::Link => add_unknown(flat, path, rows),
+        Kind::Dir => visit(alloc, tree, flat, Some(path.as_ref()), rows),
+        Kind::Other => Ok(()),
+    }
+}
+
+#[cycle(listing)]
+fn look_each<T: Tree>(
+    alloc: Global,
+    tree: &mut T,
+    flat: &Flat,
+    dir: Option<PathRef<'_>>,
+    names: &[Name],
+    rows: &mut Vec<Row>,
+) -> Result<(), StatusFault>
+    requires { AreFit (option_map (λ d. d.text.now) dir) names.now }
+    ensures passes { Passes (T.history tree.old) (T.history tree.new) }
+    ensures listed { IsQuiet (T.history tree.old) (T.history tree.new)
+        → OnOk
+        result
+        (Lists
+        (IsUnknownAmong (kept_of flat.now) (now (T.history tree.old)) (option_map (λ d. d.text.now) dir.entry) names.now)
+        rows.old.items
+        rows.new.items) }
+    ensures cause { HasStatusCause (T.faults tree.old) (T.faults tree.new) result }
+{
+    for name in names {
+        let path = Path::within(alloc, dir, name.as_str())?;
+        look(alloc, tree, flat, path, rows)?;
+    }
+    Ok(())
+}
+
+/// Puts a row for each file and link without an entry that stands in the directory at any depth; no directory is the root. A
+/// directory below the root that holds a directory `.hg` is a repository of its own, and nothing in it is listed.
+#[cycle(listing)]
+pub(crate) fn visit<T: Tree>(
+    alloc: Global,
+    tree: &mut T,
+    flat: &Flat,
+    dir: Option<PathRef<'_>>,
+    rows: &mut Vec<Row>,
+) -> Result<(), StatusFault>
+    ensures passes { Passes (T.history tree.old) (T.history tree.new) }
+    ensures listed { IsQuiet (T.history tree.old) (T.history tree.new)
+        → OnOk
+        result
+        (Lists
+        (IsUnknownIn (kept_of flat.now) (now (T.history tree.old)) (option_map (λ d. d.text.now) dir.entry))
+        rows.old.items
+        rows.new.items) }
+    ensures cause { HasStatusCause (T.faults tree.old) (T.faults tree.new) result }
+{
+    let Some(names) = tree.list(alloc, dir)? else {
+        return Ok(());
+    };
+    if is_nested(alloc, tree, dir, &names)? {
+        return Ok(());
+    }
+    look_each(alloc, tree, flat, dir, &names, rows)
+}
