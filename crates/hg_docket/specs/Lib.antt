@@ -1,0 +1,2 @@
+pub mod Docket
+pub mod Name
