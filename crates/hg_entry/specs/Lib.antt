@@ -1,0 +1,5 @@
+pub mod Flags
+pub mod Entry
+pub mod Written
+pub mod Steps
+pub mod Table
