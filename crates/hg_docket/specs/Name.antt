@@ -14,3 +14,7 @@ foreign_place text = position (λ b. not (is_name_byte b)) text
 -- an identifier: at most 255 bytes, each one that may stand there
 abbrev pub is_name : List ℕ → Bool
 is_name text = nat_le (length text) 255 && list_all is_name_byte text
+
+-- a byte of ASCII
+abbrev pub is_ascii : ℕ → Bool
+is_ascii b = nat_le b 127

@@ -22,9 +22,13 @@
 //! ```
 #![tactic(auto)]
 
+mod data_name;
 mod docket;
 mod fault;
+mod ident;
 mod name;
 
+pub use data_name::DataName;
 pub use docket::Docket;
 pub use fault::DocketFault;
+pub use ident::Ident;
