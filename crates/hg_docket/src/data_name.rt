@@ -1,8 +1,9 @@
 //! The name of a data file below `.hg`.
 
-ghost use Rattle.std.specs.Prelude.{◌≡◌, ◌+◌, ◌≤◌, ◌++◌, take, drop, length, codes};
+ghost use Rattle.std.specs.Prelude.{◌≡◌, ◌++◌, codes};
 
 use crate::ident::Ident;
+use crate::writing::put;
 use std::marker::Model;
 
 /// The bytes before the identifier.
@@ -33,10 +34,9 @@ impl DataName {
         ensures { result ≡ codes "dirstate." ++ id.now }
     {
         let id = id.as_bytes();
-        let len = 9 + id.len();
         let mut bytes = [0; 264];
-        put(&mut bytes, 0, &FRONT);
-        put(&mut bytes, 9, id);
+        let at = put(&mut bytes, 0, &FRONT);
+        let len = put(&mut bytes, at, id);
         DataName { bytes, len }
     }
 
@@ -49,13 +49,4 @@ impl DataName {
             Err(_) => "",
         }
     }
-}
-
-// Writes the text at a place.
-fn put(bytes: &mut [u8], at: usize, text: &[u8])
-    requires { at + length text.now ≤ length bytes.old }
-    ensures { bytes.new ≡ take at bytes.old ++ text.now ++ drop (at + length text.now) bytes.old }
-{
-    let end = at + text.len();
-    bytes[at..end].copy_from_slice(text);
 }

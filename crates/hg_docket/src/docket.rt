@@ -10,7 +10,7 @@ use crate::name::is_name_byte;
 use hg_base::Id20;
 
 /// What every docket begins with.
-const MARKER: [u8; 12] = *b"dirstate-v2\n";
+pub(crate) const MARKER: [u8; 12] = *b"dirstate-v2\n";
 
 /// The SHA-1 of no bytes.
 const EMPTY_HASH: [u8; 20] = [
