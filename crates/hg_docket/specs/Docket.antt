@@ -73,12 +73,10 @@ empty_docket =
       id = [];
     }
 
--- each field at its place; no bytes are the empty docket
-abbrev pub docket_of : List ℕ → Contents
-docket_of bytes =
-    if length bytes == 0
-    then empty_docket
-    else record {
+-- each field at its place
+abbrev pub fields_in : List ℕ → Contents
+fields_in bytes =
+    record {
       p1 = take 20 (drop 12 bytes);
       p2 = take 20 (drop 44 bytes);
       root_start = number_at 76 bytes;
@@ -90,6 +88,10 @@ docket_of bytes =
       used = number_at 120 bytes;
       id = name_in bytes;
     }
+
+-- what bytes say that are a docket; no bytes are the empty one
+abbrev pub docket_of : List ℕ → Contents
+docket_of bytes = if length bytes == 0 then empty_docket else fields_in bytes
 
 -- the first place, counted from `at`, where both texts have a byte and the bytes differ
 abbrev pub first_other : ℕ → List ℕ → List ℕ → Option ℕ

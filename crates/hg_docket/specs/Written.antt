@@ -1,15 +1,15 @@
 -- How a docket is written: zeros in the padding and in the unused bytes, and nothing behind the identifier.
-use Rattle.std.specs.Prelude.{ℕ, ◌≡◌, ◌<◌, ◌^◌, Bool, not, ◌&&◌, ◌||◌, List, [], ◌∷◌, ◌++◌, length, replicate, ◌==◌, EachIndex, slice_index, IsTrue}
+use Rattle.std.specs.Prelude.{ℕ, ◌≡◌, ◌<◌, ◌^◌, Bool, not, ◌&&◌, ◌||◌, List, [], ◌∷◌, ◌++◌, length, replicate, ◌==◌, None}
 use Rattle.std.specs.Int.{w32, to_be_bytes}
 use Rattle.hg_docket.specs.Name.{is_name}
-use Rattle.hg_docket.specs.Docket.{Contents, marker}
+use Rattle.hg_docket.specs.Docket.{Contents, marker, docket_of, docket_refusal}
 
 -- what can be written: the identifier is one, and there is one where there is a data file
 abbrev pub is_writable : Contents → Bool
 is_writable d = is_name d.id && (not (length d.id == 0) || d.used == 0)
 
 -- all that stands before the identifier's length
-abbrev pub head_of : Contents → List ℕ
+unfoldable pub head_of : Contents → List ℕ
 head_of d =
     marker
     ++ d.p1
@@ -40,3 +40,8 @@ pub record IsSized (d : Contents) : Type 0 where
   pub copies : d.copies < 2 ^ 32
   pub unreachable : d.unreachable < 2 ^ 32
   pub used : d.used < 2 ^ 32
+
+-- bytes that are a docket and say this
+pub record ReadsAs (bytes : List ℕ) (d : Contents) : Type 0 where
+  pub whole : docket_refusal bytes ≡ None
+  pub same : docket_of bytes ≡ d
