@@ -2,7 +2,7 @@
 use Rattle.std.proofs.Common.{◌≡◌, ℕ, ◌+◌, ◌<◌, ◌≤◌, Bool, true, false, not, ◌&&◌, cond, List, [], ◌∷◌, length, refl, arith, Option, Some, None, nat_lt, suc, zero}
 use Rattle.std.specs.List.{list_all, position_or_len, position}
 use Rattle.std.proofs.lemmas.Bool.Decides.{nat_tests}
-use Rattle.hg_docket.specs.Name.{is_name_byte, foreign_place}
+use Rattle.hg_docket.specs.Name.{is_name_byte, is_name, foreign_place}
 
 one_before : (t : Bool) (n k : ℕ) (rest : Bool) → suc n ≤ cond (not (not t)) (1 + k) 0 → (n ≤ k → rest ≡ true) → (t && rest) ≡ true
 one_before true n k rest h all = all (omega arith)
@@ -31,3 +31,7 @@ none_foreign bs h = all_before is_name_byte bs (past_end (position_or_len (λ b.
 
 pub foreign_none : (bs : List ℕ) → list_all is_name_byte bs ≡ true → foreign_place bs ≡ None
 foreign_none bs h = nowhere (position_or_len (λ b. not (is_name_byte b)) bs) (length bs) (all_through is_name_byte bs h)
+
+-- an identifier is what is short enough and has no foreign byte
+pub name_of_none : (bs : List ℕ) → length bs ≤ 255 → foreign_place bs ≡ None → is_name bs ≡ true
+name_of_none bs short none = let names : list_all is_name_byte bs ≡ true = none_foreign bs none in grind (arith, nat_tests, names, short)

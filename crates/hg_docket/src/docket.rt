@@ -1,8 +1,9 @@
 //! The docket as it is read: each field at its place, and the first fault of bytes that are none.
 
-ghost use Rattle.std.specs.Prelude.{◌≡◌, ◌+◌, ◌≤◌, ◌<◌, ◌^◌, take, drop, length, IfOk, IfSome};
+ghost use Rattle.std.specs.Prelude.{◌≡◌, ◌+◌, ◌≤◌, ◌<◌, ◌^◌, take, drop, length, IfOk, IfSome, IsTrue, None};
 ghost use Rattle.std.specs.Result.{result_err};
-ghost use Rattle.hg_docket.specs.Name.{foreign_place};
+ghost use Rattle.hg_docket.specs.Name.{foreign_place, is_name};
+ghost use Rattle.hg_docket.specs.Written.{is_writable};
 ghost use Rattle.hg_docket.specs.Docket.{view, number_at, empty_docket, docket_of, docket_refusal, first_other};
 
 use crate::fault::DocketFault;
@@ -70,6 +71,9 @@ impl<'a> Docket<'a> {
         requires { length bytes.now ≤ 512 }
         ensures refused { result_err result ≡ docket_refusal bytes.entry.now }
         ensures fields { IfOk result (λ d. view d ≡ docket_of bytes.entry.now) }
+        // What is read can be written, and its identifier is one.
+        ensures writable { IfOk result (λ d. IsTrue (is_writable (view d))) }
+        ensures named { IfOk result (λ d. IsTrue (is_name d.id.now)) }
     {
         if bytes.is_empty() {
             return Ok(Docket::empty());
@@ -158,8 +162,17 @@ fn hash_at(bytes: &[u8], at: usize) -> [u8; 20]
     hash
 }
 
-// The first place of a byte that no identifier has.
+// The first place of a byte that no identifier has; with none, it is an identifier.
 fn foreign(id: &[u8]) -> Option<usize>
+    requires { length id.now ≤ 255 }
+    ensures place { result ≡ foreign_place id.now }
+    ensures bound { IfSome result (λ at. at ≤ 255) }
+    ensures name { result ≡ None → IsTrue (is_name id.now) }
+{
+    first_foreign(id)
+}
+
+fn first_foreign(id: &[u8]) -> Option<usize>
     requires { length id.now ≤ 255 }
     ensures place { result ≡ foreign_place id.now }
     ensures bound { IfSome result (λ at. at ≤ 255) }
