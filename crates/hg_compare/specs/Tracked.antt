@@ -1,7 +1,7 @@
 -- The letter of a path that the dirstate has an entry for, as the help topic `status` gives it.
 use Rattle.std.specs.Prelude.{ℕ, Bool, true, false, not, ◌&&◌, ◌||◌, if◌then◌else◌, List, Option, Some, None, IsTrue}
 use Rattle.std.specs.Str.{bytes_eq}
-use Rattle.hg_entry.specs.Flat.{Marks}
+use Rattle.hg_entry.specs.Table.{Marks}
 use Rattle.hg_tree.specs.declared.thing.Thing.{Thing}
 use Rattle.hg_tree.specs.declared.thing.Thing.TheVariants as a_thing
 use Rattle.hg_tree.specs.declared.thing.Placed.{Placed}
@@ -50,12 +50,12 @@ is_file_or_link (Some placed) = is_file_or_link_thing placed.thing
 -- the letter of a path with an entry: the first of these that fits
 abbrev pub tracked_letter : Option ParentRow → Marks → Bool → Option Placed → Option Letter
 tracked_letter row marks copied placed =
-    if marks.tracked
+    if marks.w
     then Some (
         if not (is_file_or_link placed) then a_letter.Gone else (
-        if marks.for_second then a_letter.M else (
-        if not marks.in_first then a_letter.A else (
+        if marks.p2 then a_letter.M else (
+        if not marks.p1 then a_letter.A else (
         if copied then a_letter.M else (
         if is_unchanged row placed then a_letter.C else a_letter.M))))
     )
-    else (if marks.in_first || marks.for_second then Some a_letter.R else None)
+    else (if marks.p1 || marks.p2 then Some a_letter.R else None)

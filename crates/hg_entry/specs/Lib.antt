@@ -1,1 +1,5 @@
-pub mod Flat
+pub mod Flags
+pub mod Entry
+pub mod Written
+pub mod Steps
+pub mod Table

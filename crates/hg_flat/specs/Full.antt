@@ -7,7 +7,7 @@ use Rattle.std.specs.Ordering.{nat_cmp, ordering_then}
 use Rattle.std.specs.Cmp.Lexicographic.{slice_cmp}
 use Rattle.std.specs.declared.cmp.Ordering.{Ordering}
 use Rattle.hg_base.specs.PathText.{is_below, joined}
-use Rattle.hg_entry.specs.Flat.{Flat, Marks}
+use Rattle.hg_entry.specs.Table.{Flat, Marks}
 use Rattle.hg_tree.specs.Moment.{Moment, is_dir}
 use Rattle.hg_compare.specs.Tracked.{ParentRow, tracked_letter, is_file_or_link}
 use Rattle.hg_compare.specs.declared.letter.Letter.{Letter}
@@ -37,7 +37,7 @@ HasLetterBy (Some marks) flat moment rows Ignored path letter =
 
 -- the letter of a path: `rows` is what the first parent has of each path, `Ignored` which paths the ignore patterns match
 abbrev pub HasLetter : Flat → Moment → (List ℕ → Option ParentRow) → (List ℕ → Type 0) → List ℕ → Letter → Type 0
-HasLetter flat moment rows Ignored path letter = HasLetterBy (flat.entries path) flat moment rows Ignored path letter
+HasLetter flat moment rows Ignored path letter = HasLetterBy (flat.marks path) flat moment rows Ignored path letter
 
 -- the letter is asked for
 abbrev pub wants : Wanted → Letter → Bool

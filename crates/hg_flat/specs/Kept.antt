@@ -1,18 +1,14 @@
 -- The rows that a dirstate keeps, and the maps that they stand for.
 use Rattle.std.specs.Prelude.{ℕ, ◌≡◌, Bool, true, false, List, Option, Some, None, option_map, IfSome}
-use Rattle.hg_entry.specs.Flat.{Marks}
-use Rattle.hg_entry.specs.Flat as plain
-use Rattle.hg_entry.specs.declared.Entry.{Entry}
-use Rattle.hg_entry.specs.declared.Item.{Item}
+use Rattle.hg_entry.specs.Entry.{EntryData, view}
+use Rattle.hg_entry.specs.Table.{Marks, marks_of}
+use Rattle.hg_entry.specs.Table as plain
+use Rattle.hg_entry.specs.declared.entry.Item.{Item}
 use Rattle.hg_flat.specs.declared.kept.FlatRow.{FlatRow}
 
 -- what is kept of each path
 abbrev pub Kept : Type 0
 Kept = List ℕ → Option FlatRow
-
--- the marks of an entry
-abbrev pub marks_of : Entry → Marks
-marks_of entry = record { tracked = entry.w; in_first = entry.p1; for_second = entry.p2 }
 
 -- the copy source of a row, none where there is no row
 abbrev pub source_of : Option FlatRow → Option (List ℕ)
@@ -22,7 +18,7 @@ source_of (Some row) = row.source
 -- the flat map that rows stand for, under these parents
 abbrev pub flat_of : List ℕ → List ℕ → Kept → plain.Flat
 flat_of p1 p2 kept =
-    record { p1 = p1; p2 = p2; entries = λ path. option_map (λ row. marks_of row.entry) (kept path); sources = λ path. source_of (kept path) }
+    record { p1 = p1; p2 = p2; marks = λ path. option_map (λ row. marks_of (view row.entry)) (kept path); sources = λ path. source_of (kept path) }
 
 -- each row stands at its own path
 abbrev pub AreNamed : Kept → Type 0
@@ -30,11 +26,11 @@ AreNamed kept = (path : List ℕ) → option_map (λ row. row.path) (kept path) 
 
 -- each entry is of a path that is tracked and in neither parent
 abbrev pub AreAdded : Kept → Type 0
-AreAdded kept = (path : List ℕ) → IfSome (kept path) (λ row. marks_of row.entry ≡ record { tracked = true; in_first = false; for_second = false })
+AreAdded kept = (path : List ℕ) → IfSome (kept path) (λ row. marks_of (view row.entry) ≡ record { w = true; p1 = false; p2 = false })
 
 -- an item shows an entry and its source
-abbrev pub shown_item : Item → Entry × Option (List ℕ)
-shown_item item = (item.entry, option_map (λ source. source.text.now) item.source)
+abbrev pub shown_item : Item → EntryData × Option (List ℕ)
+shown_item item = (view item.entry, option_map (λ source. source.text.now) item.source)
 
-abbrev pub shown_row : FlatRow → Entry × Option (List ℕ)
-shown_row row = (row.entry, row.source)
+abbrev pub shown_row : FlatRow → EntryData × Option (List ℕ)
+shown_row row = (view row.entry, row.source)

@@ -1,0 +1,3 @@
+pub mod Docket
+pub mod Name
+pub mod Written

@@ -1,0 +1,88 @@
+//! One record of 44 bytes.
+
+ghost use Rattle.std.specs.Prelude.{◌≡◌, ◌+◌, ◌≤◌, ◌<◌, ◌^◌, length, nat_le};
+ghost use Rattle.std.specs.Int.{w16, w32};
+ghost use Rattle.hg_node.specs.Node.{number_at, rec_of};
+
+/// A node as it lies in the data file (internals.dirstate-v2, "The data file format"), with the place where it stands.
+#[derive(Clone, Copy, Debug, PartialEq, Eq)]
+pub struct Rec {
+    /// Where the record stands, in bytes of the data file; it is not among the 44 bytes.
+    pub place: u32,
+    /// Where the full path begins.
+    pub path_start: u32,
+    /// The length of the full path, in bytes.
+    pub path_len: u16,
+    /// Where the last component begins, counted from the full path's start.
+    pub base_at: u16,
+    /// Where the copy source begins, 0 for none.
+    pub copy_start: u32,
+    /// The length of the copy source, in bytes.
+    pub copy_len: u16,
+    /// Where the records of the child nodes begin.
+    pub kids_start: u32,
+    /// How many child nodes there are.
+    pub kids_count: u32,
+    /// How many nodes below this one have an entry.
+    pub entries_below: u32,
+    /// How many of these are tracked.
+    pub tracked_below: u32,
+    /// The flags of the entry, or of the cached directory.
+    pub flags: u16,
+    /// The recorded size of the file, in bytes, of which the low 31 bits are kept.
+    pub size: u32,
+    /// The recorded modification time, in seconds since 1970-01-01 UTC.
+    pub seconds: u32,
+    /// Its nanoseconds.
+    pub nanos: u32,
+}
+
+impl Rec {
+    /// What 44 bytes say, with a `place` of 0.
+    pub fn read(bytes: &[u8; 44]) -> Rec
+        ensures { result ≡ rec_of bytes.now }
+    {
+        Rec {
+            place: 0,
+            path_start: u32_at(bytes, 0),
+            path_len: u16_at(bytes, 4),
+            base_at: u16_at(bytes, 6),
+            copy_start: u32_at(bytes, 8),
+            copy_len: u16_at(bytes, 12),
+            kids_start: u32_at(bytes, 14),
+            kids_count: u32_at(bytes, 18),
+            entries_below: u32_at(bytes, 22),
+            tracked_below: u32_at(bytes, 26),
+            flags: u16_at(bytes, 30),
+            size: u32_at(bytes, 32),
+            seconds: u32_at(bytes, 36),
+            nanos: u32_at(bytes, 40),
+        }
+    }
+}
+
+/// Whether so many bytes from a place on lie in the used bytes of a data file.
+pub fn within(start: u32, len: u64, used: u32) -> bool
+    ensures { result ≡ nat_le (start + len) used }
+{
+    match (start as u64).checked_add(len) {
+        Some(end) => end <= used as u64,
+        None => false,
+    }
+}
+
+// The 16-bit number that stands at a place.
+fn u16_at(bytes: &[u8], at: usize) -> u16
+    requires { at + 2 ≤ length bytes.now }
+    ensures { result ≡ number_at w16 at bytes.now }
+{
+    u16::from_be_bytes([bytes[at], bytes[at + 1]])
+}
+
+// The 32-bit number that stands at a place.
+fn u32_at(bytes: &[u8], at: usize) -> u32
+    requires { at + 4 ≤ length bytes.now }
+    ensures { result ≡ number_at w32 at bytes.now }
+{
+    u32::from_be_bytes([bytes[at], bytes[at + 1], bytes[at + 2], bytes[at + 3]])
+}
