@@ -1,2 +1,4 @@
+pub mod Change
 pub mod History
+pub mod Memory
 pub mod Moment

@@ -21,11 +21,13 @@
 mod asked;
 mod device;
 mod fault;
+mod memory;
 mod name;
 mod thing;
 
 pub use asked::{Asked, Outside};
 pub use device::Tree;
 pub use fault::TreeFault;
+pub use memory::MemTree;
 pub use name::Name;
 pub use thing::{Placed, Thing};
