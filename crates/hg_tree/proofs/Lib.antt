@@ -1,2 +1,4 @@
+pub mod Formed
 pub mod Histories
+pub mod Planting
 pub mod Times

@@ -5,6 +5,7 @@ use Rattle.hg_base.specs.PathText.{is_below}
 use Rattle.hg_base.specs.declared.time.Time.{Time}
 use Rattle.hg_tree.specs.declared.thing.Thing.{Thing}
 use Rattle.hg_tree.specs.declared.thing.Thing.TheVariants as a_thing
+use Rattle.hg_tree.specs.declared.thing.Placed.{Placed}
 use Rattle.hg_tree.specs.declared.asked.Outside.{Outside}
 use Rattle.hg_tree.specs.declared.asked.Outside.TheVariants as a_change
 use Rattle.hg_tree.specs.Moment.{Moment, Things, is_dir, is_dir_thing}
@@ -20,6 +21,21 @@ after_place path thing time things at =
     then (if is_dir_thing thing then things at else None)
     else (if is_below at path then (if is_dir (things at) then things at else Some (record { thing = a_thing.Dir; mtime = time })) else things at)
     )
+
+-- a directory of that time
+abbrev pub dir_of : Time → Placed
+dir_of time = record { thing = a_thing.Dir; mtime = time }
+
+-- a thing at a path, with a directory of its time at each ancestor where none was; what is below the path stays
+abbrev pub with_parents : List ℕ → Placed → Things → Things
+with_parents path placed things at =
+    if bytes_eq path at
+    then Some placed
+    else (if is_below at path then (if is_dir (things at) then things at else Some (dir_of placed.mtime)) else things at)
+
+-- nothing is left below the path
+abbrev pub without_below : List ℕ → Things → Things
+without_below path things at = if is_below path at then None else things at
 
 -- nothing is left at the path and below it
 abbrev pub after_take : List ℕ → Things → Things

@@ -2,3 +2,4 @@ pub mod Change
 pub mod History
 pub mod Memory
 pub mod Moment
+pub mod Parents
