@@ -24,12 +24,11 @@ formed_empty clock = record {
 
 dir_there : (o : Option Placed) (time : Time) → is_dir (cond (is_dir o) o (Some (dir_of time))) ≡ true
 dir_there o time = elim (cases_Bool (is_dir o)) [
-    inl there ↦ ap is_dir (cond-true (is_dir o) o (Some (dir_of time)) there) ∙ there
+  | inl there ↦ ap is_dir (cond-true (is_dir o) o (Some (dir_of time)) there) ∙ there
   | inr gone ↦ ap is_dir (cond-false (is_dir o) o (Some (dir_of time)) gone)
 ]
 
 module _ (path : List ℕ) (thing : Thing) (time : Time) (was : Things) where
-
   abbrev put : Things
   put = after_place path thing time was
 
@@ -72,7 +71,7 @@ module _ (path : List ℕ) (thing : Thing) (time : Time) (was : Things) where
   rooted_under : IsRooted was → (dir at : List ℕ) → is_below dir at ≡ true → is_below path at ≡ true → is_dir_thing thing ≡ true → is_some (was at) ≡ true
       → is_dir (put dir) ≡ true
   rooted_under rooted dir at dir_at path_at is some = elim (below_compared dir path at dir_at path_at) [
-      inl same ↦ ap is_dir (at_path dir (ap (λ (p : List ℕ). bytes_eq path p) same ∙ equal_bytes path)) ∙ is
+    | inl same ↦ ap is_dir (at_path dir (ap (λ (p : List ℕ). bytes_eq path p) same ∙ equal_bytes path)) ∙ is
     | inr (inl up) ↦ dir_above dir up
     | inr (inr down) ↦
         ap is_dir (at_under dir (apart_below path dir down) down ∙ cond-true (is_dir_thing thing) (was dir) None is) ∙ rooted dir at dir_at some
@@ -83,39 +82,39 @@ module _ (path : List ℕ) (thing : Thing) (time : Time) (was : Things) where
   rooted_other rooted dir at dir_at apart not_under some =
       let there = rooted dir at dir_at some in
       elim (cases_Bool (is_below dir path)) [
-          inl up ↦ dir_above dir up
+        | inl up ↦ dir_above dir up
         | inr not_up ↦
             let other : bytes_eq path dir ≡ false = false_from_ne_true (bytes_eq path dir)
-                (λ h. both_ways (is_below path at) not_under (ap (λ (p : List ℕ). is_below p at) (same_bytes path dir h) ∙ dir_at)) in
+            (λ h. both_ways (is_below path at) not_under (ap (λ (p : List ℕ). is_below p at) (same_bytes path dir h) ∙ dir_at)) in
             let not_down : is_below path dir ≡ false = false_from_ne_true (is_below path dir)
-                (λ h. both_ways (is_below path at) not_under (below_trans path dir at h dir_at)) in
+            (λ h. both_ways (is_below path at) not_under (below_trans path dir at h dir_at)) in
             ap is_dir (at_other dir other not_down not_up) ∙ there
       ]
 
   rooted_placed : IsRooted was → IsRooted put
   rooted_placed rooted dir at dir_at some = elim (cases_Bool (bytes_eq path at)) [
-      inl same ↦ dir_above dir (ap (λ (p : List ℕ). is_below dir p) (same_bytes path at same) ∙ dir_at)
+    | inl same ↦ dir_above dir (ap (λ (p : List ℕ). is_below dir p) (same_bytes path at same) ∙ dir_at)
     | inr apart ↦ elim (cases_Bool (is_below path at)) [
-          inl under_it ↦
-            let kept = kept_under (is_dir_thing thing) (was at) (sym (ap is_some (at_under at apart under_it)) ∙ some) in
-            rooted_under rooted dir at dir_at under_it kept.0 kept.1
-        | inr not_under ↦ elim (cases_Bool (is_below at path)) [
-              inl up ↦ dir_above dir (below_trans dir at path dir_at up)
-            | inr not_up ↦ rooted_other rooted dir at dir_at apart not_under (sym (ap is_some (at_other at apart not_under not_up)) ∙ some)
-          ]
+      | inl under_it ↦
+          let kept = kept_under (is_dir_thing thing) (was at) (sym (ap is_some (at_under at apart under_it)) ∙ some) in
+          rooted_under rooted dir at dir_at under_it kept.0 kept.1
+      | inr not_under ↦ elim (cases_Bool (is_below at path)) [
+        | inl up ↦ dir_above dir (below_trans dir at path dir_at up)
+        | inr not_up ↦ rooted_other rooted dir at dir_at apart not_under (sym (ap is_some (at_other at apart not_under not_up)) ∙ some)
       ]
+    ]
   ]
 
   paths_placed : is_path path ≡ true → AreAtPaths was → AreAtPaths put
   paths_placed is paths at some = elim (cases_Bool (bytes_eq path at)) [
-      inl same ↦ sym (ap is_path (same_bytes path at same)) ∙ is
+    | inl same ↦ sym (ap is_path (same_bytes path at same)) ∙ is
     | inr apart ↦ elim (cases_Bool (is_below path at)) [
-          inl under_it ↦ paths at (kept_under (is_dir_thing thing) (was at) (sym (ap is_some (at_under at apart under_it)) ∙ some)).1
-        | inr not_under ↦ elim (cases_Bool (is_below at path)) [
-              inl up ↦ path_above at path up is
-            | inr not_up ↦ paths at (sym (ap is_some (at_other at apart not_under not_up)) ∙ some)
-          ]
+      | inl under_it ↦ paths at (kept_under (is_dir_thing thing) (was at) (sym (ap is_some (at_under at apart under_it)) ∙ some)).1
+      | inr not_under ↦ elim (cases_Bool (is_below at path)) [
+        | inl up ↦ path_above at path up is
+        | inr not_up ↦ paths at (sym (ap is_some (at_other at apart not_under not_up)) ∙ some)
       ]
+    ]
   ]
 
   pub formed_placed : (clock : Time) → is_path path ≡ true → IsFormed (record { clock = clock; things = was }) → IsFormed (record { clock = clock; things = put })
@@ -150,7 +149,7 @@ module _ (path : List ℕ) (thing : Thing) (time : Time) (was : Things) where
   settled_clear covers planted done as_planted as_done at =
       let no_dir = not-true (is_dir_thing thing) (and_parts (is_dir (was path)) (not (is_dir_thing thing)) covers).1 in
       as_done at ∙ elim (cases_Bool (is_below path at)) [
-          inl below ↦
+        | inl below ↦
             cond-true (is_below path at) None (planted at) below
             ∙ sym (at_under at (apart_below path at below) below ∙ cond-false (is_dir_thing thing) (was at) None no_dir)
         | inr not_under ↦ cond-false (is_below path at) None (planted at) not_under ∙ as_planted at ∙ with_parents_else at not_under
@@ -164,7 +163,7 @@ module _ (path : List ℕ) (thing : Thing) (time : Time) (was : Things) where
       → ((at : List ℕ) → planted at ≡ with_parents path (record { thing = thing; mtime = time }) was at)
       → (at : List ℕ) → planted at ≡ put at
   settled_keep rooted covers planted as_planted at = as_planted at ∙ elim (cases_Bool (is_below path at)) [
-      inl below ↦
+    | inl below ↦
         with_parents_under at below
         ∙ under_kept rooted at below (and_cases (is_dir (was path)) (not (is_dir_thing thing)) covers)
         ∙ sym (at_under at (apart_below path at below) below)
@@ -172,25 +171,24 @@ module _ (path : List ℕ) (thing : Thing) (time : Time) (was : Things) where
   ]
 
 module _ (path : List ℕ) (was : Things) where
-
   abbrev taken : Things
   taken = after_take path was
 
   kept_taken : (at : List ℕ) → is_some (taken at) ≡ true → ((bytes_eq path at || is_below path at) ≡ false) × (is_some (was at) ≡ true)
   kept_taken at some = of_test (bytes_eq path at || is_below path at) (was at) some
     where
-    of_test : (t : Bool) (o : Option Placed) → is_some (cond t None o) ≡ true → (t ≡ false) × (is_some o ≡ true)
-    of_test true o some = absurd (true≢false (sym some))
-    of_test false o some = (refl, some)
+      of_test : (t : Bool) (o : Option Placed) → is_some (cond t None o) ≡ true → (t ≡ false) × (is_some o ≡ true)
+      of_test true o some = absurd (true≢false (sym some))
+      of_test false o some = (refl, some)
 
   rooted_taken : IsRooted was → IsRooted taken
   rooted_taken rooted dir at dir_at some =
       let kept = kept_taken at some in
       let parts = or_parts (bytes_eq path at) (is_below path at) kept.0 in
       let apart : bytes_eq path dir ≡ false = false_from_ne_true (bytes_eq path dir)
-          (λ h. both_ways (is_below path at) parts.1 (ap (λ (p : List ℕ). is_below p at) (same_bytes path dir h) ∙ dir_at)) in
+      (λ h. both_ways (is_below path at) parts.1 (ap (λ (p : List ℕ). is_below p at) (same_bytes path dir h) ∙ dir_at)) in
       let not_under : is_below path dir ≡ false = false_from_ne_true (is_below path dir)
-          (λ h. both_ways (is_below path at) parts.1 (below_trans path dir at h dir_at)) in
+      (λ h. both_ways (is_below path at) parts.1 (below_trans path dir at h dir_at)) in
       ap is_dir (cond-false (bytes_eq path dir || is_below path dir) None (was dir) (or_from (bytes_eq path dir) (is_below path dir) apart not_under))
       ∙ rooted dir at dir_at kept.1
 
@@ -202,22 +200,22 @@ module _ (path : List ℕ) (was : Things) where
   taken_clear removed done dir as_removed as_done at =
       as_done at ∙ ap (λ (o : Option Placed). cond (is_below path at) None o) (as_removed at) ∙ swap (bytes_eq path at) (is_below path at) (was at)
     where
-    swap : (a b : Bool) (o : Option Placed) → cond b None (cond a None o) ≡ cond (a || b) None o
-    swap true true o = refl
-    swap true false o = refl
-    swap false true o = refl
-    swap false false o = refl
+      swap : (a b : Bool) (o : Option Placed) → cond b None (cond a None o) ≡ cond (a || b) None o
+      swap true true o = refl
+      swap true false o = refl
+      swap false true o = refl
+      swap false false o = refl
 
   pub taken_keep : IsRooted was → (removed : Things) → is_dir (was path) ≡ false → ((at : List ℕ) → removed at ≡ update bytes_eq was path None at)
       → (at : List ℕ) → removed at ≡ taken at
   taken_keep rooted removed no_dir as_removed at = as_removed at ∙ elim (cases_Bool (is_below path at)) [
-      inl below ↦
+    | inl below ↦
         cond-false (bytes_eq path at) None (was at) (apart_below path at below)
         ∙ sym (none_under path a_thing.Dir zero_time was rooted no_dir at below)
         ∙ sym (cond-true (bytes_eq path at || is_below path at) None (was at) (or_right (bytes_eq path at) (is_below path at) below))
     | inr not_under ↦ ap (λ (t : Bool). cond t None (was at)) (sym (or_false (bytes_eq path at) (is_below path at) not_under))
   ]
     where
-    or_false : (a b : Bool) → b ≡ false → (a || b) ≡ a
-    or_false true b h = refl
-    or_false false b h = h
+      or_false : (a b : Bool) → b ≡ false → (a || b) ≡ a
+      or_false true b h = refl
+      or_false false b h = h

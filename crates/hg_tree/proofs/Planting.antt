@@ -42,7 +42,6 @@ above_parent dir path at parent above = parent at ∙ or_right (bytes_eq dir at)
 
 module _ (path dir : List ℕ) (placed : Placed) (was put : Things) (parent : IsParent dir path)
     (as_put : (at : List ℕ) → put at ≡ update bytes_eq was path (Some placed) at) where
-
   put_other : (at : List ℕ) → is_below at path ≡ true → put at ≡ was at
   put_other at above = as_put at ∙ cond-false (bytes_eq path at) (Some placed) (was at) (apart_above at path above)
 
@@ -57,7 +56,7 @@ module _ (path dir : List ℕ) (placed : Placed) (was put : Things) (parent : Is
   pub planted : is_dir (was dir) ≡ false → (done : Things) → ((at : List ℕ) → done at ≡ with_parents dir (dir_of placed.mtime) put at)
       → (at : List ℕ) → done at ≡ with_parents path placed was at
   planted missing done as_done at = elim (cases_Bool (bytes_eq path at)) [
-      inl here ↦
+    | inl here ↦
         let same = same_bytes path at here in
         let up = parent_above dir path parent in
         let up_at : is_below dir at ≡ true = ap (λ (p : List ℕ). is_below dir p) (sym same) ∙ up in
@@ -71,7 +70,7 @@ module _ (path dir : List ℕ) (placed : Placed) (was put : Things) (parent : Is
         let kept : put at ≡ was at = as_put at ∙ cond-false (bytes_eq path at) (Some placed) (was at) apart in
         let right = cond-false (bytes_eq path at) (Some placed) (cond (is_below at path) (cond (is_dir (was at)) (was at) (Some (dir_of placed.mtime))) (was at)) apart in
         elim (cases_Bool (bytes_eq dir at)) [
-            inl first ↦
+          | inl first ↦
               let same = same_bytes dir at first in
               let up_at : is_below at path ≡ true = parent at ∙ or_left (bytes_eq dir at) (is_below at dir) first in
               let none : is_dir (was at) ≡ false = sym (ap (λ (p : List ℕ). is_dir (was p)) same) ∙ missing in
@@ -95,7 +94,7 @@ pub planted_alone : (path : List ℕ) (placed : Placed) (was put : Things) → A
     → ((at : List ℕ) → put at ≡ update bytes_eq was path (Some placed) at) → (at : List ℕ) → put at ≡ with_parents path placed was at
 planted_alone path placed was put above as_put at =
     as_put at ∙ ap (λ (o : Option Placed). cond (bytes_eq path at) (Some placed) o) (elim (cases_Bool (is_below at path)) [
-        inl up ↦ sym (cond-true (is_dir (was at)) (was at) (Some (dir_of placed.mtime)) (above at up)) ∙ sym (cond-true (is_below at path) _ (was at) up)
+      | inl up ↦ sym (cond-true (is_dir (was at)) (was at) (Some (dir_of placed.mtime)) (above at up)) ∙ sym (cond-true (is_below at path) _ (was at) up)
       | inr not_up ↦ sym (cond-false (is_below at path) _ (was at) not_up)
     ])
 
@@ -104,7 +103,7 @@ pub unplanted : (path : List ℕ) (placed : Placed) (was put failed back : Thing
     → ((at : List ℕ) → put at ≡ update bytes_eq was path (Some placed) at) → ((at : List ℕ) → failed at ≡ put at)
     → ((at : List ℕ) → back at ≡ update bytes_eq failed path (was path) at) → (at : List ℕ) → back at ≡ was at
 unplanted path placed was put failed back as_put as_failed as_back at = elim (cases_Bool (bytes_eq path at)) [
-    inl here ↦
+  | inl here ↦
       as_back at ∙ cond-true (bytes_eq path at) (was path) (failed at) here ∙ ap was (same_bytes path at here)
   | inr apart ↦
       as_back at

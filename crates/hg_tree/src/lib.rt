@@ -24,6 +24,7 @@ mod fault;
 mod memory;
 mod name;
 mod thing;
+mod things;
 
 pub use asked::{Asked, Outside};
 pub use device::Tree;

@@ -1,7 +1,7 @@
 //! The things that stand in a working copy.
 
-ghost use Rattle.std.specs.Prelude.{◌≡◌};
-ghost use Rattle.hg_tree.specs.Moment.{IsPlain, stat_of, kind_of};
+ghost use Rattle.std.specs.Prelude.{◌≡◌, IfOk};
+ghost use Rattle.hg_tree.specs.Moment.{IsPlain, is_dir_thing, stat_of};
 
 use hg_base::{Blob, Kind, OutOfMemory, Stat, Time};
 use std::alloc::Global;
@@ -20,6 +20,32 @@ pub enum Thing {
 pub struct Placed {
     pub thing: Thing,
     pub mtime: Time,
+}
+
+impl Thing {
+    pub fn is_dir(&self) -> bool
+        ensures { result ≡ is_dir_thing self.now }
+    {
+        matches!(self, Thing::Dir)
+    }
+
+    // A copy of the thing.
+    pub(crate) fn copy(&self, alloc: Global) -> Result<Thing, OutOfMemory>
+        ensures { IfOk result (λ thing. thing ≡ self.now) }
+    {
+        match self {
+            Thing::File { exec, bytes } => {
+                let bytes = Blob::of(alloc, bytes.as_bytes())?;
+                Ok(Thing::File { exec: *exec, bytes })
+            }
+            Thing::Link { target } => {
+                let target = Blob::of(alloc, target.as_bytes())?;
+                Ok(Thing::Link { target })
+            }
+            Thing::Dir => Ok(Thing::Dir),
+            Thing::Other => Ok(Thing::Other),
+        }
+    }
 }
 
 // What a stat shows of the thing.
