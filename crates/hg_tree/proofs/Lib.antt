@@ -1,4 +1,6 @@
 pub mod Formed
 pub mod Histories
+pub mod Maps
+pub mod Parents
 pub mod Planting
 pub mod Times
