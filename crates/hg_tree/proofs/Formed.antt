@@ -11,7 +11,7 @@ use Rattle.hg_base.proofs.Paths.{path_above}
 use Rattle.hg_tree.specs.declared.thing.Thing.{Thing}
 use Rattle.hg_tree.specs.declared.thing.Thing.TheVariants as a_thing
 use Rattle.hg_tree.specs.declared.thing.Placed.{Placed}
-use Rattle.hg_tree.specs.Moment.{Moment, Things, zero_time, is_dir, is_dir_thing, IsRooted, AreAtPaths, IsFormed, empty_at}
+use Rattle.hg_tree.specs.Moment.{Moment, Things, zero_time, is_dir, is_dir_thing, is_short, is_short_thing, IsRooted, AreAtPaths, AreShort, IsFormed, empty_at}
 use Rattle.hg_tree.specs.Change.{dir_of, after_place, after_take, with_parents, without_below}
 use Rattle.hg_tree.proofs.Planting.{same_bytes, equal_bytes, apart_below, apart_above}
 
@@ -20,6 +20,7 @@ pub formed_empty : (clock : Time) → IsFormed (empty_at clock)
 formed_empty clock = record {
   rooted = λ dir path below some. absurd (true≢false (sym some));
   paths = λ path some. absurd (true≢false (sym some));
+  short = λ path. refl;
 }
 
 dir_there : (o : Option Placed) (time : Time) → is_dir (cond (is_dir o) o (Some (dir_of time))) ≡ true
@@ -117,8 +118,23 @@ module _ (path : List ℕ) (thing : Thing) (time : Time) (was : Things) where
     ]
   ]
 
-  pub formed_placed : (clock : Time) → is_path path ≡ true → IsFormed (record { clock = clock; things = was }) → IsFormed (record { clock = clock; things = put })
-  formed_placed clock is formed = record { rooted = rooted_placed formed.rooted; paths = paths_placed is formed.paths }
+  short_either : (t : Bool) (a b : Option Placed) → is_short a ≡ true → is_short b ≡ true → is_short (cond t a b) ≡ true
+  short_either true a b p q = p
+  short_either false a b p q = q
+
+  short_placed : is_short_thing thing ≡ true → AreShort was → AreShort put
+  short_placed fits short at =
+      short_either (bytes_eq path at) here _ fits
+          (short_either (is_below path at) (under at) _ (short_either (is_dir_thing thing) (was at) None (short at) refl)
+              (short_either (is_below at path) (above at) (was at) (short_either (is_dir (was at)) (was at) (Some (dir_of time)) (short at) refl) (short at)))
+
+  pub formed_placed : (clock : Time) → is_path path ≡ true → is_short_thing thing ≡ true → IsFormed (record { clock = clock; things = was })
+      → IsFormed (record { clock = clock; things = put })
+  formed_placed clock is fits formed = record {
+    rooted = rooted_placed formed.rooted;
+    paths = paths_placed is formed.paths;
+    short = short_placed fits formed.short;
+  }
 
   -- with the parents alone, what is below the path is left as it was
   with_parents_under : (at : List ℕ) → is_below path at ≡ true → with_parents path (record { thing = thing; mtime = time }) was at ≡ was at
@@ -193,7 +209,15 @@ module _ (path : List ℕ) (was : Things) where
       ∙ rooted dir at dir_at kept.1
 
   pub formed_taken : (clock : Time) → IsFormed (record { clock = clock; things = was }) → IsFormed (record { clock = clock; things = taken })
-  formed_taken clock formed = record { rooted = rooted_taken formed.rooted; paths = λ at some. formed.paths at (kept_taken at some).1 }
+  formed_taken clock formed = record {
+    rooted = rooted_taken formed.rooted;
+    paths = λ at some. formed.paths at (kept_taken at some).1;
+    short = λ at. short_taken (bytes_eq path at || is_below path at) (was at) (formed.short at);
+  }
+    where
+    short_taken : (t : Bool) (o : Option Placed) → is_short o ≡ true → is_short (cond t None o) ≡ true
+    short_taken true o h = refl
+    short_taken false o h = h
 
   pub taken_clear : (removed done : Things) → is_dir (was path) ≡ true → ((at : List ℕ) → removed at ≡ update bytes_eq was path None at)
       → ((at : List ℕ) → done at ≡ without_below path removed at) → (at : List ℕ) → done at ≡ taken at

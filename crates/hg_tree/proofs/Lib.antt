@@ -1,3 +1,4 @@
+pub mod Children
 pub mod Formed
 pub mod Histories
 pub mod Maps

@@ -1,4 +1,5 @@
 pub mod Change
+pub mod Children
 pub mod History
 pub mod Memory
 pub mod Moment
