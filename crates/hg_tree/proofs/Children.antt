@@ -1,5 +1,5 @@
 -- The names of a directory are found by going over all paths.
-use Rattle.std.proofs.Common.{ℕ, ◌≡◌, Bool, true, false, not, ◌&&◌, ◌||◌, ◌⊎◌, cond, List, [], ◌∷◌, ◌++◌, map, Option, Some, None, String, inl, inr, refl, sym, ◌∙◌, ap, subst, true≢false}
+use Rattle.std.proofs.Common.{ℕ, ◌≡◌, Bool, true, false, not, ◌&&◌, ◌||◌, ◌⊎◌, cond, List, [], ◌∷◌, ◌++◌, map, Option, Some, None, String, inl, inr, refl, sym, ◌∙◌, ap, subst, true≢false, append_assoc, append-nil}
 use Rattle.std.specs.Prelude.{is_some, option_map, IsTrue}
 use Rattle.std.specs.BTreeMap.{is_at}
 use Rattle.std.specs.Cmp.{IsTotalOrder}
@@ -214,3 +214,32 @@ module _ (things : Things) (dir : Option (List ℕ)) (names : List (List ℕ)) (
         children.among name ∙ and_from (not (has_slash name)) (is_some (things (joined dir name))) (not_from_false (has_slash name) (component_plain name component))
             (sym (ap (λ (f : Things). is_some (f (joined dir name))) same) ∙ some);
   }
+
+-- one turn of the walk over the keys that are left
+pub key_is_path : {Y : Type 0} (key : String Y) (left rest : List (String Y)) → left ≡ key ∷ rest → list_all is_path (texts left) ≡ true
+    → (is_path (string_bytes key) ≡ true) × (list_all is_path (texts rest) ≡ true)
+key_is_path key left rest is are =
+    and_parts (is_path (string_bytes key)) (list_all is_path (texts rest)) (sym (ap (λ ks. list_all is_path (texts ks)) is) ∙ are)
+
+pub name_kept : {Y : Type 0} (dir : Option (List ℕ)) (names longer all : List (List ℕ)) (name : List ℕ) (key : String Y) (left rest : List (String Y)) → left ≡ key ∷ rest
+    → Some name ≡ child_of dir (string_bytes key) → longer ≡ names ++ name ∷ [] → names ++ filter_map (child_of dir) (texts left) ≡ all
+    → longer ++ filter_map (child_of dir) (texts rest) ≡ all
+name_kept dir names longer all name key left rest is found push so_far =
+    let front : List (List ℕ) = filter_map (child_of dir) (texts rest) in
+    ap (λ ns. ns ++ front) push
+    ∙ append_assoc names (name ∷ []) front
+    ∙ ap (λ (o : Option (List ℕ)). names ++ cons_option o front) found
+    ∙ sym (ap (λ ks. names ++ filter_map (child_of dir) (texts ks)) is)
+    ∙ so_far
+
+pub none_kept : {Y : Type 0} (dir : Option (List ℕ)) (names all : List (List ℕ)) (key : String Y) (left rest : List (String Y)) → left ≡ key ∷ rest
+    → None ≡ child_of dir (string_bytes key) → names ++ filter_map (child_of dir) (texts left) ≡ all → names ++ filter_map (child_of dir) (texts rest) ≡ all
+none_kept dir names all key left rest is found so_far =
+    ap (λ (o : Option (List ℕ)). names ++ cons_option o (filter_map (child_of dir) (texts rest))) found
+    ∙ sym (ap (λ ks. names ++ filter_map (child_of dir) (texts ks)) is)
+    ∙ so_far
+
+pub none_left : {Y : Type 0} (dir : Option (List ℕ)) (names all : List (List ℕ)) (left : List (String Y)) → left ≡ []
+    → names ++ filter_map (child_of dir) (texts left) ≡ all → names ≡ all
+none_left dir names all left is so_far =
+    sym (append-nil names) ∙ sym (ap (λ ks. names ++ filter_map (child_of dir) (texts ks)) is) ∙ so_far

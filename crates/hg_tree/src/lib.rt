@@ -21,6 +21,7 @@
 mod asked;
 mod device;
 mod fault;
+mod listing;
 mod memory;
 mod name;
 mod thing;
