@@ -38,14 +38,14 @@ record IsChild (dir : Option (List ℕ)) (path name : List ℕ) : Type 0 where
 child_found : (dir : Option (List ℕ)) (path name : List ℕ) → is_path path ≡ true → child_of dir path ≡ Some name → IsChild dir path name
 child_found dir path name is found = of_test (is_same_dir dir (parent_of path)) refl found
   where
-  of_test : (t : Bool) → is_same_dir dir (parent_of path) ≡ t → cond t (Some (base_of path)) None ≡ Some name → IsChild dir path name
-  of_test true same found =
-      let base : base_of path ≡ name = cc in
-      record {
-        whole = sym (joined_parent path) ∙ ap (λ (d : Option (List ℕ)). joined d (base_of path)) (sym (same_dirs dir (parent_of path) same)) ∙ ap (joined dir) base;
-        component = sym (ap is_component base) ∙ path_base path is;
-      }
-  of_test false same found = absurd (cc)
+    of_test : (t : Bool) → is_same_dir dir (parent_of path) ≡ t → cond t (Some (base_of path)) None ≡ Some name → IsChild dir path name
+    of_test true same found =
+        let base : base_of path ≡ name = cc in
+        record {
+          whole = sym (joined_parent path) ∙ ap (λ (d : Option (List ℕ)). joined d (base_of path)) (sym (same_dirs dir (parent_of path) same)) ∙ ap (joined dir) base;
+          component = sym (ap is_component base) ∙ path_base path is;
+        }
+    of_test false same found = absurd (cc)
 
 pub child_component : (dir : Option (List ℕ)) (path name : List ℕ) → is_path path ≡ true → child_of dir path ≡ Some name → is_component name ≡ true
 child_component dir path name is found = (child_found dir path name is found).component
@@ -61,20 +61,21 @@ one_more : (dir : Option (List ℕ)) (name path : List ℕ) (found : Option (Lis
     → (names : List (List ℕ)) → is_among name (cons_option found names) ≡ ((not (has_slash name) && bytes_eq (joined dir name) path) || is_among name names)
 one_more dir name path (Some other) is found names = ap (λ (t : Bool). t || is_among name names) same
   where
-  child : IsChild dir path other
-  child = child_found dir path other is found
-  same : bytes_eq name other ≡ (not (has_slash name) && bytes_eq (joined dir name) path)
-  same = elim (cases_Bool (bytes_eq name other)) [
-      inl e ↦
-        let equal = same_bytes name other e in
-        let plain : has_slash name ≡ false = ap has_slash equal ∙ component_plain other child.component in
-        e ∙ sym (and_from (not (has_slash name)) (bytes_eq (joined dir name) path) (not_from_false (has_slash name) plain)
-            (ap (λ (n : List ℕ). bytes_eq (joined dir n) path) equal ∙ sym (ap (bytes_eq (joined dir other)) (sym child.whole)) ∙ equal_bytes (joined dir other)))
-    | inr e ↦ e ∙ sym (false_from_ne_true (not (has_slash name) && bytes_eq (joined dir name) path) (λ both.
-        let parts = and_parts (not (has_slash name)) (bytes_eq (joined dir name) path) both in
-        let equal = joined_same dir name dir other (not-true (has_slash name) parts.0) (component_plain other child.component) (same_bytes (joined dir name) path parts.1 ∙ child.whole) in
-        both_ways (bytes_eq name other) e (ap (λ (n : List ℕ). bytes_eq n other) equal.1 ∙ equal_bytes other)))
-  ]
+    child : IsChild dir path other
+    child = child_found dir path other is found
+
+    same : bytes_eq name other ≡ (not (has_slash name) && bytes_eq (joined dir name) path)
+    same = elim (cases_Bool (bytes_eq name other)) [
+      | inl e ↦
+          let equal = same_bytes name other e in
+          let plain : has_slash name ≡ false = ap has_slash equal ∙ component_plain other child.component in
+          e ∙ sym (and_from (not (has_slash name)) (bytes_eq (joined dir name) path) (not_from_false (has_slash name) plain)
+          (ap (λ (n : List ℕ). bytes_eq (joined dir n) path) equal ∙ sym (ap (bytes_eq (joined dir other)) (sym child.whole)) ∙ equal_bytes (joined dir other)))
+      | inr e ↦ e ∙ sym (false_from_ne_true (not (has_slash name) && bytes_eq (joined dir name) path) (λ both.
+          let parts = and_parts (not (has_slash name)) (bytes_eq (joined dir name) path) both in
+          let equal = joined_same dir name dir other (not-true (has_slash name) parts.0) (component_plain other child.component) (same_bytes (joined dir name) path parts.1 ∙ child.whole) in
+          both_ways (bytes_eq name other) e (ap (λ (n : List ℕ). bytes_eq n other) equal.1 ∙ equal_bytes other)))
+    ]
 one_more dir name path None is found names = ap (λ (t : Bool). t || is_among name names) (sym (false_from_ne_true (not (has_slash name) && bytes_eq (joined dir name) path) (λ both.
     let parts = and_parts (not (has_slash name)) (bytes_eq (joined dir name) path) both in
     let there : child_of dir path ≡ Some name = sym (ap (child_of dir) (same_bytes (joined dir name) path parts.1)) ∙ child_at dir name (not-true (has_slash name) parts.0) in
@@ -102,16 +103,17 @@ apart_from dir path name child (next ∷ paths) are apart =
     let parts = and_parts (is_path next) (list_all is_path paths) are in
     with_found (child_of dir next) parts.0 refl (apart_from dir path name child paths parts.1 apart.1)
   where
-  with_found : (found : Option (List ℕ)) → is_path next ≡ true → child_of dir next ≡ found
-      → AllByRecursion (λ other. bytes_eq name other ≡ false) (filter_map (child_of dir) paths)
-      → AllByRecursion (λ other. bytes_eq name other ≡ false) (cons_option found (filter_map (child_of dir) paths))
-  with_found None is found rest = rest
-  with_found (Some other) is found rest =
-      let second = child_found dir next other is found in
-      (false_from_ne_true (bytes_eq name other) (λ e.
-          let same : path ≡ next = child.whole ∙ ap (joined dir) (same_bytes name other e) ∙ sym second.whole in
-          both_ways (bytes_eq path next) apart.0 (ap (bytes_eq path) (sym same) ∙ equal_bytes path)),
-      rest)
+    with_found : (found : Option (List ℕ)) → is_path next ≡ true → child_of dir next ≡ found
+        → AllByRecursion (λ other. bytes_eq name other ≡ false) (filter_map (child_of dir) paths)
+        → AllByRecursion (λ other. bytes_eq name other ≡ false) (cons_option found (filter_map (child_of dir) paths))
+    with_found None is found rest = rest
+    with_found (Some other) is found rest =
+        let second = child_found dir next other is found in (
+          false_from_ne_true (bytes_eq name other) (λ e.
+              let same : path ≡ next = child.whole ∙ ap (joined dir) (same_bytes name other e) ∙ sym second.whole in
+              both_ways (bytes_eq path next) apart.0 (ap (bytes_eq path) (sym same) ∙ equal_bytes path)),
+          rest,
+        )
 
 none_distinct : IsDistinct bytes_eq []
 unfolding IsDistinct
@@ -125,12 +127,12 @@ distinct_names dir (path ∷ paths) are distinct =
     let parts = and_parts (is_path path) (list_all is_path paths) are in
     with_found (child_of dir path) parts.0 parts.1 refl (distinct_names dir paths parts.1 (IsDistinct-tail bytes_eq path paths distinct))
   where
-  with_found : (found : Option (List ℕ)) → is_path path ≡ true → list_all is_path paths ≡ true → child_of dir path ≡ found → IsDistinct bytes_eq (filter_map (child_of dir) paths)
-      → IsDistinct bytes_eq (cons_option found (filter_map (child_of dir) paths))
-  with_found None is are found rest = rest
-  with_found (Some name) is are found rest =
-      IsDistinct-cons bytes_eq name (filter_map (child_of dir) paths)
-          (apart_from dir path name (child_found dir path name is found) paths are (IsDistinct-head bytes_eq path paths distinct)) rest
+    with_found : (found : Option (List ℕ)) → is_path path ≡ true → list_all is_path paths ≡ true → child_of dir path ≡ found → IsDistinct bytes_eq (filter_map (child_of dir) paths)
+        → IsDistinct bytes_eq (cons_option found (filter_map (child_of dir) paths))
+    with_found None is are found rest = rest
+    with_found (Some name) is are found rest =
+        IsDistinct-cons bytes_eq name (filter_map (child_of dir) paths)
+        (apart_from dir path name (child_found dir path name is found) paths are (IsDistinct-head bytes_eq path paths distinct)) rest
 
 -- the bytes of the keys of a map
 abbrev pub texts : {Y : Type 0} → List (String Y) → List (List ℕ)
@@ -157,20 +159,20 @@ pub distinct_texts : {Y : Type 0} (keys : List (String Y)) → IsDistinct (eq_by
 distinct_texts [] distinct = none_distinct
 distinct_texts (key ∷ keys) distinct =
     IsDistinct-cons bytes_eq (string_bytes key) (texts keys) (apart_texts key keys (IsDistinct-head (eq_by_cmp string_cmp) key keys distinct))
-        (distinct_texts keys (IsDistinct-tail (eq_by_cmp string_cmp) key keys distinct))
+    (distinct_texts keys (IsDistinct-tail (eq_by_cmp string_cmp) key keys distinct))
 
 -- what holds of all that is among some texts holds of each
 pub all_from_among : (P : List ℕ → Type 0) (names : List (List ℕ)) → ((name : List ℕ) → is_among name names ≡ true → P name) → All P names
 all_from_among P [] each = All-nil P
 all_from_among P (name ∷ names) each =
     All-cons P name names (each name (or_left (bytes_eq name name) (is_among name names) (equal_bytes name)))
-        (all_from_among P names (λ other among. each other (or_right (bytes_eq other name) (is_among other names) among)))
+    (all_from_among P names (λ other among. each other (or_right (bytes_eq other name) (is_among other names) among)))
 
 pub paths_from_among : (paths : List (List ℕ)) → ((path : List ℕ) → is_among path paths ≡ true → is_path path ≡ true) → list_all is_path paths ≡ true
 paths_from_among [] each = refl
 paths_from_among (path ∷ paths) each =
     and_from (is_path path) (list_all is_path paths) (each path (or_left (bytes_eq path path) (is_among path paths) (equal_bytes path)))
-        (paths_from_among paths (λ other among. each other (or_right (bytes_eq other path) (is_among other paths) among)))
+    (paths_from_among paths (λ other among. each other (or_right (bytes_eq other path) (is_among other paths) among)))
 
 -- the keys of a map whose things stand at paths are paths
 pub keys_are_paths : {Y : Type 0} (entries : List (String Y × Placed)) → AreAtPaths (λ path. lookup (is_at (text_cmp path)) entries) → list_all is_path (texts (keys_of entries)) ≡ true
@@ -189,7 +191,6 @@ children_of_keys dir entries names paths distinct names_are =
     }
 
 module _ (things : Things) (dir : Option (List ℕ)) (names : List (List ℕ)) (paths : AreAtPaths things) (children : AreChildren things dir names) where
-
   child_parts : (name : List ℕ) → is_among name names ≡ true → (not (has_slash name) ≡ true) × (is_some (things (joined dir name)) ≡ true)
   child_parts name among = and_parts (not (has_slash name)) (is_some (things (joined dir name))) (sym (children.among name) ∙ among)
 
@@ -209,10 +210,10 @@ module _ (things : Things) (dir : Option (List ℕ)) (names : List (List ℕ)) (
   children_names moment same = record {
     stand = λ name among.
         and_from (is_component name) (is_some (moment.things (joined dir name))) (child_fits name among).component
-            (ap (λ (f : Things). is_some (f (joined dir name))) same ∙ (child_parts name among).1);
+        (ap (λ (f : Things). is_some (f (joined dir name))) same ∙ (child_parts name among).1);
     all = λ name component some.
         children.among name ∙ and_from (not (has_slash name)) (is_some (things (joined dir name))) (not_from_false (has_slash name) (component_plain name component))
-            (sym (ap (λ (f : Things). is_some (f (joined dir name))) same) ∙ some);
+        (sym (ap (λ (f : Things). is_some (f (joined dir name))) same) ∙ some);
   }
 
 -- one turn of the walk over the keys that are left

@@ -125,8 +125,8 @@ module _ (path : List ℕ) (thing : Thing) (time : Time) (was : Things) where
   short_placed : is_short_thing thing ≡ true → AreShort was → AreShort put
   short_placed fits short at =
       short_either (bytes_eq path at) here _ fits
-          (short_either (is_below path at) (under at) _ (short_either (is_dir_thing thing) (was at) None (short at) refl)
-              (short_either (is_below at path) (above at) (was at) (short_either (is_dir (was at)) (was at) (Some (dir_of time)) (short at) refl) (short at)))
+      (short_either (is_below path at) (under at) _ (short_either (is_dir_thing thing) (was at) None (short at) refl)
+      (short_either (is_below at path) (above at) (was at) (short_either (is_dir (was at)) (was at) (Some (dir_of time)) (short at) refl) (short at)))
 
   pub formed_placed : (clock : Time) → is_path path ≡ true → is_short_thing thing ≡ true → IsFormed (record { clock = clock; things = was })
       → IsFormed (record { clock = clock; things = put })
@@ -215,9 +215,9 @@ module _ (path : List ℕ) (was : Things) where
     short = λ at. short_taken (bytes_eq path at || is_below path at) (was at) (formed.short at);
   }
     where
-    short_taken : (t : Bool) (o : Option Placed) → is_short o ≡ true → is_short (cond t None o) ≡ true
-    short_taken true o h = refl
-    short_taken false o h = h
+      short_taken : (t : Bool) (o : Option Placed) → is_short o ≡ true → is_short (cond t None o) ≡ true
+      short_taken true o h = refl
+      short_taken false o h = h
 
   pub taken_clear : (removed done : Things) → is_dir (was path) ≡ true → ((at : List ℕ) → removed at ≡ update bytes_eq was path None at)
       → ((at : List ℕ) → done at ≡ without_below path removed at) → (at : List ℕ) → done at ≡ taken at

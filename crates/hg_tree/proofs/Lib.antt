@@ -1,3 +1,4 @@
+pub mod After
 pub mod Children
 pub mod Formed
 pub mod Histories

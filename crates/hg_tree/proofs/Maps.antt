@@ -18,5 +18,5 @@ pub cleared : {Y : Type 0} (dir at : List ℕ) (entries : List (String Y × Plac
     → lookup (is_at (text_cmp at)) (filter (λ e. not (is_below dir (string_bytes e.0))) entries) ≡ cond (is_below dir at) None (lookup (is_at (text_cmp at)) entries)
 cleared {Y} dir at entries =
     lookup-filter-keys (is_at (text_cmp at)) (λ k. not (is_below dir (string_bytes k))) (not (is_below dir at))
-        (λ k found. ap (λ (p : List ℕ). not (is_below dir p)) (sym (same_bytes at (string_bytes k) (sym (is_eq-slice_cmp at (string_bytes k)) ∙ found)))) entries
+    (λ k found. ap (λ (p : List ℕ). not (is_below dir p)) (sym (same_bytes at (string_bytes k) (sym (is_eq-slice_cmp at (string_bytes k)) ∙ found)))) entries
     ∙ other_way (is_below dir at) (lookup (is_at (text_cmp at)) entries)

@@ -25,9 +25,7 @@ pub fn is_listed(things: &BTreeMap<String, Placed>, dir: Option<PathRef<'_>>) ->
 
 // The name of the path in the directory, where it stands right in it.
 fn child<'a>(dir: Option<PathRef<'_>>, path: &'a str) -> Option<&'a str>
-    ensures {
-        option_map (λ name. name.now) result ≡ child_of (option_map (λ d. d.text.now) dir.entry) path.now
-    }
+    ensures { option_map (λ name. name.now) result ≡ child_of (option_map (λ d. d.text.now) dir.entry) path.now }
 {
     match dir {
         Some(dir) => child_name(Some(dir.text), path),
@@ -42,9 +40,7 @@ pub fn names_in(
     dir: Option<PathRef<'_>>,
 ) -> Result<Vec<Name>, OutOfMemory>
     requires { AreAtPaths (get_by_text things.now) }
-    ensures {
-        IfOk result (λ names. AreChildren (get_by_text things.now) (option_map (λ d. d.text.now) dir.entry) names.items)
-    }
+    ensures { IfOk result (λ names. AreChildren (get_by_text things.now) (option_map (λ d. d.text.now) dir.entry) names.items) }
 {
     let mut names = Vec::new(alloc);
     for key in things.keys() {

@@ -1,14 +1,16 @@
 //! A working copy in memory, for tests.
 
-ghost use Rattle.std.specs.Prelude.{◌≡◌, ◌++◌, ◌∷◌, [], not, OnOk, OnErr, IfSome, is_ok};
+ghost use Rattle.std.specs.Prelude.{◌≡◌, ◌++◌, ◌∷◌, [], not, IsTrue, OnOk, OnErr, IfSome, is_ok};
 ghost use Rattle.hg_base.specs.Fault.{HasCause};
-ghost use Rattle.hg_tree.specs.Moment.{IsPlain, stat_at};
+ghost use Rattle.hg_tree.specs.declared.asked.Outside.TheVariants as a_change;
+ghost use Rattle.hg_tree.specs.Moment.{IsPlain, is_short_thing, stat_at};
 ghost use Rattle.hg_tree.specs.History.{AreFormed, now};
 ghost use Rattle.hg_tree.specs.Memory.{begun, history_of, is_due};
 
 use crate::asked::{Asked, Outside};
-use crate::thing::{Placed, stat_of};
-use hg_base::{Failed, OutOfMemory, Stat, Time, risen};
+use crate::thing::{Placed, Thing, stat_of};
+use crate::things::{remove, settle};
+use hg_base::{Failed, OutOfMemory, Path, PathRef, Stat, Time, risen};
 use std::alloc::Global;
 use std::collections::BTreeMap;
 use std::marker::Model;
@@ -54,6 +56,53 @@ impl MemTree {
             faults: 0,
             things: BTreeMap::new(alloc),
         }
+    }
+
+    /// Places a thing with the time of its last modification, or leaves all as it was.
+    ///
+    /// Those ancestors where no directory is become directories of the same time, and nothing else gets another time. A directory
+    /// over a directory keeps what is in it; any other thing over a directory takes away all that is below. A link's target has
+    /// at most 4,095 bytes.
+    pub fn place(&mut self, path: PathRef<'_>, thing: Thing, mtime: Time) -> Result<(), OutOfMemory>
+        requires { IsTrue (is_short_thing thing) }
+        ensures ok { OnOk
+            result
+            (self.new ≡ record self.old { changes = self.old.changes ++ (a_change.Place path.entry.text.now thing mtime) ∷ [] }) }
+        ensures err { OnErr result (self.new ≡ self.old) }
+    {
+        let copy = thing.copy(self.alloc)?;
+        let path_copy = Path::of(self.alloc, path)?;
+        self.changes.reserve(1)?;
+        settle(
+            self.alloc,
+            &mut self.things,
+            path,
+            Placed { thing: copy, mtime },
+        )?;
+        self.changes
+            .push(Outside::Place {
+                path: path_copy,
+                thing,
+                mtime,
+            })
+            .unwrap();
+        Ok(())
+    }
+
+    /// Takes away what stands at the path and below it, or leaves all as it was.
+    pub fn take(&mut self, path: PathRef<'_>) -> Result<(), OutOfMemory>
+        ensures ok { OnOk
+            result
+            (self.new ≡ record self.old { changes = self.old.changes ++ (a_change.Take path.entry.text.now) ∷ [] }) }
+        ensures err { OnErr result (self.new ≡ self.old) }
+    {
+        let path_copy = Path::of(self.alloc, path)?;
+        self.changes.reserve(1)?;
+        remove(&mut self.things, path.text);
+        self.changes
+            .push(Outside::Take { path: path_copy })
+            .unwrap();
+        Ok(())
     }
 
     /// Makes the call of that number fail; calls are counted from 0.

@@ -21,8 +21,8 @@ loop-key-init c =
 pub of-requires : goal.of-requires
 of-requires c =
     child_component (option_map (λ d. d.text.now) c.args.dir) (string_bytes c.in-Some.key.now) c.in-Some-child.name.now
-        (key_is_path c.in-Some.key.now c.loop-key.key-iterator c.next.new.self c.in-Some.ensures.steps c.loop-key.invariant.paths).0
-        (sym (c.in-Some-child.ensures ∙ ap (child_of (option_map (λ d. d.text.now) c.args.dir)) c.as_str.ensures.value))
+    (key_is_path c.in-Some.key.now c.loop-key.key-iterator c.next.new.self c.in-Some.ensures.steps c.loop-key.invariant.paths).0
+    (sym (c.in-Some-child.ensures ∙ ap (child_of (option_map (λ d. d.text.now) c.args.dir)) c.as_str.ensures.value))
 
 pub loop-key-preserved-in-Continue-branch-2 : goal.loop-key-preserved-in-Continue-branch-2
 loop-key-preserved-in-Continue-branch-2 c = record {
@@ -42,5 +42,5 @@ loop-key-preserved c = record {
 pub returns : goal.returns
 returns c =
     children_of_keys (option_map (λ d. d.text.now) c.args.dir) c.args.things.now.entries c.loop-key.names.items c.requires
-        (IsDistinct-from_sorted string_cmp (keys c.args.things.now) c.keys-key-items.ensures.ordered)
-        (none_left _ c.loop-key.names.items _ c.loop-key.key-iterator c.in-None.ensures.steps.0 c.loop-key.invariant.names)
+    (IsDistinct-from_sorted string_cmp (keys c.args.things.now) c.keys-key-items.ensures.ordered)
+    (none_left _ c.loop-key.names.items _ c.loop-key.key-iterator c.in-None.ensures.steps.0 c.loop-key.invariant.names)
