@@ -1,6 +1,6 @@
 -- One change more: what it makes of what is shown, and that each moment stays well formed.
-use Rattle.std.proofs.Common.{ℕ, ◌≡◌, ◌+◌, ◌<◌, ◌≤◌, true, List, [], ◌∷◌, ◌++◌, length, take, inl, inr, refl, sym, ◌∙◌, ap, subst, arith}
-use Rattle.std.proofs.lemmas.Bool.{cases_lt}
+use Rattle.std.proofs.Common.{ℕ, ◌≡◌, ◌+◌, ◌<◌, ◌≤◌, Bool, true, cond, List, [], ◌∷◌, ◌++◌, length, take, inl, inr, refl, sym, ◌∙◌, ap, subst, arith}
+use Rattle.std.proofs.lemmas.Bool.{cases_lt, cond-true}
 use Rattle.std.proofs.lemmas.List.{take-append-le, take_all, length_push}
 use Rattle.hg_base.specs.PathText.{is_path}
 use Rattle.hg_base.specs.declared.time.Time.{Time}
@@ -10,7 +10,7 @@ use Rattle.hg_tree.specs.declared.asked.Outside.TheVariants as a_change
 use Rattle.hg_tree.specs.Moment.{Moment, Things, IsFormed, IsRooted, AreAtPaths, is_short_thing, empty_at}
 use Rattle.hg_tree.specs.Change.{after, after_place, after_take, replayed}
 use Rattle.hg_tree.specs.Memory.{IsKept}
-use Rattle.hg_tree.proofs.Formed.{formed_empty, formed_placed, formed_taken}
+use Rattle.hg_tree.proofs.Formed.{formed_placed, formed_taken}
 
 pub replayed_push : (changes : List Outside) (change : Outside) (start : Moment) → replayed (changes ++ change ∷ []) start ≡ after change (replayed changes start)
 replayed_push [] change start = refl
@@ -19,10 +19,6 @@ replayed_push (first ∷ changes) change start = replayed_push changes change (a
 -- what is the same at each path is the same
 pub same_things : (f g : Things) → ((path : List ℕ) → f path ≡ g path) → f ≡ g
 same_things f g same = λ i path. same path i
-
--- nothing was changed yet
-pub kept_empty : (start : Time) (shown : Things) → ((path : List ℕ) → shown path ≡ (empty_at start).things path) → IsKept start [] shown
-kept_empty start shown none = record { current = none; formed = λ k upto. formed_empty start }
 
 module _ (start : Time) (changes : List Outside) (was : Things) (kept : IsKept start changes was) where
   abbrev shown_now : Moment
@@ -70,3 +66,8 @@ module _ (start : Time) (changes : List Outside) (was : Things) (kept : IsKept s
 pub kept_still : (start : Time) (changes again : List Outside) (was shown : Things) → again ≡ changes → ((path : List ℕ) → shown path ≡ was path) → IsKept start changes was → IsKept start again shown
 kept_still start changes again was shown list same kept =
     subst (λ (l : List Outside). IsKept start l shown) (sym list) (record { current = λ path. same path ∙ kept.current path; formed = kept.formed })
+
+-- a change that was pushed where there was room stands behind those before
+pub pushed_is : (before room later : List Outside) (pushed : Bool) (change : Outside) → later ≡ cond pushed (room ++ change ∷ []) room → pushed ≡ true → room ≡ before → later ≡ before ++ change ∷ []
+pushed_is before room later pushed change is done same =
+    is ∙ cond-true pushed (room ++ change ∷ []) room done ∙ ap (λ (l : List Outside). l ++ change ∷ []) same
