@@ -1,2 +1,6 @@
+pub mod Change
+pub mod Children
 pub mod History
+pub mod Memory
 pub mod Moment
+pub mod Parents

@@ -1,5 +1,5 @@
 -- One moment of a working copy: its clock and what stands where.
-use Rattle.std.specs.Prelude.{ℕ, ◌≡◌, ◌<◌, ◌^◌, pos, Bool, true, false, IsTrue, ◌&&◌, List, [], ◌∷◌, length, Option, Some, None, is_some, option_map, IfSome, All}
+use Rattle.std.specs.Prelude.{ℕ, ◌≡◌, ◌<◌, ◌^◌, pos, Bool, true, false, IsTrue, ◌&&◌, List, [], ◌∷◌, length, Option, Some, None, is_some, option_map, IfSome, All, nat_le}
 use Rattle.std.specs.Str.{bytes_eq}
 use Rattle.std.specs.List.{list_any, IsDistinct}
 use Rattle.std.proofs.Common.{lit<}
@@ -79,9 +79,12 @@ abbrev pub IsPlain : Stat → Type 0
 IsPlain stat = IsPlainAs stat.kind stat
 
 -- the root is a directory, and what stands at another path may be one
+abbrev pub is_listed : Things → Option (List ℕ) → Bool
+is_listed things None = true
+is_listed things (Some dir) = is_dir (things dir)
+
 abbrev pub has_dir : Moment → Option (List ℕ) → Bool
-has_dir moment None = true
-has_dir moment (Some dir) = is_dir (moment.things dir)
+has_dir moment dir = is_listed moment.things dir
 
 abbrev pub is_among : List ℕ → List (List ℕ) → Bool
 is_among name names = list_any (bytes_eq name) names
@@ -115,7 +118,22 @@ IsRooted things = (dir path : List ℕ) → IsTrue (is_below dir path) → IsTru
 abbrev pub AreAtPaths : Things → Type 0
 AreAtPaths things = (path : List ℕ) → IsTrue (is_some (things path)) → IsTrue (is_path path)
 
+-- a link has a target of at most 4,095 bytes
+abbrev pub is_short_thing : Thing → Bool
+is_short_thing (a_thing.File exec bytes) = true
+is_short_thing (a_thing.Link target) = nat_le (length target) 4095
+is_short_thing a_thing.Dir = true
+is_short_thing a_thing.Other = true
+
+abbrev pub is_short : Option Placed → Bool
+is_short None = true
+is_short (Some placed) = is_short_thing placed.thing
+
+abbrev pub AreShort : Things → Type 0
+AreShort things = (path : List ℕ) → IsTrue (is_short (things path))
+
 -- a working copy as a file system can hold it
 pub record IsFormed (moment : Moment) : Type 0 where
   pub rooted : IsRooted moment.things
   pub paths : AreAtPaths moment.things
+  pub short : AreShort moment.things

@@ -21,11 +21,15 @@
 mod asked;
 mod device;
 mod fault;
+mod listing;
+mod memory;
 mod name;
 mod thing;
+mod things;
 
 pub use asked::{Asked, Outside};
 pub use device::Tree;
 pub use fault::TreeFault;
+pub use memory::MemTree;
 pub use name::Name;
 pub use thing::{Placed, Thing};

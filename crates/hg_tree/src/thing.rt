@@ -1,6 +1,10 @@
 //! The things that stand in a working copy.
 
-use hg_base::{Blob, Time};
+ghost use Rattle.std.specs.Prelude.{◌≡◌, IfOk};
+ghost use Rattle.hg_tree.specs.Moment.{IsPlain, is_dir_thing, stat_of};
+
+use hg_base::{Blob, Kind, OutOfMemory, Stat, Time};
+use std::alloc::Global;
 
 /// A thing: a regular file with the owner's executable bit, a symbolic link, a directory, or something else as a fifo.
 #[derive(Debug, Drop)]
@@ -16,4 +20,66 @@ pub enum Thing {
 pub struct Placed {
     pub thing: Thing,
     pub mtime: Time,
+}
+
+impl Thing {
+    pub fn is_dir(&self) -> bool
+        ensures { result ≡ is_dir_thing self.now }
+    {
+        matches!(self, Thing::Dir)
+    }
+
+    // A copy of the thing.
+    pub(crate) fn copy(&self, alloc: Global) -> Result<Thing, OutOfMemory>
+        ensures { IfOk result (λ thing. thing ≡ self.now) }
+    {
+        match self {
+            Thing::File { exec, bytes } => {
+                let bytes = Blob::of(alloc, bytes.as_bytes())?;
+                Ok(Thing::File { exec: *exec, bytes })
+            }
+            Thing::Link { target } => {
+                let target = Blob::of(alloc, target.as_bytes())?;
+                Ok(Thing::Link { target })
+            }
+            Thing::Dir => Ok(Thing::Dir),
+            Thing::Other => Ok(Thing::Other),
+        }
+    }
+}
+
+// What a stat shows of the thing.
+pub fn stat_of(placed: &Placed) -> Stat
+    ensures shown { result ≡ stat_of placed.now.thing placed.now.mtime }
+    ensures fit { IsPlain result }
+{
+    match &placed.thing {
+        Thing::File { exec, bytes } => Stat {
+            kind: Kind::File,
+            exec: *exec,
+            size: bytes.as_bytes().len() as u64,
+            mtime: placed.mtime,
+        },
+        Thing::Link { target } => Stat {
+            kind: Kind::Link,
+            exec: false,
+            size: target.as_bytes().len() as u64,
+            mtime: placed.mtime,
+        },
+        Thing::Dir => Stat {
+            kind: Kind::Dir,
+            exec: false,
+            size: 0,
+            mtime: placed.mtime,
+        },
+        Thing::Other => Stat {
+            kind: Kind::Other,
+            exec: false,
+            size: 0,
+            mtime: Time {
+                seconds: 0,
+                nanos: 0,
+            },
+        },
+    }
 }

@@ -1,0 +1,23 @@
+-- The directories above a path, while a thing is put there.
+use Rattle.std.specs.Prelude.{ℕ, ◌≡◌, Bool, true, false, ◌||◌, List, Option, MatchOption}
+use Rattle.std.specs.Str.{bytes_eq}
+use Rattle.hg_base.specs.PathText.{is_below}
+use Rattle.hg_tree.specs.Moment.{Things, is_dir}
+
+-- what stands above the path is the directory and what stands above that
+abbrev pub IsParent : List ℕ → List ℕ → Type 0
+IsParent dir path = (at : List ℕ) → is_below at path ≡ (bytes_eq dir at || is_below at dir)
+
+-- each ancestor of the path is a directory
+abbrev pub AreDirsAbove : List ℕ → Things → Type 0
+AreDirsAbove path things = (at : List ℕ) → is_below at path ≡ true → is_dir (things at) ≡ true
+
+-- above each ancestor of the path that is a directory stand directories alone
+abbrev pub AreRootedAbove : List ℕ → Things → Type 0
+AreRootedAbove path things =
+    (dir at : List ℕ) → is_below at path ≡ true → is_below dir at ≡ true → is_dir (things at) ≡ true → is_dir (things dir) ≡ true
+
+-- a missing directory is the parent of the path; where there is none, each ancestor is a directory
+abbrev pub IsMissing : List ℕ → Things → Option (List ℕ) → Type 0
+IsMissing path things missing =
+    MatchOption missing (AreDirsAbove path things) (λ dir. IsParent dir path × (is_dir (things dir) ≡ false))

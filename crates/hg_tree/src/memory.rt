@@ -1,0 +1,149 @@
+//! A working copy in memory, for tests.
+
+ghost use Rattle.std.specs.Prelude.{◌≡◌, ◌++◌, ◌∷◌, [], not, IsTrue, OnOk, OnErr, IfSome, is_ok};
+ghost use Rattle.hg_base.specs.Fault.{HasCause};
+ghost use Rattle.hg_tree.specs.declared.asked.Outside.TheVariants as a_change;
+ghost use Rattle.hg_tree.specs.Moment.{IsPlain, is_short_thing, stat_at};
+ghost use Rattle.hg_tree.specs.History.{AreFormed, now};
+ghost use Rattle.hg_tree.specs.Memory.{begun, history_of, is_due};
+
+use crate::asked::{Asked, Outside};
+use crate::thing::{Placed, Thing, stat_of};
+use crate::things::{remove, settle};
+use hg_base::{Failed, OutOfMemory, Path, PathRef, Stat, Time, risen};
+use std::alloc::Global;
+use std::collections::BTreeMap;
+use std::marker::Model;
+
+/// A working copy in memory. It tells its moments: an empty one, and one for each thing that was placed or taken away.
+///
+/// What stands now is kept beside the list of changes, so that a look doesn't go through that list.
+#[derive(Debug, Drop)]
+pub struct MemTree {
+    alloc: Global,
+    start: Time,
+    changes: Vec<Outside>,
+    asked: Vec<Asked>,
+    failing: Vec<u64>,
+    calls: u64,
+    faults: u64,
+    things: BTreeMap<String, Placed>,
+}
+
+impl Model for MemTree {
+    ghost use Rattle.std.specs.BTreeMap.{get_by_text};
+    ghost use Rattle.hg_tree.specs.Memory.{Memory, IsKept};
+
+    ghost Value = { Memory };
+
+    ghost view = { λ m. record { start = m.start; changes = m.changes.items; asked = m.asked.items; failing = m.failing.items; calls = m.calls; faults = m.faults } };
+
+    ghost invariant = { λ m. IsKept m.start m.changes.items (get_by_text m.things) };
+}
+
+impl MemTree {
+    /// An empty working copy whose clock stands at that time. It takes no memory.
+    pub fn new(alloc: Global, clock: Time) -> MemTree
+        ensures { result ≡ record { start = clock; changes = []; asked = []; failing = []; calls = 0; faults = 0 } }
+    {
+        MemTree {
+            alloc,
+            start: clock,
+            changes: Vec::new(alloc),
+            asked: Vec::new(alloc),
+            failing: Vec::new(alloc),
+            calls: 0,
+            faults: 0,
+            things: BTreeMap::new(alloc),
+        }
+    }
+
+    /// Places a thing with the time of its last modification, or leaves all as it was.
+    ///
+    /// Those ancestors where no directory is become directories of the same time, and nothing else gets another time. A directory
+    /// over a directory keeps what is in it; any other thing over a directory takes away all that is below. A link's target has
+    /// at most 4,095 bytes.
+    pub fn place(&mut self, path: PathRef<'_>, thing: Thing, mtime: Time) -> Result<(), OutOfMemory>
+        requires { IsTrue (is_short_thing thing) }
+        ensures ok { OnOk
+            result
+            (self.new ≡ record self.old { changes = self.old.changes ++ (a_change.Place path.entry.text.now thing mtime) ∷ [] }) }
+        ensures err { OnErr result (self.new ≡ self.old) }
+    {
+        let copy = thing.copy(self.alloc)?;
+        let path_copy = Path::of(self.alloc, path)?;
+        self.changes.reserve(1)?;
+        settle(
+            self.alloc,
+            &mut self.things,
+            path,
+            Placed { thing: copy, mtime },
+        )?;
+        self.changes
+            .push(Outside::Place {
+                path: path_copy,
+                thing,
+                mtime,
+            })
+            .unwrap();
+        Ok(())
+    }
+
+    /// Takes away what stands at the path and below it, or leaves all as it was.
+    pub fn take(&mut self, path: PathRef<'_>) -> Result<(), OutOfMemory>
+        ensures ok { OnOk
+            result
+            (self.new ≡ record self.old { changes = self.old.changes ++ (a_change.Take path.entry.text.now) ∷ [] }) }
+        ensures err { OnErr result (self.new ≡ self.old) }
+    {
+        let path_copy = Path::of(self.alloc, path)?;
+        self.changes.reserve(1)?;
+        remove(&mut self.things, path.text);
+        self.changes
+            .push(Outside::Take { path: path_copy })
+            .unwrap();
+        Ok(())
+    }
+
+    /// Makes the call of that number fail; calls are counted from 0.
+    pub fn fail_at(&mut self, call: u64) -> Result<(), OutOfMemory>
+        ensures ok { OnOk result (self.new ≡ record self.old { failing = self.old.failing ++ call ∷ [] }) }
+        ensures err { OnErr result (self.new ≡ self.old) }
+    {
+        self.failing.push(call)?;
+        Ok(())
+    }
+
+    /// What the tree was asked so far, the first call first.
+    pub fn asked(&self) -> &[Asked]
+        ensures { result.now ≡ self.now.asked }
+    {
+        self.asked.as_slice()
+    }
+
+    // Counts a call, and fails where it was told to.
+    fn begin(&mut self) -> Result<(), Failed>
+        ensures counted { self.new ≡ begun self.old }
+        ensures due { is_ok result ≡ not (is_due self.old) }
+        ensures cause { HasCause self.old.faults self.new.faults result (λ e. Unit {0}) }
+    {
+        let due = self.failing.as_slice().contains(&self.calls);
+        self.calls = risen(self.calls);
+        if due {
+            self.faults = risen(self.faults);
+            return Err(Failed);
+        }
+        Ok(())
+    }
+
+    fn look(&self, path: &str) -> Option<Stat>
+        ensures found { result ≡ stat_at (now (history_of self.now)) path.now }
+        ensures fit { IfSome result IsPlain }
+        ensures formed { AreFormed (history_of self.now) }
+    {
+        match self.things.get(path) {
+            Some(placed) => Some(stat_of(placed)),
+            None => None,
+        }
+    }
+}
