@@ -1,13 +1,12 @@
 -- What stands right in a directory.
-use Rattle.std.proofs.Common.{◌≡◌, ℕ, ◌+◌, ◌<◌, Bool, true, false, cond, ◌⊎◌, inl, inr, List, [], ◌∷◌, ◌++◌, length, Option, Some, None, refl, sym, ap, ◌∙◌, subst, arith, eqb, eqb-true, true≢false}
-use Rattle.std.specs.Str.{bytes_eq}
+use Rattle.std.proofs.Common.{◌≡◌, ℕ, ◌<◌, Bool, true, false, cond, ◌⊎◌, inl, inr, List, [], ◌∷◌, ◌++◌, length, Option, Some, None, refl, sym, ap, ◌∙◌, subst, eqb, eqb-true, true≢false}
 use Rattle.std.proofs.lemmas.Bool.{or_from}
 use Rattle.std.proofs.lemmas.List.{append_assoc}
 use Rattle.std.proofs.lemmas.Slice.Eq.{bytes_eq-Decides}
 use Rattle.hg_base.specs.PathText.{has_slash, is_component, is_path, joined, base_of, parent_of, is_same_dir, child_of, is_below}
 use Rattle.hg_base.proofs.Below.{below_joined, below_split, below_of_joined, below_name, below_length}
 use Rattle.hg_base.proofs.Components.{base_joined, parent_joined, joined_parent}
-use Rattle.hg_base.proofs.Paths.{path_base, path_base_plain, component_plain}
+use Rattle.hg_base.proofs.Paths.{path_base, path_base_plain}
 
 -- the test of directories is equality
 pub same_dir : (a b : Option (List ℕ)) → is_same_dir a b ≡ true → a ≡ b

@@ -1,10 +1,8 @@
 -- The pieces of a text: joined, cut, its directory and its name there.
-use Rattle.std.proofs.Common.{◌≡◌, ℕ, suc, ◌+◌, ◌-◌, ◌<◌, ◌≤◌, Bool, true, false, cond, ◌&&◌, not, ◌⊎◌, inl, inr, List, [], ◌∷◌, ◌++◌, length, Option, Some, None, refl, sym, ap, ◌∙◌, append_assoc, subst, arith, eqb, eqb-true, true≢false}
-use Rattle.std.specs.List.{slice_split, onto_first, list_any, list_all}
-use Rattle.std.proofs.lemmas.Bool.{and_parts, and_from, or_parts, or_from}
-use Rattle.std.proofs.lemmas.List.{length-append}
+use Rattle.std.proofs.Common.{◌≡◌, ℕ, ◌<◌, Bool, true, false, cond, not, List, [], ◌∷◌, ◌++◌, length, Option, Some, None, refl, sym, ap, ◌∙◌, append_assoc, arith, eqb, eqb-true}
+use Rattle.std.specs.List.{onto_first, list_all}
+use Rattle.std.proofs.lemmas.Bool.{or_parts}
 use Rattle.std.proofs.lemmas.List.Splits.{slice_split-cons_no, length-slice_split}
-use Rattle.std.proofs.lemmas.List.Folds.{list_all-append}
 use Rattle.hg_base.specs.PathText.{components, has_slash, joined, last_piece, before_rest, joined_pieces, all_but_last, base_of, parent_of}
 
 -- every text has a piece

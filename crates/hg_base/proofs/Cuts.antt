@@ -1,14 +1,13 @@
 -- Where a text is cut at a slash, and what its pieces are then.
-use Rattle.std.proofs.Common.{◌≡◌, ◌≢◌, ℕ, suc, ◌+◌, ◌-◌, ◌<◌, ◌≤◌, Bool, true, false, cond, not, List, [], ◌∷◌, ◌++◌, length, get_or, take, drop, Option, Some, None, refl, sym, ap, ◌∙◌, arith, eqb, lit<, Bor, rules, take-append-drop}
-use Rattle.std.specs.List.{list_any, slice_get}
+use Rattle.std.proofs.Common.{◌≡◌, ◌≢◌, ℕ, suc, ◌+◌, ◌<◌, ◌≤◌, Bool, true, false, cond, List, [], ◌∷◌, ◌++◌, length, get_or, take, drop, Option, Some, None, refl, sym, ap, ◌∙◌, arith, eqb, lit<, Bor, take-append-drop}
 use Rattle.std.specs.Option.{MatchOption}
-use Rattle.std.specs.Str.Pattern.{RFindsChar, HasCharAt}
+use Rattle.std.specs.Str.Pattern.{RFindsChar}
 use Rattle.std.specs.Prelude.{codes}
 use Rattle.std.specs.Str.{bytes_eq}
 use Rattle.std.proofs.lemmas.List.{length-append}
-use Rattle.std.proofs.lemmas.Bool.{or_parts, or_from, ne_eqb}
+use Rattle.std.proofs.lemmas.Bool.{or_from, ne_eqb}
 use Rattle.std.proofs.lemmas.Str.Pattern.{IsSplitOnceResult, split_parts, NoCharPasses-char, drop_at_char}
-use Rattle.hg_base.specs.PathText.{has_slash, components, is_component, is_reserved, base_of, parent_of, joined, is_same_dir, child_of}
+use Rattle.hg_base.specs.PathText.{has_slash, components, is_component, is_reserved, base_of, parent_of, is_same_dir, child_of}
 use Rattle.hg_base.specs.PathRefusal.{bad_place}
 use Rattle.hg_base.specs.Cut.{IsCut, IsLastCut}
 use Rattle.hg_base.proofs.Components.{components_joined, components_name, base_joined, parent_joined}

@@ -1,6 +1,6 @@
 -- Counts of failures over several calls of one device.
-use Rattle.std.proofs.Common.{◌≡◌, ℕ, ◌+◌, ◌-◌, ◌<◌, ◌≤◌, ◌^◌, min, refl, sym, ap, ◌∙◌, subst, arith, Ok, Err, le_trans}
-use Rattle.std.specs.Prelude.{Result, IfErr, OnOk}
+use Rattle.std.proofs.Common.{◌≡◌, ℕ, ◌-◌, ◌<◌, ◌≤◌, ◌^◌, refl, sym, subst, arith, Ok, Err, le_trans}
+use Rattle.std.specs.Prelude.{Result}
 use Rattle.hg_base.specs.Fault.{Rose, IsSteady, HasCause}
 
 -- a count that rose early stays risen, and one that rises late rose since before

@@ -1,16 +1,16 @@
 -- Texts that are paths, and what their directories and names are.
-use Rattle.std.proofs.Common.{◌≡◌, ℕ, suc, ◌+◌, ◌-◌, ◌<◌, ◌≤◌, Bool, true, false, cond, ◌&&◌, ◌||◌, not, List, [], ◌∷◌, ◌++◌, length, Option, Some, None, refl, sym, ap, ◌∙◌, subst, arith, eqb, ltb, leb, ltb-false, le-leb, leb-true, le-ltb, ne_eqb, true≢false}
+use Rattle.std.proofs.Common.{◌≡◌, ℕ, ◌+◌, ◌<◌, ◌≤◌, Bool, true, false, cond, ◌&&◌, ◌||◌, not, List, [], ◌∷◌, ◌++◌, length, Option, Some, None, refl, sym, ap, ◌∙◌, arith, eqb, ltb, leb, ltb-false, le-leb, leb-true, le-ltb, ne_eqb, true≢false}
 use Rattle.std.specs.Prelude.{◌==◌, codes}
-use Rattle.std.specs.List.{list_any, list_all}
+use Rattle.std.specs.List.{list_all}
 use Rattle.std.specs.Str.{bytes_eq}
 use Rattle.std.proofs.lemmas.Bool.{and_parts, and_from, or_parts, not-true, not_from_false}
 use Rattle.std.proofs.lemmas.List.{length-append}
 use Rattle.std.proofs.lemmas.List.Folds.{list_all-append}
-use Rattle.hg_base.specs.PathText.{components, is_component, is_reserved, is_path, has_slash, has_nul, joined, last_piece, base_of, parent_of, is_below}
+use Rattle.hg_base.specs.PathText.{components, is_component, is_reserved, is_path, has_slash, has_nul, last_piece, base_of, is_below}
 use Rattle.hg_base.specs.PathRefusal.{bad_place, component_refusal, refusal}
 use Rattle.hg_base.specs.declared.path.PathFault.{PathFault}
 use Rattle.hg_base.specs.declared.path.PathFault.TheVariants as a_fault
-use Rattle.hg_base.proofs.Components.{components_some, components_joined, components_name, components_more, joined_parent}
+use Rattle.hg_base.proofs.Components.{components_some, components_joined, components_name, components_more}
 use Rattle.hg_base.proofs.Below.{below_split}
 
 -- what a path is, fact by fact

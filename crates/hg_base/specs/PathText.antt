@@ -1,5 +1,5 @@
 -- The paths of a working copy, as Mercurial names them: components joined by `/`, relative to the root.
-use Rattle.std.specs.Prelude.{ℕ, ◌≡◌, ◌+◌, if◌then◌else◌, Bool, true, false, not, ◌&&◌, ◌||◌, List, [], ◌∷◌, ◌++◌, length, Option, Some, None, codes, ◌==◌, nat_le}
+use Rattle.std.specs.Prelude.{ℕ, if◌then◌else◌, Bool, true, false, not, ◌&&◌, ◌||◌, List, [], ◌∷◌, ◌++◌, length, Option, Some, None, codes, ◌==◌, nat_le}
 use Rattle.std.specs.Str.{bytes_eq}
 use Rattle.std.specs.List.{slice_split, list_any, list_all}
 

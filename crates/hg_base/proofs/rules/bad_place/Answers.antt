@@ -1,4 +1,4 @@
-use Rattle.std.proofs.Common.{◌≡◌, ◌∙◌, arith, rules}
+use Rattle.std.proofs.Common.{◌∙◌, arith, rules}
 use Rattle.hg_base.proofs.Cuts.{bad_more, cut_length}
 use Rattle.hg_base.proofs.rules.bad_place.Goals as goal
 

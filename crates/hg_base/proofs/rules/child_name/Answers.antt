@@ -1,4 +1,4 @@
-use Rattle.std.proofs.Common.{◌≡◌, None, Some, List, ℕ, Option, Bor, refl, rules}
+use Rattle.std.proofs.Common.{None, Some, refl, rules}
 use Rattle.hg_base.proofs.Cuts.{child_found, child_missing, base_cut, parent_cut, base_plain, parent_plain}
 use Rattle.hg_base.proofs.rules.child_name.Goals as goal
 

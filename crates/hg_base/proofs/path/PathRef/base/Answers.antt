@@ -1,4 +1,4 @@
-use Rattle.std.proofs.Common.{◌≡◌, List, ℕ, subst}
+use Rattle.std.proofs.Common.{List, ℕ, subst}
 use Rattle.std.specs.Prelude.{IsTrue}
 use Rattle.hg_base.specs.PathText.{is_component}
 use Rattle.hg_base.proofs.Cuts.{base_cut, base_plain}
