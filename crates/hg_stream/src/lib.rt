@@ -11,8 +11,11 @@
 //! ```
 #![tactic(auto)]
 
+mod calls;
+mod memory;
 mod sink;
 mod source;
 
+pub use memory::{MemSink, MemSource};
 pub use sink::{Sink, put_all};
 pub use source::Source;
