@@ -13,9 +13,11 @@
 
 mod calls;
 mod memory;
+mod outside;
 mod sink;
 mod source;
 
 pub use memory::{MemSink, MemSource};
+pub use outside::{ReaderSource, WriterSink};
 pub use sink::{Sink, put_all};
 pub use source::Source;
