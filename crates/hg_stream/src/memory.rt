@@ -1,6 +1,8 @@
 // Streams in memory: a sink that keeps what is put into it, and a source of given bytes.
-ghost use Rattle.std.specs.Prelude.{◌≡◌, ◌<◌, List, [], ◌∷◌, ◌++◌, Some, IfOk, OnOk, OnErr};
-ghost use Rattle.hg_stream.specs.Memory.{fresh};
+ghost use Rattle.std.specs.Prelude.{◌≡◌, ◌<◌, ◌≤◌, ◌↔◌, false, List, [], ◌∷◌, ◌++◌, length, take, drop, min, Some, IfOk, IfSome, OnOk, OnErr, is_err};
+ghost use Rattle.hg_base.specs.Fault.{HasCause};
+ghost use Rattle.hg_stream.specs.Memory.{fresh, is_due, answered, failed};
+ghost use Rattle.hg_stream.specs.Stream.{Takes};
 
 use crate::calls::Calls;
 use crate::sink::Sink;
@@ -68,7 +70,16 @@ impl Sink for MemSink {
 
     ghost faults = { λ s. s.faults };
 
-    fn put(&mut self, piece: &[u8]) -> Result<usize, Failed> {
+    fn put(&mut self, piece: &[u8]) -> Result<usize, Failed>
+        ensures least { IfOk result (λ n. 0 < length piece.now → 0 < n) }
+        ensures cause { HasCause self.old.faults self.new.faults result (λ e. Unit {0}) }
+
+        // A call that was told to fail fails, and else only one that finds no memory. What it takes is all that it may.
+        ensures due { OnOk result (is_due self.old ≡ false) }
+        ensures answer { IfOk result (λ n. n ≡ min (length piece.now) self.old.most) }
+        ensures answered { IfOk result (λ n. self.new ≡ answered (self.old.bytes ++ take n piece.now) self.old) }
+        ensures failed { OnErr result (self.new ≡ failed self.old) }
+    {
         self.calls.begin()?;
         let n = piece.len().min(self.most);
         let front = piece.split_at(n).0;
@@ -133,7 +144,17 @@ impl Source for MemSource {
 
     ghost faults = { λ s. s.faults };
 
-    fn take(&mut self, buf: &mut [u8]) -> Result<usize, Failed> {
+    fn take(&mut self, buf: &mut [u8]) -> Result<usize, Failed>
+        ensures taken { IfOk result (λ n. Takes self.old.bytes self.new.bytes buf.old buf.new n) }
+        ensures end { IfOk result (λ n. 0 < length buf.old → n ≡ 0 ↔ self.old.bytes ≡ []) }
+        ensures cause { HasCause self.old.faults self.new.faults result (λ e. Unit {0}) }
+
+        // A call fails exactly where it was told to. What it gives is all that it may.
+        ensures due { is_err result ≡ is_due self.old }
+        ensures answer { IfOk result (λ n. n ≡ min (length self.old.bytes) (min (length buf.old) self.old.most)) }
+        ensures answered { IfOk result (λ n. self.new ≡ answered (drop n self.old.bytes) self.old) }
+        ensures failed { OnErr result (self.new ≡ failed self.old) }
+    {
         self.calls.begin()?;
         let left = self.bytes.as_slice().split_at(self.at).1;
         let n = left.len().min(buf.len()).min(self.most);
