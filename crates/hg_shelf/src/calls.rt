@@ -43,6 +43,7 @@ impl Calls {
         ensures failing { self.new.failing.items ≡ self.old.failing.items }
         ensures made { self.new.made ≡ min (self.old.made + 1) (2 ^ 64 - 1) }
         ensures cause { HasCause self.old.faults self.new.faults result (λ e. Unit {0}) }
+        ensures faults { OnErr result (self.new.faults ≡ min (self.old.faults + 1) (2 ^ 64 - 1)) }
     {
         let call = self.made;
         self.made = call.saturating_add(1);
@@ -51,15 +52,5 @@ impl Calls {
             return Err(Failed);
         }
         Ok(())
-    }
-
-    // Counts a failure of the call that was begun last.
-    pub(crate) fn fail(&mut self) -> Failed
-        ensures later { self.old.faults ≤ self.new.faults }
-        ensures rose { Rose self.old.faults self.new.faults }
-        ensures failing { self.new.failing.items ≡ self.old.failing.items }
-    {
-        self.faults = risen(self.faults);
-        Failed
     }
 }

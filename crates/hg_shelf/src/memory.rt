@@ -1,7 +1,10 @@
 // A shelf in memory: the files as they are now, beside the changes that made them.
-ghost use Rattle.std.specs.Prelude.{◌≡◌, ℕ, ◌-◌, List, [], ◌∷◌, ◌++◌, length, take, drop, min, OnOk, OnErr};
+ghost use Rattle.std.specs.Prelude.{◌≡◌, ℕ, ◌-◌, List, [], ◌∷◌, ◌++◌, length, take, drop, min, IfOk, OnOk, OnErr, is_err};
 ghost use Rattle.std.specs.BTreeMap.{get_by_text};
-ghost use Rattle.hg_shelf.specs.Memory.{history_of, with_file};
+ghost use Rattle.hg_base.specs.Fault.{HasCause};
+ghost use Rattle.hg_shelf.specs.History.{now};
+ghost use Rattle.hg_shelf.specs.Memory.{history_of, with_file, fresh, is_due, answered, failed};
+ghost use Rattle.hg_shelf.specs.Reads.{size_of, ReadsBytes, IsWithin};
 ghost use Rattle.hg_shelf.specs.declared.outside.Outside.TheVariants as a_change;
 
 use crate::calls::Calls;
@@ -41,7 +44,7 @@ impl Model for MemShelf {
 impl MemShelf {
     /// A shelf without files.
     pub fn new(alloc: Global) -> MemShelf
-        ensures { result ≡ record { changes = []; failing = []; calls = 0; faults = 0 } }
+        ensures { result ≡ fresh }
     {
         MemShelf {
             alloc,
@@ -80,7 +83,14 @@ impl Shelf for MemShelf {
 
     ghost faults = { λ s. s.faults };
 
-    fn size(&mut self, name: &str) -> Result<Option<u64>, Failed> {
+    // A call fails exactly where it was told to, and only counts.
+    fn size(&mut self, name: &str) -> Result<Option<u64>, Failed>
+        ensures found { IfOk result (λ size. size ≡ size_of ((now (history_of self.old)).files name.now)) }
+        ensures cause { HasCause self.old.faults self.new.faults result (λ e. Unit {0}) }
+        ensures due { is_err result ≡ is_due self.old }
+        ensures answered { OnOk result (self.new ≡ answered self.old) }
+        ensures failed { OnErr result (self.new ≡ failed self.old) }
+    {
         self.calls.begin()?;
         Ok(
             self.files
@@ -89,7 +99,14 @@ impl Shelf for MemShelf {
         )
     }
 
-    fn read_at(&mut self, name: &str, place: u64, buf: &mut [u8]) -> Result<Got, Failed> {
+    fn read_at(&mut self, name: &str, place: u64, buf: &mut [u8]) -> Result<Got, Failed>
+        ensures found { IfOk result (λ got. ReadsBytes ((now (history_of self.old)).files name.now) place buf.old buf.new got) }
+        ensures fit { IfOk result (λ got. IsWithin (length buf.old) got) }
+        ensures cause { HasCause self.old.faults self.new.faults result (λ e. Unit {0}) }
+        ensures due { is_err result ≡ is_due self.old }
+        ensures answered { OnOk result (self.new ≡ answered self.old) }
+        ensures failed { OnErr result (self.new ≡ failed self.old) }
+    {
         self.calls.begin()?;
         match self.files.get(name) {
             Some(bytes) => Ok(Got::Bytes(fill(past(bytes.as_bytes(), place), buf))),
