@@ -1,5 +1,5 @@
 -- A stream held in memory.
-use Rattle.std.specs.Prelude.{ℕ, ◌+◌, ◌-◌, ◌^◌, min, Bool, List, [], ◌++◌, ◌==◌, take, drop}
+use Rattle.std.specs.Prelude.{ℕ, ◌+◌, ◌-◌, ◌^◌, min, Bool, List, [], ◌==◌}
 use Rattle.std.specs.List.{list_any}
 
 -- the bytes that were put into a sink, or those that are left in a source; how many go at each call at most; the calls that are to

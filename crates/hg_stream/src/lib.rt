@@ -21,3 +21,6 @@ pub use memory::{MemSink, MemSource};
 pub use outside::{ReaderSource, WriterSink};
 pub use sink::{Sink, put_all};
 pub use source::Source;
+
+#[cfg(test)]
+mod tests;

@@ -17,7 +17,9 @@ pub struct ReaderSource<R: Read + Drop> {
 }
 
 impl<R: Read + Drop> ReaderSource<R> {
-    pub fn new(reader: R) -> ReaderSource<R> {
+    pub fn new(reader: R) -> ReaderSource<R>
+        ensures { result.faults ≡ 0 }
+    {
         ReaderSource { reader, faults: 0 }
     }
 }
@@ -58,7 +60,9 @@ pub struct WriterSink<W: Write + Drop> {
 }
 
 impl<W: Write + Drop> WriterSink<W> {
-    pub fn new(writer: W) -> WriterSink<W> {
+    pub fn new(writer: W) -> WriterSink<W>
+        ensures { result.faults ≡ 0 }
+    {
         WriterSink { writer, faults: 0 }
     }
 }
