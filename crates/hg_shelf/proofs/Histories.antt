@@ -1,5 +1,5 @@
 -- Histories over spans: what holds of two spans holds of both, and a quiet span has quiet parts.
-use Rattle.std.proofs.Common.{◌≡◌, ℕ, ◌≤◌, ◌<◌, List, Option, refl, sym, ap, ◌∙◌, arith, inl, inr}
+use Rattle.std.proofs.Common.{◌≡◌, ℕ, refl, ap, ◌∙◌, arith, inl, inr}
 use Rattle.std.proofs.lemmas.Bool.{cases_lt}
 use Rattle.hg_shelf.specs.History.{History, Moment, Stays, Extends, Passes, IsQuiet, label, now}
 

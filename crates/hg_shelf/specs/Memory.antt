@@ -1,5 +1,5 @@
 -- A shelf in memory: its history is the replay of what others did.
-use Rattle.std.specs.Prelude.{ℕ, ◌+◌, ◌-◌, ◌^◌, ◌==◌, min, Bool, true, false, if◌then◌else◌, List, [], ◌∷◌, length, take, Option, Some, None, bytes_eq}
+use Rattle.std.specs.Prelude.{ℕ, ◌+◌, ◌-◌, ◌^◌, ◌==◌, min, Bool, true, false, if◌then◌else◌, List, [], ◌∷◌, length, take, Some, None, bytes_eq}
 use Rattle.std.specs.List.{list_any}
 use Rattle.hg_shelf.specs.History.{Files, Moment, History, others}
 use Rattle.hg_shelf.specs.declared.outside.Outside.{Outside}

@@ -22,3 +22,6 @@ mod shelf;
 pub use memory::MemShelf;
 pub use outside::Outside;
 pub use shelf::Shelf;
+
+#[cfg(test)]
+mod tests;
