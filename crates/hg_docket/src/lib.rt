@@ -27,6 +27,7 @@ mod docket;
 mod fault;
 mod ident;
 mod name;
+mod number;
 mod writing;
 
 pub use data_name::DataName;
