@@ -1,7 +1,7 @@
 //! The letters, in the order in which a listing groups them.
 
 /// The state of a path, as the help topic `status` names it.
-#[derive(Clone, Copy, Debug, PartialEq, Eq, PartialOrd, Ord)]
+#[derive(Clone, Copy, Debug, PartialEq, Eq)]
 pub enum Letter {
     /// Modified.
     M,

@@ -2,3 +2,4 @@ pub mod Among
 pub mod Unknowns
 pub mod Rooms
 pub mod Quiet
+pub mod Ascending

@@ -1,5 +1,5 @@
 -- The steps of a listing over a span in which nothing changes, in the words of the moment at its start.
-use Rattle.std.proofs.Common.{ℕ, ◌≡◌, ◌+◌, ◌<◌, Bool, true, false, cond, List, length, take, get_or, Option, Some, None, is_some, IsTrue, option_map, refl, sym, ap, ◌∙◌, subst, inl, inr, ◌⊎◌, arith, ◌++◌, ◌∷◌, []}
+use Rattle.std.proofs.Common.{ℕ, ◌≡◌, ◌+◌, ◌<◌, Bool, true, false, cond, List, length, take, map, get_or, Option, Some, None, is_some, IsTrue, option_map, refl, sym, ap, ◌∙◌, subst, inl, inr, ◌⊎◌, arith, ◌++◌, ◌∷◌, []}
 use Rattle.hg_base.specs.declared.stat.Stat.{Stat}
 use Rattle.hg_base.specs.declared.stat.Kind.TheVariants as a_kind
 use Rattle.hg_base.specs.PathText.{joined}
@@ -12,8 +12,12 @@ use Rattle.hg_tree.specs.declared.thing.Thing.TheVariants as a_thing
 use Rattle.hg_tree.proofs.Histories.{extends_trans, now_same, quiet_first, quiet_second}
 use Rattle.hg_compare.specs.Tracked.{is_file_or_link, is_file_or_link_thing}
 use Rattle.hg_flat.specs.Kept.{Kept}
-use Rattle.hg_flat.specs.Listing.{IsUnknownAmong, IsUnknownFrom, IsUnknownIn, Lists, holds_repository, unknown_row}
+use Rattle.hg_flat.specs.Listing.{added_row, IsUnknownAmong, IsUnknownFrom, IsUnknownIn, Lists, holds_repository, unknown_row}
 use Rattle.hg_flat.specs.declared.row.Row.{Row}
+use Rattle.hg_flat.specs.declared.kept.FlatRow.{FlatRow}
+use Rattle.std.specs.Borrow.{Bor}
+use Rattle.std.specs.Map.Iter.{deref}
+use Rattle.std.proofs.lemmas.List.{append_assoc, map-append}
 use Rattle.hg_flat.proofs.Unknowns.{among_in, among_more, dir_from, file_from, nested_in, no_dir_in, nothing_from}
 
 -- a path of a well-formed moment, and what a stat shows there
@@ -142,3 +146,19 @@ each_more kept old mid new dir names i name text path a b c first second quiet b
     among_more kept (now old) dir names i name a b c below (sym is) (before early)
     (subst (λ (p : List ℕ). Lists (IsUnknownFrom kept (now old) p) b c) (at ∙ ap (joined dir) same)
      (subst (λ (m : Moment). Lists (IsUnknownFrom kept m path) b c) (now_same old mid first early) one))
+
+-- ---- the rows of paths with an entry
+
+added_map : (m : Moment) (yielded : List (Bor FlatRow)) (kept : Bor FlatRow) (a b c : List Row) → b ≡ a ++ map (added_row m) (map deref yielded) → c ≡ b ++ added_row m kept.now ∷ []
+    → c ≡ a ++ map (added_row m) (map deref (yielded ++ kept ∷ []))
+added_map m yielded kept a b c before one =
+    one ∙ ap (λ (l : List Row). l ++ added_row m kept.now ∷ []) before ∙ append_assoc a (map (added_row m) (map deref yielded)) (added_row m kept.now ∷ [])
+    ∙ ap (λ (l : List Row). a ++ l) (sym (ap (map (added_row m)) (map-append deref yielded (kept ∷ [])) ∙ map-append (added_row m) (map deref yielded) (map deref (kept ∷ []))))
+
+pub added_more : (old mid new : History) (yielded : List (Bor FlatRow)) (kept : Bor FlatRow) (a b c : List Row) → Extends old mid → Extends mid new
+    → (IsQuiet old mid → b ≡ a ++ map (added_row (now old)) (map deref yielded)) → (IsQuiet mid new → c ≡ b ++ added_row (now mid) kept.now ∷ [])
+    → IsQuiet old new → c ≡ a ++ map (added_row (now old)) (map deref (yielded ++ kept ∷ []))
+added_more old mid new yielded kept a b c first second before one quiet =
+    let early = quiet_first old mid new first second quiet in
+    added_map (now old) yielded kept a b c (before early)
+    (subst (λ (m : Moment). c ≡ b ++ added_row m kept.now ∷ []) (now_same old mid first early) (one (quiet_second old mid new first second quiet)))

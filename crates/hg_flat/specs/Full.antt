@@ -3,15 +3,13 @@
 use Rattle.std.specs.Prelude.{ℕ, ◌≡◌, ◌⊎◌, Bool, true, false, List, ◌++◌, Option, Some, None, IsTrue, is_some, codes}
 use Rattle.std.specs.List.{Contains}
 use Rattle.std.specs.List.Sorted.{IsStrictlySortedBy}
-use Rattle.std.specs.Ordering.{nat_cmp, ordering_then}
-use Rattle.std.specs.Cmp.Lexicographic.{slice_cmp}
-use Rattle.std.specs.declared.cmp.Ordering.{Ordering}
 use Rattle.hg_base.specs.PathText.{is_below, joined}
 use Rattle.hg_entry.specs.Table.{Flat, Marks}
 use Rattle.hg_tree.specs.Moment.{Moment, is_dir}
 use Rattle.hg_compare.specs.Tracked.{ParentRow, tracked_letter, is_file_or_link}
 use Rattle.hg_compare.specs.declared.letter.Letter.{Letter}
 use Rattle.hg_compare.specs.declared.letter.Letter.TheVariants as a_letter
+use Rattle.hg_flat.specs.Order.{row_order}
 use Rattle.hg_flat.specs.declared.row.Row.{Row}
 use Rattle.hg_flat.specs.declared.row.Wanted.{Wanted}
 
@@ -60,20 +58,6 @@ null_rows path = None
 -- where there is no ignore pattern, no path is ignored
 abbrev pub nothing_ignored : List ℕ → Type 0
 nothing_ignored path = ⊥
-
--- the place of a letter's group in a listing: M A R ! ? I C
-abbrev pub group_of : Letter → ℕ
-group_of a_letter.M = 0
-group_of a_letter.A = 1
-group_of a_letter.R = 2
-group_of a_letter.Gone = 3
-group_of a_letter.Unknown = 4
-group_of a_letter.I = 5
-group_of a_letter.C = 6
-
--- rows go by the groups of their letters, and in a group by the bytes of their paths
-abbrev pub row_order : Row → Row → Ordering
-row_order a b = ordering_then (nat_cmp (group_of a.letter) (group_of b.letter)) (slice_cmp nat_cmp a.path b.path)
 
 -- a row tells a wanted letter of its path, and what the path was copied from
 abbrev pub IsTold : Flat → Moment → (List ℕ → Option ParentRow) → (List ℕ → Type 0) → Wanted → Row → Type 0

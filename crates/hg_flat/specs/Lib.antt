@@ -2,4 +2,5 @@ pub mod Cause
 pub mod Full
 pub mod Kept
 pub mod Listing
+pub mod Order
 pub mod Shown

@@ -6,6 +6,7 @@ mod flat;
 mod kept;
 mod letter;
 mod listing;
+mod order;
 mod row;
 mod status;
 

@@ -10,7 +10,7 @@ use hg_base::{OutOfMemory, Path};
 use hg_compare::Letter;
 
 /// One line of a status: a path, its letter, and what it was copied from where that is recorded.
-#[derive(Debug, Drop, PartialEq, Eq, PartialOrd, Ord)]
+#[derive(Debug, Drop)]
 pub struct Row {
     pub letter: Letter,
     pub path: Path,
