@@ -1,7 +1,7 @@
 // The calls of a shelf in memory: how many were made, which are to fail, and how many failed.
-ghost use Rattle.std.specs.Prelude.{◌≡◌, ◌+◌, ◌-◌, ◌^◌, ◌≤◌, min, List, [], ◌∷◌, ◌++◌, OnOk, OnErr, is_err, ◌==◌};
+ghost use Rattle.std.specs.Prelude.{◌≡◌, ◌+◌, ◌-◌, ◌^◌, min, List, [], ◌∷◌, ◌++◌, OnOk, OnErr, is_err, ◌==◌};
 ghost use Rattle.std.specs.List.{list_any};
-ghost use Rattle.hg_base.specs.Fault.{HasCause, Rose};
+ghost use Rattle.hg_base.specs.Fault.{HasCause};
 
 use hg_base::{Failed, OutOfMemory, risen};
 use std::alloc::Global;
