@@ -80,6 +80,7 @@ less_all source a at [] sourced less = less
 less_all source a at (b ∷ rows) sourced less = (less_by source a b (row_order a b) at sourced.0 refl less.0, less_all source a at rows sourced.1 less.1)
 
 strictly : (source : List ℕ → Option (List ℕ)) (rows : List Row) → AllByRecursion (λ row. row.source ≡ source row.path) rows → IsStrictlySortedBy whole_order rows → IsStrictlySortedBy row_order rows
+unfolding IsStrictlySortedBy
 strictly source [] sourced sorted = sorted
 strictly source (a ∷ rows) sourced sorted = (less_all source a sourced.0 rows sourced.1 sorted.0, strictly source rows sourced.1 sorted.1)
 

@@ -3,3 +3,4 @@ pub mod Unknowns
 pub mod Rooms
 pub mod Quiet
 pub mod Ascending
+pub mod Fullness
