@@ -1,9 +1,11 @@
 pub mod After
 pub mod Children
+pub mod Faces
 pub mod Formed
 pub mod Histories
 pub mod Maps
 pub mod Parents
 pub mod Planting
 pub mod Spans
+pub mod Stable
 pub mod Times
