@@ -1,5 +1,5 @@
 -- The law of faces: a time that is shown again is of the same thing, where times are honest.
-use Rattle.std.proofs.Common.{ℕ, zero, suc, ◌≡◌, ◌+◌, ◌-◌, ◌<◌, ◌≤◌, ◌⊎◌, inl, inr, List, Option, Some, None, option_map, refl, sym, ap, ◌∙◌, subst, arith}
+use Rattle.std.proofs.Common.{ℕ, zero, suc, ◌≡◌, ◌+◌, ◌-◌, ◌<◌, ◌≤◌, inl, inr, List, Option, Some, None, option_map, refl, sym, ap, ◌∙◌, subst, arith}
 use Rattle.std.specs.Prelude.{◌≢◌, ◌<ℤ◌, ℤ}
 use Rattle.std.specs.Cmp.{int_chain}
 use Rattle.std.specs.Int.Signed.{<ℤ_irrefl}
@@ -10,7 +10,7 @@ use Rattle.hg_tree.specs.declared.thing.Thing.{Thing}
 use Rattle.hg_tree.specs.declared.thing.Thing.TheVariants as a_thing
 use Rattle.hg_tree.specs.declared.thing.Placed.{Placed}
 use Rattle.hg_tree.specs.Moment.{Moment, stat_at, stat_of}
-use Rattle.hg_tree.specs.History.{History, Extends}
+use Rattle.hg_tree.specs.History.{History}
 use Rattle.hg_tree.specs.Honest.{IsBefore, IsAtMost, Face, face, face_of, face_with, has_name, Shows, IsHonest, LawOfFaces, HonestPast}
 use Rattle.hg_tree.proofs.Stable.{stable_face}
 

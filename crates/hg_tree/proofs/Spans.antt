@@ -11,8 +11,8 @@ pub passes_trans : (a b c : History) → Passes a b → Passes b c → Passes a 
 passes_trans a b c p q = record {
   past = extends_trans a b c p.past q.past;
   by_others = λ k from upto.
-      elim (cases_lt k b.last) [
-        | inl below ↦ q.past.who k below ∙ p.by_others k from below
-        | inr above ↦ q.by_others k above upto
-      ];
+    elim (cases_lt k b.last) [
+      inl below ↦ q.past.who k below ∙ p.by_others k from below
+    | inr above ↦ q.by_others k above upto
+    ];
 }

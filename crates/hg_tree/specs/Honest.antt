@@ -1,5 +1,5 @@
 -- Honest times: a time that is shown again, and was in the past when it was shown first, is of the same thing.
-use Rattle.std.specs.Prelude.{ℕ, ◌≡◌, ◌≢◌, ◌+◌, ◌<◌, ◌≤◌, ◌<ℤ◌, ◌⊎◌, Bool, false, ◌&&◌, List, [], Option, Some, None, is_some}
+use Rattle.std.specs.Prelude.{ℕ, ◌≡◌, ◌≢◌, ◌+◌, ◌<◌, ◌≤◌, ◌<ℤ◌, ◌⊎◌, Bool, ◌&&◌, List, [], Option, Some, None, is_some}
 use Rattle.hg_base.specs.PathText.{is_component, joined}
 use Rattle.hg_base.specs.declared.time.Time.{Time}
 use Rattle.hg_base.specs.declared.stat.Kind.{Kind}
