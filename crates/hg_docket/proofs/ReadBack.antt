@@ -3,13 +3,13 @@ use Rattle.std.proofs.Common.{◌≡◌, ℕ, ◌+◌, ◌-◌, ◌<◌, ◌≤�
 use Rattle.std.specs.List.{list_all}
 use Rattle.std.specs.Int.{w32, to_be_bytes, from_be_bytes}
 use Rattle.std.proofs.lemmas.List.{take_at, drop_at, drop-drop, get_or-drop, length-append, length-drop}
-use Rattle.std.proofs.lemmas.Bool.Decides.{nat_tests}
 use Rattle.std.proofs.lemmas.Nat.{from_be_bytes-to_be_bytes_4}
 use Rattle.hg_docket.specs.Docket.{Contents, docket_of, docket_refusal, marker, empty_docket, fields_in, number_at, name_len, name_in, needed_len, name_refusal, bytes_refusal}
 use Rattle.hg_docket.specs.Written.{bytes_of, head_of, IsSized, is_writable, ReadsAs}
 use Rattle.hg_docket.specs.Name.{is_name, is_name_byte, foreign_place}
 use Rattle.hg_docket.proofs.Ascii.{name_parts}
 use Rattle.hg_docket.proofs.Foreign.{foreign_none}
+use Rattle.hg_docket.proofs.Tests.{not_zero, chosen, both_hold, not_less}
 
 -- what stands behind the ignore hash
 after_hash : Contents → List ℕ → List ℕ
@@ -110,13 +110,6 @@ length_is d rest sized =
     let tail : length (after_hash d rest) ≡ 5 + length (d.id ++ rest) = omega arith in
     omega (arith, behind, tail, length-append d.id rest)
 
-not_zero : (n : ℕ) → 0 < n → (n == 0) ≡ false
-not_zero n h = grind (arith, nat_tests)
-
-chosen : {A : Type 0} (t : Bool) (x y z : A) → t ≡ false → y ≡ z → cond t x y ≡ z
-chosen true x y z e same = absurd cc
-chosen false x y z e same = same
-
 -- each field is read as it was written
 fields_back : (d : Contents) (rest : List ℕ) → IsSized d → fields_in (bytes_of d ++ rest) ≡ d
 fields_back d rest sized =
@@ -136,13 +129,6 @@ fields_back d rest sized =
 -- what is read is the docket
 pub contents_back : (d : Contents) (rest : List ℕ) → IsSized d → docket_of (bytes_of d ++ rest) ≡ d
 contents_back d rest sized = chosen (length (bytes_of d ++ rest) == 0) empty_docket (fields_in (bytes_of d ++ rest)) d (not_zero (length (bytes_of d ++ rest)) (omega (arith, length_is d rest sized))) (fields_back d rest sized)
-
-both_hold : (a b : Bool) → (a && b) ≡ true → (a ≡ true) × (b ≡ true)
-both_hold true b h = (refl, h)
-both_hold false b h = absurd cc
-
-not_less : (n m : ℕ) → m ≤ n → nat_lt n m ≡ false
-not_less n m h = grind (arith, nat_tests)
 
 -- an identifier that may be missing where nothing is used
 none_missing : (id : List ℕ) (used : ℕ) → (not (length id == 0) || used == 0) ≡ true → (length id == 0 && not (used == 0)) ≡ false

@@ -1,3 +1,4 @@
 pub mod Docket
 pub mod Name
+pub mod Number
 pub mod Written

@@ -26,10 +26,13 @@ mod data_name;
 mod docket;
 mod fault;
 mod ident;
+mod idents;
 mod name;
+mod number;
 mod writing;
 
 pub use data_name::DataName;
 pub use docket::Docket;
 pub use fault::DocketFault;
 pub use ident::Ident;
+pub use idents::Idents;

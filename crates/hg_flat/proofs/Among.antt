@@ -15,7 +15,7 @@ use Rattle.hg_base.proofs.Paths.{path_parts}
 use Rattle.hg_tree.specs.Moment.{Moment, AreFit, AreNames, IsFit, is_among, is_dir}
 use Rattle.hg_tree.specs.declared.thing.Placed.{Placed}
 use Rattle.hg_flat.specs.Full.{is_repository}
-use Rattle.hg_flat.specs.Listing.{is_from, is_inside}
+use Rattle.hg_flat.specs.Listing.{holds_repository, is_from, is_inside}
 
 -- a name among those that fit fits
 pub fit_of : (dir : Option (List ℕ)) (names : List (List ℕ)) (name : List ℕ) → AreFit dir names → is_among name names ≡ true → IsFit dir name
@@ -30,6 +30,10 @@ no_dir (Some placed) h = absurd (h refl)
 pub no_repository : (moment : Moment) (dir : List ℕ) (names : List (List ℕ)) → is_among (codes ".hg") names ≡ false → AreNames moment (Some dir) names → is_repository moment dir ≡ false
 no_repository moment dir names among are =
     no_dir (moment.things (joined (Some dir) (codes ".hg"))) (λ some. let there = are.all (codes ".hg") refl some in cc)
+
+pub not_nested : (moment : Moment) (dir : Option (List ℕ)) (this : List ℕ) (names : List (List ℕ)) → dir ≡ Some this → is_among (codes ".hg") names ≡ false → AreNames moment dir names → false ≡ holds_repository moment dir
+not_nested moment dir this names is among are =
+    sym (ap (holds_repository moment) is ∙ no_repository moment this names among (subst (λ (d : Option (List ℕ)). AreNames moment d names) is are))
 
 -- the first piece of a text, and what is behind it
 record First (text : List ℕ) : Type 0 where

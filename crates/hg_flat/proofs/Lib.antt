@@ -1,2 +1,4 @@
 pub mod Among
 pub mod Unknowns
+pub mod Rooms
+pub mod Quiet

@@ -49,6 +49,18 @@ wants wanted a_letter.Unknown = wanted.u
 wants wanted a_letter.I = wanted.i
 wants wanted a_letter.C = wanted.c
 
+-- what a status without options wants
+abbrev pub default_wanted : Wanted
+default_wanted = record { m = true; a = true; r = true; d = true; u = true; i = false; c = false }
+
+-- the null parent has no file
+abbrev pub null_rows : List ℕ → Option ParentRow
+null_rows path = None
+
+-- where there is no ignore pattern, no path is ignored
+abbrev pub nothing_ignored : List ℕ → Type 0
+nothing_ignored path = ⊥
+
 -- the place of a letter's group in a listing: M A R ! ? I C
 abbrev pub group_of : Letter → ℕ
 group_of a_letter.M = 0

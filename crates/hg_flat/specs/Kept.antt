@@ -1,10 +1,14 @@
 -- The rows that a dirstate keeps, and the maps that they stand for.
-use Rattle.std.specs.Prelude.{ℕ, ◌≡◌, Bool, true, false, List, Option, Some, None, option_map, IfSome}
+use Rattle.std.specs.Prelude.{ℕ, ◌≡◌, Bool, true, false, List, replicate, Option, Some, None, option_map, IfSome}
 use Rattle.hg_entry.specs.Entry.{EntryData, view}
 use Rattle.hg_entry.specs.Table.{Marks, marks_of}
 use Rattle.hg_entry.specs.Table as plain
 use Rattle.hg_entry.specs.declared.entry.Item.{Item}
 use Rattle.hg_flat.specs.declared.kept.FlatRow.{FlatRow}
+
+-- the parent of a working copy that has no commit
+abbrev pub null_parent : List ℕ
+null_parent = replicate 20 0
 
 -- what is kept of each path
 abbrev pub Kept : Type 0

@@ -7,9 +7,11 @@ mod kept;
 mod letter;
 mod listing;
 mod row;
+mod status;
 
 pub use fault::StatusFault;
 pub use flat::Flat;
 pub use hg_compare::Letter;
 pub use kept::FlatRow;
 pub use row::{Row, Rows, Wanted};
+pub use status::plain_status;

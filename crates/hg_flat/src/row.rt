@@ -42,6 +42,13 @@ impl Rows {
         }
     }
 
+    // These rows.
+    pub(crate) fn of(rows: Vec<Row>) -> Rows
+        ensures { result ≡ rows.items }
+    {
+        Rows { rows }
+    }
+
     /// Puts the row last.
     pub fn push(&mut self, item: Row) -> Result<(), OutOfMemory>
         ensures ok { OnOk result (self.new ≡ self.old ++ item ∷ []) }

@@ -2,7 +2,7 @@
 
 ghost use Rattle.std.specs.Prelude.{◌≡◌, ◌+◌, ◌≤◌, ◌<◌, ◌^◌, length, nat_le};
 ghost use Rattle.std.specs.Int.{w16, w32};
-ghost use Rattle.hg_node.specs.Node.{number_at, rec_of};
+ghost use Rattle.hg_node.specs.Node.{number_at, rec_of, bytes_of};
 
 /// A node as it lies in the data file (internals.dirstate-v2, "The data file format"), with the place where it stands.
 #[derive(Clone, Copy, Debug, PartialEq, Eq)]
@@ -58,6 +58,71 @@ impl Rec {
             seconds: u32_at(bytes, 36),
             nanos: u32_at(bytes, 40),
         }
+    }
+
+    /// The 44 bytes of the record; its place is not among them.
+    pub fn write(&self) -> [u8; 44]
+        ensures bytes { result ≡ bytes_of self.now }
+    {
+        let path_start = self.path_start.to_be_bytes();
+        let path_len = self.path_len.to_be_bytes();
+        let base_at = self.base_at.to_be_bytes();
+        let copy_start = self.copy_start.to_be_bytes();
+        let copy_len = self.copy_len.to_be_bytes();
+        let kids_start = self.kids_start.to_be_bytes();
+        let kids_count = self.kids_count.to_be_bytes();
+        let entries_below = self.entries_below.to_be_bytes();
+        let tracked_below = self.tracked_below.to_be_bytes();
+        let flags = self.flags.to_be_bytes();
+        let size = self.size.to_be_bytes();
+        let seconds = self.seconds.to_be_bytes();
+        let nanos = self.nanos.to_be_bytes();
+        [
+            path_start[0],
+            path_start[1],
+            path_start[2],
+            path_start[3],
+            path_len[0],
+            path_len[1],
+            base_at[0],
+            base_at[1],
+            copy_start[0],
+            copy_start[1],
+            copy_start[2],
+            copy_start[3],
+            copy_len[0],
+            copy_len[1],
+            kids_start[0],
+            kids_start[1],
+            kids_start[2],
+            kids_start[3],
+            kids_count[0],
+            kids_count[1],
+            kids_count[2],
+            kids_count[3],
+            entries_below[0],
+            entries_below[1],
+            entries_below[2],
+            entries_below[3],
+            tracked_below[0],
+            tracked_below[1],
+            tracked_below[2],
+            tracked_below[3],
+            flags[0],
+            flags[1],
+            size[0],
+            size[1],
+            size[2],
+            size[3],
+            seconds[0],
+            seconds[1],
+            seconds[2],
+            seconds[3],
+            nanos[0],
+            nanos[1],
+            nanos[2],
+            nanos[3],
+        ]
     }
 }
 

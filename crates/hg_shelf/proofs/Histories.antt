@@ -1,6 +1,7 @@
 -- Histories over spans: what holds of two spans holds of both, and a quiet span has quiet parts.
-use Rattle.std.proofs.Common.{◌≡◌, ℕ, ◌≤◌, ◌<◌, List, Option, refl, sym, ap, ◌∙◌, arith}
-use Rattle.hg_shelf.specs.History.{History, Moment, Stays, Extends, Passes, IsQuiet, Files, now}
+use Rattle.std.proofs.Common.{◌≡◌, ℕ, refl, ap, ◌∙◌, arith, inl, inr}
+use Rattle.std.proofs.lemmas.Bool.{cases_lt}
+use Rattle.hg_shelf.specs.History.{History, Moment, Stays, Extends, Passes, IsQuiet, label, now}
 
 pub stays_same : (m : Moment) → Stays m m
 stays_same m = record { shown = refl }
@@ -21,6 +22,16 @@ extends_trans a b c p q = record {
 
 pub passes_same : (h : History) → Passes h h
 passes_same h = record { past = extends_same h; ours = refl; by_others = λ k from to. absurd (omega (arith, from, to)) }
+
+pub passes_trans : (a b c : History) → Passes a b → Passes b c → Passes a c
+passes_trans a b c p q = record {
+  past = extends_trans a b c p.past q.past;
+  ours = q.ours ∙ p.ours;
+  by_others = λ k from to. elim (cases_lt k b.last) [
+    | inl before ↦ q.past.who k before ∙ p.by_others k from before
+    | inr behind ↦ q.by_others k behind to ∙ ap label p.ours
+  ];
+}
 
 pub quiet_first : (a b c : History) → Extends a b → Extends b c → IsQuiet a c → IsQuiet a b
 quiet_first a b c p q quiet = record { told = quiet.told; none = omega (arith, p.later, q.later, quiet.none) }

@@ -14,6 +14,14 @@
 //! ```
 #![tactic(auto)]
 
+mod calls;
+mod memory;
+mod outside;
 mod shelf;
 
+pub use memory::MemShelf;
+pub use outside::Outside;
 pub use shelf::Shelf;
+
+#[cfg(test)]
+mod tests;

@@ -1,5 +1,5 @@
 -- What a stream of bytes tells: the bytes that were put into it, or those that are left in it, where it tells them.
-use Rattle.std.specs.Prelude.{ℕ, ◌≡◌, List, [], ◌++◌, take, drop, Option, Some, None, option_map}
+use Rattle.std.specs.Prelude.{ℕ, ◌≡◌, List, ◌++◌, take, drop, Option, Some, None, option_map}
 
 -- the bytes of a sink grew by some more at the end
 abbrev pub Grown : Option (List ℕ) → Option (List ℕ) → List ℕ → Type 0

@@ -11,8 +11,16 @@
 //! ```
 #![tactic(auto)]
 
+mod calls;
+mod memory;
+mod outside;
 mod sink;
 mod source;
 
+pub use memory::{MemSink, MemSource};
+pub use outside::{ReaderSource, WriterSink};
 pub use sink::{Sink, put_all};
 pub use source::Source;
+
+#[cfg(test)]
+mod tests;

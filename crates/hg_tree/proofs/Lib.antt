@@ -6,6 +6,7 @@ pub mod Histories
 pub mod Maps
 pub mod Parents
 pub mod Planting
+pub mod Shown
 pub mod Spans
 pub mod Stable
 pub mod Times

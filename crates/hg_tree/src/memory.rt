@@ -1,13 +1,18 @@
 //! A working copy in memory, for tests.
 
-ghost use Rattle.std.specs.Prelude.{◌≡◌, ◌++◌, ◌∷◌, [], not, IsTrue, OnOk, OnErr, IfSome, is_ok};
+ghost use Rattle.std.specs.Prelude.{◌≡◌, ◌++◌, ◌∷◌, [], not, option_map, IsTrue, OnOk, OnErr, IfOk, IfSome, is_ok};
 ghost use Rattle.hg_base.specs.Fault.{HasCause};
 ghost use Rattle.hg_tree.specs.declared.asked.Outside.TheVariants as a_change;
-ghost use Rattle.hg_tree.specs.Moment.{IsPlain, is_short_thing, stat_at};
+ghost use Rattle.hg_tree.specs.declared.asked.Asked.TheVariants as an_ask;
+ghost use Rattle.hg_tree.specs.Moment.{AreFit, IsPlain, Lists, is_short_thing, stat_at};
 ghost use Rattle.hg_tree.specs.History.{AreFormed, now};
 ghost use Rattle.hg_tree.specs.Memory.{begun, history_of, is_due};
 
 use crate::asked::{Asked, Outside};
+use crate::device::Tree;
+use crate::fault::TreeFault;
+use crate::listing::{is_listed, names_in};
+use crate::name::Name;
 use crate::thing::{Placed, Thing, stat_of};
 use crate::things::{remove, settle};
 use hg_base::{Failed, OutOfMemory, Path, PathRef, Stat, Time, risen};
@@ -145,5 +150,70 @@ impl MemTree {
             Some(placed) => Some(stat_of(placed)),
             None => None,
         }
+    }
+
+    // Notes that a directory is listed.
+    fn note(&mut self, dir: Option<PathRef<'_>>) -> Result<(), OutOfMemory>
+        ensures ok { OnOk
+            result
+            (self.new ≡ record self.old { asked = self.old.asked ++ (an_ask.List (option_map (λ d. d.text.now) dir.entry)) ∷ [] }) }
+        ensures err { OnErr result (self.new ≡ self.old) }
+    {
+        let dir = copy_of(self.alloc, dir)?;
+        self.asked.push(Asked::List { dir })?;
+        Ok(())
+    }
+
+    fn names(
+        &self,
+        alloc: Global,
+        dir: Option<PathRef<'_>>,
+    ) -> Result<Option<Vec<Name>>, OutOfMemory>
+        ensures found { IfOk result (λ found. Lists (option_map (λ d. d.text.now) dir.entry) (option_map (λ v. v.items) found) (now (history_of self.now))) }
+        ensures fit { IfOk result (λ found. IfSome found (λ names. AreFit (option_map (λ d. d.text.now) dir.entry) names.items)) }
+        ensures formed { OnOk result (AreFormed (history_of self.now)) }
+    {
+        if !is_listed(&self.things, dir) {
+            return Ok(None);
+        }
+        let names = names_in(alloc, &self.things, dir)?;
+        Ok(Some(names))
+    }
+}
+
+fn copy_of(alloc: Global, dir: Option<PathRef<'_>>) -> Result<Option<Path>, OutOfMemory>
+    ensures { IfOk result (λ copy. copy ≡ option_map (λ d. d.text.now) dir.entry) }
+{
+    match dir {
+        Some(dir) => {
+            let path = Path::of(alloc, dir)?;
+            Ok(Some(path))
+        }
+        None => Ok(None),
+    }
+}
+
+impl Tree for MemTree {
+    ghost use Rattle.hg_tree.specs.Memory.{history_of};
+
+    ghost history = { history_of };
+
+    ghost faults = { λ m. m.faults };
+
+    fn stat(&mut self, path: PathRef<'_>) -> Result<Option<Stat>, Failed> {
+        self.begin()?;
+        Ok(self.look(path.text))
+    }
+
+    fn list(
+        &mut self,
+        alloc: Global,
+        dir: Option<PathRef<'_>>,
+    ) -> Result<Option<Vec<Name>>, TreeFault> {
+        let begun = self.begin();
+        self.note(dir)?;
+        begun?;
+        let names = self.names(alloc, dir)?;
+        Ok(names)
     }
 }

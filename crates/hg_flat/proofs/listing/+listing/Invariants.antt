@@ -1,14 +1,25 @@
-use Rattle.std.proofs.Common.{ℕ, ◌≡◌, ◌+◌, ◌-◌, ◌*◌, ◌≤◌, List, Option, Some, None, length, take, option_map, IsTrue}
+use Rattle.std.proofs.Common.{ℕ, ◌≡◌, ◌+◌, ◌-◌, ◌*◌, length, take, option_map}
+use Rattle.hg_tree.specs.History.{IsQuiet, Passes, now}
+use Rattle.hg_flat.specs.Listing.{IsUnknownAmong, Lists}
+use Rattle.hg_flat.specs.Shown.{kept_of}
+use Rattle.hg_flat.proofs.Rooms.{room}
 use Rattle.hg_flat.proofs.listing.+listing.Given as goal
 
+-- a listing goes down: each path is longer than the directory in which it stands
 abbrev pub decreases-look : goal.decreases-look
-decreases-look g l = ?
+decreases-look g l = 3 * (65536 - length l.path) + 3
 
 abbrev pub decreases-look_each : goal.decreases-look_each
-decreases-look_each g l = ?
+decreases-look_each g l = 3 * room (option_map (λ d. d.text.now) l.dir) + 1
 
 abbrev pub decreases-visit : goal.decreases-visit
-decreases-visit g l = ?
+decreases-visit g l = 3 * room (option_map (λ d. d.text.now) l.dir) + 2
 
+-- the names so far are looked at
 abbrev pub invariant-look_each-loop-name : goal.invariant-look_each-loop-name
-invariant-look_each-loop-name g l = ?
+invariant-look_each-loop-name g l = record {
+  passes : Passes (g.T.Tree.history l.initial.tree) (g.T.Tree.history l.tree);
+  listed : IsQuiet (g.T.Tree.history l.initial.tree) (g.T.Tree.history l.tree)
+      → Lists (IsUnknownAmong (kept_of l.flat) (now (g.T.Tree.history l.initial.tree)) (option_map (λ d. d.text.now) l.dir) (take l.name-index l.names)) l.initial.rows.items l.rows.items;
+  still : g.T.Tree.faults l.tree ≡ g.T.Tree.faults l.initial.tree;
+}
