@@ -9,7 +9,12 @@
 //! path.base();    // "main.c"
 //! path.parent();  // Some(PathRef("src"))
 //! PathRef::read("a//b");  // Err(PathFault::Component { at: 2 })
+//! Path::join(alloc, path.parent(), "lib.c")?;  // src/lib.c
 //! ```
+//!
+//! `is_component` tests one name, `is_below` and `child_name` where a path stands; what these words mean, and what a path is, stands
+//! in `specs/PathText.antt`, and why a text is none in `specs/PathRefusal.antt`. Lemmas on them for the crates above are in `proofs/`:
+//! `Below`, `Children`, `Components`, `Compared`, `Paths`, and `Faults` for counts of failures.
 //!
 //! Devices (the working copy, `.hg`, input and output) count their failures; what "a count rose" means stands here once, in
 //! `specs/Fault.antt`.

@@ -77,7 +77,10 @@ fn copies_and_joins(rt: HostRuntime) -> Result<(), Fail> {
         Path::join(rt.alloc(), Some(dir), "a/b")?.as_ref().base(),
         "b"
     );
-    assert_eq!(rt; Path::within(rt.alloc(), dir.parent(), dir.base())?.as_str(), "src/lib");
+    assert_eq!(rt;
+        Path::within(rt.alloc(), dir.parent(), dir.base())?.as_str(),
+        "src/lib"
+    );
     assert_eq!(rt; dir.base(), "lib");
     let parent = dir.parent().ok_or("no parent")?;
     assert_eq!(rt; parent.as_str(), "src");

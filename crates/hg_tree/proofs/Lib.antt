@@ -1,5 +1,6 @@
 pub mod After
 pub mod Children
+pub mod Faces
 pub mod Formed
 pub mod Histories
 pub mod Maps
@@ -7,4 +8,5 @@ pub mod Parents
 pub mod Planting
 pub mod Shown
 pub mod Spans
+pub mod Stable
 pub mod Times

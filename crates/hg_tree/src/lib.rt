@@ -21,6 +21,7 @@
 mod asked;
 mod device;
 mod fault;
+mod honest;
 mod listing;
 mod memory;
 mod name;
@@ -30,6 +31,7 @@ mod things;
 pub use asked::{Asked, Outside};
 pub use device::Tree;
 pub use fault::TreeFault;
+pub use honest::{faces_stay, honest_past};
 pub use memory::MemTree;
 pub use name::Name;
 pub use thing::{Placed, Thing};
