@@ -3,7 +3,8 @@ use Rattle.std.proofs.Common.{ℕ, ◌≡◌, ◌<◌, Bool, true, false, not, c
 use Rattle.std.specs.List.{Contains, dedup, All}
 use Rattle.std.specs.List.Sorted.{IsPermutation, IsSorted}
 use Rattle.std.specs.Ordering.{eq_by_cmp}
-use Rattle.std.proofs.lemmas.Bool.{cases_Bool}
+use Rattle.std.proofs.Math.ListN.{get_or-map}
+use Rattle.std.proofs.lemmas.List.{length-map}
 use Rattle.std.proofs.lemmas.List.Elements.{All-contains, All-contains_itself, All-map, Contains-append_cases, Contains-append_left, Contains-append_right, Contains-push_cases, Contains-push}
 use Rattle.hg_entry.specs.Entry.{view}
 use Rattle.hg_entry.specs.Table.{Marks, marks_of}
@@ -26,7 +27,120 @@ pub record Holds (kept : Kept) (rows : List FlatRow) : Type 0 where
 
 -- what is in a list is in its map, and what is in the map comes from there
 map_contains : (f : FlatRow → Row) (rows : List FlatRow) (row : FlatRow) → Contains rows row → Contains (map f rows) (f row)
-map_contains f rows row has = ?
+map_contains f rows row (k, below, is) = (k, rw length-map below, get_or-map f rows k row ∙ ap f is)
+
+from_map_step : (f : FlatRow → Row) (kept : FlatRow) (rest : List FlatRow) (row : Row)
+    → (Contains (map f rest) row → (k : FlatRow) × Contains rest k × (row ≡ f k)) → Contains (f kept ∷ []) row ⊎ Contains (map f rest) row → (k : FlatRow) × Contains (kept ∷ rest) k × (row ≡ f k)
+from_map_step f kept rest row later (inl one) = (
+  kept,
+  Contains-append_left (kept ∷ []) rest kept (Contains-push [] kept),
+  elim (Contains-push_cases [] (f kept) row one) [ inl (k, below, is) ↦ absurd (omega (arith, below)) | inr same ↦ sym same ],
+)
+from_map_step f kept rest row later (inr more) = let l = later more in (l.0, Contains-append_right (kept ∷ []) rest l.0 l.1, l.2)
 
 from_map : (f : FlatRow → Row) (rows : List FlatRow) (row : Row) → Contains (map f rows) row → (kept : FlatRow) × Contains rows kept × (row ≡ f kept)
-from_map f rows row has = ?
+from_map f [] row (k, below, is) = absurd (omega (arith, below))
+from_map f (kept ∷ rest) row has = from_map_step f kept rest row (from_map f rest row) (Contains-append_cases (f kept ∷ []) (map f rest) row has)
+
+-- ---- the letters of paths that are tracked and in neither parent
+
+added_marks : Marks
+added_marks = record { w = true; p1 = false; p2 = false }
+
+letter_is : (b : Bool) → Some (cond (not b) a_letter.Gone a_letter.A) ≡ Some (cond b a_letter.A a_letter.Gone)
+letter_is true = refl
+letter_is false = refl
+
+wanted_is : (b : Bool) → wants default_wanted (cond b a_letter.A a_letter.Gone) ≡ true
+wanted_is true = refl
+wanted_is false = refl
+
+module _ (kept : Kept) (moment : Moment) (added : AreAdded kept) (named : AreNamed kept) where
+
+  -- what is told of a path, by what is kept of it
+  Told : Option FlatRow → List ℕ → Letter → Type 0
+  Told o path letter =
+      HasLetterBy (option_map (λ row. marks_of (view row.entry)) o) (flat_of null_parent null_parent kept) moment null_rows nothing_ignored path letter
+
+  marks_at : (path : List ℕ) (row : FlatRow) → kept path ≡ Some row → marks_of (view row.entry) ≡ record { w = true; p1 = false; p2 = false }
+  marks_at path row is = subst (λ (o : Option FlatRow). IfSome o (λ r. marks_of (view r.entry) ≡ record { w = true; p1 = false; p2 = false })) is (added path)
+
+  letter_at : (path : List ℕ) (row : FlatRow) → kept path ≡ Some row
+      → tracked_letter None (marks_of (view row.entry)) (is_some (source_of (kept path))) (moment.things path) ≡ Some (cond (is_file_or_link (moment.things path)) a_letter.A a_letter.Gone)
+  letter_at path row is =
+      ap (λ (marks : Marks). tracked_letter None marks (is_some (source_of (kept path))) (moment.things path)) (marks_at path row is)
+      ∙ letter_is (is_file_or_link (moment.things path))
+
+  told_added : (row : FlatRow) → kept row.path ≡ Some row → IsTold (flat_of null_parent null_parent kept) moment null_rows nothing_ignored default_wanted (added_row moment row)
+  told_added row is = (
+    wanted_is (is_file_or_link (moment.things row.path)),
+    subst (λ (o : Option FlatRow).
+      HasLetterBy (option_map (λ r. marks_of (view r.entry)) o) (flat_of null_parent null_parent kept) moment null_rows nothing_ignored row.path (added_row moment row).letter)
+    (sym is) (letter_at row.path row is),
+    sym (ap source_of is),
+  )
+
+  told_unknown : (path : List ℕ) → IsUnknownIn kept moment None path → IsTold (flat_of null_parent null_parent kept) moment null_rows nothing_ignored default_wanted (unknown_row path)
+  told_unknown path u = (
+    refl,
+    subst (λ (o : Option FlatRow).
+      HasLetterBy (option_map (λ r. marks_of (view r.entry)) o) (flat_of null_parent null_parent kept) moment null_rows nothing_ignored path a_letter.Unknown)
+    (sym u.untracked.1) (u.untracked.0, λ d below. u.visible d refl below, inr (refl, λ h. h)),
+    sym (ap source_of u.untracked.1),
+  )
+
+  path_is : (path : List ℕ) (row : FlatRow) → kept path ≡ Some row → row.path ≡ path
+  path_is path row is =
+      let both = subst (λ (o : Option FlatRow). option_map (λ r. r.path) o ≡ option_map (λ r. path) o) is (named path) in cc (both)
+
+  -- a row that is told is that of an entry, or of a path without one
+  row_of : (row : Row) (o : Option FlatRow) → kept row.path ≡ o
+      → HasLetterBy (option_map (λ r. marks_of (view r.entry)) o) (flat_of null_parent null_parent kept) moment null_rows nothing_ignored row.path row.letter
+      → row.source ≡ source_of (kept row.path) → ((k : FlatRow) × (kept row.path ≡ Some k) × (row ≡ added_row moment k)) ⊎ (IsUnknownIn kept moment None row.path × (row ≡ unknown_row row.path))
+  row_of row None is letter source =
+      elim letter.2 [
+        inl ignored ↦ absurd ignored.1
+      | inr unknown ↦
+          inr (
+            record { inside = refl; untracked = (letter.0, is); visible = λ d from below. letter.1 d below },
+            same_row row (unknown_row row.path) unknown.0 refl (source ∙ ap source_of is),
+          )
+      ]
+  row_of row (Some k) is letter source =
+      let at = letter_at row.path k is in
+      let same = path_is row.path k is in
+      let letters : row.letter ≡ cond (is_file_or_link (moment.things row.path)) a_letter.A a_letter.Gone = cc (letter, at) in
+      inl (
+        k,
+        is,
+        same_row row (added_row moment k) (letters ∙ ap (λ (p : List ℕ). cond (is_file_or_link (moment.things p)) a_letter.A a_letter.Gone) (sym same)) (sym same) (source ∙ ap source_of is),
+      )
+
+  -- the rows of what is kept, then those of what else stands there, put in order without doubles, are the full listing
+  pub full : (rows : List FlatRow) (a b c d : List Row) → Holds kept rows → a ≡ map (added_row moment) rows → Lists (IsUnknownIn kept moment None) a b → IsPermutation b c → IsSorted whole_order c
+      → d ≡ dedup (eq_by_cmp whole_order) c → IsFull (flat_of null_parent null_parent kept) moment null_rows nothing_ignored default_wanted d
+  full rows a b c d holds is lists moved sorted once =
+      let told : (row : Row) → Contains b row → IsTold (flat_of null_parent null_parent kept) moment null_rows nothing_ignored default_wanted row =
+          λ row has.
+            elim (Contains-append_cases a lists.0 row (subst (λ (l : List Row). Contains l row) lists.1 has)) [
+              inl first ↦
+                let from = from_map (added_row moment) rows row (subst (λ (l : List Row). Contains l row) is first) in
+                subst (IsTold (flat_of null_parent null_parent kept) moment null_rows nothing_ignored default_wanted) (sym from.2) (told_added from.0 (holds.found from.0 from.1))
+            | inr second ↦
+                let s = lists.2.sound row second in
+                subst (IsTold (flat_of null_parent null_parent kept) moment null_rows nothing_ignored default_wanted) (sym s.2) (told_unknown s.0 s.1)
+            ]
+      in record {
+        sound = λ row has. told row (kept_of b c d row moved once has);
+        all = λ row tells.
+          kept_by b c d row moved once
+          (subst (λ (l : List Row). Contains l row) (sym lists.1)
+           (elim (row_of row (kept row.path) refl tells.1 tells.2) [
+             inl entry ↦
+               Contains-append_left a lists.0 row
+               (subst (λ (l : List Row). Contains l row) (sym is)
+                (subst (Contains (map (added_row moment) rows)) (sym entry.2) (map_contains (added_row moment) rows entry.0 (holds.all row.path entry.0 entry.1))))
+           | inr unknown ↦ Contains-append_right a lists.0 row (subst (Contains lists.0) (sym unknown.1) (lists.2.all row.path unknown.0))
+           ]));
+        ascending = ascending (λ path. source_of (kept path)) b c d moved sorted once (λ row has. (told row has).2);
+      }
