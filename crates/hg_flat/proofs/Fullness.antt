@@ -29,18 +29,18 @@ pub record Holds (kept : Kept) (rows : List FlatRow) : Type 0 where
 map_contains : (f : FlatRow → Row) (rows : List FlatRow) (row : FlatRow) → Contains rows row → Contains (map f rows) (f row)
 map_contains f rows row (k, below, is) = (k, rw length-map below, get_or-map f rows k row ∙ ap f is)
 
-from_map_step : (f : FlatRow → Row) (kept : FlatRow) (rest : List FlatRow) (row : Row)
-    → (Contains (map f rest) row → (k : FlatRow) × Contains rest k × (row ≡ f k)) → Contains (f kept ∷ []) row ⊎ Contains (map f rest) row → (k : FlatRow) × Contains (kept ∷ rest) k × (row ≡ f k)
-from_map_step f kept rest row later (inl one) = (
-  kept,
-  Contains-append_left (kept ∷ []) rest kept (Contains-push [] kept),
-  elim (Contains-push_cases [] (f kept) row one) [ inl (k, below, is) ↦ absurd (omega (arith, below)) | inr same ↦ sym same ],
+from_map_step : {A B : Type 0} (f : A → B) (first : A) (rest : List A) (item : B)
+    → (Contains (map f rest) item → (a : A) × Contains rest a × (item ≡ f a)) → Contains (f first ∷ []) item ⊎ Contains (map f rest) item → (a : A) × Contains (first ∷ rest) a × (item ≡ f a)
+from_map_step f first rest item later (inl one) = (
+  first,
+  Contains-append_left (first ∷ []) rest first (Contains-push [] first),
+  elim (Contains-push_cases [] (f first) item one) [ inl (k, below, is) ↦ absurd (omega (arith, below)) | inr same ↦ sym same ],
 )
-from_map_step f kept rest row later (inr more) = let l = later more in (l.0, Contains-append_right (kept ∷ []) rest l.0 l.1, l.2)
+from_map_step f first rest item later (inr more) = let l = later more in (l.0, Contains-append_right (first ∷ []) rest l.0 l.1, l.2)
 
-from_map : (f : FlatRow → Row) (rows : List FlatRow) (row : Row) → Contains (map f rows) row → (kept : FlatRow) × Contains rows kept × (row ≡ f kept)
-from_map f [] row (k, below, is) = absurd (omega (arith, below))
-from_map f (kept ∷ rest) row has = from_map_step f kept rest row (from_map f rest row) (Contains-append_cases (f kept ∷ []) (map f rest) row has)
+pub from_map : {A B : Type 0} (f : A → B) (items : List A) (item : B) → Contains (map f items) item → (a : A) × Contains items a × (item ≡ f a)
+from_map f [] item (k, below, is) = absurd (omega (arith, below))
+from_map f (first ∷ rest) item has = from_map_step f first rest item (from_map f rest item) (Contains-append_cases (f first ∷ []) (map f rest) item has)
 
 -- ---- the letters of paths that are tracked and in neither parent
 

@@ -1,6 +1,7 @@
 pub mod Among
-pub mod Unknowns
-pub mod Rooms
-pub mod Quiet
 pub mod Ascending
 pub mod Fullness
+pub mod Holding
+pub mod Quiet
+pub mod Rooms
+pub mod Unknowns
