@@ -1,0 +1,71 @@
+-- The walk of a list, step by step.
+use Rattle.std.proofs.Common.{◌≡◌, ℕ, zero, suc, ◌+◌, ◌-◌, ◌*◌, ◌<◌, ◌≤◌, Bool, true, false, cond, List, length, Option, Some, None, refl, sym, ap, ◌∙◌, arith, eqb, ltb, sub-one, eq-eqb, lt-ltb}
+use Rattle.std.proofs.lemmas.Bool.{ne_eqb}
+use Rattle.std.proofs.lemmas.Bool.Decides.{nat_tests}
+use Rattle.hg_image.specs.declared.fault.NodeFault.{NodeFault}
+use Rattle.hg_image.specs.declared.fault.NodeFault.TheVariants as a_fault
+use Rattle.hg_image.specs.Node.{record_at, path_of, name_of, first_of, node_fault}
+use Rattle.hg_image.specs.Walk.{nodes_fault, list_fault}
+
+-- how the lists below a node are read
+abbrev pub below : ℕ → List ℕ → List ℕ → ℕ → ℕ → Option NodeFault
+below depth bytes = λ path. list_fault depth bytes (Some path)
+
+-- a list of no nodes, one without a level left, one beyond the bytes, and one within them
+pub list_empty : (depth : ℕ) (bytes : List ℕ) (dir : Option (List ℕ)) (start count : ℕ) → count ≡ 0 → list_fault depth bytes dir start count ≡ None
+unfolding list_fault
+list_empty zero bytes dir start count e = rw e refl
+list_empty (suc depth) bytes dir start count e = rw e refl
+
+pub list_deep : (depth : ℕ) (bytes : List ℕ) (dir : Option (List ℕ)) (start count : ℕ) → depth ≡ 0 → 0 < count → list_fault depth bytes dir start count ≡ Some (a_fault.List start count)
+unfolding list_fault
+list_deep depth bytes dir start count e some =
+    let test : eqb count 0 ≡ false = ne_eqb count 0 (λ e. omega arith) in
+    rw (e, test) refl
+
+pub list_outside : (depth : ℕ) (bytes : List ℕ) (dir : Option (List ℕ)) (start count : ℕ) → 0 < count → length bytes < start + 44 * count → list_fault depth bytes dir start count ≡ Some (a_fault.List start count)
+unfolding list_fault
+list_outside zero bytes dir start count some out =
+    let test : eqb count 0 ≡ false = ne_eqb count 0 (λ e. omega arith) in
+    rw test refl
+list_outside (suc depth) bytes dir start count some out =
+    let test : eqb count 0 ≡ false = ne_eqb count 0 (λ e. omega arith) in
+    let long : ltb (length bytes) (start + 44 * count) ≡ true = lt-ltb (length bytes) (start + 44 * count) out in
+    simp (test, long)
+
+pub list_inside : (depth : ℕ) (bytes : List ℕ) (dir : Option (List ℕ)) (start count : ℕ) → 0 < depth → 0 < count → start + 44 * count ≤ length bytes
+    → list_fault depth bytes dir start count ≡ nodes_fault (below (depth - 1) bytes) bytes dir None start count
+unfolding list_fault
+list_inside zero bytes dir start count deep some in_bytes = absurd (omega arith)
+list_inside (suc depth) bytes dir start count deep some in_bytes =
+    let test : eqb count 0 ≡ false = ne_eqb count 0 (λ e. omega arith) in
+    let short : ltb (length bytes) (start + 44 * count) ≡ false = grind (arith, nat_tests, in_bytes) in
+    let same : suc depth - 1 ≡ depth = omega arith in
+    rw same (simp (test, short))
+
+-- no node is left; one that passes with all below it; one that doesn't; one below which something is wrong
+pub nodes_end : (kids : List ℕ → ℕ → ℕ → Option NodeFault) (bytes : List ℕ) (dir before : Option (List ℕ)) (at n : ℕ) → n ≡ 0 → nodes_fault kids bytes dir before at n ≡ None
+unfolding nodes_fault
+nodes_end kids bytes dir before at n e = rw e refl
+
+pub nodes_pass : (kids : List ℕ → ℕ → ℕ → Option NodeFault) (bytes : List ℕ) (dir before : Option (List ℕ)) (at n : ℕ) → 0 < n
+    → node_fault bytes dir before (record_at bytes at) ≡ None → kids (path_of bytes (record_at bytes at)) (record_at bytes at).kids_start (record_at bytes at).kids_count ≡ None
+    → nodes_fault kids bytes dir before at n ≡ nodes_fault kids bytes dir (Some (name_of bytes (record_at bytes at))) (at + 44) (n - 1)
+unfolding nodes_fault
+nodes_pass kids bytes dir before at zero some good good_below = absurd (omega arith)
+nodes_pass kids bytes dir before at (suc n) some good good_below =
+    let same : suc n - 1 ≡ n = omega arith in
+    rw same (simp (good, good_below))
+
+pub nodes_stop : (kids : List ℕ → ℕ → ℕ → Option NodeFault) (bytes : List ℕ) (dir before : Option (List ℕ)) (at n : ℕ) (fault : NodeFault) → 0 < n
+    → node_fault bytes dir before (record_at bytes at) ≡ Some fault → nodes_fault kids bytes dir before at n ≡ Some fault
+unfolding nodes_fault
+nodes_stop kids bytes dir before at zero fault some bad = absurd (omega arith)
+nodes_stop kids bytes dir before at (suc n) fault some bad = simp bad
+
+pub nodes_stop_below : (kids : List ℕ → ℕ → ℕ → Option NodeFault) (bytes : List ℕ) (dir before : Option (List ℕ)) (at n : ℕ) (fault : NodeFault) → 0 < n
+    → node_fault bytes dir before (record_at bytes at) ≡ None → kids (path_of bytes (record_at bytes at)) (record_at bytes at).kids_start (record_at bytes at).kids_count ≡ Some fault
+    → nodes_fault kids bytes dir before at n ≡ Some fault
+unfolding nodes_fault
+nodes_stop_below kids bytes dir before at zero fault some good bad = absurd (omega arith)
+nodes_stop_below kids bytes dir before at (suc n) fault some good bad = simp (good, bad)

@@ -1,0 +1,37 @@
+//! The check of a list of nodes and of all that is below it.
+
+ghost use Rattle.std.specs.Prelude.{◌≡◌, ◌<◌, ◌^◌, length, option_map};
+ghost use Rattle.std.specs.Result.{result_err};
+ghost use Rattle.hg_image.specs.Walk.{list_fault};
+
+use crate::fault::NodeFault;
+use crate::node_check::check_node;
+use crate::parts::{RECORD_LEN, read_record};
+use hg_base::PathRef;
+use hg_node::within;
+
+/// The first fault of a list in a directory, none for the root: each node is tried before its children, and they before the next node.
+pub fn check_list(bytes: &[u8], dir: Option<PathRef<'_>>, start: u32, count: u32, depth: u32) -> Result<(), NodeFault>
+    requires { length bytes.now < 2 ^ 32 }
+    ensures { result_err result ≡ list_fault depth bytes.now (option_map (λ d. d.text.now) dir.entry) start count }
+{
+    if count == 0 {
+        return Ok(());
+    }
+    if depth == 0 {
+        return Err(NodeFault::List { start, count });
+    }
+    if !within(start, 44 * count as u64, bytes.len() as u32) {
+        return Err(NodeFault::List { start, count });
+    }
+    let mut before = None;
+    let mut at = start;
+    for i in 0..count {
+        let rec = read_record(bytes, at);
+        let path = check_node(bytes, dir, before, rec)?;
+        check_list(bytes, Some(path), rec.kids_start, rec.kids_count, depth - 1)?;
+        before = Some(path.base());
+        at += 44;
+    }
+    Ok(())
+}
