@@ -1,8 +1,8 @@
 //! One record of 44 bytes.
 
-ghost use Rattle.std.specs.Prelude.{◌≡◌, ◌+◌, ◌≤◌, ◌<◌, ◌^◌, length, nat_le};
+ghost use Rattle.std.specs.Prelude.{◌≡◌, ◌+◌, ◌≤◌, ◌++◌, take, drop, length, nat_le};
 ghost use Rattle.std.specs.Int.{w16, w32};
-ghost use Rattle.hg_node.specs.Node.{number_at, rec_of, bytes_of};
+ghost use Rattle.hg_node.specs.Node.{number_at, rec_of, bytes_of, texts_of, facts_of, AreTextsSized, AreFactsSized};
 
 /// A node as it lies in the data file (internals.dirstate-v2, "The data file format"), with the place where it stands.
 #[derive(Clone, Copy, Debug, PartialEq, Eq)]
@@ -40,6 +40,15 @@ pub struct Rec {
 impl Rec {
     /// What 44 bytes say, with a `place` of 0.
     pub fn read(bytes: &[u8; 44]) -> Rec
+        ensures fields { result ≡ rec_of bytes.now }
+        // Written again, they are the same bytes.
+        ensures back { bytes_of result ≡ bytes.now }
+    {
+        Rec::fields(bytes)
+    }
+
+    // Each field at its place.
+    fn fields(bytes: &[u8; 44]) -> Rec
         ensures { result ≡ rec_of bytes.now }
     {
         Rec {
@@ -63,6 +72,19 @@ impl Rec {
     /// The 44 bytes of the record; its place is not among them.
     pub fn write(&self) -> [u8; 44]
         ensures bytes { result ≡ bytes_of self.now }
+        // Read again, they are the same record, but for its place.
+        ensures back { rec_of result ≡ record self.now { place = 0 } }
+    {
+        let mut bytes = [0; 44];
+        put(&mut bytes, 0, &self.texts());
+        put(&mut bytes, 22, &self.facts());
+        bytes
+    }
+
+    // The first half: where the texts and the child nodes stand.
+    fn texts(&self) -> [u8; 22]
+        ensures bytes { result ≡ texts_of self.now }
+        ensures sized { AreTextsSized self.now }
     {
         let path_start = self.path_start.to_be_bytes();
         let path_len = self.path_len.to_be_bytes();
@@ -71,12 +93,6 @@ impl Rec {
         let copy_len = self.copy_len.to_be_bytes();
         let kids_start = self.kids_start.to_be_bytes();
         let kids_count = self.kids_count.to_be_bytes();
-        let entries_below = self.entries_below.to_be_bytes();
-        let tracked_below = self.tracked_below.to_be_bytes();
-        let flags = self.flags.to_be_bytes();
-        let size = self.size.to_be_bytes();
-        let seconds = self.seconds.to_be_bytes();
-        let nanos = self.nanos.to_be_bytes();
         [
             path_start[0],
             path_start[1],
@@ -100,6 +116,21 @@ impl Rec {
             kids_count[1],
             kids_count[2],
             kids_count[3],
+        ]
+    }
+
+    // The second half: what is below the node, and what is recorded of it.
+    fn facts(&self) -> [u8; 22]
+        ensures bytes { result ≡ facts_of self.now }
+        ensures sized { AreFactsSized self.now }
+    {
+        let entries_below = self.entries_below.to_be_bytes();
+        let tracked_below = self.tracked_below.to_be_bytes();
+        let flags = self.flags.to_be_bytes();
+        let size = self.size.to_be_bytes();
+        let seconds = self.seconds.to_be_bytes();
+        let nanos = self.nanos.to_be_bytes();
+        [
             entries_below[0],
             entries_below[1],
             entries_below[2],
@@ -150,4 +181,13 @@ fn u32_at(bytes: &[u8], at: usize) -> u32
     ensures { result ≡ number_at w32 at bytes.now }
 {
     u32::from_be_bytes([bytes[at], bytes[at + 1], bytes[at + 2], bytes[at + 3]])
+}
+
+// Writes the text at a place.
+fn put(bytes: &mut [u8], at: usize, text: &[u8])
+    requires { at + length text.now ≤ length bytes.old }
+    ensures { bytes.new ≡ take at bytes.old ++ text.now ++ drop (at + length text.now) bytes.old }
+{
+    let end = at + text.len();
+    bytes[at..end].copy_from_slice(text);
 }
