@@ -24,3 +24,6 @@ mod writing;
 pub use entry::{Entry, Fields, Item, State};
 pub use reading::dir_stamp;
 pub use writing::dir_fields;
+
+#[cfg(test)]
+mod tests;
