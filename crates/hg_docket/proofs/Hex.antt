@@ -7,7 +7,7 @@ use Rattle.std.proofs.lemmas.List.Folds.{list_all-append}
 use Rattle.std.proofs.lemmas.Bool.Decides.{nat_tests}
 use Rattle.hg_docket.specs.Name.{is_name_byte}
 use Rattle.hg_docket.specs.Number.{is_digit, digit_value, digit_of, hex_value, hex_text, number_of, is_number}
-use Rattle.hg_docket.proofs.Tests.{both_hold}
+use Rattle.hg_docket.proofs.Branches.{both_hold}
 
 more_digits : (n : ℕ) → 16 ^ (n + 1) ≡ 16 ^ n * 16
 more_digits n = let next : n + 1 ≡ suc n = omega arith in rw next (pow-suc 16 n)

@@ -1,5 +1,5 @@
 pub mod Ascii
+pub mod Branches
 pub mod Foreign
 pub mod Hex
 pub mod ReadBack
-pub mod Tests

@@ -9,7 +9,7 @@ use Rattle.hg_docket.specs.Written.{bytes_of, head_of, IsSized, is_writable, Rea
 use Rattle.hg_docket.specs.Name.{is_name, is_name_byte, foreign_place}
 use Rattle.hg_docket.proofs.Ascii.{name_parts}
 use Rattle.hg_docket.proofs.Foreign.{foreign_none}
-use Rattle.hg_docket.proofs.Tests.{not_zero, chosen, both_hold, not_less}
+use Rattle.hg_docket.proofs.Branches.{not_zero, chosen, both_hold, not_less}
 
 -- what stands behind the ignore hash
 after_hash : Contents → List ℕ → List ℕ

@@ -18,6 +18,12 @@
 mod bits;
 mod entry;
 mod reading;
+mod steps;
+mod writing;
 
 pub use entry::{Entry, Fields, Item, State};
 pub use reading::dir_stamp;
+pub use writing::dir_fields;
+
+#[cfg(test)]
+mod tests;

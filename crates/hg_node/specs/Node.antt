@@ -1,5 +1,5 @@
 -- A node of the data file (Mercurial help, internals.dirstate-v2, "The data file format"): 44 bytes, each field at its place.
-use Rattle.std.specs.Prelude.{ℕ, List, ◌++◌, take, drop}
+use Rattle.std.specs.Prelude.{ℕ, ◌<◌, ◌^◌, List, ◌++◌, take, drop}
 use Rattle.std.specs.Int.{Width, w16, w32, byte_len, from_be_bytes, to_be_bytes}
 use Rattle.hg_node.specs.declared.record.Rec.{Rec}
 
@@ -27,9 +27,9 @@ rec_of bytes =
       nanos = number_at w32 40 bytes;
     }
 
--- the 44 bytes of a node
-abbrev pub bytes_of : Rec → List ℕ
-bytes_of rec =
+-- where the texts and the child nodes stand, the first half of the bytes
+abbrev pub texts_of : Rec → List ℕ
+texts_of rec =
     to_be_bytes w32 rec.path_start
     ++ to_be_bytes w16 rec.path_len
     ++ to_be_bytes w16 rec.base_at
@@ -37,9 +37,36 @@ bytes_of rec =
     ++ to_be_bytes w16 rec.copy_len
     ++ to_be_bytes w32 rec.kids_start
     ++ to_be_bytes w32 rec.kids_count
-    ++ to_be_bytes w32 rec.entries_below
+
+-- what is below the node and what is recorded of it, the second half
+abbrev pub facts_of : Rec → List ℕ
+facts_of rec =
+    to_be_bytes w32 rec.entries_below
     ++ to_be_bytes w32 rec.tracked_below
     ++ to_be_bytes w16 rec.flags
     ++ to_be_bytes w32 rec.size
     ++ to_be_bytes w32 rec.seconds
     ++ to_be_bytes w32 rec.nanos
+
+-- the 44 bytes of a node
+abbrev pub bytes_of : Rec → List ℕ
+bytes_of rec = texts_of rec ++ facts_of rec
+
+-- the numbers of the first half fit their bytes
+pub record AreTextsSized (rec : Rec) : Type 0 where
+  pub path_start : rec.path_start < 2 ^ 32
+  pub path_len : rec.path_len < 2 ^ 16
+  pub base_at : rec.base_at < 2 ^ 16
+  pub copy_start : rec.copy_start < 2 ^ 32
+  pub copy_len : rec.copy_len < 2 ^ 16
+  pub kids_start : rec.kids_start < 2 ^ 32
+  pub kids_count : rec.kids_count < 2 ^ 32
+
+-- the numbers of the second half fit their bytes
+pub record AreFactsSized (rec : Rec) : Type 0 where
+  pub entries_below : rec.entries_below < 2 ^ 32
+  pub tracked_below : rec.tracked_below < 2 ^ 32
+  pub flags : rec.flags < 2 ^ 16
+  pub size : rec.size < 2 ^ 32
+  pub seconds : rec.seconds < 2 ^ 32
+  pub nanos : rec.nanos < 2 ^ 32

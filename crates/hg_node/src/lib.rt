@@ -24,3 +24,6 @@
 mod record;
 
 pub use record::{Rec, within};
+
+#[cfg(test)]
+mod tests;

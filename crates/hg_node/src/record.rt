@@ -1,8 +1,8 @@
 //! One record of 44 bytes.
 
-ghost use Rattle.std.specs.Prelude.{◌≡◌, ◌+◌, ◌≤◌, ◌<◌, ◌^◌, length, nat_le};
+ghost use Rattle.std.specs.Prelude.{◌≡◌, ◌+◌, ◌≤◌, ◌++◌, take, length, nat_le};
 ghost use Rattle.std.specs.Int.{w16, w32};
-ghost use Rattle.hg_node.specs.Node.{number_at, rec_of, bytes_of};
+ghost use Rattle.hg_node.specs.Node.{number_at, rec_of, bytes_of, texts_of, facts_of, AreTextsSized, AreFactsSized};
 
 /// A node as it lies in the data file (internals.dirstate-v2, "The data file format"), with the place where it stands.
 #[derive(Clone, Copy, Debug, PartialEq, Eq)]
@@ -40,6 +40,15 @@ pub struct Rec {
 impl Rec {
     /// What 44 bytes say, with a `place` of 0.
     pub fn read(bytes: &[u8; 44]) -> Rec
+        ensures fields { result ≡ rec_of bytes.now }
+        // Written again, they are the same bytes.
+        ensures back { bytes_of result ≡ bytes.now }
+    {
+        Rec::fields(bytes)
+    }
+
+    // Each field at its place.
+    fn fields(bytes: &[u8; 44]) -> Rec
         ensures { result ≡ rec_of bytes.now }
     {
         Rec {
@@ -63,66 +72,44 @@ impl Rec {
     /// The 44 bytes of the record; its place is not among them.
     pub fn write(&self) -> [u8; 44]
         ensures bytes { result ≡ bytes_of self.now }
+        // Read again, they are the same record, but for its place.
+        ensures back { rec_of result ≡ record self.now { place = 0 } }
     {
-        let path_start = self.path_start.to_be_bytes();
-        let path_len = self.path_len.to_be_bytes();
-        let base_at = self.base_at.to_be_bytes();
-        let copy_start = self.copy_start.to_be_bytes();
-        let copy_len = self.copy_len.to_be_bytes();
-        let kids_start = self.kids_start.to_be_bytes();
-        let kids_count = self.kids_count.to_be_bytes();
-        let entries_below = self.entries_below.to_be_bytes();
-        let tracked_below = self.tracked_below.to_be_bytes();
-        let flags = self.flags.to_be_bytes();
-        let size = self.size.to_be_bytes();
-        let seconds = self.seconds.to_be_bytes();
-        let nanos = self.nanos.to_be_bytes();
-        [
-            path_start[0],
-            path_start[1],
-            path_start[2],
-            path_start[3],
-            path_len[0],
-            path_len[1],
-            base_at[0],
-            base_at[1],
-            copy_start[0],
-            copy_start[1],
-            copy_start[2],
-            copy_start[3],
-            copy_len[0],
-            copy_len[1],
-            kids_start[0],
-            kids_start[1],
-            kids_start[2],
-            kids_start[3],
-            kids_count[0],
-            kids_count[1],
-            kids_count[2],
-            kids_count[3],
-            entries_below[0],
-            entries_below[1],
-            entries_below[2],
-            entries_below[3],
-            tracked_below[0],
-            tracked_below[1],
-            tracked_below[2],
-            tracked_below[3],
-            flags[0],
-            flags[1],
-            size[0],
-            size[1],
-            size[2],
-            size[3],
-            seconds[0],
-            seconds[1],
-            seconds[2],
-            seconds[3],
-            nanos[0],
-            nanos[1],
-            nanos[2],
-            nanos[3],
-        ]
+        let mut bytes = [0; 44];
+        let at = self.put_texts(&mut bytes);
+        self.put_facts(&mut bytes, at);
+        bytes
+    }
+
+    // Writes the first half, where the texts and the child nodes stand, and answers where it ends.
+    fn put_texts(&self, bytes: &mut [u8]) -> usize
+        requires { 44 ≤ length bytes.old }
+        ensures end { result ≡ 22 }
+        ensures front { take result bytes.new ≡ texts_of self.now }
+        ensures sized { AreTextsSized self.now }
+    {
+        let at = put(bytes, 0, &self.path_start.to_be_bytes());
+        let at = put(bytes, at, &self.path_len.to_be_bytes());
+        let at = put(bytes, at, &self.base_at.to_be_bytes());
+        let at = put(bytes, at, &self.copy_start.to_be_bytes());
+        let at = put(bytes, at, &self.copy_len.to_be_bytes());
+        let at = put(bytes, at, &self.kids_start.to_be_bytes());
+        put(bytes, at, &self.kids_count.to_be_bytes())
+    }
+
+    // Writes the second half, what is below the node and what is recorded of it, and answers where it ends.
+    fn put_facts(&self, bytes: &mut [u8], at: usize) -> usize
+        requires { at + 22 ≤ length bytes.old }
+        ensures end { result ≡ at + 22 }
+        ensures front { take result bytes.new ≡ take at bytes.old ++ facts_of self.now }
+        ensures sized { AreFactsSized self.now }
+    {
+        let at = put(bytes, at, &self.entries_below.to_be_bytes());
+        let at = put(bytes, at, &self.tracked_below.to_be_bytes());
+        let at = put(bytes, at, &self.flags.to_be_bytes());
+        let at = put(bytes, at, &self.size.to_be_bytes());
+        let at = put(bytes, at, &self.seconds.to_be_bytes());
+        put(bytes, at, &self.nanos.to_be_bytes())
     }
 }
 
@@ -150,4 +137,15 @@ fn u32_at(bytes: &[u8], at: usize) -> u32
     ensures { result ≡ number_at w32 at bytes.now }
 {
     u32::from_be_bytes([bytes[at], bytes[at + 1], bytes[at + 2], bytes[at + 3]])
+}
+
+// Writes the text at a place, and answers where it ends.
+fn put(bytes: &mut [u8], at: usize, text: &[u8]) -> usize
+    requires { at + length text.now ≤ length bytes.old }
+    ensures end { result ≡ at + length text.now }
+    ensures front { take result bytes.new ≡ take at bytes.old ++ text.now }
+{
+    let end = at + text.len();
+    bytes[at..end].copy_from_slice(text);
+    end
 }

@@ -1,0 +1,2 @@
+pub mod FlagsBack
+pub mod ReadBack
