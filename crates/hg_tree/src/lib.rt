@@ -33,3 +33,6 @@ pub use fault::TreeFault;
 pub use memory::MemTree;
 pub use name::Name;
 pub use thing::{Placed, Thing};
+
+#[cfg(test)]
+mod tests;
