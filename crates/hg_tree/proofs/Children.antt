@@ -13,72 +13,40 @@ use Rattle.std.proofs.lemmas.List.Elements.{All-nil, All-cons}
 use Rattle.std.proofs.lemmas.Map.Keys.{IsDistinct-cons, IsDistinct-head, IsDistinct-tail}
 use Rattle.std.proofs.lemmas.Map.Text.{text_cmp, is_eq-slice_cmp}
 use Rattle.hg_base.specs.PathText.{is_path, is_component, has_slash, joined, base_of, parent_of, is_same_dir, child_of}
-use Rattle.hg_base.proofs.Components.{base_joined, parent_joined, joined_parent, joined_same}
+use Rattle.hg_base.proofs.Children.{child_component, child_is, child_joined}
+use Rattle.hg_base.proofs.Components.{base_joined, joined_same}
 use Rattle.hg_base.proofs.Paths.{path_base, path_base_plain, component_plain}
 use Rattle.hg_tree.specs.declared.thing.Placed.{Placed}
 use Rattle.hg_tree.specs.Moment.{Moment, Things, is_among, is_listed, AreNames, AreFit, IsFit, AreAtPaths, Lists}
 use Rattle.hg_tree.specs.Children.{AreChildren}
 use Rattle.hg_tree.proofs.Planting.{same_bytes, equal_bytes}
 
-same_dirs : (a b : Option (List ℕ)) → is_same_dir a b ≡ true → a ≡ b
-same_dirs None None h = refl
-same_dirs None (Some b) h = absurd (true≢false (sym h))
-same_dirs (Some a) None h = absurd (true≢false (sym h))
-same_dirs (Some a) (Some b) h = ap Some (same_bytes a b h)
-
-equal_dirs : (a : Option (List ℕ)) → is_same_dir a a ≡ true
-equal_dirs None = refl
-equal_dirs (Some a) = equal_bytes a
-
--- where a path has a child's name, it is that name in the directory
-record IsChild (dir : Option (List ℕ)) (path name : List ℕ) : Type 0 where
-  whole : path ≡ joined dir name
-  component : is_component name ≡ true
-
-child_found : (dir : Option (List ℕ)) (path name : List ℕ) → is_path path ≡ true → child_of dir path ≡ Some name → IsChild dir path name
-child_found dir path name is found = of_test (is_same_dir dir (parent_of path)) refl found
-  where
-    of_test : (t : Bool) → is_same_dir dir (parent_of path) ≡ t → cond t (Some (base_of path)) None ≡ Some name → IsChild dir path name
-    of_test true same found =
-        let base : base_of path ≡ name = cc in
-        record {
-          whole = sym (joined_parent path) ∙ ap (λ (d : Option (List ℕ)). joined d (base_of path)) (sym (same_dirs dir (parent_of path) same)) ∙ ap (joined dir) base;
-          component = sym (ap is_component base) ∙ path_base path is;
-        }
-    of_test false same found = absurd (cc)
-
-pub child_component : (dir : Option (List ℕ)) (path name : List ℕ) → is_path path ≡ true → child_of dir path ≡ Some name → is_component name ≡ true
-child_component dir path name is found = (child_found dir path name is found).component
-
-child_at : (dir : Option (List ℕ)) (name : List ℕ) → has_slash name ≡ false → child_of dir (joined dir name) ≡ Some name
-child_at dir name plain =
-    ap (λ (d : Option (List ℕ)). cond (is_same_dir dir d) (Some (base_of (joined dir name))) None) (parent_joined dir name plain)
-    ∙ ap (λ (t : Bool). cond t (Some (base_of (joined dir name))) None) (equal_dirs dir)
-    ∙ ap Some (base_joined dir name plain)
-
 -- one path more among those of which the names are looked for
 one_more : (dir : Option (List ℕ)) (name path : List ℕ) (found : Option (List ℕ)) → is_path path ≡ true → child_of dir path ≡ found
     → (names : List (List ℕ)) → is_among name (cons_option found names) ≡ ((not (has_slash name) && bytes_eq (joined dir name) path) || is_among name names)
 one_more dir name path (Some other) is found names = ap (λ (t : Bool). t || is_among name names) same
   where
-    child : IsChild dir path other
-    child = child_found dir path other is found
+    whole : path ≡ joined dir other
+    whole = child_is dir path other found
+
+    component : is_component other ≡ true
+    component = child_component dir path other is found
 
     same : bytes_eq name other ≡ (not (has_slash name) && bytes_eq (joined dir name) path)
     same = elim (cases_Bool (bytes_eq name other)) [
       | inl e ↦
           let equal = same_bytes name other e in
-          let plain : has_slash name ≡ false = ap has_slash equal ∙ component_plain other child.component in
+          let plain : has_slash name ≡ false = ap has_slash equal ∙ component_plain other component in
           e ∙ sym (and_from (not (has_slash name)) (bytes_eq (joined dir name) path) (not_from_false (has_slash name) plain)
-          (ap (λ (n : List ℕ). bytes_eq (joined dir n) path) equal ∙ sym (ap (bytes_eq (joined dir other)) (sym child.whole)) ∙ equal_bytes (joined dir other)))
+          (ap (λ (n : List ℕ). bytes_eq (joined dir n) path) equal ∙ sym (ap (bytes_eq (joined dir other)) (sym whole)) ∙ equal_bytes (joined dir other)))
       | inr e ↦ e ∙ sym (false_from_ne_true (not (has_slash name) && bytes_eq (joined dir name) path) (λ both.
           let parts = and_parts (not (has_slash name)) (bytes_eq (joined dir name) path) both in
-          let equal = joined_same dir name dir other (not-true (has_slash name) parts.0) (component_plain other child.component) (same_bytes (joined dir name) path parts.1 ∙ child.whole) in
+          let equal = joined_same dir name dir other (not-true (has_slash name) parts.0) (component_plain other component) (same_bytes (joined dir name) path parts.1 ∙ whole) in
           both_ways (bytes_eq name other) e (ap (λ (n : List ℕ). bytes_eq n other) equal.1 ∙ equal_bytes other)))
     ]
 one_more dir name path None is found names = ap (λ (t : Bool). t || is_among name names) (sym (false_from_ne_true (not (has_slash name) && bytes_eq (joined dir name) path) (λ both.
     let parts = and_parts (not (has_slash name)) (bytes_eq (joined dir name) path) both in
-    let there : child_of dir path ≡ Some name = sym (ap (child_of dir) (same_bytes (joined dir name) path parts.1)) ∙ child_at dir name (not-true (has_slash name) parts.0) in
+    let there : child_of dir path ≡ Some name = sym (ap (child_of dir) (same_bytes (joined dir name) path parts.1)) ∙ child_joined dir name (not-true (has_slash name) parts.0) in
     absurd (cc))))
 
 spread : (a b c : Bool) → ((a && b) || (a && c)) ≡ (a && (b || c))
@@ -96,24 +64,23 @@ found_among dir name (path ∷ paths) are =
     ∙ spread (not (has_slash name)) (bytes_eq (joined dir name) path) (is_among (joined dir name) paths)
 
 -- names of different paths differ
-apart_from : (dir : Option (List ℕ)) (path name : List ℕ) → IsChild dir path name → (paths : List (List ℕ)) → list_all is_path paths ≡ true
+apart_from : (dir : Option (List ℕ)) (path name : List ℕ) → path ≡ joined dir name → (paths : List (List ℕ)) → list_all is_path paths ≡ true
     → AllByRecursion (λ other. bytes_eq path other ≡ false) paths → AllByRecursion (λ other. bytes_eq name other ≡ false) (filter_map (child_of dir) paths)
-apart_from dir path name child [] are apart = tt
-apart_from dir path name child (next ∷ paths) are apart =
+apart_from dir path name whole [] are apart = tt
+apart_from dir path name whole (next ∷ paths) are apart =
     let parts = and_parts (is_path next) (list_all is_path paths) are in
-    with_found (child_of dir next) parts.0 refl (apart_from dir path name child paths parts.1 apart.1)
+    with_found (child_of dir next) parts.0 refl (apart_from dir path name whole paths parts.1 apart.1)
   where
     with_found : (found : Option (List ℕ)) → is_path next ≡ true → child_of dir next ≡ found
         → AllByRecursion (λ other. bytes_eq name other ≡ false) (filter_map (child_of dir) paths)
         → AllByRecursion (λ other. bytes_eq name other ≡ false) (cons_option found (filter_map (child_of dir) paths))
     with_found None is found rest = rest
-    with_found (Some other) is found rest =
-        let second = child_found dir next other is found in (
-          false_from_ne_true (bytes_eq name other) (λ e.
-              let same : path ≡ next = child.whole ∙ ap (joined dir) (same_bytes name other e) ∙ sym second.whole in
-              both_ways (bytes_eq path next) apart.0 (ap (bytes_eq path) (sym same) ∙ equal_bytes path)),
-          rest,
-        )
+    with_found (Some other) is found rest = (
+      false_from_ne_true (bytes_eq name other) (λ e.
+          let same : path ≡ next = whole ∙ ap (joined dir) (same_bytes name other e) ∙ sym (child_is dir next other found) in
+          both_ways (bytes_eq path next) apart.0 (ap (bytes_eq path) (sym same) ∙ equal_bytes path)),
+      rest,
+    )
 
 none_distinct : IsDistinct bytes_eq []
 unfolding IsDistinct
@@ -132,7 +99,7 @@ distinct_names dir (path ∷ paths) are distinct =
     with_found None is are found rest = rest
     with_found (Some name) is are found rest =
         IsDistinct-cons bytes_eq name (filter_map (child_of dir) paths)
-        (apart_from dir path name (child_found dir path name is found) paths are (IsDistinct-head bytes_eq path paths distinct)) rest
+        (apart_from dir path name (child_is dir path name found) paths are (IsDistinct-head bytes_eq path paths distinct)) rest
 
 -- the bytes of the keys of a map
 abbrev pub texts : {Y : Type 0} → List (String Y) → List (List ℕ)

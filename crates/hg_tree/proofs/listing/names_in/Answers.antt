@@ -6,7 +6,8 @@ use Rattle.std.specs.List.{filter_map, list_all}
 use Rattle.std.specs.String.{string_bytes, string_cmp}
 use Rattle.std.proofs.lemmas.Map.Keys.{IsDistinct-from_sorted}
 use Rattle.hg_base.specs.PathText.{is_path, child_of}
-use Rattle.hg_tree.proofs.Children.{texts, child_component, children_of_keys, keys_are_paths, key_is_path, name_kept, none_kept, none_left}
+use Rattle.hg_base.proofs.Children.{child_component}
+use Rattle.hg_tree.proofs.Children.{texts, children_of_keys, keys_are_paths, key_is_path, name_kept, none_kept, none_left}
 use Rattle.hg_tree.proofs.listing.names_in.Goals as goal
 
 pub loop-key-init : goal.loop-key-init
