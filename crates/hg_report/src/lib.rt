@@ -1,2 +1,19 @@
-//! To be written.
+//! The exact texts that a user sees: the lines of a status and the line of a fault.
+//!
+//! A status prints a line for each row (help topic `status`): the letter, a space, the path. `-n` leaves letter and space out, `-0`
+//! ends each name by NUL, `-C` puts the copy source of an added or modified file on a line of its own. A fault prints `abort: `, its
+//! text and a line's end on the error stream.
+//!
+//! ```text
+//! status_text(alloc, &rows, Style { plain: false, nul: false, copies: false })?;  // "A a\n! b\n? c\n"
+//! fault_text(alloc, &Fault::NotBuilt)?;                                           // "abort: not built yet\n"
+//! ```
 #![tactic(auto)]
+
+mod fault;
+mod fault_line;
+mod status;
+
+pub use fault::Fault;
+pub use fault_line::fault_text;
+pub use status::{Style, status_text};

@@ -1,0 +1,46 @@
+-- The line of a fault on the error stream.
+use Rattle.std.specs.Prelude.{ℕ, List, [], ◌∷◌, ◌++◌, codes}
+use Rattle.std.specs.Fmt.{decimal}
+use Rattle.std.specs.List.{flat_map}
+use Rattle.hg_docket.specs.declared.fault.DocketFault.{DocketFault}
+use Rattle.hg_docket.specs.declared.fault.DocketFault.TheVariants as a_docket
+use Rattle.hg_image.specs.declared.fault.NodeFault.{NodeFault}
+use Rattle.hg_image.specs.declared.fault.NodeFault.TheVariants as a_node
+use Rattle.hg_report.specs.declared.fault.Fault.{Fault}
+use Rattle.hg_report.specs.declared.fault.Fault.TheVariants as a_fault
+
+abbrev pub docket_words : DocketFault → List ℕ
+docket_words (a_docket.Marker at) = codes "dirstate: marker differs at byte " ++ decimal at
+docket_words (a_docket.Short len needed) = codes "dirstate: " ++ decimal len ++ codes " bytes where " ++ decimal needed ++ codes " are needed"
+docket_words (a_docket.Identifier at) = codes "dirstate: identifier byte " ++ decimal at
+docket_words (a_docket.NoIdentifier used) = codes "dirstate: no identifier for " ++ decimal used ++ codes " bytes"
+
+-- what is wrong with the node at a place
+abbrev pub at_node : ℕ → List ℕ → List ℕ
+at_node node what = codes "dirstate data: node " ++ decimal node ++ codes ": " ++ what
+
+abbrev pub node_words : NodeFault → List ℕ
+node_words (a_node.DataShort have used) = codes "dirstate data: " ++ decimal have ++ codes " bytes where " ++ decimal used ++ codes " are used"
+node_words (a_node.List start count) = codes "dirstate data: list at " ++ decimal start ++ codes " of " ++ decimal count ++ codes " nodes"
+node_words (a_node.Text node) = at_node node (codes "text")
+node_words (a_node.Name node) = at_node node (codes "name")
+node_words (a_node.Deep node) = at_node node (codes "depth")
+node_words (a_node.Base node) = at_node node (codes "base")
+node_words (a_node.Parent node) = at_node node (codes "parent")
+node_words (a_node.Order node) = at_node node (codes "order")
+node_words (a_node.Copy node) = at_node node (codes "copy")
+node_words (a_node.Times node) = at_node node (codes "time")
+
+abbrev pub words_of : Fault → List ℕ
+words_of a_fault.OutOfMemory = codes "out of memory"
+words_of a_fault.NotBuilt = codes "not built yet"
+words_of (a_fault.Docket fault) = docket_words fault
+words_of (a_fault.Node fault) = node_words fault
+words_of (a_fault.DataGone ids) = codes "dirstate data gone:" ++ flat_map (λ id. 32 ∷ id) ids
+words_of a_fault.TreeFailed = codes "working copy failed"
+words_of a_fault.ShelfFailed = codes ".hg failed"
+words_of a_fault.OutFailed = codes "output failed"
+
+-- the whole line
+abbrev pub line_of : Fault → List ℕ
+line_of fault = codes "abort: " ++ words_of fault ++ 10 ∷ []

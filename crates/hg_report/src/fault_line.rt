@@ -1,0 +1,93 @@
+//! The line of a fault.
+
+ghost use Rattle.std.specs.Prelude.{◌≡◌, ◌++◌, ◌∷◌, [], IfOk, OnOk, codes};
+ghost use Rattle.std.specs.List.{flat_map};
+ghost use Rattle.std.specs.String.{string_bytes};
+ghost use Rattle.hg_report.specs.Fault.{at_node, docket_words, line_of, node_words, words_of};
+
+use hg_base::OutOfMemory;
+use hg_docket::{DocketFault, Idents};
+use hg_image::NodeFault;
+use std::alloc::Global;
+
+use crate::fault::Fault;
+
+fn docket_text(alloc: Global, fault: &DocketFault) -> Result<String, OutOfMemory>
+    ensures { IfOk result (λ text. string_bytes text ≡ docket_words fault.now) }
+{
+    match fault {
+        DocketFault::Marker { at } => Ok(format!(in alloc; "dirstate: marker differs at byte {at}")?),
+        DocketFault::Short { len, needed } => Ok(format!(in alloc; "dirstate: {len} bytes where {needed} are needed")?),
+        DocketFault::Identifier { at } => Ok(format!(in alloc; "dirstate: identifier byte {at}")?),
+        DocketFault::NoIdentifier { used } => Ok(format!(in alloc; "dirstate: no identifier for {used} bytes")?),
+    }
+}
+
+fn at_text(alloc: Global, node: u32, what: &str) -> Result<String, OutOfMemory>
+    ensures { IfOk result (λ text. string_bytes text ≡ at_node node what.now) }
+{
+    Ok(format!(in alloc; "dirstate data: node {node}: {what}")?)
+}
+
+fn node_text(alloc: Global, fault: &NodeFault) -> Result<String, OutOfMemory>
+    ensures { IfOk result (λ text. string_bytes text ≡ node_words fault.now) }
+{
+    match fault {
+        NodeFault::DataShort { have, used } => Ok(format!(in alloc; "dirstate data: {have} bytes where {used} are used")?),
+        NodeFault::List { start, count } => Ok(format!(in alloc; "dirstate data: list at {start} of {count} nodes")?),
+        NodeFault::Text { node } => at_text(alloc, *node, "text"),
+        NodeFault::Name { node } => at_text(alloc, *node, "name"),
+        NodeFault::Deep { node } => at_text(alloc, *node, "depth"),
+        NodeFault::Base { node } => at_text(alloc, *node, "base"),
+        NodeFault::Parent { node } => at_text(alloc, *node, "parent"),
+        NodeFault::Order { node } => at_text(alloc, *node, "order"),
+        NodeFault::Copy { node } => at_text(alloc, *node, "copy"),
+        NodeFault::Times { node } => at_text(alloc, *node, "time"),
+    }
+}
+
+fn put_ids(line: &mut Vec<u8>, ids: &Idents) -> Result<(), OutOfMemory>
+    ensures { OnOk result (line.new.items ≡ line.old.items ++ flat_map (λ id. 32 ∷ id) ids.now) }
+{
+    for i in 0..ids.len() {
+        line.push(b' ')?;
+        line.extend_from_slice(ids.at(i).as_bytes())?;
+    }
+    Ok(())
+}
+
+fn put_words(alloc: Global, line: &mut Vec<u8>, fault: &Fault) -> Result<(), OutOfMemory>
+    ensures { OnOk result (line.new.items ≡ line.old.items ++ words_of fault.now) }
+{
+    match fault {
+        Fault::OutOfMemory => put(line, "out of memory"),
+        Fault::NotBuilt => put(line, "not built yet"),
+        Fault::Docket(fault) => put(line, docket_text(alloc, fault)?.as_str()),
+        Fault::Node(fault) => put(line, node_text(alloc, fault)?.as_str()),
+        Fault::DataGone { ids } => {
+            put(line, "dirstate data gone:")?;
+            put_ids(line, ids)
+        }
+        Fault::TreeFailed => put(line, "working copy failed"),
+        Fault::ShelfFailed => put(line, ".hg failed"),
+        Fault::OutFailed => put(line, "output failed"),
+    }
+}
+
+fn put(line: &mut Vec<u8>, text: &str) -> Result<(), OutOfMemory>
+    ensures { OnOk result (line.new.items ≡ line.old.items ++ text.now) }
+{
+    line.extend_from_slice(text.as_bytes())?;
+    Ok(())
+}
+
+/// The line of a fault: `abort: `, its text and LF. Numbers are decimal.
+pub fn fault_text(alloc: Global, fault: &Fault) -> Result<Vec<u8>, OutOfMemory>
+    ensures { IfOk result (λ line. line.items ≡ line_of fault.now) }
+{
+    let mut line = Vec::new(alloc);
+    put(&mut line, "abort: ")?;
+    put_words(alloc, &mut line, fault)?;
+    put(&mut line, "\n")?;
+    Ok(line)
+}
