@@ -11,17 +11,17 @@ use Rattle.hg_report.specs.declared.fault.Fault.TheVariants as a_fault
 
 abbrev pub docket_words : DocketFault → List ℕ
 docket_words (a_docket.Marker at) = codes "dirstate: marker differs at byte " ++ decimal at
-docket_words (a_docket.Short len needed) = codes "dirstate: " ++ decimal len ++ codes " bytes where " ++ decimal needed ++ codes " are needed"
+docket_words (a_docket.Short len needed) = codes "dirstate: " ++ (decimal len ++ (codes " bytes where " ++ (decimal needed ++ codes " are needed")))
 docket_words (a_docket.Identifier at) = codes "dirstate: identifier byte " ++ decimal at
-docket_words (a_docket.NoIdentifier used) = codes "dirstate: no identifier for " ++ decimal used ++ codes " bytes"
+docket_words (a_docket.NoIdentifier used) = codes "dirstate: no identifier for " ++ (decimal used ++ codes " bytes")
 
 -- what is wrong with the node at a place
 abbrev pub at_node : ℕ → List ℕ → List ℕ
-at_node node what = codes "dirstate data: node " ++ decimal node ++ codes ": " ++ what
+at_node node what = codes "dirstate data: node " ++ (decimal node ++ (codes ": " ++ what))
 
 abbrev pub node_words : NodeFault → List ℕ
-node_words (a_node.DataShort have used) = codes "dirstate data: " ++ decimal have ++ codes " bytes where " ++ decimal used ++ codes " are used"
-node_words (a_node.List start count) = codes "dirstate data: list at " ++ decimal start ++ codes " of " ++ decimal count ++ codes " nodes"
+node_words (a_node.DataShort have used) = codes "dirstate data: " ++ (decimal have ++ (codes " bytes where " ++ (decimal used ++ codes " are used")))
+node_words (a_node.List start count) = codes "dirstate data: list at " ++ (decimal start ++ (codes " of " ++ (decimal count ++ codes " nodes")))
 node_words (a_node.Text node) = at_node node (codes "text")
 node_words (a_node.Name node) = at_node node (codes "name")
 node_words (a_node.Deep node) = at_node node (codes "depth")

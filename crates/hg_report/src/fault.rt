@@ -1,7 +1,10 @@
 //! Why a command ended without doing what it was asked for.
 
+use hg_base::OutOfMemory;
 use hg_docket::{DocketFault, Idents};
+use hg_flat::StatusFault;
 use hg_image::NodeFault;
+use std::alloc::{AllocError, AllocFailed};
 
 /// Why a command ended without doing what it was asked for.
 #[derive(Drop)]
@@ -22,4 +25,73 @@ pub enum Fault {
     ShelfFailed,
     /// Standard output failed.
     OutFailed,
+}
+
+impl From<OutOfMemory> for Fault {
+    ghost use Rattle.std.specs.Prelude.{◌≡◌};
+    ghost use Rattle.hg_report.specs.declared.fault.Fault.TheVariants as a_fault;
+
+    ghost from_gives = { λ _ e. e ≡ a_fault.OutOfMemory };
+
+    fn from(_: OutOfMemory) -> Fault {
+        Fault::OutOfMemory
+    }
+}
+
+impl From<AllocError> for Fault {
+    ghost use Rattle.std.specs.Prelude.{◌≡◌};
+    ghost use Rattle.hg_report.specs.declared.fault.Fault.TheVariants as a_fault;
+
+    ghost from_gives = { λ _ e. e ≡ a_fault.OutOfMemory };
+
+    fn from(_: AllocError) -> Fault {
+        Fault::OutOfMemory
+    }
+}
+
+impl<T: Drop> From<AllocFailed<T>> for Fault {
+    ghost use Rattle.std.specs.Prelude.{◌≡◌};
+    ghost use Rattle.hg_report.specs.declared.fault.Fault.TheVariants as a_fault;
+
+    ghost from_gives = { λ _ e. e ≡ a_fault.OutOfMemory };
+
+    fn from(_: AllocFailed<T>) -> Fault {
+        Fault::OutOfMemory
+    }
+}
+
+impl From<DocketFault> for Fault {
+    ghost use Rattle.std.specs.Prelude.{◌≡◌};
+    ghost use Rattle.hg_report.specs.declared.fault.Fault.TheVariants as a_fault;
+
+    ghost from_gives = { λ f e. e ≡ a_fault.Docket f };
+
+    fn from(fault: DocketFault) -> Fault {
+        Fault::Docket(fault)
+    }
+}
+
+impl From<NodeFault> for Fault {
+    ghost use Rattle.std.specs.Prelude.{◌≡◌};
+    ghost use Rattle.hg_report.specs.declared.fault.Fault.TheVariants as a_fault;
+
+    ghost from_gives = { λ f e. e ≡ a_fault.Node f };
+
+    fn from(fault: NodeFault) -> Fault {
+        Fault::Node(fault)
+    }
+}
+
+impl From<StatusFault> for Fault {
+    ghost use Rattle.std.specs.Prelude.{◌≡◌};
+    ghost use Rattle.hg_report.specs.Cause.{of_status};
+
+    ghost from_gives = { λ f e. e ≡ of_status f };
+
+    fn from(fault: StatusFault) -> Fault {
+        match fault {
+            StatusFault::OutOfMemory => Fault::OutOfMemory,
+            StatusFault::TreeFailed => Fault::TreeFailed,
+        }
+    }
 }
