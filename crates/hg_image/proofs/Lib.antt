@@ -1,2 +1,4 @@
+pub mod RowsOf
+pub mod Sound
 pub mod Texts
 pub mod Walk

@@ -4,6 +4,8 @@ use Rattle.std.proofs.lemmas.Bool.{ne_eqb}
 use Rattle.std.proofs.lemmas.Bool.Decides.{nat_tests}
 use Rattle.hg_image.specs.declared.fault.NodeFault.{NodeFault}
 use Rattle.hg_image.specs.declared.fault.NodeFault.TheVariants as a_fault
+use Rattle.hg_base.specs.PathText.{base_of}
+use Rattle.hg_node.specs.declared.record.Rec.{Rec}
 use Rattle.hg_image.specs.Node.{record_at, path_of, name_of, first_of, node_fault}
 use Rattle.hg_image.specs.Walk.{nodes_fault, list_fault}
 
@@ -69,3 +71,39 @@ pub nodes_stop_below : (kids : List ℕ → ℕ → ℕ → Option NodeFault) (b
 unfolding nodes_fault
 nodes_stop_below kids bytes dir before at zero fault some good bad = absurd (omega arith)
 nodes_stop_below kids bytes dir before at (suc n) fault some good bad = simp (good, bad)
+
+-- what a walk of a list found up to one of its nodes
+pub record SoFar (depth : ℕ) (bytes : List ℕ) (dir : Option (List ℕ)) (start count : ℕ) (before : Option (List ℕ)) (at n : ℕ) : Type 0 where
+  pub deep : 0 < depth
+  pub some : 0 < count
+  pub room : start + 44 * count ≤ length bytes
+  pub rest : nodes_fault (below (depth - 1) bytes) bytes dir None start count ≡ nodes_fault (below (depth - 1) bytes) bytes dir before at n
+
+module _ (depth : ℕ) (bytes : List ℕ) (dir : Option (List ℕ)) (start count : ℕ) (before : Option (List ℕ)) (at n : ℕ) (far : SoFar depth bytes dir start count before at n) where
+  whole : list_fault depth bytes dir start count ≡ nodes_fault (below (depth - 1) bytes) bytes dir before at n
+  whole = list_inside depth bytes dir start count far.deep far.some far.room ∙ far.rest
+
+  -- it ends there
+  pub list_done : n ≡ 0 → None ≡ list_fault depth bytes dir start count
+  list_done e = sym (whole ∙ nodes_end (below (depth - 1) bytes) bytes dir before at n e)
+
+  -- the node has a fault
+  pub list_stops : (rec : Rec) (fault : NodeFault) → 0 < n → rec ≡ record_at bytes at → Some fault ≡ node_fault bytes dir before rec → Some fault ≡ list_fault depth bytes dir start count
+  list_stops rec fault some is bad =
+      sym (whole ∙ nodes_stop (below (depth - 1) bytes) bytes dir before at n fault some (ap (node_fault bytes dir before) (sym is) ∙ sym bad))
+
+  -- what is below it has one
+  pub list_stops_below : (rec : Rec) (path : List ℕ) (fault : NodeFault) → 0 < n → rec ≡ record_at bytes at → None ≡ node_fault bytes dir before rec → path ≡ path_of bytes rec
+      → Some fault ≡ list_fault (depth - 1) bytes (Some path) rec.kids_start rec.kids_count → Some fault ≡ list_fault depth bytes dir start count
+  list_stops_below rec path fault some is good named bad =
+      sym (whole ∙ nodes_stop_below (below (depth - 1) bytes) bytes dir before at n fault some (ap (node_fault bytes dir before) (sym is) ∙ sym good)
+      (ap (λ r. list_fault (depth - 1) bytes (Some (path_of bytes r)) r.kids_start r.kids_count) (sym is) ∙ ap (λ (p : List ℕ). list_fault (depth - 1) bytes (Some p) rec.kids_start rec.kids_count) (sym named) ∙ sym bad))
+
+  -- the node passes, and all that is below it
+  pub list_goes_on : (rec : Rec) (path name : List ℕ) → 0 < n → rec ≡ record_at bytes at → None ≡ node_fault bytes dir before rec → path ≡ path_of bytes rec → name ≡ base_of path
+      → None ≡ list_fault (depth - 1) bytes (Some path) rec.kids_start rec.kids_count
+      → nodes_fault (below (depth - 1) bytes) bytes dir None start count ≡ nodes_fault (below (depth - 1) bytes) bytes dir (Some name) (at + 44) (n - 1)
+  list_goes_on rec path name some is good named base fine =
+      far.rest ∙ nodes_pass (below (depth - 1) bytes) bytes dir before at n some (ap (node_fault bytes dir before) (sym is) ∙ sym good)
+      (ap (λ r. list_fault (depth - 1) bytes (Some (path_of bytes r)) r.kids_start r.kids_count) (sym is) ∙ ap (λ (p : List ℕ). list_fault (depth - 1) bytes (Some p) rec.kids_start rec.kids_count) (sym named) ∙ sym fine)
+      ∙ ap (λ (m : List ℕ). nodes_fault (below (depth - 1) bytes) bytes dir (Some m) (at + 44) (n - 1)) (ap (name_of bytes) (sym is) ∙ ap base_of (sym named) ∙ sym base)

@@ -1,3 +1,4 @@
 pub mod Node
-pub mod Walk
 pub mod Rows
+pub mod View
+pub mod Walk

@@ -31,8 +31,13 @@
 #![tactic(auto)]
 
 mod fault;
+mod image;
+mod list;
 mod list_check;
+mod node;
 mod node_check;
+mod opened;
 mod parts;
 
 pub use fault::NodeFault;
+pub use opened::{Image, List, NodeRef};

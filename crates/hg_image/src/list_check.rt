@@ -11,7 +11,13 @@ use hg_base::PathRef;
 use hg_node::within;
 
 /// The first fault of a list in a directory, none for the root: each node is tried before its children, and they before the next node.
-pub fn check_list(bytes: &[u8], dir: Option<PathRef<'_>>, start: u32, count: u32, depth: u32) -> Result<(), NodeFault>
+pub fn check_list(
+    bytes: &[u8],
+    dir: Option<PathRef<'_>>,
+    start: u32,
+    count: u32,
+    depth: u32,
+) -> Result<(), NodeFault>
     requires { length bytes.now < 2 ^ 32 }
     ensures { result_err result ≡ list_fault depth bytes.now (option_map (λ d. d.text.now) dir.entry) start count }
 {

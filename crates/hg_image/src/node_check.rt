@@ -16,7 +16,12 @@ use std::cmp::Ordering;
 
 /// The path of a node in a directory, none for the root, behind the name before it in its list; else the first fault.
 #[tactic(auto, unfolding(crate::specs::Node::node_fault))]
-pub fn check_node<'a>(bytes: &'a [u8], dir: Option<PathRef<'_>>, before: Option<&str>, rec: Rec) -> Result<PathRef<'a>, NodeFault>
+pub fn check_node<'a>(
+    bytes: &'a [u8],
+    dir: Option<PathRef<'_>>,
+    before: Option<&str>,
+    rec: Rec,
+) -> Result<PathRef<'a>, NodeFault>
     requires { length bytes.now < 2 ^ 32 }
     ensures fault { result_err result ≡ node_fault bytes.entry.now (option_map (λ d. d.text.now) dir.entry) (option_map (λ b. b.now) before.entry) rec }
     ensures path { IfOk result (λ p. p.text.now ≡ path_of bytes.entry.now rec) }

@@ -1,0 +1,67 @@
+//! Opening a data file.
+
+ghost use Rattle.std.specs.Prelude.{◌≡◌, IfOk, None, take};
+ghost use Rattle.std.specs.Result.{result_err};
+ghost use Rattle.hg_docket.specs.Docket.{view};
+ghost use Rattle.hg_image.specs.Rows.{rows_of};
+ghost use Rattle.hg_image.specs.View.{rows, rows_in};
+ghost use Rattle.hg_image.specs.Walk as walk;
+ghost use Rattle.hg_image.specs.Walk.{image_fault};
+
+use crate::fault::NodeFault;
+use crate::list_check::check_list;
+use crate::opened::{Image, List};
+use hg_docket::Docket;
+
+impl<'a> Image<'a> {
+    /// Walks the used bytes of a data file, and answers its first fault. It takes no memory.
+    pub fn open(docket: &Docket<'a>, bytes: &'a [u8]) -> Result<Image<'a>, NodeFault>
+        ensures fault { result_err result ≡ image_fault (view docket.now) bytes.entry.now }
+        ensures docket { IfOk result (λ i. i.docket ≡ docket.now) }
+        ensures bytes { IfOk result (λ i. i.bytes.now ≡ take docket.now.used bytes.entry.now) }
+        ensures rows { IfOk result (λ i. rows i ≡ rows_of (view docket.now) bytes.entry.now) }
+    {
+        let have = bytes.len() as u64;
+        if have < docket.used as u64 {
+            return Err(NodeFault::DataShort {
+                have,
+                used: docket.used,
+            });
+        }
+        let bytes = bytes.split_at(docket.used as usize).0;
+        check_list(bytes, None, docket.root_start, docket.root_count, levels())?;
+        Ok(Image {
+            docket: *docket,
+            bytes,
+        })
+    }
+
+    /// The docket that the image was opened with.
+    pub fn docket(self) -> Docket<'a>
+        ensures { result ≡ self.entry.docket }
+    {
+        self.docket
+    }
+
+    /// The nodes of the root.
+    pub fn root(&self) -> List<'a>
+        ensures rows { rows_in result ≡ rows self.now }
+        ensures dir { result.dir ≡ None }
+    {
+        List {
+            bytes: self.bytes,
+            dir: None,
+            start: self.docket.root_start,
+            count: self.docket.root_count,
+            depth: levels(),
+        }
+    }
+}
+
+// How many levels of lists a walk looks at.
+#[tactic(auto, unfolding(crate::specs::Walk::levels))]
+fn levels() -> u32
+    ensures { result ≡ walk.levels }
+{
+    2049
+}
