@@ -3,4 +3,5 @@ pub mod Full
 pub mod Kept
 pub mod Listing
 pub mod Order
+pub mod Recorded
 pub mod Shown

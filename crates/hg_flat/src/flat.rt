@@ -3,7 +3,7 @@
 ghost use Rattle.std.specs.Prelude.{◌≡◌, ℕ, List, option_map};
 ghost use Rattle.std.specs.BTreeMap.{get_by_text};
 
-use hg_base::PathRef;
+use hg_base::{OutOfMemory, PathRef};
 use hg_entry::Item;
 use std::alloc::Global;
 use std::collections::BTreeMap;
@@ -18,8 +18,9 @@ pub struct Flat {
 }
 
 impl Flat {
-    ghost use Rattle.std.specs.Prelude.{◌≡◌, ℕ, List, None, is_some, option_map};
+    ghost use Rattle.std.specs.Prelude.{◌≡◌, ℕ, List, None, OnOk, is_some, option_map};
     ghost use Rattle.hg_flat.specs.Kept.{shown_item, shown_row};
+    ghost use Rattle.hg_flat.specs.Recorded.{Puts};
     ghost use Rattle.hg_flat.specs.Shown.{kept_of};
 
     /// No paths.
@@ -29,6 +30,15 @@ impl Flat {
         Flat {
             rows: BTreeMap::new(alloc),
         }
+    }
+
+    /// Puts a row at its path.
+    pub(crate) fn put(&mut self, alloc: Global, row: FlatRow) -> Result<(), OutOfMemory>
+        ensures { OnOk result (Puts row (kept_of self.old) (kept_of self.new)) }
+    {
+        let key = String::from_str(alloc, row.path.as_str())?;
+        self.rows.insert(key, row)?;
+        Ok(())
     }
 
     /// Whether a path has an entry.

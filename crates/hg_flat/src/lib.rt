@@ -7,6 +7,7 @@ mod kept;
 mod letter;
 mod listing;
 mod order;
+mod reading;
 mod row;
 mod status;
 
@@ -14,5 +15,6 @@ pub use fault::StatusFault;
 pub use flat::Flat;
 pub use hg_compare::Letter;
 pub use kept::FlatRow;
+pub use reading::is_added;
 pub use row::{Row, Rows, Wanted};
 pub use status::plain_status;

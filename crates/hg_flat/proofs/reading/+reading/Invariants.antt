@@ -1,0 +1,18 @@
+use Rattle.std.proofs.Common.{◌≡◌, ◌+◌, ◌*◌, ◌++◌, List}
+use Rattle.hg_image.specs.Rows as node
+use Rattle.hg_image.specs.View.{rows_from, rows_in}
+use Rattle.hg_flat.specs.Recorded.{Overlays}
+use Rattle.hg_flat.specs.Shown.{kept_of}
+use Rattle.hg_flat.proofs.reading.+reading.Given as goal
+
+-- a list has one level more than the nodes in it
+abbrev pub decreases-add_node : goal.decreases-add_node
+decreases-add_node l = 2 * l.node.depth + 1
+
+abbrev pub decreases-add_list : goal.decreases-add_list
+decreases-add_list l = 2 * l.list.depth
+
+-- the rows so far were put
+abbrev pub invariant-add_list-loop-i : goal.invariant-add_list-loop-i
+invariant-add_list-loop-i l =
+    (done : List node.Row) × (rows_in l.list ≡ done ++ rows_from l.list l.i) × Overlays done (kept_of l.initial.flat) (kept_of l.flat)

@@ -1,0 +1,119 @@
+//! Reading the flat map from a data file: a walk over all its nodes.
+
+ghost use Rattle.std.specs.Prelude.{◌≡◌, ◌∷◌, [], IfOk, OnOk, option_map};
+ghost use Rattle.hg_entry.specs.Entry as record_of;
+ghost use Rattle.hg_image.specs.Node.{fields_of};
+ghost use Rattle.hg_image.specs.View.{row, rows, rows_below, rows_in};
+ghost use Rattle.hg_flat.specs.Kept.{shown_row};
+ghost use Rattle.hg_flat.specs.Recorded.{Overlays, Records, are_added, is_added_entry};
+ghost use Rattle.hg_flat.specs.Shown.{kept_of};
+
+use hg_base::{OutOfMemory, Path, PathRef};
+use hg_entry::Entry;
+use hg_image::{Image, List, NodeRef};
+use std::alloc::Global;
+
+use crate::flat::Flat;
+use crate::kept::FlatRow;
+
+// A row of its own for a path with an entry.
+fn row_for(alloc: Global, path: PathRef<'_>, entry: Entry, source: Option<PathRef<'_>>) -> Result<FlatRow, OutOfMemory>
+    ensures path { IfOk result (λ r. r.path ≡ path.entry.text.now) }
+    ensures shown { IfOk result (λ r. shown_row r ≡ (record_of.view entry, option_map (λ s. s.text.now) source.entry)) }
+{
+    let path = Path::of(alloc, path)?;
+    let source = owned(alloc, source)?;
+    Ok(FlatRow {
+        path,
+        entry,
+        source,
+    })
+}
+
+fn owned(alloc: Global, path: Option<PathRef<'_>>) -> Result<Option<Path>, OutOfMemory>
+    ensures { IfOk result (λ owned. owned ≡ option_map (λ p. p.text.now) path.entry) }
+{
+    match path {
+        None => Ok(None),
+        Some(path) => Ok(Some(Path::of(alloc, path)?)),
+    }
+}
+
+// Puts what a node records of its own path.
+fn add_own(alloc: Global, flat: &mut Flat, node: NodeRef<'_>) -> Result<(), OutOfMemory>
+    ensures { OnOk result (Overlays (row node.entry ∷ []) (kept_of flat.old) (kept_of flat.new)) }
+{
+    match node.entry() {
+        None => Ok(()),
+        Some(entry) => flat.put(alloc, row_for(alloc, node.path(), entry, node.source())?),
+    }
+}
+
+// Puts what a node and the nodes below it record.
+#[cycle(reading)]
+fn add_node(alloc: Global, flat: &mut Flat, node: NodeRef<'_>) -> Result<(), OutOfMemory>
+    ensures { OnOk result (Overlays (row node.entry ∷ rows_below node.entry) (kept_of flat.old) (kept_of flat.new)) }
+{
+    add_own(alloc, flat, node)?;
+    add_list(alloc, flat, node.children())
+}
+
+#[cycle(reading)]
+fn add_list(alloc: Global, flat: &mut Flat, list: List<'_>) -> Result<(), OutOfMemory>
+    ensures { OnOk result (Overlays (rows_in list.entry) (kept_of flat.old) (kept_of flat.new)) }
+{
+    for i in 0..list.len() {
+        add_node(alloc, flat, list.get(i))?;
+    }
+    Ok(())
+}
+
+impl Flat {
+    /// What a data file records of each path.
+    pub fn read(alloc: Global, image: &Image<'_>) -> Result<Flat, OutOfMemory>
+        ensures { IfOk result (λ flat. Records (rows image.now) (kept_of flat)) }
+    {
+        let mut flat = Flat::new(alloc);
+        add_list(alloc, &mut flat, image.root())?;
+        Ok(flat)
+    }
+}
+
+fn is_added_node(entry: Option<Entry>) -> bool
+    ensures { result ≡ is_added_entry (option_map record_of.view entry) }
+{
+    match entry {
+        None => true,
+        Some(entry) => !(entry.p1 || entry.p2),
+    }
+}
+
+#[cycle(adding)]
+fn is_added_below(node: NodeRef<'_>) -> bool
+    ensures { result ≡ are_added (rows_below node.entry) }
+{
+    is_added_list(node.children())
+}
+
+#[cycle(adding)]
+fn is_added_list(list: List<'_>) -> bool
+    ensures { result ≡ are_added (rows_in list.entry) }
+{
+    for i in 0..list.len() {
+        let node = list.get(i);
+        if !is_added_node(node.entry()) {
+            return false;
+        }
+        if !is_added_below(node) {
+            return false;
+        }
+    }
+    true
+}
+
+/// Whether no entry of a data file is of a parent.
+pub fn is_added(image: &Image<'_>) -> bool
+    ensures { result ≡ are_added (rows image.now) }
+{
+    is_added_list(image.root())
+}
