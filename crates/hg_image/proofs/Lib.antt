@@ -1,3 +1,4 @@
+pub mod Apart
 pub mod RowsOf
 pub mod Sound
 pub mod Texts
