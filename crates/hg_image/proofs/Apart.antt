@@ -22,7 +22,7 @@ use Rattle.hg_image.proofs.Walk.{below, nodes_end}
 use Rattle.hg_image.proofs.Sound.{Sound, node_sound, both_none, list_sound}
 
 -- the order of names
-less_is : (o : Ordering) → is_lt o ≡ true → o ≡ Less
+pub less_is : (o : Ordering) → is_lt o ≡ true → o ≡ Less
 less_is Less h = refl
 less_is Equal h = absurd (true≢false (sym h))
 less_is Greater h = absurd (true≢false (sym h))
@@ -32,7 +32,7 @@ own_reverse Less e h = absurd (true≢false (ap is_lt e))
 own_reverse Equal e h = absurd (true≢false (sym h))
 own_reverse Greater e h = absurd (true≢false (sym h))
 
-not_after_itself : (name : List ℕ) → is_lt (slice_cmp nat_cmp name name) ≡ true → ⊥
+pub not_after_itself : (name : List ℕ) → is_lt (slice_cmp nat_cmp name name) ≡ true → ⊥
 not_after_itself name h = own_reverse (slice_cmp nat_cmp name name) (nat_list_cmp_total.antisymm name name) h
 
 after_trans : (before : Option (List ℕ)) (a b : List ℕ) → is_after before a ≡ true → is_after (Some a) b ≡ true → is_after before b ≡ true

@@ -97,7 +97,7 @@ list_sound (suc depth) bytes dir start count some h =
     }
 
 -- the name before a node of a list, where there is one
-pub before_at : List ℕ → Option (List ℕ) → ℕ → ℕ → Option (List ℕ)
+unfoldable pub before_at : List ℕ → Option (List ℕ) → ℕ → ℕ → Option (List ℕ)
 before_at bytes before at zero = before
 before_at bytes before at (suc i) = Some (name_of bytes (record_at bytes (at + 44 * i)))
 
