@@ -1,3 +1,5 @@
+pub mod Apart
+pub mod Names
 pub mod RowsOf
 pub mod Sound
 pub mod Texts

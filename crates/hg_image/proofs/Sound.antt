@@ -15,11 +15,11 @@ use Rattle.hg_image.specs.Node.{record_at, path_of, name_of, fields_of, is_text,
 use Rattle.hg_image.specs.Walk.{nodes_fault, list_fault}
 use Rattle.hg_image.proofs.Walk.{below}
 
-row : (t : Bool) (fault : NodeFault) (more : Option NodeFault) → cond (not t) (Some fault) more ≡ None → (t ≡ true) × (more ≡ None)
+pub row : (t : Bool) (fault : NodeFault) (more : Option NodeFault) → cond (not t) (Some fault) more ≡ None → (t ≡ true) × (more ≡ None)
 row true fault more h = (refl, h)
 row false fault more h = absurd (cc)
 
-row_not : (t : Bool) (fault : NodeFault) (more : Option NodeFault) → cond t (Some fault) more ≡ None → (t ≡ false) × (more ≡ None)
+pub row_not : (t : Bool) (fault : NodeFault) (more : Option NodeFault) → cond t (Some fault) more ≡ None → (t ≡ false) × (more ≡ None)
 row_not true fault more h = absurd (cc)
 row_not false fault more h = (refl, h)
 
@@ -27,7 +27,7 @@ pub past : (t : Bool) (more : Option NodeFault) → t ≡ false → cond t None 
 past true more e h = absurd (true≢false e)
 past false more e h = h
 
-both_none : (a b : Option NodeFault) → first_of a b ≡ None → (a ≡ None) × (b ≡ None)
+pub both_none : (a b : Option NodeFault) → first_of a b ≡ None → (a ≡ None) × (b ≡ None)
 both_none (Some fault) b h = absurd (cc)
 both_none None b h = (refl, h)
 
@@ -97,7 +97,7 @@ list_sound (suc depth) bytes dir start count some h =
     }
 
 -- the name before a node of a list, where there is one
-pub before_at : List ℕ → Option (List ℕ) → ℕ → ℕ → Option (List ℕ)
+unfoldable pub before_at : List ℕ → Option (List ℕ) → ℕ → ℕ → Option (List ℕ)
 before_at bytes before at zero = before
 before_at bytes before at (suc i) = Some (name_of bytes (record_at bytes (at + 44 * i)))
 

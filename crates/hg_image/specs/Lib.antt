@@ -1,4 +1,5 @@
 pub mod Node
+pub mod Reading
 pub mod Rows
 pub mod View
 pub mod Walk

@@ -1,5 +1,7 @@
 -- What a data file without fault holds: a row for each node, in the order of the walk.
-use Rattle.std.specs.Prelude.{ℕ, zero, suc, ◌+◌, List, [], ◌∷◌, ◌++◌, take, Option}
+use Rattle.std.specs.Prelude.{ℕ, zero, suc, ◌+◌, List, [], ◌∷◌, ◌++◌, take, map, Option}
+use Rattle.std.specs.List.{IsDistinct}
+use Rattle.std.specs.Str.{bytes_eq}
 use Rattle.hg_docket.specs.Docket.{Contents}
 use Rattle.hg_node.specs.declared.record.Rec.{Rec}
 use Rattle.hg_image.specs.Node.{record_at, path_of, source_of}
@@ -28,3 +30,7 @@ list_rows (suc depth) bytes start count = nodes_rows (list_rows depth bytes) byt
 -- the rows of a data file
 abbrev pub rows_of : Contents → List ℕ → List Row
 rows_of docket bytes = list_rows levels (take docket.used bytes) docket.root_start docket.root_count
+
+-- no two rows are of one path
+abbrev pub AreDistinct : List Row → Type 0
+AreDistinct rows = IsDistinct bytes_eq (map (λ row. row.path) rows)

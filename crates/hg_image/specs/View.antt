@@ -1,5 +1,5 @@
 -- What the parts of an opened data file hold.
-use Rattle.std.specs.Prelude.{ℕ, ◌+◌, ◌-◌, ◌*◌, List, Option}
+use Rattle.std.specs.Prelude.{ℕ, ◌≡◌, ◌+◌, ◌-◌, ◌*◌, ◌<◌, List, Option, Some, None}
 use Rattle.std.specs.Option.{option_map}
 use Rattle.hg_image.specs.Node.{record_at, path_of, name_of}
 use Rattle.hg_image.specs.Walk.{levels}
@@ -33,3 +33,16 @@ name_at list i = name_of list.bytes.now (record_at list.bytes.now (list.start + 
 -- the directory of a list, none for the root
 abbrev pub dir_of : NodeList → Option (List ℕ)
 dir_of list = option_map (λ d. d.text.now) list.dir
+
+-- the node is one of the list's
+pub record IsMember (list : NodeList) (node : NodeRef) : Type 0 where
+  pub place : ℕ
+  pub inside : place < list.count
+  pub rec : node.rec ≡ record_at list.bytes.now (list.start + 44 * place)
+  pub bytes : node.bytes.now ≡ list.bytes.now
+  pub levels : node.depth + 1 ≡ list.depth
+
+-- what a look-up by name answers: the list's node of this name, or none where no node has it
+abbrev pub Finds : NodeList → List ℕ → Option NodeRef → Type 0
+Finds list name None = (i : ℕ) → i < list.count → name_at list i ≡ name → ⊥
+Finds list name (Some node) = (name_of node.bytes.now node.rec ≡ name) × IsMember list node

@@ -3,7 +3,7 @@
 ghost use Rattle.std.specs.Prelude.{◌≡◌, IfOk, None, take};
 ghost use Rattle.std.specs.Result.{result_err};
 ghost use Rattle.hg_docket.specs.Docket.{view};
-ghost use Rattle.hg_image.specs.Rows.{rows_of};
+ghost use Rattle.hg_image.specs.Rows.{rows_of, AreDistinct};
 ghost use Rattle.hg_image.specs.View.{rows, rows_in};
 ghost use Rattle.hg_image.specs.Walk as walk;
 ghost use Rattle.hg_image.specs.Walk.{image_fault};
@@ -44,9 +44,12 @@ impl<'a> Image<'a> {
     }
 
     /// The nodes of the root.
+    #[tactic(auto, using(crate::proofs::Apart::list_dist))]
     pub fn root(&self) -> List<'a>
         ensures rows { rows_in result ≡ rows self.now }
         ensures dir { result.dir ≡ None }
+        // No two nodes of an image are of one path.
+        ensures distinct { AreDistinct (rows self.now) }
     {
         List {
             bytes: self.bytes,

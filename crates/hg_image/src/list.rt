@@ -3,10 +3,11 @@
 ghost use Rattle.std.specs.Prelude.{◌≡◌, ◌+◌, ◌*◌, ◌<◌, ◌∷◌, ◌++◌, []};
 ghost use Rattle.hg_base.specs.PathText.{parent_of};
 ghost use Rattle.hg_image.specs.Node.{record_at, path_of};
-ghost use Rattle.hg_image.specs.View.{rows_in, rows_from, row, rows_below, dir_of};
+ghost use Rattle.hg_image.specs.View.{rows_in, rows_from, row, rows_below, dir_of, Finds};
 
 use crate::opened::{List, NodeRef};
 use crate::parts::read_record;
+use std::cmp::Ordering;
 
 impl<'a> List<'a> {
     /// The byte place of the first record; of a list without nodes it says nothing.
@@ -43,5 +44,23 @@ impl<'a> List<'a> {
             rec: read_record(self.bytes, self.start + 44 * i),
             depth: self.depth - 1,
         }
+    }
+
+    /// The node of this name, where there is one.
+    pub fn find(self, base: &str) -> Option<NodeRef<'a>>
+        ensures { Finds self.entry base.now result }
+    {
+        let mut low = 0;
+        let mut high = self.count;
+        while low < high {
+            let middle = low + (high - low) / 2;
+            let node = self.get(middle);
+            match node.base().cmp(base) {
+                Ordering::Equal => return Some(node),
+                Ordering::Less => low = middle + 1,
+                Ordering::Greater => high = middle,
+            }
+        }
+        None
     }
 }
