@@ -1,5 +1,5 @@
 -- One change more: what it makes of what is shown, and that each moment stays well formed.
-use Rattle.std.proofs.Common.{ℕ, ◌≡◌, ◌+◌, ◌<◌, ◌≤◌, Bool, true, cond, List, [], ◌∷◌, ◌++◌, length, take, inl, inr, refl, sym, ◌∙◌, ap, subst, arith}
+use Rattle.std.proofs.Common.{ℕ, ◌≡◌, ◌≤◌, Bool, true, cond, List, [], ◌∷◌, ◌++◌, length, take, inl, inr, refl, sym, ◌∙◌, ap, subst, arith}
 use Rattle.std.proofs.lemmas.Bool.{cases_lt, cond-true}
 use Rattle.std.proofs.lemmas.List.{take-append-le, take_all, length_push}
 use Rattle.hg_base.specs.PathText.{is_path}
@@ -7,7 +7,7 @@ use Rattle.hg_base.specs.declared.time.Time.{Time}
 use Rattle.hg_tree.specs.declared.thing.Thing.{Thing}
 use Rattle.hg_tree.specs.declared.asked.Outside.{Outside}
 use Rattle.hg_tree.specs.declared.asked.Outside.TheVariants as a_change
-use Rattle.hg_tree.specs.Moment.{Moment, Things, IsFormed, IsRooted, AreAtPaths, is_short_thing, empty_at}
+use Rattle.hg_tree.specs.Moment.{Moment, Things, IsFormed, is_short_thing, empty_at}
 use Rattle.hg_tree.specs.Change.{after, after_place, after_take, replayed}
 use Rattle.hg_tree.specs.Memory.{IsKept}
 use Rattle.hg_tree.proofs.Formed.{formed_placed, formed_taken}

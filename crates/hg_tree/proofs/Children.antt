@@ -1,9 +1,8 @@
 -- The names of a directory are found by going over all paths.
-use Rattle.std.proofs.Common.{ℕ, ◌≡◌, Bool, true, false, not, ◌&&◌, ◌||◌, ◌⊎◌, cond, List, [], ◌∷◌, ◌++◌, map, Option, Some, None, String, inl, inr, refl, sym, ◌∙◌, ap, subst, true≢false, append_assoc, append-nil}
-use Rattle.std.specs.Prelude.{is_some, option_map, IsTrue}
+use Rattle.std.proofs.Common.{ℕ, ◌≡◌, Bool, true, false, not, ◌&&◌, ◌||◌, cond, List, [], ◌∷◌, ◌++◌, map, Option, Some, None, String, inl, inr, refl, sym, ◌∙◌, ap, subst, append_assoc, append-nil}
+use Rattle.std.specs.Prelude.{is_some}
 use Rattle.std.specs.BTreeMap.{is_at}
-use Rattle.std.specs.Cmp.{IsTotalOrder}
-use Rattle.std.specs.List.{list_any, list_all, filter_map, cons_option, IsDistinct, AllByRecursion, All}
+use Rattle.std.specs.List.{list_all, filter_map, cons_option, IsDistinct, AllByRecursion, All}
 use Rattle.std.specs.Map.{lookup, keys_of}
 use Rattle.std.specs.Ordering.{eq_by_cmp}
 use Rattle.std.specs.Str.{bytes_eq}
@@ -12,12 +11,12 @@ use Rattle.std.proofs.lemmas.Bool.{cases_Bool, both_ways, and_parts, and_from, a
 use Rattle.std.proofs.lemmas.List.Elements.{All-nil, All-cons}
 use Rattle.std.proofs.lemmas.Map.Keys.{IsDistinct-cons, IsDistinct-head, IsDistinct-tail}
 use Rattle.std.proofs.lemmas.Map.Text.{text_cmp, is_eq-slice_cmp}
-use Rattle.hg_base.specs.PathText.{is_path, is_component, has_slash, joined, base_of, parent_of, is_same_dir, child_of}
+use Rattle.hg_base.specs.PathText.{is_path, is_component, has_slash, joined, child_of}
 use Rattle.hg_base.proofs.Children.{child_component, child_is, child_joined}
 use Rattle.hg_base.proofs.Components.{base_joined, joined_same}
-use Rattle.hg_base.proofs.Paths.{path_base, path_base_plain, component_plain}
+use Rattle.hg_base.proofs.Paths.{path_base, component_plain}
 use Rattle.hg_tree.specs.declared.thing.Placed.{Placed}
-use Rattle.hg_tree.specs.Moment.{Moment, Things, is_among, is_listed, AreNames, AreFit, IsFit, AreAtPaths, Lists}
+use Rattle.hg_tree.specs.Moment.{Moment, Things, is_among, AreNames, AreFit, IsFit, AreAtPaths}
 use Rattle.hg_tree.specs.Children.{AreChildren}
 use Rattle.hg_tree.proofs.Planting.{same_bytes, equal_bytes}
 

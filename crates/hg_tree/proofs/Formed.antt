@@ -1,17 +1,17 @@
 -- A change of a well formed working copy leaves it well formed.
-use Rattle.std.proofs.Common.{ℕ, ◌≡◌, ◌<◌, ◌≤◌, Bool, true, false, ◌||◌, ◌&&◌, not, ◌⊎◌, cond, List, length, Option, Some, None, inl, inr, refl, sym, ◌∙◌, ap, arith, true≢false}
+use Rattle.std.proofs.Common.{ℕ, ◌≡◌, Bool, true, false, ◌||◌, ◌&&◌, not, ◌⊎◌, cond, List, Option, Some, None, inl, inr, refl, sym, ◌∙◌, ap, true≢false}
 use Rattle.std.specs.Prelude.{is_some}
 use Rattle.std.specs.Str.{bytes_eq}
 use Rattle.std.specs.Map.{update}
-use Rattle.std.proofs.lemmas.Bool.{cases_Bool, false_from_ne_true, both_ways, or_left, or_right, or_parts, or_from, and_parts, and_cases, not-true, not-false, cond-true, cond-false}
+use Rattle.std.proofs.lemmas.Bool.{cases_Bool, false_from_ne_true, both_ways, or_right, or_parts, or_from, and_parts, and_cases, not-true, not-false, cond-true, cond-false}
 use Rattle.hg_base.specs.PathText.{is_below, is_path}
 use Rattle.hg_base.specs.declared.time.Time.{Time}
-use Rattle.hg_base.proofs.Below.{below_trans, below_itself, below_not_back, below_compared}
+use Rattle.hg_base.proofs.Below.{below_trans, below_not_back, below_compared}
 use Rattle.hg_base.proofs.Paths.{path_above}
 use Rattle.hg_tree.specs.declared.thing.Thing.{Thing}
 use Rattle.hg_tree.specs.declared.thing.Thing.TheVariants as a_thing
 use Rattle.hg_tree.specs.declared.thing.Placed.{Placed}
-use Rattle.hg_tree.specs.Moment.{Moment, Things, zero_time, is_dir, is_dir_thing, is_short, is_short_thing, IsRooted, AreAtPaths, AreShort, IsFormed, empty_at}
+use Rattle.hg_tree.specs.Moment.{Things, zero_time, is_dir, is_dir_thing, is_short, is_short_thing, IsRooted, AreAtPaths, AreShort, IsFormed, empty_at}
 use Rattle.hg_tree.specs.Change.{dir_of, after_place, after_take, with_parents, without_below}
 use Rattle.hg_tree.proofs.Planting.{same_bytes, equal_bytes, apart_below, apart_above}
 

@@ -1,6 +1,5 @@
 -- Spans of a history: what stays from one state of a tree to a later one, and spans in which no step was made.
-use Rattle.std.proofs.Common.{ℕ, ◌≡◌, ◌≤◌, ◌<◌, refl, ap, ◌∙◌, sym, arith}
-use Rattle.hg_tree.specs.Moment.{Moment}
+use Rattle.std.proofs.Common.{◌≡◌, refl, ap, ◌∙◌, arith}
 use Rattle.hg_tree.specs.History.{History, Extends, IsQuiet, now}
 
 pub extends_same : (h : History) → Extends h h

@@ -1,5 +1,5 @@
 -- The directory of a path is its parent: what stands above the path is that directory and what stands above it.
-use Rattle.std.proofs.Common.{ℕ, ◌≡◌, Bool, true, false, ◌||◌, List, ◌∷◌, ◌++◌, inl, inr, refl, sym, ◌∙◌, ap, subst}
+use Rattle.std.proofs.Common.{ℕ, ◌≡◌, Bool, true, false, ◌||◌, List, ◌∷◌, ◌++◌, inl, inr, sym, ◌∙◌, ap}
 use Rattle.std.specs.Str.{bytes_eq}
 use Rattle.std.proofs.lemmas.Bool.{cases_Bool, both_ways, or_left, or_right, or_from, false_from_ne_true}
 use Rattle.hg_base.specs.PathText.{is_below, is_path, base_of, has_slash}

@@ -1,11 +1,10 @@
 -- A thing is put at a path, and directories above it, from the path upwards.
-use Rattle.std.proofs.Common.{ℕ, ◌≡◌, ◌<◌, ◌≤◌, Bool, true, false, ◌||◌, cond, List, length, Option, Some, None, inl, inr, refl, sym, ◌∙◌, ap, arith, rules, true≢false}
+use Rattle.std.proofs.Common.{ℕ, ◌≡◌, ◌<◌, Bool, true, false, ◌||◌, cond, List, length, Option, Some, inl, inr, refl, sym, ◌∙◌, ap}
 use Rattle.std.specs.Str.{bytes_eq}
 use Rattle.std.specs.Map.{update}
-use Rattle.std.proofs.lemmas.Bool.{cases_Bool, false_from_ne_true, both_ways, or_left, or_right, or_cases, cond-true, cond-false}
+use Rattle.std.proofs.lemmas.Bool.{cases_Bool, false_from_ne_true, both_ways, or_left, or_right, cond-true, cond-false}
 use Rattle.std.proofs.lemmas.Slice.Eq.{bytes_eq-Decides}
 use Rattle.hg_base.specs.PathText.{is_below}
-use Rattle.hg_base.specs.declared.time.Time.{Time}
 use Rattle.hg_base.proofs.Below.{below_trans, below_length, below_itself, below_not_back}
 use Rattle.hg_tree.specs.declared.thing.Placed.{Placed}
 use Rattle.hg_tree.specs.Moment.{Things, is_dir}

@@ -1,7 +1,7 @@
 -- Spans in which the caller made no step, one behind another.
-use Rattle.std.proofs.Common.{ℕ, ◌≡◌, ◌≤◌, ◌<◌, refl, ◌∙◌, arith, inl, inr}
+use Rattle.std.proofs.Common.{◌∙◌, arith, inl, inr}
 use Rattle.std.proofs.lemmas.Bool.{cases_lt}
-use Rattle.hg_tree.specs.History.{History, Passes, By, others}
+use Rattle.hg_tree.specs.History.{History, Passes}
 use Rattle.hg_tree.proofs.Histories.{extends_same, extends_trans}
 
 pub passes_same : (h : History) → Passes h h
@@ -11,8 +11,8 @@ pub passes_trans : (a b c : History) → Passes a b → Passes b c → Passes a 
 passes_trans a b c p q = record {
   past = extends_trans a b c p.past q.past;
   by_others = λ k from upto.
-    elim (cases_lt k b.last) [
-      inl below ↦ q.past.who k below ∙ p.by_others k from below
-    | inr above ↦ q.by_others k above upto
-    ];
+      elim (cases_lt k b.last) [
+        | inl below ↦ q.past.who k below ∙ p.by_others k from below
+        | inr above ↦ q.by_others k above upto
+      ];
 }

@@ -1,5 +1,5 @@
 -- Times with the same seconds and nanoseconds are the same.
-use Rattle.std.proofs.Common.{ℕ, ◌≡◌, ◌<◌, ◌^◌, pos, false, refl, sym, ◌∙◌, ap, lit<}
+use Rattle.std.proofs.Common.{◌≡◌, ◌<◌, ◌^◌, pos, false, sym, ◌∙◌, ap, lit<}
 use Rattle.std.proofs.Math.Bridge.{le_prop}
 use Rattle.hg_base.specs.declared.time.Time.{Time}
 use Rattle.hg_base.specs.declared.stat.Stat.{Stat}

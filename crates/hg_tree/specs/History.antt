@@ -1,5 +1,5 @@
 -- The moments of a working copy so far, who made each step between them, and what the tree was asked.
-use Rattle.std.specs.Prelude.{ℕ, ◌≡◌, ◌≤◌, ◌<◌, Bool, true, false, IsTrue, ◌⊎◌, List, [], ◌++◌}
+use Rattle.std.specs.Prelude.{ℕ, ◌≡◌, ◌≤◌, ◌<◌, Bool, false, IsTrue, ◌⊎◌, List, [], ◌++◌}
 use Rattle.hg_tree.specs.declared.asked.Asked.{Asked}
 use Rattle.hg_tree.specs.Moment.{Moment, empty_at, zero_time, IsFormed}
 

@@ -1,10 +1,10 @@
 -- The tree in memory: how it began, what others changed, what it was asked and which of its calls fail.
-use Rattle.std.specs.Prelude.{ℕ, ◌≡◌, ◌≤◌, ◌+◌, ◌-◌, ◌^◌, min, ◌==◌, Bool, true, if◌then◌else◌, List, length, take, Option}
+use Rattle.std.specs.Prelude.{ℕ, ◌≡◌, ◌≤◌, ◌+◌, ◌-◌, ◌^◌, min, ◌==◌, Bool, true, if◌then◌else◌, List, length, take}
 use Rattle.std.specs.List.{list_any}
 use Rattle.hg_base.specs.declared.time.Time.{Time}
 use Rattle.hg_tree.specs.declared.asked.Asked.{Asked}
 use Rattle.hg_tree.specs.declared.asked.Outside.{Outside}
-use Rattle.hg_tree.specs.Moment.{Moment, Things, empty_at, IsFormed}
+use Rattle.hg_tree.specs.Moment.{Things, empty_at, IsFormed}
 use Rattle.hg_tree.specs.Change.{replayed}
 use Rattle.hg_tree.specs.History.{History, others}
 

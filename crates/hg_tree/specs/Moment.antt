@@ -1,5 +1,5 @@
 -- One moment of a working copy: its clock and what stands where.
-use Rattle.std.specs.Prelude.{ℕ, ◌≡◌, ◌<◌, ◌^◌, pos, Bool, true, false, IsTrue, ◌&&◌, List, [], ◌∷◌, length, Option, Some, None, is_some, option_map, IfSome, All, nat_le}
+use Rattle.std.specs.Prelude.{ℕ, ◌≡◌, pos, Bool, true, false, IsTrue, ◌&&◌, List, length, Option, Some, None, is_some, option_map, All, nat_le}
 use Rattle.std.specs.Str.{bytes_eq}
 use Rattle.std.specs.List.{list_any, IsDistinct}
 use Rattle.std.proofs.Common.{lit<}

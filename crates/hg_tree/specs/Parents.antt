@@ -1,5 +1,5 @@
 -- The directories above a path, while a thing is put there.
-use Rattle.std.specs.Prelude.{ℕ, ◌≡◌, Bool, true, false, ◌||◌, List, Option, MatchOption}
+use Rattle.std.specs.Prelude.{ℕ, ◌≡◌, true, false, ◌||◌, List, Option, MatchOption}
 use Rattle.std.specs.Str.{bytes_eq}
 use Rattle.hg_base.specs.PathText.{is_below}
 use Rattle.hg_tree.specs.Moment.{Things, is_dir}

@@ -1,5 +1,5 @@
 -- What `retain` keeps is what doesn't stand below the directory.
-use Rattle.std.proofs.Common.{rules, not, ap, ◌∙◌, List, ◌≡◌}
+use Rattle.std.proofs.Common.{rules, not, ap, ◌∙◌}
 use Rattle.std.specs.BTreeMap.{is_at}
 use Rattle.std.specs.Map.{lookup}
 use Rattle.std.specs.String.{string_bytes}

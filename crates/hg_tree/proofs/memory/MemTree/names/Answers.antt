@@ -1,8 +1,8 @@
 -- The names of what is shown now are those of the last moment.
-use Rattle.std.proofs.Common.{sym, ap, ◌∙◌, true}
+use Rattle.std.proofs.Common.{sym, ap, ◌∙◌}
 use Rattle.std.specs.Prelude.{option_map}
 use Rattle.std.specs.BTreeMap.{get_by_text}
-use Rattle.hg_tree.specs.Memory.{Memory, IsKept}
+use Rattle.hg_tree.specs.Memory.{Memory}
 use Rattle.hg_tree.proofs.Shown.{kept_seen, seen_formed, seen_lists, seen_fit}
 use Rattle.hg_tree.proofs.memory.MemTree.names.Goals as goal
 

@@ -1,5 +1,5 @@
 -- What stood anywhere stood below directories; what was placed is kept, and what could not be placed left all as it was.
-use Rattle.std.proofs.Common.{sym, ◌∙◌, ap, subst, List, [], ◌∷◌, ◌++◌, ℕ, ◌≡◌}
+use Rattle.std.proofs.Common.{sym, ◌∙◌, ap, subst, List, [], ◌∷◌, ◌++◌, ℕ}
 use Rattle.std.specs.BTreeMap.{get_by_text}
 use Rattle.std.specs.Result.{is_ok}
 use Rattle.hg_tree.specs.declared.asked.Outside.{Outside}
