@@ -1,6 +1,6 @@
 -- A text without a foreign byte is made of the bytes of identifiers, and the other way round.
-use Rattle.std.proofs.Common.{◌≡◌, ℕ, ◌+◌, ◌<◌, ◌≤◌, Bool, true, false, not, ◌&&◌, cond, List, [], ◌∷◌, length, refl, arith, Option, Some, None, nat_lt, suc, zero}
-use Rattle.std.specs.List.{list_all, position_or_len, position}
+use Rattle.std.proofs.Common.{◌≡◌, ℕ, ◌+◌, ◌≤◌, Bool, true, false, not, ◌&&◌, cond, List, [], ◌∷◌, length, refl, arith, Some, None, nat_lt, suc}
+use Rattle.std.specs.List.{list_all, position_or_len}
 use Rattle.std.proofs.lemmas.Bool.Decides.{nat_tests}
 use Rattle.hg_docket.specs.Name.{is_name_byte, is_name, foreign_place}
 

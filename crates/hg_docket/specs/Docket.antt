@@ -1,5 +1,5 @@
 -- The docket, the file `.hg/dirstate` (Mercurial help, internals.dirstate-v2, "The docket file format"): what its bytes say.
-use Rattle.std.specs.Prelude.{ℕ, ◌+◌, Bool, ◌&&◌, not, if◌then◌else◌, List, [], ◌∷◌, ◌++◌, length, take, drop, replicate, slice_index, Option, Some, None, codes, ◌==◌, nat_lt}
+use Rattle.std.specs.Prelude.{ℕ, ◌+◌, ◌&&◌, not, if◌then◌else◌, List, [], ◌∷◌, ◌++◌, length, take, drop, replicate, slice_index, Option, Some, None, codes, ◌==◌, nat_lt}
 use Rattle.std.specs.Int.{w32, from_be_bytes}
 use Rattle.hg_docket.specs.Name.{foreign_place}
 use Rattle.hg_docket.specs.declared.docket.Docket.{Docket}

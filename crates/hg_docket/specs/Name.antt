@@ -1,5 +1,5 @@
 -- The identifier of a data file, which stands in its name `.hg/dirstate.ID` (Mercurial help, internals.dirstate-v2).
-use Rattle.std.specs.Prelude.{ℕ, ◌+◌, Bool, not, ◌&&◌, ◌||◌, List, length, Option, ◌==◌, nat_le}
+use Rattle.std.specs.Prelude.{ℕ, Bool, not, ◌&&◌, ◌||◌, List, length, Option, ◌==◌, nat_le}
 use Rattle.std.specs.List.{position, list_all}
 
 -- what may stand in an identifier: an ASCII letter or digit, `-` or `_`

@@ -2,6 +2,7 @@
 
 ghost use Rattle.std.specs.Prelude.{◌≡◌, ◌+◌, ◌≤◌, ◌<◌, ◌^◌, take, drop, length, IfOk, IfSome, IsTrue, None};
 ghost use Rattle.std.specs.Result.{result_err};
+ghost use Rattle.hg_docket.specs.declared.fault.DocketFault.TheVariants.{Short};
 ghost use Rattle.hg_docket.specs.Name.{foreign_place, is_name};
 ghost use Rattle.hg_docket.specs.Written.{is_writable};
 ghost use Rattle.hg_docket.specs.Docket.{view, number_at, empty_docket, docket_of, docket_refusal, first_other};
@@ -83,17 +84,11 @@ impl<'a> Docket<'a> {
         }
         let len = bytes.len();
         if len < HEAD_LEN {
-            return Err(DocketFault::Short {
-                len: len as u32,
-                needed: 125,
-            });
+            return Err(short(len, HEAD_LEN));
         }
         let id_len = bytes[124] as usize;
         if len < HEAD_LEN + id_len {
-            return Err(DocketFault::Short {
-                len: len as u32,
-                needed: (HEAD_LEN + id_len) as u32,
-            });
+            return Err(short(len, HEAD_LEN + id_len));
         }
         let id = bytes.split_at(HEAD_LEN).1.split_at(id_len).0;
         if let Some(at) = foreign(id) {
@@ -119,6 +114,18 @@ impl<'a> Docket<'a> {
             used,
             id,
         })
+    }
+}
+
+// So many bytes where more are needed.
+fn short(len: usize, needed: usize) -> DocketFault
+    requires less { len < needed }
+    requires few { needed ≤ 512 }
+    ensures { result ≡ Short len needed }
+{
+    DocketFault::Short {
+        len: len as u32,
+        needed: needed as u32,
     }
 }
 

@@ -1,6 +1,6 @@
 //! An owned identifier of a data file.
 
-ghost use Rattle.std.specs.Prelude.{◌≡◌, ◌≤◌, [], Some, None, IsTrue, IfSome, if◌then◌else◌};
+ghost use Rattle.std.specs.Prelude.{◌≡◌, ◌≢◌, ◌≤◌, [], Some, None, IsTrue, IfSome, if◌then◌else◌};
 ghost use Rattle.hg_docket.specs.Number.{number_of, number_after, hex_text, next_name};
 ghost use Rattle.std.specs.List.{list_all};
 ghost use Rattle.hg_docket.specs.Name.{is_name_byte, is_name};
@@ -61,6 +61,7 @@ impl Ident {
     pub fn next(&self) -> Option<Ident>
         ensures next { result ≡ next_name self.now }
         ensures number { IfSome result (λ next. number_of next ≡ Some (number_after (number_of self.now))) }
+        ensures other { IfSome result (λ next. next ≢ self.now) }
     {
         match number::number_of(self.as_bytes()) {
             None => Some(Ident::numbered(0)),

@@ -3,7 +3,6 @@ use Rattle.std.proofs.Common.{◌≡◌, ℕ, ◌<◌, Bool, true, false, not, �
 use Rattle.std.specs.Option.{option_map}
 use Rattle.hg_base.specs.declared.time.Stamp.{Stamp}
 use Rattle.hg_entry.specs.declared.entry.Entry.{Entry}
-use Rattle.hg_entry.specs.Flags.{has}
 use Rattle.hg_entry.specs.Entry.{EntryData, StampData, view, stamp_view, entry_of, has_entry}
 use Rattle.hg_entry.specs.Written.{or_zero, seconds_of, nanos_of, is_ambiguous, flags_of, fields_of}
 use Rattle.hg_entry.proofs.FlagsBack.{w_back, p1_back, p2_back, exec_back, link_back, modified_back, sized_back, timed_back, ambiguous_back, fallback_back}

@@ -1,5 +1,5 @@
 -- How entries and cached directories are written: the flags as one number, and zeros for what is absent.
-use Rattle.std.specs.Prelude.{ℕ, ◌+◌, ◌*◌, ◌^◌, Bool, true, false, Option, Some, None, is_some}
+use Rattle.std.specs.Prelude.{ℕ, ◌+◌, ◌*◌, ◌^◌, Bool, false, Option, Some, None, is_some}
 use Rattle.hg_entry.specs.declared.entry.Fields.{Fields}
 use Rattle.hg_entry.specs.Entry.{EntryData, StampData}
 use Rattle.hg_entry.specs.Flags as bits

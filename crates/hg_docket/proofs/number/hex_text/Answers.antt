@@ -1,8 +1,6 @@
-use Rattle.std.proofs.Common.{◌≡◌, ◌≤◌, ◌+◌, ◌-◌, ◌%◌, ◌/◌, ◌<◌, length, arith, ap, ◌∙◌, sym, set, true}
-use Rattle.std.specs.List.{list_all}
+use Rattle.std.proofs.Common.{◌-◌, arith, ◌∙◌}
 use Rattle.std.proofs.lemmas.List.{length-set}
-use Rattle.hg_docket.specs.Name.{is_name_byte}
-use Rattle.hg_docket.specs.Number.{hex_text, number_of}
+use Rattle.hg_docket.specs.Number.{hex_text}
 use Rattle.hg_docket.proofs.Hex.{text_step, text_done, text_digits, names_of_digits, text_number}
 use Rattle.hg_docket.proofs.number.hex_text.Goals as goal
 

@@ -1,4 +1,4 @@
-use Rattle.std.proofs.Common.{◌≡◌, ◌≤◌, ◌++◌, ◌<◌, ◌^◌, drop, length}
+use Rattle.std.proofs.Common.{◌≡◌, ◌≤◌, ◌++◌, drop, length}
 use Rattle.hg_docket.specs.Number.{hex_text}
 use Rattle.hg_docket.proofs.number.hex_text.Given as goal
 

@@ -1,4 +1,4 @@
-use Rattle.std.proofs.Common.{◌≡◌, ◌<◌, ◌^◌, ◌+◌, ◌*◌, take, get_or, arith, sym, ◌∙◌}
+use Rattle.std.proofs.Common.{◌≡◌, ◌+◌, ◌*◌, take, get_or, arith}
 use Rattle.hg_docket.specs.Number.{hex_value, digit_value}
 use Rattle.hg_docket.proofs.Hex.{has_room, hex_step}
 use Rattle.hg_docket.proofs.number.hex_value.Goals as goal

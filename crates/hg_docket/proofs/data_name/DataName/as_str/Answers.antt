@@ -1,4 +1,4 @@
-use Rattle.std.proofs.Common.{◌≡◌, take, arith, rules}
+use Rattle.std.proofs.Common.{take}
 use Rattle.hg_docket.proofs.Ascii.{text_of_ascii}
 use Rattle.hg_docket.proofs.data_name.DataName.as_str.Goals as goal
 

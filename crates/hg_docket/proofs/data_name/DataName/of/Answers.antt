@@ -1,4 +1,4 @@
-use Rattle.std.proofs.Common.{◌≡◌, ◌+◌, ◌++◌, codes, take, length, true, arith, rules}
+use Rattle.std.proofs.Common.{◌≡◌, ◌++◌, codes, take, true, arith}
 use Rattle.std.proofs.lemmas.Grind.{common_steps}
 use Rattle.hg_docket.specs.Name.{is_name}
 use Rattle.hg_docket.proofs.Ascii.{ascii_file_name, name_parts}
