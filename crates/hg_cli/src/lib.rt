@@ -1,2 +1,10 @@
 //! To be written.
 #![tactic(auto)]
+
+mod disk;
+mod entries;
+mod real_shelf;
+mod real_tree;
+
+pub use real_shelf::RealShelf;
+pub use real_tree::RealTree;

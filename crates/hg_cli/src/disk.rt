@@ -1,0 +1,45 @@
+// What the calls of the file system answer, as the adapters over real files take it.
+ghost use Rattle.std.specs.Prelude.{◌≡◌};
+ghost use Rattle.hg_base.specs.Fault.{HasCause};
+
+use hg_base::{Failed, risen};
+use std::fs::Metadata;
+use std::io::{Error, ErrorKind};
+use std::rt::Files;
+use std::{fs, io};
+
+// Nothing stands there: no such name, an ancestor that is no directory, or a name that is too long for the system to hold.
+fn is_absence(error: &Error) -> bool {
+    matches!(
+        error.kind(),
+        ErrorKind::NotFound | ErrorKind::NotADirectory | ErrorKind::InvalidFilename
+    )
+}
+
+// What a call on a path found, where anything stands there.
+pub(crate) fn found<T: Drop>(answer: io::Result<T>) -> Result<Option<T>, Failed> {
+    match answer {
+        Ok(thing) => Ok(Some(thing)),
+        Err(error) if is_absence(&error) => Ok(None),
+        Err(_) => Err(Failed),
+    }
+}
+
+// The metadata of what stands at the path, a link at its end not followed.
+pub(crate) fn look<R: Files>(rt: &R, path: &str) -> Result<Option<Metadata>, Failed> {
+    found(fs::symlink_metadata(rt, path))
+}
+
+// Counts a failure, and hands the answer on.
+pub(crate) fn counted<T: Drop>(faults: &mut u64, answer: Result<T, Failed>) -> Result<T, Failed>
+    ensures same { result ≡ answer }
+    ensures cause { HasCause faults.old faults.new result (λ e. Unit {0}) }
+{
+    match answer {
+        Ok(thing) => Ok(thing),
+        Err(fault) => {
+            *faults = risen(*faults);
+            Err(fault)
+        }
+    }
+}
