@@ -1,0 +1,35 @@
+# make          builds the program: proves what it needs and leaves build/hgtrack
+# make demo     runs `hgtrack status` on a sample working copy, which it lays out in a temporary folder
+# make test     proves every crate from nothing, and tests the program: what .ci/run runs
+# make bench    times the program against C loops (gcc)
+# make install PREFIX=..    puts the program into PREFIX/bin
+# make clean    takes away what the others made
+
+PREFIX ?= /usr/local
+SOURCES := crates.txt HANDLES $(shell find crates -name out -prune -o -name must-fail -prune -o -type f -print)
+
+.PHONY: all demo test bench install clean
+
+all: build/hgtrack
+
+# (rt run proves the crates that changed, compiles and links the program, and runs it)
+build/hgtrack: $(SOURCES)
+	cd crates/hgtrack && rt run -- --version < /dev/null
+	mkdir -p build
+	cp crates/hgtrack/out/hgtrack build/hgtrack
+
+demo: build/hgtrack
+	python3 demo/demo.py build/hgtrack
+
+test:
+	bash .ci/run
+
+bench: build/hgtrack
+	python3 bench/run.py build/hgtrack
+
+install: build/hgtrack
+	install -d $(DESTDIR)$(PREFIX)/bin
+	install -m 755 build/hgtrack $(DESTDIR)$(PREFIX)/bin/hgtrack
+
+clean:
+	rm -rf build crates/*/out

@@ -1,0 +1,184 @@
+#!/usr/bin/env python3
+"""Times the built program against C loops that make the same system calls: python3 bench/run.py [PROGRAM] [PART ..].
+
+PROGRAM is build/hgtrack where it isn't named. The parts are listing, tracked, opening and placing; all where none is named. Every time is the
+least of some runs, taken in turn with what it is compared with. The status is 0 exactly where each figure is within its limit.
+"""
+
+import os
+import shutil
+import subprocess
+import sys
+import tempfile
+
+sys.dont_write_bytecode = True
+BENCH = os.path.dirname(os.path.abspath(__file__))
+TOP = os.path.dirname(BENCH)
+sys.path.insert(0, f"{TOP}/tests/real")
+
+from dirstate import written
+from folder import put_record
+
+RUNS = 5
+MANY, FEW = 100_000, 10_000
+IN_EACH = 20
+
+
+class Bench:
+    """Compiles the loops, runs commands, and tells each figure beside its limit."""
+
+    def __init__(self, program, room):
+        self.room, self.failed = room, 0
+        self.program = f"{room}/hgtrack"
+        shutil.copyfile(program, self.program)
+        os.chmod(self.program, 0o755)
+        self.measure = self.compiled("measure")
+
+    def compiled(self, name):
+        to = f"{self.room}/{name}"
+        subprocess.run(["gcc", "-O2", "-o", to, f"{BENCH}/{name}.c"], check=True)
+        return to
+
+    def once(self, command, folder, given=None):
+        """The wall time in seconds and the peak memory in MB of one run."""
+        with open(given or os.devnull, "rb") as stdin:
+            ran = subprocess.run([self.measure, *command], cwd=folder, stdin=stdin, stdout=subprocess.PIPE, check=True)
+        status, seconds, kilobytes = ran.stdout.split()
+        if int(status):
+            sys.exit(f"{' '.join(command)} ended with {int(status)} in {folder}")
+        return float(seconds), int(kilobytes) / 1000
+
+    def least(self, *runs):
+        """The least time of each run, and the most memory; the runs take turns."""
+        taken = [[self.once(*it) for it in runs] for _ in range(RUNS)]
+        return [(min(at[i][0] for at in taken), max(at[i][1] for at in taken)) for i in range(len(runs))]
+
+    def tell(self, what, figure, limit, unit=""):
+        held = figure <= limit
+        self.failed += not held
+        print(f"| {what} | {figure:.2f}{unit} | {limit}{unit} | {'held' if held else 'NOT HELD'} |", flush=True)
+
+    def build(self, name):
+        """Builds the Rattle program whose text is NAME/main.txt in a repository of its own, over the crates that it uses and what earlier
+        checks kept of them. (The text isn't a crate of this repository, so that the merge gate doesn't prove it.)"""
+        top = f"{self.room}/{name}-repository"
+        with open(f"{TOP}/crates.txt", encoding="utf-8") as file:
+            uses = {line.split(":")[0].strip(): line.split(":")[1].split() for line in file if ":" in line and not line.startswith("#")}
+        with open(f"{BENCH}/{name}/uses.txt", encoding="utf-8") as file:
+            own = file.read().split()
+        needed, left = {}, list(own)
+        while left:
+            crate = left.pop()
+            if crate in uses and crate not in needed:
+                needed[crate] = uses[crate]
+                left += uses[crate]
+                shutil.copytree(f"{TOP}/crates/{crate}", f"{top}/crates/{crate}", ignore=shutil.ignore_patterns("incremental"))
+        os.makedirs(f"{top}/crates/{name}/src")
+        shutil.copyfile(f"{BENCH}/{name}/main.txt", f"{top}/crates/{name}/src/main.rt")
+        shutil.copyfile(f"{TOP}/HANDLES", f"{top}/HANDLES")
+        with open(f"{top}/crates.txt", "w", encoding="utf-8") as file:
+            file.writelines(f"{crate}: {' '.join(used)}\n" for crate, used in {**needed, name: own}.items())
+        subprocess.run(["git", "init", "-q", top], check=True)
+        with open(f"{self.room}/{name}.log", "w", encoding="utf-8") as log:
+            ran = subprocess.run(["rt", "run"], cwd=f"{top}/crates/{name}", stdin=subprocess.DEVNULL, stdout=log, stderr=log)
+        if ran.returncode:
+            with open(f"{self.room}/{name}.log", encoding="utf-8", errors="replace") as log:
+                sys.exit(f"{name} was not built:\n{log.read()[-2000:]}")
+        return f"{top}/crates/{name}/out/{name}"
+
+
+def make_files(root, paths):
+    made = set()
+    for path in paths:
+        folder = os.path.dirname(path)
+        if folder not in made:
+            os.makedirs(f"{root}/{folder}", exist_ok=True)
+            made.add(folder)
+        with open(f"{root}/{path}", "wb"):
+            pass
+
+
+def in_directories(count):
+    """Paths of that many files, 20 in each directory; of 100 directories 99 stand in the other one."""
+    return [f"d{i // 100:03}/{f'e{i % 100:02}/' if i % 100 else ''}f{j:02}" for i in range(count // IN_EACH) for j in range(IN_EACH)]
+
+
+def listing(bench):
+    """A status of files in the root, without a dirstate."""
+    loop, figures = bench.compiled("listed"), {}
+    for count in (MANY, FEW):
+        root = f"{bench.room}/listing-{count}"
+        make_files(root, [f"file{i:06}.txt" for i in range(count)])
+        figures[count] = bench.least(([bench.program, "status"], root), ([loop], root))
+        shutil.rmtree(root)
+    compare(bench, f"`status` of {MANY:,} files in the root, no dirstate", figures, 3, 60)
+
+
+def tracked(bench):
+    """A status of tracked files in directories."""
+    loop, figures = bench.compiled("tracked"), {}
+    for count in (MANY, FEW):
+        root, names = f"{bench.room}/tracked-{count}", f"{bench.room}/tracked-{count}.txt"
+        paths = in_directories(count)
+        make_files(root, paths)
+        put_record(root, *written([it.encode() for it in paths]))
+        with open(names, "w", encoding="utf-8") as file:
+            file.writelines(f"{it}\n" for it in sorted(paths))
+        figures[count] = bench.least(([bench.program, "status"], root), ([loop, names], root))
+        shutil.rmtree(root)
+    compare(bench, f"`status` of {MANY:,} tracked files in {MANY // IN_EACH:,} directories", figures, 1.5, 100)
+
+
+def compare(bench, what, figures, most, megabytes):
+    (seconds, memory), (loop, _) = figures[MANY]
+    few = figures[FEW][0][0]
+    print(f"| {what} | {seconds:.3f} s, the C loop {loop:.3f} s | | |")
+    bench.tell("its time over the C loop's", seconds / loop, most)
+    bench.tell(f"its time over that of {FEW:,} files ({few:.4f} s)", seconds / few, 13)
+    bench.tell("its peak memory", memory, megabytes, " MB")
+
+
+def opening(bench):
+    """Opening a data file: many rounds over one that is in memory already, less one round."""
+    program, loop, rounds = bench.build("opening"), bench.compiled("opened"), 41
+    paths = [it.encode() for it in in_directories(MANY - MANY // IN_EACH)]
+    docket, data = written(paths)
+    for name, content in (("docket", docket), ("data", data), ("both", docket + data)):
+        with open(f"{bench.room}/{name}", "wb") as file:
+            file.write(content)
+    both = f"{bench.room}/both"
+    ours = [([program, str(it)], bench.room, both) for it in (rounds, 1)]
+    theirs = [([loop, "docket", "data", str(it)], bench.room) for it in (rounds, 1)]
+    (all_ours, _), (one_of_ours, _), (all_theirs, _), (one_of_theirs, _) = bench.least(*ours, *theirs)
+    own, other = (all_ours - one_of_ours) / (rounds - 1), (all_theirs - one_of_theirs) / (rounds - 1)
+    nodes = len(paths) + len({it.rpartition(b"/")[0] for it in paths})
+    print(f"| opening a data file of {nodes:,} nodes, {len(data):,} bytes | {own * 1000:.2f} ms, the C loop {other * 1000:.2f} ms | | |")
+    bench.tell("its time over the C loop's", own / other, 4)
+
+
+def placing(bench):
+    """Placing files one by one into the working copy in memory; the whole run of a program that reads the paths."""
+    program = bench.build("placing")
+    given = f"{bench.room}/placing.txt"
+    with open(given, "w", encoding="utf-8") as file:
+        file.writelines(f"{it}\n" for it in in_directories(30_000))
+    bench.tell("placing 30,000 files one by one in memory", bench.least(([program], bench.room, given))[0][0], 2, " s")
+
+
+PARTS = {"listing": listing, "tracked": tracked, "opening": opening, "placing": placing}
+
+
+def main(words):
+    sys.setrecursionlimit(10_000)
+    named = [it for it in words if it not in PARTS]
+    program = os.path.abspath(named[0]) if named else f"{TOP}/build/hgtrack"
+    with tempfile.TemporaryDirectory(prefix="hgtrack-bench-") as room:
+        bench = Bench(program, room)
+        print("| what | figure | limit | |\n|---|---|---|---|")
+        for name in [it for it in words if it in PARTS] or PARTS:
+            PARTS[name](bench)
+    return 1 if bench.failed else 0
+
+
+if __name__ == "__main__":
+    sys.exit(main(sys.argv[1:]))

@@ -1,0 +1,81 @@
+"""Writes the two files of a dirstate-v2 by hand, from the format alone (Mercurial's help topic internals.dirstate-v2).
+
+Nothing here is taken from the program under test: docs/FORMAT_DOCKET.md and docs/FORMAT_DATA.md tell the same format in words.
+"""
+
+import struct
+
+MARKER = b"dirstate-v2\n"
+NULL = bytes(20)
+# What SHA-1 gives for no bytes at all: the hash of the ignore patterns where there are none.
+NO_PATTERNS = bytes.fromhex("da39a3ee5e6b4b0d3255bfef95601890afd80709")
+IDENTIFIER = b"0" * 16
+
+# Bits of a node's flags.
+WDIR_TRACKED, P1_TRACKED, P2_INFO = 1 << 0, 1 << 1, 1 << 2
+EXPECTED_STATE_IS_MODIFIED, HAS_MODE_AND_SIZE, HAS_MTIME = 1 << 9, 1 << 10, 1 << 11
+DIRECTORY, ALL_UNKNOWN_RECORDED = 1 << 13, 1 << 14
+
+# marker, first parent, second parent, root start, root count, entries, copies, unreachable, unused, ignore hash, used, length
+DOCKET = struct.Struct(">12s 20s12s 20s12s IIIII 4s 20s I B")
+# path start, path length, base, copy start, copy length, children start, children count, entries below, tracked below, flags,
+# size, seconds, nanoseconds
+NODE = struct.Struct(">IHH IH II II H III")
+assert DOCKET.size == 125 and NODE.size == 44
+
+
+def docket(used, root, p1=NULL, p2=NULL, identifier=IDENTIFIER, counts=(0, 0, 0), spare=0, marker=MARKER):
+    """The docket of a data file of `used` bytes whose root list is `root`, a place and a number of nodes. The counts are those
+    of the entries, the copy sources and the unreachable bytes; `spare` is each byte that has no meaning."""
+    padding, unused = bytes([spare]) * 12, bytes([spare]) * 4
+    head = DOCKET.pack(marker, p1, padding, p2, padding, *root, *counts, unused, NO_PATTERNS, used, len(identifier))
+    return head + identifier
+
+
+def record(start, length, base=0, copy=(0, 0), children=(0, 0), below=(0, 0), flags=WDIR_TRACKED, size=0, seconds=0, nanos=0):
+    """One node: the place and the length of its path, and the place of its last component within the path."""
+    return NODE.pack(start, length, base, *copy, *children, *below, flags, size, seconds, nanos)
+
+
+class Node:
+    """A node of a tree that is still to be laid out."""
+
+    def __init__(self):
+        self.children, self.is_tracked = {}, False
+
+
+def tree_of(paths):
+    """The tree of the paths given as bytes: a node for each path and for each directory above one."""
+    root = Node()
+    for path in paths:
+        at = root
+        for name in path.split(b"/"):
+            at = at.children.setdefault(name, Node())
+        at.is_tracked = True
+    return root
+
+
+def put_list(data, node, path):
+    """Puts the list of a node's children behind the data, each child's own list and its path first. Answers the place and the
+    number of the list, and how many entries it has at any depth."""
+    records, total = [], 0
+    for name in sorted(node.children):
+        child = node.children[name]
+        whole = path + name
+        children, below = put_list(data, child, whole + b"/")
+        start = len(data)
+        data += whole
+        flags = WDIR_TRACKED if child.is_tracked else 0
+        records.append(record(start, len(whole), len(path), (0, 0), children, (below, below), flags))
+        total += below + child.is_tracked
+    start = len(data) if records else 0
+    data += b"".join(records)
+    return (start, len(records)), total
+
+
+def written(paths, **changes):
+    """The docket and the data of a dirstate that has exactly these paths, each one added."""
+    data = bytearray()
+    root, total = put_list(data, tree_of(paths), b"")
+    given = {"counts": (total, 0, 0), **changes}
+    return docket(len(data), root, **given), bytes(data)

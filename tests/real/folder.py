@@ -1,0 +1,128 @@
+"""Lays out working copies in temporary folders, runs the program in them, and compares what it did with what it should have done."""
+
+import os
+import shutil
+import stat
+import subprocess
+import tempfile
+from contextlib import contextmanager
+
+SECONDS = 60
+NOBODY = 65534
+
+
+def lay_out(root, things):
+    """Makes each thing below the folder `root`, and the directories above it: `name` is a file, `name/` a directory,
+    `name -> target` a link, `name |` a fifo. A name's bytes that aren't text are written as os.fsdecode gives them."""
+    for thing in things:
+        name, arrow, target = thing.partition(" -> ")
+        is_fifo = name.endswith(" |")
+        path = os.path.join(root, name[:-2] if is_fifo else name)
+        os.makedirs(path if name.endswith("/") else os.path.dirname(path), exist_ok=True)
+        if arrow:
+            os.symlink(target, path)
+        elif is_fifo:
+            os.mkfifo(path)
+        elif not name.endswith("/"):
+            put(path, os.fsencode(name) + b"\n")
+
+
+def put(path, content):
+    with open(path, "wb") as file:
+        file.write(content)
+
+
+def put_record(root, docket, data=None, identifier="0" * 16):
+    """Writes the docket, and the data file beside it where there is one."""
+    os.makedirs(f"{root}/.hg", exist_ok=True)
+    put(f"{root}/.hg/dirstate", docket)
+    if data is not None:
+        put(f"{root}/.hg/dirstate.{identifier}", data)
+
+
+def seen(root):
+    """What stands below a folder: the kind, the mode, the size and the time of each path, and the bytes of each file."""
+    found = {}
+    for at, folders, files in os.walk(os.fsencode(root)):
+        for name in folders + files:
+            path = os.path.join(at, name)
+            it = os.lstat(path)
+            content = None
+            if stat.S_ISREG(it.st_mode) and it.st_size < 1_000_000:
+                with open(path, "rb") as file:
+                    content = file.read()
+            found[path] = (it.st_mode, it.st_size, it.st_mtime_ns, content)
+    return found
+
+
+def as_nobody():
+    """What has a command run without root's rights, where there is a way to do so."""
+    return {"user": NOBODY, "group": NOBODY, "extra_groups": []} if os.geteuid() == 0 else {}
+
+
+def lines(*texts):
+    """The bytes of lines, each ended by a line feed."""
+    return b"".join(os.fsencode(it) + b"\n" for it in texts)
+
+
+def aborted(text):
+    """The line of a fault."""
+    return lines(f"abort: {text}")
+
+
+class Tests:
+    """Counts the cases, and prints those that fail."""
+
+    def __init__(self, program, room):
+        self.passed = self.failed = self.skipped = 0
+        # a copy that anyone may run, wherever the repository lies
+        self.program = f"{room}/hgtrack"
+        self.room = room
+        shutil.copyfile(program, self.program)
+        os.chmod(self.program, 0o755)
+
+    @contextmanager
+    def working_copy(self):
+        """A new folder, which goes away at the end."""
+        root = tempfile.mkdtemp(dir=self.room)
+        os.chmod(root, 0o755)
+        try:
+            yield root
+        finally:
+            shutil.rmtree(os.fsencode(root), ignore_errors=True)
+
+    def run(self, root, words=("status",), **how):
+        """Runs the program in a folder. Answers its status, its standard output and its error stream."""
+        given = {"stdin": subprocess.DEVNULL, "stdout": subprocess.PIPE, "stderr": subprocess.PIPE, "timeout": SECONDS}
+        try:
+            ran = subprocess.run([self.program, *words], cwd=root, **{**given, **how})
+        except subprocess.TimeoutExpired:
+            return "no end", b"", b""
+        return ran.returncode, ran.stdout, ran.stderr
+
+    def compare(self, what, answered, wanted):
+        """One case: the two are the same."""
+        if answered == wanted:
+            self.passed += 1
+            return True
+        self.failed += 1
+        print(f"FAILED {what}\n  wanted   {short(wanted)}\n  answered {short(answered)}")
+        return False
+
+    def check(self, what, root, out=b"", err=b"", words=("status",), **how):
+        """One case: the program prints these bytes, ends with 255 exactly where it names a fault, and changes nothing."""
+        before = seen(root)
+        answered = self.run(root, words, **how)
+        if self.compare(what, answered, (255 if err else 0, out, err)) and seen(root) != before:
+            self.passed -= 1
+            self.failed += 1
+            print(f"FAILED {what}\n  the folder was changed")
+
+    def skip(self, what):
+        self.skipped += 1
+        print(f"skipped: {what}")
+
+
+def short(value):
+    text = repr(value)
+    return text if len(text) < 600 else f"{text[:400]} .. {text[-150:]}"

@@ -1,0 +1,147 @@
+"""What the program does where the system refuses: words, streams, rights, and names that are no text."""
+
+import os
+import subprocess
+import sys
+
+from dirstate import docket, written
+from folder import aborted, as_nobody, lay_out, lines, put, put_record
+
+GOOD, DATA = written([b"a"])
+NOT_BUILT = aborted("not built yet")
+TREE, SHELF, OUT = aborted("working copy failed"), aborted(".hg failed"), aborted("output failed")
+
+# words that are not built yet
+WORDS = [
+    [], ["stat"], ["status", "x"], ["status", ""], ["status", "-m"], ["status", "--"], ["--", "status"], [""], ["Status"], ["status "],
+    ["add", "a"], ["debugdirstate"], ["help"], ["-h"], ["-V"], ["--help", "status"], ["status", "--help"], ["--version", "--version"],
+    [b"\xff"], [b"status", b"\xff"], ["s" * 100_000],
+]
+
+# what is in the way, what is made of the folder (a path and its mode), the line that is printed to nobody's program
+RIGHTS = [
+    ("a dirstate that may not be read", ".hg/dirstate", 0o000, b"", SHELF),
+    ("a data file that may not be read", ".hg/dirstate.0000000000000000", 0o000, b"", SHELF),
+    ("a .hg that may not be searched", ".hg", 0o000, b"", SHELF),
+    ("a .hg that may only be read", ".hg", 0o555, lines("A a", "? d/x"), b""),
+    ("a dirstate that may only be read", ".hg/dirstate", 0o444, lines("A a", "? d/x"), b""),
+    ("a root that may not be listed", ".", 0o311, b"", TREE),
+    ("a directory that may not be listed", "d", 0o311, b"", TREE),
+    ("a directory that may not be searched", "d", 0o644, b"", TREE),
+    ("a file that may not be read", "a", 0o000, lines("A a", "? d/x"), b""),
+]
+
+# what stands where a file of .hg should, as folder.lay_out writes it, and the answer
+STRANGE = [
+    ("a directory as the dirstate", [".hg/dirstate/"], SHELF, b""),
+    ("a dangling link as the dirstate", [".hg/dirstate -> gone", "b"], b"", lines("? b")),
+]
+
+
+def run_words(tests):
+    for words in WORDS:
+        with tests.working_copy() as root:
+            lay_out(root, ["a"])
+            tests.check(f"words {words!r:.60}", root, b"", NOT_BUILT, words)
+    with tests.working_copy() as root:
+        put_record(root, b"damaged")
+        tests.check("words before the docket", root, b"", NOT_BUILT, ["stat"])
+        for word, begins in (("--help", b"Usage: hgtrack status"), ("--version", b"hgtrack ")):
+            status, out, err = tests.run(root, [word])
+            good = begins in out and out.endswith(b"\n")
+            tests.compare(word, (status, good, err), (0, True, b""))
+
+
+def run_streams(tests):
+    with tests.working_copy() as root:
+        lay_out(root, ["a", "b"])
+        put_record(root, GOOD, DATA)
+        for what, words, status, line in (("status", ["status"], 255, OUT), ("help", ["--help"], 255, None)):
+            with open("/dev/full", "wb") as full:
+                at = tests.run(root, words, stdout=full)
+            tests.compare(f"{what}: output to a full device", (at[0], at[2] if line else None), (status, line))
+            at = tests.run(root, ["-c", '"$0" "$1" >&-', tests.program, *words], executable="/bin/sh")
+            tests.compare(f"{what}: output closed", (at[0], at[2] if line else None), (status, line))
+            reader, writer = os.pipe()
+            os.close(reader)
+            at = tests.run(root, words, stdout=writer)
+            os.close(writer)
+            tests.compare(f"{what}: output into a pipe that nobody reads", (at[0], at[2] if line else None), (status, line))
+        with open(os.devnull, "rb") as only_read:
+            tests.compare("output that may only be read", tests.run(root, stdout=only_read)[0], 255)
+        with open("/dev/full", "wb") as full:
+            tests.compare("error stream full", tests.run(root, ["x"], stderr=full)[0], 255)
+            tests.compare("both streams full", tests.run(root, stdout=full, stderr=full)[0], 255)
+        shell = {"executable": "/bin/sh"}
+        tests.compare("error stream closed", tests.run(root, ["-c", '"$0" x 2>&-', tests.program], **shell)[0], 255)
+        tests.compare("all streams closed", tests.run(root, ["-c", '"$0" status <&- >&- 2>&-', tests.program], **shell)[0], 255)
+        told = (0, lines("A a", "? b"), b"")
+        tests.compare("input closed", tests.run(root, ["-c", '"$0" status <&-', tests.program], **shell), told)
+        tests.compare("no environment", tests.run(root, env={}), told)
+
+
+def run_large(tests):
+    """A listing much longer than a pipe holds, read to its end and read in part."""
+    names = sorted(f"{i:05}-{'x' * 60}" for i in range(3000))
+    with tests.working_copy() as root:
+        lay_out(root, names)
+        tests.check("200 kB of lines", root, lines(*(f"? {it}" for it in names)))
+        with subprocess.Popen([tests.program, "status"], cwd=root, stdout=subprocess.PIPE, stderr=subprocess.PIPE) as at:
+            first = at.stdout.read(3)
+            at.stdout.close()
+            err = at.stderr.read()
+        tests.compare("a reader that leaves early", (at.returncode, first, err), (255, b"? 0", OUT))
+
+
+def run_rights(tests):
+    if os.geteuid() == 0 and sys.version_info < (3, 9):
+        tests.skip("this python3 cannot start a program as nobody, and root may read everything")
+        return
+    for what, path, mode, out, err in RIGHTS:
+        with tests.working_copy() as root:
+            lay_out(root, ["a", "d/x"])
+            put_record(root, GOOD, DATA)
+            os.chmod(f"{root}/{path}", mode)
+            status, said, told = tests.run(root, **as_nobody())
+            os.chmod(f"{root}/{path}", 0o755)
+            tests.compare(what, (status, said, told), (255 if err else 0, out, err))
+
+
+def run_strange(tests):
+    for what, things, err, out in STRANGE:
+        with tests.working_copy() as root:
+            lay_out(root, things)
+            tests.check(what, root, out, err)
+    with tests.working_copy() as root:
+        lay_out(root, [".hg/elsewhere -> ../.hg/real", "a"])
+        put_record(root, GOOD, DATA)
+        os.rename(f"{root}/.hg/dirstate", f"{root}/.hg/real")
+        os.symlink("real", f"{root}/.hg/dirstate")
+        tests.check("a link to the dirstate", root, lines("A a"))
+    with tests.working_copy() as root:
+        lay_out(root, ["a", ".hg/dirstate.0000000000000000/"])
+        put(f"{root}/.hg/dirstate", GOOD)
+        tests.check("a directory as the data file", root, b"", SHELF)
+
+
+def run_names(tests):
+    """Names that aren't text: `list` names them all, and no path can be made of them."""
+    for what, things, out, err in [
+        ("a name that is not text", ["a", os.fsdecode(b"b\xff")], b"", TREE),
+        ("a name that is not text, below", ["a", os.fsdecode(b"d/\xc3")], b"", TREE),
+        ("a directory that is not text", [os.fsdecode(b"\xfe/x")], b"", TREE),
+        ("a link's target that is not text", [os.fsdecode(b"l -> \xff")], lines("? l"), b""),
+        ("in .hg a name that is not text", [os.fsdecode(b".hg/\xff"), "a"], lines("? a"), b""),
+    ]:
+        with tests.working_copy() as root:
+            lay_out(root, things)
+            tests.check(what, root, out, err)
+    with tests.working_copy() as root:
+        lay_out(root, [os.fsdecode(b"b\xff")])
+        put_record(root, docket(45, (1, 1), p1=b"\x11" * 20), DATA)
+        tests.check("parents before the working copy", root, b"", NOT_BUILT)
+
+
+def run(tests):
+    for part in (run_words, run_streams, run_large, run_rights, run_strange, run_names):
+        part(tests)

@@ -1,0 +1,42 @@
+#!/usr/bin/env python3
+"""Black-box tests of the built program over real folders: python3 tests/real/run.py [PROGRAM] [PART ..].
+
+PROGRAM is build/hgtrack where it isn't named. The parts are listings, damage, outside and mercurial; all where none is named. The last line is
+'N passed, M failed', and the status 0 exactly where M is 0.
+"""
+
+import os
+import sys
+import tempfile
+
+sys.dont_write_bytecode = True
+# (a path of 2,049 components is laid out by recursion)
+sys.setrecursionlimit(20_000)
+
+import damage
+import listings
+import mercurial
+import outside
+from folder import Tests
+
+PARTS = {"listings": listings, "damage": damage, "outside": outside, "mercurial": mercurial}
+
+
+def main(words):
+    top = os.path.dirname(os.path.dirname(os.path.dirname(os.path.abspath(__file__))))
+    named = [it for it in words if it not in PARTS]
+    program = os.path.abspath(named[0]) if named else f"{top}/build/hgtrack"
+    if not os.path.isfile(program):
+        print(f"{program} isn't there: make builds it\n0 passed, 1 failed")
+        return 1
+    with tempfile.TemporaryDirectory(prefix="hgtrack-real-") as room:
+        os.chmod(room, 0o755)
+        tests = Tests(program, room)
+        for name in [it for it in words if it in PARTS] or PARTS:
+            PARTS[name].run(tests)
+    print(f"{tests.passed} passed, {tests.failed} failed")
+    return 1 if tests.failed else 0
+
+
+if __name__ == "__main__":
+    sys.exit(main(sys.argv[1:]))
