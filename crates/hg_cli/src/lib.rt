@@ -3,6 +3,7 @@
 
 mod disk;
 mod entries;
+mod load;
 mod real_shelf;
 mod real_tree;
 
