@@ -8,7 +8,7 @@ use hg_base::{Failed, PathRef};
 use hg_tree::{Name, TreeFault};
 use std::alloc::Global;
 use std::fs::{DirEntry, ReadDir};
-use std::io::{Error, ErrorKind};
+use std::io::ErrorKind;
 use std::rt::Files;
 use std::{fs, io};
 

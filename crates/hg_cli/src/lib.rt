@@ -9,3 +9,6 @@ mod real_tree;
 
 pub use real_shelf::RealShelf;
 pub use real_tree::RealTree;
+
+#[cfg(test)]
+mod real_tests;

@@ -113,7 +113,7 @@ fn read_past<F: Read + Seek>(file: &mut F, place: u64, buf: &mut [u8]) -> Result
 }
 
 // Reads until the buffer is full or the file ends.
-fn fill<F: Read>(file: &mut F, buf: &mut [u8]) -> Result<usize, Failed>
+pub(crate) fn fill<F: Read>(file: &mut F, buf: &mut [u8]) -> Result<usize, Failed>
     ensures { IfOk result (λ n. n ≤ length buf.old) }
 {
     let mut filled = 0;

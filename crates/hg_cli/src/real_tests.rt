@@ -1,0 +1,163 @@
+// What no clause says of the adapters over real files: that they look at the files.
+use crate::real_shelf::fill;
+use crate::{RealShelf, RealTree};
+use hg_base::{Failed, Got, Kind, PathRef};
+use hg_shelf::Shelf;
+use hg_tree::Tree;
+use std::fs::Permissions;
+use std::io::{Error, ErrorKind, Read};
+use std::os::unix::fs::{PermissionsExt, symlink};
+use std::test::Fail;
+use std::{fs, io};
+
+const FOLDER: &str = "real_tree_test";
+
+fn lay_out(rt: &HostRuntime) -> io::Result<()> {
+    let _ = fs::remove_dir_all(rt, FOLDER);
+    fs::create_dir_all(rt, "real_tree_test/folder/.hg")?;
+    fs::write(rt, "real_tree_test/file", b"hello".as_slice())?;
+    fs::write(rt, "real_tree_test/program", b"#!".as_slice())?;
+    fs::write(rt, "real_tree_test/for_others", b"".as_slice())?;
+    fs::write(rt, "real_tree_test/folder/inner", b"1".as_slice())?;
+    fs::set_permissions(rt, "real_tree_test/file", Permissions::from_mode(0o644))?;
+    fs::set_permissions(rt, "real_tree_test/program", Permissions::from_mode(0o744))?;
+    fs::set_permissions(
+        rt,
+        "real_tree_test/for_others",
+        Permissions::from_mode(0o655),
+    )?;
+    symlink(rt, "folder", "real_tree_test/link")?;
+    symlink(rt, "nowhere", "real_tree_test/dangling")
+}
+
+#[test]
+fn looks_at_real_files(rt: HostRuntime) -> Result<(), Fail> {
+    lay_out(&rt)?;
+    let mut tree = RealTree::new(&rt);
+    for (path, shown) in [
+        ("real_tree_test", Some((Kind::Dir, false, 0))),
+        ("real_tree_test/file", Some((Kind::File, false, 5))),
+        ("real_tree_test/program", Some((Kind::File, true, 2))),
+        ("real_tree_test/for_others", Some((Kind::File, false, 0))),
+        ("real_tree_test/link", Some((Kind::Link, false, 6))),
+        ("real_tree_test/dangling", Some((Kind::Link, false, 7))),
+        ("real_tree_test/folder/inner", Some((Kind::File, false, 1))),
+        ("real_tree_test/link/inner", None),
+        ("real_tree_test/file/inner", None),
+        ("real_tree_test/absent", None),
+    ] {
+        let stat = tree.stat(PathRef::read(path)?).ok().ok_or("a failure")?;
+        let stat = stat.map(|stat| (stat.kind, stat.exec, stat.size));
+        assert_eq!(rt; stat, shown, "{path}");
+    }
+    for (dir, names) in [
+        (
+            "real_tree_test",
+            "dangling file folder for_others link program ",
+        ),
+        ("real_tree_test/folder", ".hg inner "),
+        ("real_tree_test/folder/.hg", ""),
+        ("real_tree_test/link", "none"),
+        ("real_tree_test/file", "none"),
+        ("real_tree_test/absent", "none"),
+    ] {
+        assert_eq!(rt;
+            listed(&rt, &mut tree, Some(PathRef::read(dir)?))?.as_str(),
+            names,
+            "{dir}"
+        );
+    }
+    fs::remove_dir_all(&rt, FOLDER)?;
+    Ok(())
+}
+
+// The names that a listing answers, each with a space behind it.
+fn listed(
+    rt: &HostRuntime,
+    tree: &mut RealTree<'_, HostRuntime>,
+    dir: Option<PathRef<'_>>,
+) -> Result<String, Fail> {
+    let names = tree.list(rt.alloc(), dir).ok().ok_or("a failure")?;
+    let Some(names) = names else {
+        return Ok(String::from_str(rt.alloc(), "none")?);
+    };
+    let mut all = String::new(rt.alloc());
+    for name in &names {
+        all.push_str(name.as_str())?;
+        all.push(' ')?;
+    }
+    Ok(all)
+}
+
+#[test]
+fn reads_below_hg(rt: HostRuntime) -> Result<(), Fail> {
+    let mut shelf = RealShelf::new(&rt);
+    assert_eq!(rt; shelf.size("dirstate"), Ok(None));
+    fs::create_dir(&rt, ".hg")?;
+    fs::write(&rt, ".hg/dirstate", b"".as_slice())?;
+    fs::write(&rt, ".hg/data", b"abcdef".as_slice())?;
+    fs::create_dir(&rt, ".hg/folder")?;
+    symlink(&rt, "data", ".hg/link")?;
+    let mut buf = [b'.'; 4];
+    let mut tree = RealTree::new(&rt);
+    let root = listed(&rt, &mut tree, None)?;
+    let sizes = [
+        shelf.size("dirstate"),
+        shelf.size("link"),
+        shelf.size("data/below"),
+        shelf.size("folder"),
+    ];
+    let reads = [
+        (shelf.read_at("absent", 0, &mut buf), buf),
+        (shelf.read_at("dirstate", 0, &mut buf), buf),
+        (shelf.read_at("data", u64::MAX, &mut buf), buf),
+        (shelf.read_at("data", 4, &mut buf), buf),
+        (shelf.read_at("link", 1, &mut buf), buf),
+    ];
+    fs::remove_dir_all(&rt, ".hg")?;
+    assert!(rt; !root.contains(".hg "));
+    assert_eq!(rt; sizes, [Ok(Some(0)), Ok(Some(6)), Ok(None), Err(Failed)]);
+    assert_eq!(rt;
+        reads,
+        [
+            (Ok(Got::Absent), *b"...."),
+            (Ok(Got::Bytes(0)), *b"...."),
+            (Ok(Got::Bytes(0)), *b"...."),
+            (Ok(Got::Bytes(2)), *b"ef.."),
+            (Ok(Got::Bytes(4)), *b"bcde"),
+        ]
+    );
+    Ok(())
+}
+
+// Gives one byte at a call, and is interrupted before each.
+#[derive(Drop)]
+struct Slow<'a> {
+    left: &'a [u8],
+    ready: bool,
+}
+
+impl Read for Slow<'_> {
+    fn read(&mut self, buf: &mut [u8]) -> io::Result<usize> {
+        self.ready = !self.ready;
+        if self.ready {
+            return Err(Error::from(ErrorKind::Interrupted));
+        }
+        let mut one = self.left.split_at(self.left.len().min(1)).0;
+        self.left = self.left.split_at(one.len()).1;
+        one.read(buf)
+    }
+}
+
+#[test]
+fn reads_on_after_little(rt: HostRuntime) {
+    for (bytes, n, full) in [("", 0, "...."), ("ab", 2, "ab.."), ("abcdef", 4, "abcd")] {
+        let mut slow = Slow {
+            left: bytes.as_bytes(),
+            ready: false,
+        };
+        let mut buf = [b'.'; 4];
+        assert_eq!(rt; fill(&mut slow, &mut buf), Ok(n), "{bytes}");
+        assert_eq!(rt; &buf[..], full.as_bytes(), "{bytes}");
+    }
+}
