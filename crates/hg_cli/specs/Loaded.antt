@@ -1,5 +1,6 @@
 -- What a load answers, by the moments of the shelf during the call.
-use Rattle.std.specs.Prelude.{ℕ, ◌≡◌, ◌⊎◌, ◌<◌, ◌≤◌, List, [], ◌∷◌, take, length, Option, Some, None, Result, Ok, Err}
+use Rattle.std.specs.Prelude.{ℕ, ◌≡◌, ◌⊎◌, ◌<◌, ◌≤◌, List, [], ◌∷◌, take, length, min, Option, Some, None, Result, Ok, Err, Vec}
+use Rattle.std.specs.declared.alloc.Global.{Global}
 use Rattle.hg_docket.specs.Docket.{Contents}
 use Rattle.hg_flat.specs.Recorded.{Records}
 use Rattle.hg_flat.specs.Shown.{kept_of}
@@ -9,6 +10,11 @@ use Rattle.hg_report.specs.declared.fault.Fault.{Fault}
 use Rattle.hg_report.specs.declared.fault.Fault.TheVariants as a_fault
 use Rattle.hg_shelf.specs.History.{Files, History}
 use Rattle.hg_cli.specs.Load.{data_in, data_name, data_result, docket_result, load_result, nodes_result}
+
+-- the bytes of an answer
+abbrev pub bytes_of : Result (Vec ℕ Global) Fault → Result (List ℕ) Fault
+bytes_of (Ok vec) = Ok vec.items
+bytes_of (Err fault) = Err fault
 
 -- a moment of a call
 pub record During (old new : History) (k : ℕ) : Type 0 where
@@ -59,6 +65,19 @@ pub record DataFindsDuring (old new : History) (docket : Contents) (result : Res
   pub at : ℕ
   pub file : During old new at
   pub finds : DataFinds docket result (data_in docket (files_at new at))
+
+-- so many bytes were read from the front of a data file, or it was absent
+abbrev pub FrontFinds : List ℕ → ℕ → Result (List ℕ) Fault → Option (List ℕ) → Type 0
+FrontFinds id want (Ok nodes) None = ⊥
+FrontFinds id want (Ok nodes) (Some bytes) = nodes ≡ take (min want (length bytes)) bytes
+FrontFinds id want (Err a_fault.OutOfMemory) file = Unit {0}
+FrontFinds id want (Err a_fault.ShelfFailed) file = Unit {0}
+FrontFinds id want (Err (a_fault.DataGone ids)) file = (ids ≡ id ∷ []) × (file ≡ None)
+FrontFinds id want (Err a_fault.NotBuilt) file = ⊥
+FrontFinds id want (Err (a_fault.Docket fault)) file = ⊥
+FrontFinds id want (Err (a_fault.Node fault)) file = ⊥
+FrontFinds id want (Err a_fault.TreeFailed) file = ⊥
+FrontFinds id want (Err a_fault.OutFailed) file = ⊥
 
 -- so many bytes of a file were read as are used, or the file has fewer
 abbrev pub Covers : ℕ → List ℕ → List ℕ → Type 0
