@@ -36,6 +36,17 @@ FaultFound (a_fault.DataGone ids) found = found ≡ Err (a_fault.DataGone ids)
 FaultFound a_fault.TreeFailed found = ⊥
 FaultFound a_fault.OutFailed found = ⊥
 
+-- a fault that a load may answer
+abbrev pub IsLoadFault : Fault → Type 0
+IsLoadFault a_fault.OutOfMemory = Unit {0}
+IsLoadFault a_fault.ShelfFailed = Unit {0}
+IsLoadFault a_fault.NotBuilt = Unit {0}
+IsLoadFault (a_fault.Docket fault) = Unit {0}
+IsLoadFault (a_fault.Node fault) = Unit {0}
+IsLoadFault (a_fault.DataGone ids) = Unit {0}
+IsLoadFault a_fault.TreeFailed = ⊥
+IsLoadFault a_fault.OutFailed = ⊥
+
 -- the flat map of a load without fault is that of the rows that were found
 abbrev pub Finds : Result Flat Fault → Result (List Row) Fault → Type 0
 Finds (Ok flat) found = (rows : List Row) × (found ≡ Ok rows) × Records rows (kept_of flat)

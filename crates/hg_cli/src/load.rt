@@ -9,7 +9,7 @@ ghost use Rattle.hg_flat.specs.Shown.{kept_of};
 ghost use Rattle.hg_report.specs.declared.fault.Fault.TheVariants as a_fault;
 ghost use Rattle.hg_shelf.specs.History.{Passes, now};
 ghost use Rattle.hg_cli.specs.Load.{data_name, docket_in, has_null_parents, nodes_result};
-ghost use Rattle.hg_cli.specs.Loaded.{bytes_of, DataFindsDuring, FileFindsDuring, Finds, FindsDuring, FrontFinds, NamedFinds};
+ghost use Rattle.hg_cli.specs.Loaded.{bytes_of, DataFindsDuring, FileFindsDuring, Finds, FindsDuring, FrontFinds, IsLoadFault, NamedFinds};
 
 use hg_base::{Got, Id20};
 use hg_docket::{DataName, Docket, Ident, Idents};
@@ -63,6 +63,7 @@ fn read_front<S: Shelf>(alloc: Global, shelf: &mut S, id: Ident, want: usize) ->
     ensures found { IsTrue (S.history shelf.old).told
         → FrontFinds id want (bytes_of result) ((now (S.history shelf.new)).files (data_name id)) }
     ensures cause { HasCause (S.faults shelf.old) (S.faults shelf.new) result (λ e. e ≡ a_fault.ShelfFailed) }
+    ensures kind { IfErr result IsLoadFault }
 {
     let name = DataName::of(&id);
     let mut nodes = vec![in alloc; 0u8; want]?;
@@ -82,6 +83,7 @@ fn read_file<S: Shelf>(alloc: Global, shelf: &mut S, id: Ident, used: u32) -> Re
     ensures found { IsTrue (S.history shelf.old).told
         → FileFindsDuring (S.history shelf.old) (S.history shelf.new) id used (bytes_of result) }
     ensures cause { HasCause (S.faults shelf.old) (S.faults shelf.new) result (λ e. e ≡ a_fault.ShelfFailed) }
+    ensures kind { IfErr result IsLoadFault }
 {
     match shelf.size(DataName::of(&id).as_str()) {
         Err(_) => Err(Fault::ShelfFailed),
@@ -97,6 +99,7 @@ fn read_data<S: Shelf>(alloc: Global, shelf: &mut S, docket: &Docket<'_>) -> Res
     ensures found { IsTrue (S.history shelf.old).told
         → DataFindsDuring (S.history shelf.old) (S.history shelf.new) (view docket.now) (bytes_of result) }
     ensures cause { HasCause (S.faults shelf.old) (S.faults shelf.new) result (λ e. e ≡ a_fault.ShelfFailed) }
+    ensures kind { IfErr result IsLoadFault }
 {
     if docket.used == 0 {
         return Ok(Vec::new(alloc));
@@ -112,6 +115,7 @@ fn flat_in(alloc: Global, docket: &Docket<'_>, nodes: &[u8]) -> Result<Flat, Fau
     ensures found { Finds result (nodes_result (view docket.now) nodes.now) }
     ensures added { IfOk result (λ flat. AreAdded (kept_of flat)) }
     ensures other { IfErr result (λ e. ¬ (e ≡ a_fault.ShelfFailed)) }
+    ensures kind { IfErr result IsLoadFault }
 {
     let image = Image::open(docket, nodes)?;
     if !is_added(&image) {
@@ -128,6 +132,7 @@ fn load_named<S: Shelf>(alloc: Global, shelf: &mut S, bytes: &[u8]) -> Result<Fl
     ensures found { IsTrue (S.history shelf.old).told → NamedFinds (S.history shelf.old) (S.history shelf.new) bytes.now result }
     ensures added { IfOk result (λ flat. AreAdded (kept_of flat)) }
     ensures cause { HasCause (S.faults shelf.old) (S.faults shelf.new) result (λ e. e ≡ a_fault.ShelfFailed) }
+    ensures kind { IfErr result IsLoadFault }
 {
     let docket = Docket::read(bytes)?;
     if !is_unborn(&docket) {
@@ -146,6 +151,7 @@ pub(crate) fn load<S: Shelf>(alloc: Global, shelf: &mut S) -> Result<Flat, Fault
     ensures found { IsTrue (S.history shelf.old).told → FindsDuring (S.history shelf.old) (S.history shelf.new) result }
     ensures added { IfOk result (λ flat. AreAdded (kept_of flat)) }
     ensures cause { HasCause (S.faults shelf.old) (S.faults shelf.new) result (λ e. e ≡ a_fault.ShelfFailed) }
+    ensures kind { IfErr result IsLoadFault }
 {
     let mut buf = [0; MOST];
     let n = read_docket(shelf, &mut buf)?;
