@@ -1,5 +1,5 @@
 #!/usr/bin/env python3
-"""Times the built program against C loops that make the same system calls: python3 bench/run.py [PROGRAM] [PART ..].
+"""Times the built program against C loops that make the same system calls: python3 bench/bench.py [PROGRAM] [PART ..].
 
 PROGRAM is build/hgtrack where it isn't named. The parts are listing, tracked, opening and placing; all where none is named. Every time is the
 least of some runs, taken in turn with what it is compared with. The status is 0 exactly where each figure is within its limit.
@@ -141,7 +141,7 @@ def compare(bench, what, figures, most, megabytes):
 def opening(bench):
     """Opening a data file: many rounds over one that is in memory already, less one round."""
     program, loop, rounds = bench.build("opening"), bench.compiled("opened"), 41
-    paths = [it.encode() for it in in_directories(MANY - MANY // IN_EACH)]
+    paths = [it.encode() for it in in_directories(95_240)]
     docket, data = written(paths)
     for name, content in (("docket", docket), ("data", data), ("both", docket + data)):
         with open(f"{bench.room}/{name}", "wb") as file:
