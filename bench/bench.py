@@ -98,9 +98,15 @@ def make_files(root, paths):
             pass
 
 
+def directory(number):
+    """The directories of a tree, counted from 1: ten at the top, and ten in each of the others, as far as the numbers go."""
+    name = f"dir{number % 10}"
+    return f"{directory((number - 1) // 10)}/{name}" if number > 10 else name
+
+
 def in_directories(count):
-    """Paths of that many files, 20 in each directory; of 100 directories 99 stand in the other one."""
-    return [f"d{i // 100:03}/{f'e{i % 100:02}/' if i % 100 else ''}f{j:02}" for i in range(count // IN_EACH) for j in range(IN_EACH)]
+    """Paths of that many files, 20 in each directory of such a tree."""
+    return [f"{directory(i + 1)}/file{j:02}" for i in range(count // IN_EACH) for j in range(IN_EACH)]
 
 
 def listing(bench):
