@@ -25,7 +25,7 @@ test:
 	bash .ci/run
 
 bench: build/hgtrack
-	python3 bench/run.py build/hgtrack
+	python3 bench/bench.py build/hgtrack
 
 install: build/hgtrack
 	install -d $(DESTDIR)$(PREFIX)/bin

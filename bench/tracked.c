@@ -1,33 +1,39 @@
-// Makes the system calls of a status: each tracked path is asked by lstat, then each directory is listed and each thing in it is
-// asked. Before a path, each of its proper ancestors is asked, since no link may be followed; a directory is asked before it is
-// listed. The tracked paths are the lines of the file that is named.
+// Makes the system calls of a status over tracked files, and nothing else: the two files of `.hg` are read, each tracked path is asked
+// for, then each directory is listed and each thing in it is asked for, and a line for each tracked path is written. Before a path,
+// each of its proper ancestors is asked for, since no link may be followed; so is a directory before it is listed. A path is asked
+// for by statx, as Rust's std does it. The tracked paths are the lines of the file that is named.
+#define _GNU_SOURCE
 #include <dirent.h>
+#include <fcntl.h>
 #include <stdio.h>
 #include <stdlib.h>
 #include <string.h>
 #include <sys/stat.h>
+#include <unistd.h>
 
-static long found;
+static int ask(const char *path, struct statx *found) {
+    return statx(AT_FDCWD, path, AT_SYMLINK_NOFOLLOW, STATX_BASIC_STATS | STATX_BTIME, found) == 0;
+}
 
 // Whether each proper ancestor is a directory, the highest first.
 static int is_reached(char *path) {
     for (char *at = path; (at = strchr(at, '/')); at++) {
-        struct stat it;
+        struct statx found;
         *at = 0;
-        int is_dir = lstat(path, &it) == 0 && S_ISDIR(it.st_mode);
+        int is_dir = ask(path, &found) && S_ISDIR(found.stx_mode);
         *at = '/';
         if (!is_dir) return 0;
     }
     return 1;
 }
 
-static int look(char *path, struct stat *it) {
-    return is_reached(path) && lstat(path, it) == 0;
+static int look(char *path, struct statx *found) {
+    return is_reached(path) && ask(path, found);
 }
 
 static void visit(char *path, size_t length) {
-    struct stat it;
-    if (length && !(look(path, &it) && S_ISDIR(it.st_mode))) return;
+    struct statx found;
+    if (length && !(look(path, &found) && S_ISDIR(found.stx_mode))) return;
     DIR *folder = opendir(length ? path : ".");
     if (!folder) return;
     char **names = 0;
@@ -44,10 +50,7 @@ static void visit(char *path, size_t length) {
         if (whole < 4096) {
             if (length) path[length] = '/';
             strcpy(path + length + !!length, names[i]);
-            if (look(path, &it)) {
-                found++;
-                if (S_ISDIR(it.st_mode)) visit(path, whole);
-            }
+            if (look(path, &found) && S_ISDIR(found.stx_mode)) visit(path, whole);
             path[length] = 0;
         }
         free(names[i]);
@@ -55,18 +58,33 @@ static void visit(char *path, size_t length) {
     free(names);
 }
 
+static void read_whole(const char *name) {
+    int file = open(name, O_RDONLY);
+    struct stat found;
+    if (file < 0 || fstat(file, &found)) exit(1);
+    char *bytes = malloc(found.st_size + 1);
+    if (read(file, bytes, found.st_size) != found.st_size) exit(1);
+    free(bytes);
+    close(file);
+}
+
 int main(int count, char **words) {
     static char path[70000];
     FILE *tracked = count > 1 ? fopen(words[1], "r") : 0;
     if (!tracked) return 1;
+    read_whole(".hg/dirstate");
+    read_whole(".hg/dirstate.0000000000000000");
+    char *lines = 0;
+    size_t used = 0, room = 0;
     while (fgets(path, sizeof path, tracked)) {
-        struct stat it;
+        struct statx found;
         path[strcspn(path, "\n")] = 0;
-        found += look(path, &it);
+        size_t length = strlen(path);
+        if (used + length + 4 > room) lines = realloc(lines, room = room * 2 + length + 4);
+        used += sprintf(lines + used, "%c %s\n", look(path, &found) ? 'A' : '!', path);
     }
     fclose(tracked);
     path[0] = 0;
     visit(path, 0);
-    printf("%ld\n", found);
-    return 0;
+    return write(1, lines, used) != (ssize_t)used;
 }

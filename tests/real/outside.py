@@ -34,7 +34,11 @@ RIGHTS = [
 # what stands where a file of .hg should, as folder.lay_out writes it, and the answer
 STRANGE = [
     ("a directory as the dirstate", [".hg/dirstate/"], SHELF, b""),
+    ("a fifo as the dirstate", [".hg/dirstate |"], SHELF, b""),
     ("a dangling link as the dirstate", [".hg/dirstate -> gone", "b"], b"", lines("? b")),
+    ("a dirstate behind a link that leads to itself", [".hg/dirstate -> dirstate"], SHELF, b""),
+    (".hg as a link that leads to itself", [".hg -> .hg"], SHELF, b""),
+    (".hg as a link to a folder", [".hg -> ../", "b"], b"", lines("? b")),
 ]
 
 

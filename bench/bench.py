@@ -1,5 +1,5 @@
 #!/usr/bin/env python3
-"""Times the built program against C loops that make the same system calls: python3 bench/run.py [PROGRAM] [PART ..].
+"""Times the built program against C loops that make the same system calls: python3 bench/bench.py [PROGRAM] [PART ..].
 
 PROGRAM is build/hgtrack where it isn't named. The parts are listing, tracked, opening and placing; all where none is named. Every time is the
 least of some runs, taken in turn with what it is compared with. The status is 0 exactly where each figure is within its limit.
@@ -98,9 +98,15 @@ def make_files(root, paths):
             pass
 
 
+def directory(number):
+    """The directories of a tree, counted from 1: ten at the top, and ten in each of the others, as far as the numbers go."""
+    name = f"dir{number % 10}"
+    return f"{directory((number - 1) // 10)}/{name}" if number > 10 else name
+
+
 def in_directories(count):
-    """Paths of that many files, 20 in each directory; of 100 directories 99 stand in the other one."""
-    return [f"d{i // 100:03}/{f'e{i % 100:02}/' if i % 100 else ''}f{j:02}" for i in range(count // IN_EACH) for j in range(IN_EACH)]
+    """Paths of that many files, 20 in each directory of such a tree."""
+    return [f"{directory(i + 1)}/file{j:02}" for i in range(count // IN_EACH) for j in range(IN_EACH)]
 
 
 def listing(bench):
@@ -141,7 +147,7 @@ def compare(bench, what, figures, most, megabytes):
 def opening(bench):
     """Opening a data file: many rounds over one that is in memory already, less one round."""
     program, loop, rounds = bench.build("opening"), bench.compiled("opened"), 41
-    paths = [it.encode() for it in in_directories(MANY - MANY // IN_EACH)]
+    paths = [it.encode() for it in in_directories(95_240)]
     docket, data = written(paths)
     for name, content in (("docket", docket), ("data", data), ("both", docket + data)):
         with open(f"{bench.room}/{name}", "wb") as file:
