@@ -1,7 +1,9 @@
 pub mod Apart
+pub mod Counted
 pub mod Names
 pub mod Parted
 pub mod RowsOf
 pub mod Sound
+pub mod Tallies
 pub mod Texts
 pub mod Walk

@@ -30,6 +30,7 @@
 //! ```
 #![tactic(auto)]
 
+mod counts;
 mod fault;
 mod image;
 mod list;
