@@ -42,3 +42,6 @@ mod parts;
 
 pub use fault::NodeFault;
 pub use opened::{Image, List, NodeRef};
+
+#[cfg(test)]
+mod tests;
