@@ -42,6 +42,10 @@ fn docket(used: u32, root_start: u32, root_count: u32) -> Docket<'static> {
     }
 }
 
+fn size(bytes: &[u8]) -> u32 {
+    u32::try_from(bytes.len()).unwrap_or(0)
+}
+
 // Texts and then records.
 fn data(rt: &HostRuntime, text: &[u8], records: &[Rec]) -> Result<Vec<u8>, Fail> {
     let mut bytes = Vec::from_slice(rt.alloc(), text)?;
@@ -66,8 +70,155 @@ fn looks_at_the_used_bytes_alone(rt: HostRuntime) -> Result<(), Fail> {
     Ok(())
 }
 
+// The first fault of a file of these parts.
+fn fault_of(
+    rt: &HostRuntime,
+    text: &[u8],
+    records: &[Rec],
+    start: u32,
+    count: u32,
+) -> Result<Option<NodeFault>, Fail> {
+    let bytes = data(rt, text, records)?;
+    let docket = docket(size(&bytes), start, count);
+    Ok(Image::open(&docket, &bytes).err())
+}
+
 #[test]
-fn answers_the_first_fault(rt: HostRuntime) -> Result<(), Fail> {
+fn looks_for_lists_in_the_used_bytes(rt: HostRuntime) -> Result<(), Fail> {
+    let last = 4_294_967_295;
+    for (start, count, fault) in [
+        (1, 0, None),
+        (last, 0, None),
+        (
+            1,
+            last,
+            Some(NodeFault::List {
+                start: 1,
+                count: last,
+            }),
+        ),
+        (1, 3, Some(NodeFault::List { start: 1, count: 3 })),
+        (2, 2, Some(NodeFault::List { start: 2, count: 2 })),
+        (1, 2, Some(NodeFault::Order { node: 45 })),
+        (45, 1, None),
+    ] {
+        let found = fault_of(&rt, b"a", &[PLAIN, PLAIN], start, count)?;
+        assert_eq!(rt; found, fault, "{start} {count}");
+    }
+    Ok(())
+}
+
+#[test]
+fn tries_each_rule_of_a_node(rt: HostRuntime) -> Result<(), Fail> {
+    let timed = Rec {
+        flags: 0x0801,
+        ..PLAIN
+    };
+    for (rec, fault) in [
+        (PLAIN, None),
+        (
+            Rec {
+                path_start: 49,
+                ..PLAIN
+            },
+            Some(NodeFault::Text { node: 4 }),
+        ),
+        (
+            Rec {
+                path_start: 2,
+                ..PLAIN
+            },
+            Some(NodeFault::Text { node: 4 }),
+        ),
+        (
+            Rec {
+                path_start: 3,
+                ..PLAIN
+            },
+            Some(NodeFault::Name { node: 4 }),
+        ),
+        (
+            Rec {
+                path_len: 0,
+                ..PLAIN
+            },
+            Some(NodeFault::Name { node: 4 }),
+        ),
+        (
+            Rec {
+                path_len: 2,
+                ..PLAIN
+            },
+            Some(NodeFault::Name { node: 4 }),
+        ),
+        (
+            Rec {
+                base_at: 1,
+                ..PLAIN
+            },
+            Some(NodeFault::Base { node: 4 }),
+        ),
+        (
+            Rec {
+                copy_start: 1,
+                copy_len: 1,
+                ..PLAIN
+            },
+            Some(NodeFault::Copy { node: 4 }),
+        ),
+        (
+            Rec {
+                copy_start: 49,
+                copy_len: 1,
+                ..PLAIN
+            },
+            Some(NodeFault::Copy { node: 4 }),
+        ),
+        (
+            Rec {
+                copy_len: 9,
+                ..PLAIN
+            },
+            None,
+        ),
+        (
+            Rec {
+                nanos: 1_000_000_000,
+                ..timed
+            },
+            Some(NodeFault::Times { node: 4 }),
+        ),
+        (
+            Rec {
+                seconds: 2_147_483_648,
+                ..timed
+            },
+            Some(NodeFault::Times { node: 4 }),
+        ),
+        (
+            Rec {
+                seconds: 2_147_483_647,
+                nanos: 999_999_999,
+                ..timed
+            },
+            None,
+        ),
+        (
+            Rec {
+                flags: 0xf7ff,
+                nanos: 1_000_000_000,
+                ..PLAIN
+            },
+            None,
+        ),
+    ] {
+        assert_eq!(rt; fault_of(&rt, b"a/\xff.", &[rec], 4, 1)?, fault, "{rec:?}");
+    }
+    Ok(())
+}
+
+#[test]
+fn wants_nodes_at_their_place(rt: HostRuntime) -> Result<(), Fail> {
     let child = Rec {
         path_start: 1,
         path_len: 3,
@@ -79,232 +230,25 @@ fn answers_the_first_fault(rt: HostRuntime) -> Result<(), Fail> {
         kids_count: 1,
         ..PLAIN
     };
-    for (text, records, start, count, fault) in [
-        (&b"a"[..], [PLAIN, PLAIN], 1, 0, None),
-        (b"a", [PLAIN, PLAIN], 4_294_967_295, 0, None),
-        (
-            b"a",
-            [PLAIN, PLAIN],
-            1,
-            4_294_967_295,
-            Some(NodeFault::List {
-                start: 1,
-                count: 4_294_967_295,
-            }),
-        ),
-        (
-            b"a",
-            [PLAIN, PLAIN],
-            1,
-            3,
-            Some(NodeFault::List { start: 1, count: 3 }),
-        ),
-        (
-            b"a",
-            [PLAIN, PLAIN],
-            1,
-            2,
-            Some(NodeFault::Order { node: 45 }),
-        ),
-        (
-            b"ba",
-            [
-                PLAIN,
-                Rec {
-                    path_start: 1,
-                    ..PLAIN
-                },
-            ],
-            2,
-            2,
-            Some(NodeFault::Order { node: 46 }),
-        ),
-        (
-            b"ab",
-            [
-                PLAIN,
-                Rec {
-                    path_start: 1,
-                    ..PLAIN
-                },
-            ],
-            2,
-            2,
-            None,
-        ),
-        (
-            b"ax/b",
-            [child, parent],
-            48,
-            1,
-            Some(NodeFault::Parent { node: 4 }),
-        ),
-        (b"aa/b", [child, parent], 48, 1, None),
-        (
-            b"aa/b",
-            [child, parent],
-            4,
-            1,
-            Some(NodeFault::Parent { node: 4 }),
-        ),
-        (
-            b"aa/b",
-            [
-                Rec {
-                    base_at: 1,
-                    ..child
-                },
-                parent,
-            ],
-            48,
-            1,
-            Some(NodeFault::Base { node: 4 }),
-        ),
-        (
-            b"a",
-            [
-                Rec {
-                    path_start: 89,
-                    ..PLAIN
-                },
-                PLAIN,
-            ],
-            1,
-            1,
-            Some(NodeFault::Text { node: 1 }),
-        ),
-        (
-            b"\xff",
-            [PLAIN, PLAIN],
-            1,
-            1,
-            Some(NodeFault::Text { node: 1 }),
-        ),
-        (
-            b".",
-            [PLAIN, PLAIN],
-            1,
-            1,
-            Some(NodeFault::Name { node: 1 }),
-        ),
-        (
-            b"a",
-            [
-                Rec {
-                    path_len: 0,
-                    ..PLAIN
-                },
-                PLAIN,
-            ],
-            1,
-            1,
-            Some(NodeFault::Name { node: 1 }),
-        ),
-        (
-            b"a/",
-            [
-                Rec {
-                    copy_start: 1,
-                    copy_len: 1,
-                    ..PLAIN
-                },
-                PLAIN,
-            ],
-            2,
-            1,
-            Some(NodeFault::Copy { node: 2 }),
-        ),
-        (
-            b"a/",
-            [
-                Rec {
-                    copy_start: 90,
-                    copy_len: 1,
-                    ..PLAIN
-                },
-                PLAIN,
-            ],
-            2,
-            1,
-            Some(NodeFault::Copy { node: 2 }),
-        ),
-        (
-            b"a/",
-            [
-                Rec {
-                    copy_len: 1,
-                    ..PLAIN
-                },
-                PLAIN,
-            ],
-            2,
-            1,
-            None,
-        ),
-        (
-            b"a",
-            [
-                Rec {
-                    flags: 0x0801,
-                    nanos: 1_000_000_000,
-                    ..PLAIN
-                },
-                PLAIN,
-            ],
-            1,
-            1,
-            Some(NodeFault::Times { node: 1 }),
-        ),
-        (
-            b"a",
-            [
-                Rec {
-                    flags: 0x0801,
-                    seconds: 2_147_483_648,
-                    ..PLAIN
-                },
-                PLAIN,
-            ],
-            1,
-            1,
-            Some(NodeFault::Times { node: 1 }),
-        ),
-        (
-            b"a",
-            [
-                Rec {
-                    flags: 0x0801,
-                    seconds: 2_147_483_647,
-                    nanos: 999_999_999,
-                    ..PLAIN
-                },
-                PLAIN,
-            ],
-            1,
-            1,
-            None,
-        ),
-        (
-            b"a",
-            [
-                Rec {
-                    flags: 0xf7ff,
-                    nanos: 1_000_000_000,
-                    ..PLAIN
-                },
-                PLAIN,
-            ],
-            1,
-            1,
-            None,
-        ),
+    for (text, start, fault) in [
+        (b"aa/b", 48, None),
+        (b"ax/b", 48, Some(NodeFault::Parent { node: 4 })),
+        (b"aa/b", 4, Some(NodeFault::Parent { node: 4 })),
+        (b"aab/", 48, Some(NodeFault::Name { node: 4 })),
+        (b"aabb", 48, Some(NodeFault::Base { node: 4 })),
     ] {
-        let bytes = data(&rt, text, &records)?;
-        let docket = docket(bytes.len() as u32, start, count);
+        let found = fault_of(&rt, text, &[child, parent], start, 1)?;
+        assert_eq!(rt; found, fault, "{text:?} {start}");
+    }
+    let second = Rec {
+        path_start: 1,
+        ..PLAIN
+    };
+    for (text, fault) in [(b"ab", None), (b"ba", Some(NodeFault::Order { node: 46 }))] {
         assert_eq!(rt;
-            Image::open(&docket, &bytes).err(),
+            fault_of(&rt, text, &[PLAIN, second], 2, 2)?,
             fault,
-            "{text:?} {start} {count}"
+            "{text:?}"
         );
     }
     Ok(())
@@ -338,7 +282,7 @@ fn goes_as_deep_as_paths_do(rt: HostRuntime) -> Result<(), Fail> {
         (2_049, Some(NodeFault::Deep { node: 94_210 })),
     ] {
         let bytes = tower(&rt, depth)?;
-        let docket = docket(bytes.len() as u32, 4_098, 1);
+        let docket = docket(size(&bytes), 4_098, 1);
         assert_eq!(rt; Image::open(&docket, &bytes).err(), fault, "{depth}");
     }
     Ok(())
