@@ -288,52 +288,106 @@ fn goes_as_deep_as_paths_do(rt: HostRuntime) -> Result<(), Fail> {
     Ok(())
 }
 
+// The file `d/e`, copied from `src`, in the directory `d`, whose record stands last.
+const FILE: Rec = Rec {
+    path_len: 3,
+    base_at: 2,
+    copy_start: 3,
+    copy_len: 3,
+    flags: 0x0c03,
+    size: 5,
+    seconds: 7,
+    nanos: 8,
+    ..PLAIN
+};
+
+const DIR: Rec = Rec {
+    kids_start: 6,
+    kids_count: 1,
+    entries_below: 1,
+    tracked_below: 1,
+    flags: 0x6800,
+    seconds: 1,
+    nanos: 2,
+    ..PLAIN
+};
+
 #[test]
 fn lends_what_a_node_says(rt: HostRuntime) -> Result<(), Fail> {
-    let file = Rec {
-        path_len: 3,
-        base_at: 2,
-        copy_start: 3,
-        copy_len: 3,
-        flags: 0x0c03,
-        size: 5,
-        seconds: 7,
-        nanos: 8,
-        ..PLAIN
-    };
-    let dir = Rec {
-        kids_start: 6,
-        kids_count: 1,
-        entries_below: 1,
-        tracked_below: 1,
-        flags: 0x6800,
-        seconds: 1,
-        nanos: 2,
-        ..PLAIN
-    };
-    let bytes = data(&rt, b"d/esrc", &[file, dir])?;
-    let docket = Docket {
-        copies: 1,
-        ..docket(94, 50, 1)
-    };
-    let image = Image::open(&docket, &bytes)?;
+    let bytes = data(&rt, b"d/esrc", &[FILE, DIR])?;
+    let image = Image::open(&docket(94, 50, 1), &bytes)?;
     assert_eq!(rt; image.docket().unreachable, 77);
     let root = image.root();
     assert_eq!(rt; (root.start(), root.len()), (50, 1));
-    assert!(rt; root.find("c").is_none() && root.find("e").is_none() && root.find("").is_none());
-    let Some(node) = root.find("d") else {
-        return Err("no node".into());
+    for (name, place) in [
+        ("c", None),
+        ("d", Some(50)),
+        ("d/e", None),
+        ("e", None),
+        ("", None),
+    ] {
+        assert_eq!(rt; root.find(name).map(|node| node.place()), place, "{name}");
+    }
+    let Some(dir) = root.find("d") else {
+        return Err("no directory".into());
     };
+    assert_eq!(rt; (dir.path().as_str(), dir.base()), ("d", "d"));
     assert_eq!(rt;
-        (node.path().as_str(), node.base(), node.place()),
-        ("d", "d", 50)
-    );
-    assert_eq!(rt;
-        node.cache().map(|s| (s.seconds, s.nanos, s.ambiguous)),
+        dir.cache().map(|s| (s.seconds, s.nanos, s.ambiguous)),
         Some((1, 2, false))
     );
-    assert!(rt; node.entry().is_none() && node.source().is_none());
-    let list = node.children();
-    assert_eq!(rt; list.len(), 1);
+    assert!(rt; dir.entry().is_none() && dir.source().is_none());
+    let Some(file) = dir.children().find("e") else {
+        return Err("no file".into());
+    };
+    assert_eq!(rt; (file.path().as_str(), file.base()), ("d/e", "e"));
+    assert_eq!(rt;
+        file.entry().map(|e| (e.w, e.p1, e.p2, e.size)),
+        Some((true, true, false, Some(5)))
+    );
+    assert_eq!(rt; file.source().map(|p| p.as_str()), Some("src"));
+    assert!(rt; file.cache().is_none());
+    assert_eq!(rt; file.rec(), Rec { place: 6, ..FILE });
+    assert_eq!(rt; file.children().len(), 0);
+    Ok(())
+}
+
+#[test]
+fn counts_from_scratch(rt: HostRuntime) -> Result<(), Fail> {
+    for (entries, copies, dir, counted) in [
+        (1, 1, DIR, true),
+        (2, 1, DIR, false),
+        (1, 0, DIR, false),
+        (
+            1,
+            1,
+            Rec {
+                entries_below: 2,
+                ..DIR
+            },
+            false,
+        ),
+        (
+            1,
+            1,
+            Rec {
+                tracked_below: 0,
+                ..DIR
+            },
+            false,
+        ),
+    ] {
+        let bytes = data(&rt, b"d/esrc", &[FILE, dir])?;
+        let docket = Docket {
+            entries,
+            copies,
+            ..docket(94, 50, 1)
+        };
+        assert_eq!(rt;
+            Image::open(&docket, &bytes)?.counted(),
+            counted,
+            "{entries} {copies} {dir:?}"
+        );
+    }
     Ok(())
 }
