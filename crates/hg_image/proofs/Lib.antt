@@ -1,5 +1,6 @@
 pub mod Apart
 pub mod Counted
+pub mod Levels
 pub mod Names
 pub mod Parted
 pub mod RowsOf
