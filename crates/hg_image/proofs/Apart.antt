@@ -1,21 +1,20 @@
 -- No two rows of a data file without fault have one path.
-use Rattle.std.proofs.Common.{◌≡◌, ℕ, zero, suc, ◌+◌, ◌-◌, ◌*◌, ◌<◌, Bool, true, false, not, List, [], ◌∷◌, ◌++◌, length, map, Option, Some, None, ◌⊎◌, inl, inr, refl, sym, ap, ◌∙◌, subst, arith, true≢false, eqb, Ordering, Less, Equal, Greater, nat_cmp}
+use Rattle.std.proofs.Common.{◌≡◌, ℕ, zero, suc, ◌+◌, ◌-◌, true, false, List, [], ◌∷◌, ◌++◌, length, map, Option, Some, None, ◌⊎◌, inl, inr, refl, sym, ap, ◌∙◌, subst, arith, true≢false, Ordering, Less, Equal, Greater, nat_cmp}
 use Rattle.std.specs.Ordering.{is_lt, ordering_reverse}
 use Rattle.std.specs.Cmp.Lexicographic.{slice_cmp, nat_list_cmp_total}
 use Rattle.std.specs.List.{AllByRecursion, IsDistinct}
 use Rattle.std.specs.Str.{bytes_eq}
-use Rattle.std.proofs.lemmas.Bool.{false_from_ne_true, ne_eqb}
+use Rattle.std.proofs.lemmas.Bool.{false_from_ne_true}
 use Rattle.std.proofs.lemmas.List.{length-append}
 use Rattle.std.proofs.lemmas.Slice.Eq.{bytes_eq-Decides}
 use Rattle.std.proofs.lemmas.Map.Keys.{IsDistinct-cons, IsDistinct-head, IsDistinct-tail}
-use Rattle.hg_base.specs.PathText.{has_slash, joined, base_of, parent_of, is_below, is_path}
+use Rattle.hg_base.specs.PathText.{has_slash, joined, is_below}
 use Rattle.hg_base.proofs.Below.{below_joined, below_trans, below_compared, below_of_joined, below_name, below_length, below_itself}
 use Rattle.hg_base.proofs.Components.{joined_same, joined_parent}
 use Rattle.hg_base.proofs.Paths.{path_base_plain}
 use Rattle.hg_node.specs.declared.record.Rec.{Rec}
 use Rattle.hg_image.specs.declared.fault.NodeFault.{NodeFault}
-use Rattle.hg_image.specs.declared.fault.NodeFault.TheVariants as a_fault
-use Rattle.hg_image.specs.Node.{record_at, path_of, name_of, is_after, first_of, node_fault}
+use Rattle.hg_image.specs.Node.{record_at, path_of, name_of, is_after, node_fault}
 use Rattle.hg_image.specs.Walk.{nodes_fault, list_fault}
 use Rattle.hg_image.specs.Rows.{Row, row_of, nodes_rows, list_rows}
 use Rattle.hg_image.proofs.Walk.{below, nodes_end}

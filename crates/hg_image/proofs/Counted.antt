@@ -1,5 +1,5 @@
 -- The counts of a node, of what is below it and of what stands apart are counted apart.
-use Rattle.std.proofs.Common.{◌≡◌, ℕ, zero, suc, ◌+◌, ◌-◌, ◌<◌, ◌≤◌, Bool, true, false, ◌&&◌, cond, List, [], ◌∷◌, ◌++◌, length, refl, sym, ap, ◌∙◌, arith, eqb}
+use Rattle.std.proofs.Common.{◌≡◌, ℕ, ◌+◌, Bool, true, false, ◌&&◌, cond, List, [], ◌∷◌, ◌++◌, refl, sym, ap, ◌∙◌, arith, eqb}
 use Rattle.std.specs.Prelude.{count_by}
 use Rattle.std.specs.List.{AllByRecursion, list_all}
 use Rattle.std.proofs.lemmas.List.Sums.{sum_by-append, sum_by-cons}
@@ -8,7 +8,7 @@ use Rattle.hg_base.specs.PathText.{is_below}
 use Rattle.hg_base.proofs.Below.{below_itself, below_not_back}
 use Rattle.hg_image.specs.Rows.{Row, AreApart, AreParted}
 use Rattle.hg_image.proofs.Apart.{each_then}
-use Rattle.hg_image.specs.Counts.{is_entry, is_tracked, is_copy, count_below, is_row_counted, are_counted}
+use Rattle.hg_image.specs.Counts.{is_entry, is_tracked, count_below, is_row_counted, are_counted}
 
 pub count_append : (test : Row → Bool) (a b : List Row) → count_by test (a ++ b) ≡ count_by test a + count_by test b
 count_append test a b = sum_by-append (λ r. cond (test r) 1 0) a b

@@ -1,7 +1,7 @@
 -- A walk has as many levels as it needs: each list stands in a directory with one component more, of which a path has 2,048 at most.
-use Rattle.std.proofs.Common.{◌≡◌, ℕ, zero, suc, ◌+◌, ◌*◌, ◌<◌, ◌≤◌, Bool, false, cond, List, [], ◌∷◌, ◌++◌, length, Option, Some, None, refl, sym, ap, ◌∙◌, arith, eqb, ltb}
+use Rattle.std.proofs.Common.{◌≡◌, ℕ, zero, suc, ◌+◌, ◌*◌, ◌≤◌, false, cond, List, [], ◌∷◌, length, Option, Some, None, refl, sym, ap, ◌∙◌, arith, eqb, ltb}
 use Rattle.std.proofs.lemmas.List.{length-append}
-use Rattle.hg_base.specs.PathText.{components, has_slash, joined, base_of, parent_of, is_path}
+use Rattle.hg_base.specs.PathText.{components, has_slash, joined, base_of}
 use Rattle.hg_base.proofs.Components.{components_name, components_more, joined_parent}
 use Rattle.hg_base.proofs.Paths.{path_parts, path_base_plain}
 use Rattle.hg_image.specs.declared.fault.NodeFault.{NodeFault}

@@ -1,5 +1,5 @@
 -- What no fault says of a list and of each of its nodes.
-use Rattle.std.proofs.Common.{◌≡◌, ℕ, zero, suc, ◌+◌, ◌-◌, ◌*◌, ◌<◌, ◌≤◌, Bool, true, false, not, ◌&&◌, cond, List, [], ◌∷◌, ◌++◌, length, Option, Some, None, refl, sym, ap, ◌∙◌, subst, arith, eqb, ltb, eqb-true, ltb-false, true≢false}
+use Rattle.std.proofs.Common.{◌≡◌, ℕ, zero, suc, ◌+◌, ◌-◌, ◌*◌, ◌<◌, ◌≤◌, Bool, true, false, not, cond, List, length, Option, Some, None, refl, sym, subst, arith, eqb, ltb, eqb-true, ltb-false, true≢false}
 use Rattle.std.proofs.lemmas.Bool.{ne_eqb}
 use Rattle.hg_base.specs.PathText.{is_path, is_same_dir, parent_of}
 use Rattle.hg_base.specs.PathRefusal.{refusal}

@@ -1,9 +1,9 @@
-use Rattle.std.proofs.Common.{◌≡◌, ℕ, ◌+◌, ◌-◌, ◌<◌, ◌≤◌, List, [], ◌∷◌, ◌++◌, Option, Some, None, refl, sym, ap, ◌∙◌, subst, arith}
+use Rattle.std.proofs.Common.{◌≡◌, ◌+◌, ◌-◌, List, [], ◌∷◌, ◌++◌, None, sym, ap, ◌∙◌, subst, arith}
 use Rattle.hg_image.specs.Rows.{Row}
 use Rattle.hg_image.specs.declared.counts.Tally.{Tally}
 use Rattle.hg_image.specs.Tally.{tally_of, plus, tally_within}
-use Rattle.hg_image.specs.View.{rows_in, rows_from, row, rows_below}
-use Rattle.hg_image.proofs.Tallies.{Summed, Within, within_some, within_from, summed_none, summed_full, summed_stops, summed_differs, summed_more, summed_all}
+use Rattle.hg_image.specs.View.{rows_from, row, rows_below}
+use Rattle.hg_image.proofs.Tallies.{Summed, Within, within_some, within_from, summed_full, summed_stops, summed_differs, summed_more, summed_all}
 use Rattle.hg_image.proofs.counts.+count_list.Goals as goal
 
 pub returns-then-sum-most-clause-tally : goal.returns-then-sum-most-clause-tally

@@ -1,4 +1,4 @@
-use Rattle.std.proofs.Common.{◌≡◌, ℕ, ◌/◌, Bool, false, ◌&&◌, Option, Some, None, sym, ap, ◌∙◌, eqb, eq-eqb}
+use Rattle.std.proofs.Common.{◌≡◌, ◌/◌, Bool, false, ◌&&◌, sym, ap, ◌∙◌, eqb, eq-eqb}
 use Rattle.std.proofs.lemmas.Bool.{ne_eqb}
 use Rattle.hg_docket.specs.Docket.{view}
 use Rattle.hg_image.specs.Tally.{tally_within}
