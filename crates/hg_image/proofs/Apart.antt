@@ -1,21 +1,20 @@
 -- No two rows of a data file without fault have one path.
-use Rattle.std.proofs.Common.{◌≡◌, ℕ, zero, suc, ◌+◌, ◌-◌, ◌*◌, ◌<◌, Bool, true, false, not, List, [], ◌∷◌, ◌++◌, length, map, Option, Some, None, ◌⊎◌, inl, inr, refl, sym, ap, ◌∙◌, subst, arith, true≢false, eqb, Ordering, Less, Equal, Greater, nat_cmp}
+use Rattle.std.proofs.Common.{◌≡◌, ℕ, zero, suc, ◌+◌, ◌-◌, true, false, List, [], ◌∷◌, ◌++◌, length, map, Option, Some, None, ◌⊎◌, inl, inr, refl, sym, ap, ◌∙◌, subst, arith, true≢false, Ordering, Less, Equal, Greater, nat_cmp}
 use Rattle.std.specs.Ordering.{is_lt, ordering_reverse}
 use Rattle.std.specs.Cmp.Lexicographic.{slice_cmp, nat_list_cmp_total}
 use Rattle.std.specs.List.{AllByRecursion, IsDistinct}
 use Rattle.std.specs.Str.{bytes_eq}
-use Rattle.std.proofs.lemmas.Bool.{false_from_ne_true, ne_eqb}
+use Rattle.std.proofs.lemmas.Bool.{false_from_ne_true}
 use Rattle.std.proofs.lemmas.List.{length-append}
 use Rattle.std.proofs.lemmas.Slice.Eq.{bytes_eq-Decides}
 use Rattle.std.proofs.lemmas.Map.Keys.{IsDistinct-cons, IsDistinct-head, IsDistinct-tail}
-use Rattle.hg_base.specs.PathText.{has_slash, joined, base_of, parent_of, is_below, is_path}
+use Rattle.hg_base.specs.PathText.{has_slash, joined, is_below}
 use Rattle.hg_base.proofs.Below.{below_joined, below_trans, below_compared, below_of_joined, below_name, below_length, below_itself}
 use Rattle.hg_base.proofs.Components.{joined_same, joined_parent}
 use Rattle.hg_base.proofs.Paths.{path_base_plain}
 use Rattle.hg_node.specs.declared.record.Rec.{Rec}
 use Rattle.hg_image.specs.declared.fault.NodeFault.{NodeFault}
-use Rattle.hg_image.specs.declared.fault.NodeFault.TheVariants as a_fault
-use Rattle.hg_image.specs.Node.{record_at, path_of, name_of, is_after, first_of, node_fault}
+use Rattle.hg_image.specs.Node.{record_at, path_of, name_of, is_after, node_fault}
 use Rattle.hg_image.specs.Walk.{nodes_fault, list_fault}
 use Rattle.hg_image.specs.Rows.{Row, row_of, nodes_rows, list_rows}
 use Rattle.hg_image.proofs.Walk.{below, nodes_end}
@@ -55,7 +54,7 @@ not_below (Some dir) m n plain h =
     ]
 
 -- so a path stands at one name alone
-one_name : (dir : Option (List ℕ)) (m n path : List ℕ) → In dir m path → In dir n path → m ≡ n
+pub one_name : (dir : Option (List ℕ)) (m n path : List ℕ) → In dir m path → In dir n path → m ≡ n
 one_name dir m n path p q =
     elim p.place [
       | inl a ↦ elim q.place [
@@ -103,7 +102,7 @@ each_append : (P : Row → Type 0) (a b : List Row) → AllByRecursion P a → A
 each_append P [] b p q = q
 each_append P (r ∷ a) b p q = (p.0, each_append P a b p.1 q)
 
-each_then : (P Q : Row → Type 0) → ((r : Row) → P r → Q r) → (a : List Row) → AllByRecursion P a → AllByRecursion Q a
+pub each_then : (P Q : Row → Type 0) → ((r : Row) → P r → Q r) → (a : List Row) → AllByRecursion P a → AllByRecursion Q a
 each_then P Q f [] p = tt
 each_then P Q f (r ∷ a) p = (f r p.0, each_then P Q f a p.1)
 
@@ -112,7 +111,7 @@ abbrev pub Kids : (List ℕ → ℕ → ℕ → Option NodeFault) → (ℕ → �
 Kids faults rows = (path : List ℕ) (start count : ℕ) → faults path start count ≡ None → AllByRecursion (λ r. is_below path r.path ≡ true) (rows start count)
 
 -- a node that passes stands at its name
-stands_at_name : (bytes : List ℕ) (dir before : Option (List ℕ)) (rec : Rec) → Sound bytes dir before rec → In dir (name_of bytes rec) (path_of bytes rec)
+pub stands_at_name : (bytes : List ℕ) (dir before : Option (List ℕ)) (rec : Rec) → Sound bytes dir before rec → In dir (name_of bytes rec) (path_of bytes rec)
 stands_at_name bytes dir before rec node = record {
   plain = path_base_plain (path_of bytes rec) node.path;
   place = inl (sym (joined_parent (path_of bytes rec)) ∙ ap (λ (d : Option (List ℕ)). joined d (name_of bytes rec)) node.parent);
@@ -174,7 +173,7 @@ apart_later dir m path rows stands h =
 
 module _ (faults : List ℕ → ℕ → ℕ → Option NodeFault) (rows : ℕ → ℕ → List Row) (kids : Kids faults rows) (bytes : List ℕ) (dir : Option (List ℕ)) where
   -- what stands at a node that passes, or below it, stands at its name or below that
-  under_name : (before : Option (List ℕ)) (rec : Rec) → Sound bytes dir before rec → faults (path_of bytes rec) rec.kids_start rec.kids_count ≡ None
+  pub under_name : (before : Option (List ℕ)) (rec : Rec) → Sound bytes dir before rec → faults (path_of bytes rec) rec.kids_start rec.kids_count ≡ None
       → AllByRecursion (λ r. In dir (name_of bytes rec) r.path) (rows rec.kids_start rec.kids_count)
   under_name before rec node none =
       let whole : path_of bytes rec ≡ joined dir (name_of bytes rec) =
@@ -183,7 +182,7 @@ module _ (faults : List ℕ → ℕ → ℕ → Option NodeFault) (rows : ℕ �
       (λ r h. stands_below dir (name_of bytes rec) (path_of bytes rec) r.path (stands_at_name bytes dir before rec node) whole h)
       (rows rec.kids_start rec.kids_count) (kids (path_of bytes rec) rec.kids_start rec.kids_count none)
 
-  nodes_later : (before : Option (List ℕ)) (at n : ℕ) → nodes_fault faults bytes dir before at n ≡ None → AllByRecursion (λ r. Later dir before r.path) (nodes_rows rows bytes at n)
+  pub nodes_later : (before : Option (List ℕ)) (at n : ℕ) → nodes_fault faults bytes dir before at n ≡ None → AllByRecursion (λ r. Later dir before r.path) (nodes_rows rows bytes at n)
   unfolding nodes_fault nodes_rows
   nodes_later before at zero h = tt
   nodes_later before at (suc n) h =
@@ -227,7 +226,7 @@ list_nodes depth bytes dir start (suc n) h =
     let same : suc depth - 1 ≡ depth = omega arith in
     rw same at (list_sound (suc depth) bytes dir start (suc n) (omega arith) h).nodes
 
-kids_of : (depth : ℕ) (bytes : List ℕ)
+pub kids_of : (depth : ℕ) (bytes : List ℕ)
     → ((dir : Option (List ℕ)) (start count : ℕ) → list_fault depth bytes dir start count ≡ None → AllByRecursion (λ r. Later dir None r.path) (list_rows depth bytes start count))
     → Kids (below depth bytes) (list_rows depth bytes)
 kids_of depth bytes all = λ path start count none.

@@ -1,6 +1,10 @@
 pub mod Apart
+pub mod Counted
+pub mod Levels
 pub mod Names
+pub mod Parted
 pub mod RowsOf
 pub mod Sound
+pub mod Tallies
 pub mod Texts
 pub mod Walk

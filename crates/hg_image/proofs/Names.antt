@@ -1,5 +1,5 @@
 -- The names of a list rise, so that one of them is found by halves.
-use Rattle.std.proofs.Common.{◌≡◌, ℕ, zero, suc, ◌+◌, ◌-◌, ◌*◌, ◌<◌, ◌≤◌, Bool, true, false, List, length, Option, Some, None, ◌⊎◌, inl, inr, refl, sym, ap, ◌∙◌, arith, Ordering, Less, Equal, Greater, nat_cmp}
+use Rattle.std.proofs.Common.{◌≡◌, ℕ, zero, suc, ◌+◌, ◌*◌, ◌<◌, ◌≤◌, List, Option, Some, None, ◌⊎◌, inl, inr, refl, sym, ap, ◌∙◌, arith, Less, Equal, Greater, nat_cmp}
 use Rattle.std.specs.Ordering.{is_lt, is_eq, ordering_reverse}
 use Rattle.std.proofs.lemmas.Bool.{cases_order}
 use Rattle.std.proofs.lemmas.Map.Text.{is_eq-slice_cmp}
@@ -8,7 +8,7 @@ use Rattle.std.specs.Cmp.Lexicographic.{slice_cmp, nat_list_cmp_total}
 use Rattle.hg_node.specs.declared.record.Rec.{Rec}
 use Rattle.hg_image.specs.Node.{record_at, name_of, is_after}
 use Rattle.hg_image.specs.Walk.{list_fault}
-use Rattle.hg_image.proofs.Sound.{before_at, Member, list_at}
+use Rattle.hg_image.proofs.Sound.{before_at, list_at}
 use Rattle.hg_image.proofs.Apart.{less_is, not_after_itself}
 
 -- the name of a node of a list

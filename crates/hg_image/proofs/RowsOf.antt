@@ -1,7 +1,7 @@
 -- The rows of a list, node by node.
-use Rattle.std.proofs.Common.{◌≡◌, ℕ, zero, suc, ◌+◌, ◌-◌, ◌*◌, ◌<◌, ◌≤◌, List, [], ◌∷◌, ◌++◌, length, Option, Some, None, ◌⊎◌, inl, inr, false, eqb, refl, arith}
+use Rattle.std.proofs.Common.{◌≡◌, ℕ, zero, suc, ◌+◌, ◌-◌, ◌<◌, List, [], ◌∷◌, ◌++◌, Option, Some, None, ◌⊎◌, inl, inr, false, eqb, refl, arith}
 use Rattle.std.proofs.lemmas.Bool.{ne_eqb}
-use Rattle.hg_image.specs.Node.{record_at, path_of}
+use Rattle.hg_image.specs.Node.{record_at}
 use Rattle.hg_image.specs.Walk.{list_fault}
 use Rattle.hg_image.specs.declared.fault.NodeFault.TheVariants as a_fault
 use Rattle.hg_image.proofs.Sound.{past}

@@ -1,5 +1,5 @@
 -- What no fault says of a list and of each of its nodes.
-use Rattle.std.proofs.Common.{◌≡◌, ℕ, zero, suc, ◌+◌, ◌-◌, ◌*◌, ◌<◌, ◌≤◌, Bool, true, false, not, ◌&&◌, cond, List, [], ◌∷◌, ◌++◌, length, Option, Some, None, refl, sym, ap, ◌∙◌, subst, arith, eqb, ltb, eqb-true, ltb-false, true≢false}
+use Rattle.std.proofs.Common.{◌≡◌, ℕ, zero, suc, ◌+◌, ◌-◌, ◌*◌, ◌<◌, ◌≤◌, Bool, true, false, not, cond, List, length, Option, Some, None, refl, sym, subst, arith, eqb, ltb, eqb-true, ltb-false, true≢false}
 use Rattle.std.proofs.lemmas.Bool.{ne_eqb}
 use Rattle.hg_base.specs.PathText.{is_path, is_same_dir, parent_of}
 use Rattle.hg_base.specs.PathRefusal.{refusal}
@@ -127,6 +127,25 @@ nodes_at kids bytes dir before at (suc n) (suc i) inside h =
     let found = nodes_at kids bytes dir (Some (name_of bytes (record_at bytes at))) (at + 44) n i (omega arith) second.1 in
     subst (λ (b : Option (List ℕ)). At kids bytes dir b (at + 44 * suc i)) (shifted bytes before at i)
     (subst (At kids bytes dir (before_at bytes (Some (name_of bytes (record_at bytes at))) (at + 44) i)) same found)
+
+-- the nodes from one on have none
+pub nodes_from : (kids : List ℕ → ℕ → ℕ → Option NodeFault) (bytes : List ℕ) (dir before : Option (List ℕ)) (at n i : ℕ) → i < n → nodes_fault kids bytes dir before at n ≡ None
+    → nodes_fault kids bytes dir (before_at bytes before at i) (at + 44 * i) (n - i) ≡ None
+unfolding nodes_fault before_at
+nodes_from kids bytes dir before at zero i inside h = absurd (omega arith)
+nodes_from kids bytes dir before at (suc n) zero inside h =
+    let same : at + 44 * 0 ≡ at = omega arith in
+    let all : suc n - 0 ≡ suc n = omega arith in
+    rw (same, all) h
+nodes_from kids bytes dir before at (suc n) (suc i) inside h =
+    let same : at + 44 + 44 * i ≡ at + 44 * suc i = omega arith in
+    let less : n - i ≡ suc n - suc i = omega arith in
+    let first = both_none (node_fault bytes dir before (record_at bytes at)) _ h in
+    let second = both_none (kids (path_of bytes (record_at bytes at)) (record_at bytes at).kids_start (record_at bytes at).kids_count) _ first.1 in
+    let found = nodes_from kids bytes dir (Some (name_of bytes (record_at bytes at))) (at + 44) n i (omega arith) second.1 in
+    subst (λ (m : ℕ). nodes_fault kids bytes dir (before_at bytes before at (suc i)) (at + 44 * suc i) m ≡ None) less
+    (subst (λ (b : Option (List ℕ)). nodes_fault kids bytes dir b (at + 44 * suc i) (n - i) ≡ None) (shifted bytes before at i)
+    (subst (λ (m : ℕ). nodes_fault kids bytes dir (before_at bytes (Some (name_of bytes (record_at bytes at))) (at + 44) i) m (n - i) ≡ None) same found))
 
 -- a node of a list
 pub record Member (depth : ℕ) (bytes : List ℕ) (dir before : Option (List ℕ)) (place : ℕ) : Type 0 where

@@ -1,12 +1,12 @@
 -- The walk of a list, step by step.
-use Rattle.std.proofs.Common.{◌≡◌, ℕ, zero, suc, ◌+◌, ◌-◌, ◌*◌, ◌<◌, ◌≤◌, Bool, true, false, cond, List, length, Option, Some, None, refl, sym, ap, ◌∙◌, arith, eqb, ltb, sub-one, eq-eqb, lt-ltb}
+use Rattle.std.proofs.Common.{◌≡◌, ℕ, zero, suc, ◌+◌, ◌-◌, ◌*◌, ◌<◌, ◌≤◌, true, false, List, length, Option, Some, None, refl, sym, ap, ◌∙◌, arith, eqb, ltb, lt-ltb}
 use Rattle.std.proofs.lemmas.Bool.{ne_eqb}
 use Rattle.std.proofs.lemmas.Bool.Decides.{nat_tests}
 use Rattle.hg_image.specs.declared.fault.NodeFault.{NodeFault}
 use Rattle.hg_image.specs.declared.fault.NodeFault.TheVariants as a_fault
 use Rattle.hg_base.specs.PathText.{base_of}
 use Rattle.hg_node.specs.declared.record.Rec.{Rec}
-use Rattle.hg_image.specs.Node.{record_at, path_of, name_of, first_of, node_fault}
+use Rattle.hg_image.specs.Node.{record_at, path_of, name_of, node_fault}
 use Rattle.hg_image.specs.Walk.{nodes_fault, list_fault}
 
 -- how the lists below a node are read

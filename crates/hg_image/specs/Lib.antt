@@ -1,5 +1,7 @@
+pub mod Counts
 pub mod Node
 pub mod Reading
 pub mod Rows
+pub mod Tally
 pub mod View
 pub mod Walk

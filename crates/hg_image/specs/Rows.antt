@@ -1,7 +1,8 @@
 -- What a data file without fault holds: a row for each node, in the order of the walk.
-use Rattle.std.specs.Prelude.{ℕ, zero, suc, ◌+◌, List, [], ◌∷◌, ◌++◌, take, map, Option}
-use Rattle.std.specs.List.{IsDistinct}
+use Rattle.std.specs.Prelude.{◌≡◌, ℕ, zero, suc, ◌+◌, List, [], ◌∷◌, ◌++◌, take, map, Option, true, false}
+use Rattle.std.specs.List.{AllByRecursion, IsDistinct}
 use Rattle.std.specs.Str.{bytes_eq}
+use Rattle.hg_base.specs.PathText.{is_below}
 use Rattle.hg_docket.specs.Docket.{Contents}
 use Rattle.hg_node.specs.declared.record.Rec.{Rec}
 use Rattle.hg_image.specs.Node.{record_at, path_of, source_of}
@@ -34,3 +35,13 @@ rows_of docket bytes = list_rows levels (take docket.used bytes) docket.root_sta
 -- no two rows are of one path
 abbrev pub AreDistinct : List Row → Type 0
 AreDistinct rows = IsDistinct bytes_eq (map (λ row. row.path) rows)
+
+-- of two paths, neither stands below the other
+abbrev pub AreApart : List ℕ → List ℕ → Type 0
+AreApart a b = (is_below a b ≡ false) × (is_below b a ≡ false)
+
+-- some rows stand below a path; others stand apart from it, and from all that is below it
+pub record AreParted (path : List ℕ) (under others : List Row) : Type 0 where
+  pub below : AllByRecursion (λ row. is_below path row.path ≡ true) under
+  pub apart : AllByRecursion (λ other. AreApart path other.path) others
+  pub crossed : AllByRecursion (λ row. AllByRecursion (λ other. AreApart row.path other.path) others) under

@@ -1,7 +1,7 @@
 -- What the parts of an opened data file hold.
 use Rattle.std.specs.Prelude.{ℕ, ◌≡◌, ◌+◌, ◌-◌, ◌*◌, ◌<◌, List, Option, Some, None}
 use Rattle.std.specs.Option.{option_map}
-use Rattle.hg_image.specs.Node.{record_at, path_of, name_of}
+use Rattle.hg_image.specs.Node.{record_at, name_of}
 use Rattle.hg_image.specs.Walk.{levels}
 use Rattle.hg_image.specs.Rows.{Row, row_of, nodes_rows, list_rows}
 use Rattle.hg_image.specs.declared.opened.Image.{Image}

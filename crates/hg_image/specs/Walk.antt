@@ -1,6 +1,6 @@
 -- The walk of a data file (Mercurial help, internals.dirstate-v2, "The data file format"): lists of nodes, each node before its children
 -- and its children before the next sibling, and the first fault on the way.
-use Rattle.std.specs.Prelude.{ℕ, zero, suc, ◌+◌, ◌*◌, if◌then◌else◌, List, length, take, Option, Some, None, ◌==◌, nat_lt}
+use Rattle.std.specs.Prelude.{◌≡◌, ℕ, zero, suc, ◌+◌, ◌*◌, if◌then◌else◌, List, length, take, Option, Some, None, ◌==◌, nat_lt}
 use Rattle.hg_docket.specs.Docket.{Contents}
 use Rattle.hg_image.specs.declared.fault.NodeFault.{NodeFault}
 use Rattle.hg_image.specs.declared.fault.NodeFault.TheVariants as a_fault
@@ -31,6 +31,13 @@ list_fault (suc depth) bytes dir start count =
 -- how many levels of lists a walk looks at: a path has at most 2,048 components, and below such a one a list is looked at still
 unfoldable pub levels : ℕ
 levels = 2049
+
+-- more levels would find nothing else
+abbrev pub NeedsNoMore : Contents → List ℕ → Type 0
+NeedsNoMore docket bytes =
+    (more : ℕ)
+    → list_fault (levels + more) (take docket.used bytes) None docket.root_start docket.root_count
+    ≡ list_fault levels (take docket.used bytes) None docket.root_start docket.root_count
 
 -- the first fault of a data file: too few bytes, and then those of the walk, which looks at the used bytes alone
 abbrev pub image_fault : Contents → List ℕ → Option NodeFault

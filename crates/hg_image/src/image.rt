@@ -6,7 +6,7 @@ ghost use Rattle.hg_docket.specs.Docket.{view};
 ghost use Rattle.hg_image.specs.Rows.{rows_of, AreDistinct};
 ghost use Rattle.hg_image.specs.View.{rows, rows_in};
 ghost use Rattle.hg_image.specs.Walk as walk;
-ghost use Rattle.hg_image.specs.Walk.{image_fault};
+ghost use Rattle.hg_image.specs.Walk.{NeedsNoMore, image_fault};
 
 use crate::fault::NodeFault;
 use crate::list_check::check_list;
@@ -15,8 +15,10 @@ use hg_docket::Docket;
 
 impl<'a> Image<'a> {
     /// Walks the used bytes of a data file, and answers its first fault. It takes no memory.
+    #[tactic(auto, using(crate::proofs::Levels::levels_enough))]
     pub fn open(docket: &Docket<'a>, bytes: &'a [u8]) -> Result<Image<'a>, NodeFault>
         ensures fault { result_err result ≡ image_fault (view docket.now) bytes.entry.now }
+        ensures levels { NeedsNoMore (view docket.now) bytes.entry.now }
         ensures docket { IfOk result (λ i. i.docket ≡ docket.now) }
         ensures bytes { IfOk result (λ i. i.bytes.now ≡ take docket.now.used bytes.entry.now) }
         ensures rows { IfOk result (λ i. rows i ≡ rows_of (view docket.now) bytes.entry.now) }

@@ -30,6 +30,7 @@
 //! ```
 #![tactic(auto)]
 
+mod counts;
 mod fault;
 mod image;
 mod list;
@@ -41,3 +42,6 @@ mod parts;
 
 pub use fault::NodeFault;
 pub use opened::{Image, List, NodeRef};
+
+#[cfg(test)]
+mod tests;

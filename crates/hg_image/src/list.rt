@@ -3,6 +3,7 @@
 ghost use Rattle.std.specs.Prelude.{◌≡◌, ◌+◌, ◌*◌, ◌<◌, ◌∷◌, ◌++◌, []};
 ghost use Rattle.hg_base.specs.PathText.{parent_of};
 ghost use Rattle.hg_image.specs.Node.{record_at, path_of};
+ghost use Rattle.hg_image.specs.Rows.{AreParted};
 ghost use Rattle.hg_image.specs.View.{rows_in, rows_from, row, rows_below, dir_of, Finds};
 
 use crate::opened::{List, NodeRef};
@@ -34,6 +35,8 @@ impl<'a> List<'a> {
         ensures bytes { result.bytes.now ≡ self.entry.bytes.now }
         // Its row comes first, then those below it, then those of the nodes behind it.
         ensures rows { rows_from self.entry i ≡ row result ∷ (rows_below result ++ rows_from self.entry (i + 1)) }
+        // What is below it is so by its path; the nodes behind it stand apart from all that.
+        ensures parted { AreParted (row result).path (rows_below result) (rows_from self.entry (i + 1)) }
         // It stands right in the list's directory.
         ensures dir { parent_of (path_of result.bytes.now result.rec) ≡ dir_of self.entry }
         // The list below it has one level less.

@@ -1,9 +1,7 @@
-use Rattle.std.proofs.Common.{◌≡◌, ℕ, ◌+◌, ◌-◌, ◌*◌, ◌<◌, ◌≤◌, List, length, Option, Some, None, sym, ◌∙◌, ap, arith, leb-true, leb-false}
+use Rattle.std.proofs.Common.{◌≡◌, ◌+◌, ◌-◌, ◌*◌, ◌≤◌, length, sym, arith, leb-true, leb-false}
 use Rattle.std.specs.Prelude.{option_map}
 use Rattle.std.proofs.lemmas.Result.{err_from_is_err_and}
-use Rattle.std.proofs.lemmas.Bool.Decides.{nat_tests}
-use Rattle.hg_image.specs.Walk.{nodes_fault, list_fault}
-use Rattle.hg_image.proofs.Walk.{below, SoFar, list_empty, list_deep, list_outside, list_done, list_stops, list_stops_below, list_goes_on}
+use Rattle.hg_image.proofs.Walk.{SoFar, list_empty, list_deep, list_outside, list_done, list_stops, list_stops_below, list_goes_on}
 use Rattle.hg_image.proofs.list_check.+check_list.Goals as goal
 
 pub returns-then-count-eq0 : goal.returns-then-count-eq0

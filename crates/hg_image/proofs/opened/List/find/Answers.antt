@@ -1,8 +1,7 @@
-use Rattle.std.proofs.Common.{◌≡◌, ℕ, ◌+◌, ◌-◌, ◌*◌, ◌/◌, ◌<◌, ◌≤◌, List, inl, inr, sym, ap, ◌∙◌, arith, Less, Equal, Greater, nat_cmp}
+use Rattle.std.proofs.Common.{ℕ, ◌+◌, ◌-◌, ◌/◌, List, inl, inr, sym, ap, ◌∙◌, arith, nat_cmp}
 use Rattle.std.specs.Cmp.Lexicographic.{slice_cmp}
 use Rattle.std.proofs.lemmas.Bool.{cases_lt}
-use Rattle.hg_image.specs.Node.{record_at, name_of}
-use Rattle.hg_image.proofs.Names.{name_in, name_read, lesser, greater, same_equal, less_differs, greater_differs}
+use Rattle.hg_image.proofs.Names.{name_read, lesser, greater, same_equal, less_differs, greater_differs}
 use Rattle.hg_image.proofs.opened.List.find.Goals as goal
 
 pub returns-in-Equal : goal.returns-in-Equal

@@ -1,11 +1,10 @@
-use Rattle.std.proofs.Common.{◌≡◌, ℕ, ◌+◌, ◌-◌, ◌*◌, ◌<◌, ◌≤◌, List, ◌∷◌, ◌++◌, length, Option, Some, None, ap, ◌∙◌, sym, subst, arith}
-use Rattle.std.specs.Prelude.{option_map}
-use Rattle.hg_node.specs.declared.record.Rec.{Rec}
-use Rattle.hg_image.specs.Node.{record_at, path_of}
-use Rattle.hg_image.specs.Walk.{list_fault}
-use Rattle.hg_image.specs.Rows.{Row, row_of, nodes_rows, list_rows}
+use Rattle.std.proofs.Common.{◌≡◌, ◌+◌, ◌-◌, ◌*◌, ◌∷◌, ◌++◌, ap, ◌∙◌, sym, subst, arith}
+use Rattle.hg_image.specs.Node.{path_of}
+use Rattle.hg_image.specs.Rows.{row_of, nodes_rows, list_rows, AreParted}
+use Rattle.hg_image.specs.View.{rows_from}
+use Rattle.hg_image.proofs.Parted.{list_parted}
 use Rattle.hg_image.proofs.RowsOf.{rows_step}
-use Rattle.hg_image.proofs.Sound.{before_at, Member, list_at, Held, held_at}
+use Rattle.hg_image.proofs.Sound.{list_at, held_at}
 use Rattle.hg_image.proofs.opened.List.get.Goals as goal
 
 pub overflow_mul-i : goal.overflow_mul-i
@@ -69,3 +68,10 @@ returns-clause-levels c =
     let list = c.args.self in
     let member = list_at list.depth list.bytes.now _ list.start list.count c.args.i c.requires list.is_sound in
     omega (arith, member.deep)
+
+pub returns-clause-parted : goal.returns-clause-parted
+returns-clause-parted c =
+    let list = c.args.self in
+    let rest = rows_from list (c.args.i + 1) in
+    subst (λ r. AreParted (path_of list.bytes.now r) (list_rows (list.depth - 1) list.bytes.now r.kids_start r.kids_count) rest) (sym c.read_record.ensures)
+    (list_parted list.depth list.bytes.now _ list.start list.count c.args.i c.requires list.is_sound)

@@ -1,5 +1,5 @@
-use Rattle.std.proofs.Common.{◌≡◌, ℕ, ◌+◌, ◌-◌, ◌*◌, ap, ◌∙◌, sym, arith}
-use Rattle.hg_image.specs.Rows.{nodes_rows, list_rows}
+use Rattle.std.proofs.Common.{◌≡◌, ◌+◌, ◌-◌, ◌*◌, arith}
+use Rattle.hg_image.specs.Rows.{list_rows}
 use Rattle.hg_image.proofs.RowsOf.{rows_end, rows_whole}
 use Rattle.hg_image.proofs.opened.List.len.Goals as goal
 
