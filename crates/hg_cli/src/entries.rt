@@ -12,7 +12,9 @@ use std::io::ErrorKind;
 use std::rt::Files;
 use std::{fs, io};
 
-// The names in the directory, no link followed, where one stands there.
+// The names in the directory, no link followed, where one stands there. It has a frame of its own, so that the entries that it reads
+// take no room in the frames of a caller that goes from directory to directory.
+#[inline(never)]
 pub(crate) fn list_at<R: Files + AllocGlobal + Clone + Drop>(
     rt: &R,
     alloc: Global,
