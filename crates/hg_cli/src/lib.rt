@@ -1,4 +1,16 @@
-//! To be written.
+//! The program's top call, and the devices of the real system.
+//!
+//! `run` takes the words of a command, the working copy, the files below `.hg` and the standard streams; it answers with the fault,
+//! where there was one, and the status that the program ends with. One command exists: `status` (help topic `status`), where the
+//! dirstate has no parents (help topic `internals.dirstate-v2`). All that is promised of the program stands in the contract of `run`.
+//! `RealTree` and `RealShelf` are the working copy and `.hg` in the current folder.
+//!
+//! ```text
+//! let mut tree = RealTree::new(&rt);
+//! let mut shelf = RealShelf::new(&rt);
+//! let outcome = run(alloc, &words, &mut tree, &mut shelf, &mut input, &mut out, &mut err);
+//! ExitCode::from(outcome.status)
+//! ```
 #![tactic(auto)]
 
 mod command;
