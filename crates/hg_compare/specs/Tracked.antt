@@ -1,5 +1,5 @@
 -- The letter of a path that the dirstate has an entry for, as the help topic `status` gives it.
-use Rattle.std.specs.Prelude.{ℕ, Bool, true, false, not, ◌&&◌, ◌||◌, if◌then◌else◌, List, Option, Some, None, IsTrue}
+use Rattle.std.specs.Prelude.{ℕ, Bool, true, false, not, ◌&&◌, ◌||◌, if◌then◌else◌, List, Option, Some, None}
 use Rattle.std.specs.Str.{bytes_eq}
 use Rattle.hg_entry.specs.Table.{Marks}
 use Rattle.hg_tree.specs.declared.thing.Thing.{Thing}
@@ -52,10 +52,10 @@ abbrev pub tracked_letter : Option ParentRow → Marks → Bool → Option Place
 tracked_letter row marks copied placed =
     if marks.w
     then Some (
-        if not (is_file_or_link placed) then a_letter.Gone else (
-        if marks.p2 then a_letter.M else (
-        if not marks.p1 then a_letter.A else (
-        if copied then a_letter.M else (
-        if is_unchanged row placed then a_letter.C else a_letter.M))))
+    if not (is_file_or_link placed) then a_letter.Gone else (
+    if marks.p2 then a_letter.M else (
+    if not marks.p1 then a_letter.A else (
+    if copied then a_letter.M else (
+    if is_unchanged row placed then a_letter.C else a_letter.M))))
     )
     else (if marks.p1 || marks.p2 then Some a_letter.R else None)
