@@ -25,7 +25,7 @@ use Rattle.hg_report.specs.declared.fault.Fault.TheVariants as a_fault
 use Rattle.hg_shelf.specs.History as shelf
 use Rattle.hg_tree.specs.History as tree
 use Rattle.hg_tree.specs.Moment.{Moment}
-use Rattle.hg_cli.specs.Command.{CommandCause, IsAsExpected, IsFaultOrMemory, FromShelf, FromTree, IgnoreAnswer, IgnoreFound, IsIgnoreFault, IsListed, IsPrinted, LeavesOut, ListCause, Meets, MeetsResult, ShelfFound, expected, expected_of, has_ignore_file, is_status, plain_style}
+use Rattle.hg_cli.specs.Command.{CommandCause, IsAsExpected, IsBegun, IsFaultOrMemory, FromShelf, FromTree, IgnoreAnswer, IgnoreFound, IsIgnoreFault, IsListed, IsPrinted, LeavesOut, ListCause, Meets, MeetsResult, ShelfFound, expected, expected_of, has_ignore_file, is_status, plain_style}
 use Rattle.hg_cli.specs.Load.{load_result}
 use Rattle.hg_cli.specs.Loaded.{During, FaultFound, Finds, FindsDuring, IsLoadFault, files_at}
 
@@ -182,6 +182,9 @@ meets_memory fault expects is = subst (λ (f : Fault). Meets f expects) (sym is)
 -- the full listing was put
 pub printed : (files : shelf.Files) (moment : Moment) (rows : List listing_row.Row) (text : List ℕ) (old new : Option (List ℕ)) → IsListed files moment rows → text ≡ text_of plain_style rows → Grown old new text → IsPrinted files moment old new
 printed files moment rows text old new listing is grown = record { rows = rows; listing = listing; printed = subst (Grown old new) is grown }
+
+pub begun : (files : shelf.Files) (moment : Moment) (rows : List listing_row.Row) (text : List ℕ) (old new : Option (List ℕ)) → IsListed files moment rows → text ≡ text_of plain_style rows → GrownByFront old new text → IsBegun files moment old new
+begun files moment rows text old new listing is grown = record { rows = rows; listing = listing; printed = subst (GrownByFront old new) is grown }
 
 -- ---- the run
 

@@ -180,3 +180,13 @@ pub record IsPrinted (files : shelf.Files) (moment : Moment) (old new : Option (
   pub rows : List listed.Row
   pub listing : IsListed files moment rows
   pub printed : Grown old new (text_of plain_style rows)
+
+-- a front of the full listing was printed
+pub record IsBegun (files : shelf.Files) (moment : Moment) (old new : Option (List ℕ)) : Type 0 where
+  pub rows : List listed.Row
+  pub listing : IsListed files moment rows
+  pub printed : GrownByFront old new (text_of plain_style rows)
+
+-- nothing was printed, or a front of the full listing
+abbrev pub LeavesFront : shelf.Files → Moment → Option (List ℕ) → Option (List ℕ) → Type 0
+LeavesFront files moment old new = (new ≡ old) ⊎ IsBegun files moment old new

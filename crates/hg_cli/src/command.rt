@@ -4,7 +4,7 @@ ghost use Rattle.std.specs.Prelude.{◌≡◌, None, IfErr, IfSome, MatchOption,
 ghost use Rattle.hg_base.specs.Fault.{IsSteady, Rose};
 ghost use Rattle.hg_shelf.specs.History as shelf_is;
 ghost use Rattle.hg_tree.specs.History as tree_is;
-ghost use Rattle.hg_cli.specs.Command.{CommandCause, IsAsExpected, IsFaultOrMemory, IsPrinted, IsTold, LeavesOut, MeetsResult, TellsLine, expected, is_status};
+ghost use Rattle.hg_cli.specs.Command.{CommandCause, IsAsExpected, IsFaultOrMemory, IsPrinted, IsTold, LeavesFront, LeavesOut, MeetsResult, TellsLine, expected, is_status};
 
 use hg_base::Words;
 use hg_report::{Fault, Style, fault_text, status_text};
@@ -63,6 +63,9 @@ fn status<T: Tree, S: Shelf, O: Sink>(
         (Rose (T.faults tree.old) (T.faults tree.new))
         (Rose (O.faults out.old) (O.faults out.new))) }
     ensures left { IfErr result (λ fault. LeavesOut fault (O.bytes out.old) (O.bytes out.new)) }
+    ensures front { tree_is.IsQuiet (T.history tree.old) (T.history tree.new)
+        → shelf_is.IsQuiet (S.history shelf.old) (S.history shelf.new)
+        → IfErr result (λ _. LeavesFront (shelf_is.now (S.history shelf.old)).files (tree_is.now (T.history tree.old)) (O.bytes out.old) (O.bytes out.new)) }
     ensures steady { OnOk result (O.faults out.new ≡ O.faults out.old) }
 {
     if !is_status_alone(words) {
@@ -156,6 +159,11 @@ pub fn run<T: Tree, S: Shelf, I: Source, O: Sink, E: Sink>(
     ensures unread { input.new ≡ input.old }
     // What stands on the streams after a fault, and with which status it ends.
     ensures left { IfSome result.fault (λ fault. LeavesOut fault (O.bytes out.old) (O.bytes out.new)) }
+    ensures front { tree_is.IsQuiet (T.history tree.old) (T.history tree.new)
+        → shelf_is.IsQuiet (S.history shelf.old) (S.history shelf.new)
+        → IfSome
+        result.fault
+        (λ _. LeavesFront (shelf_is.now (S.history shelf.old)).files (tree_is.now (T.history tree.old)) (O.bytes out.old) (O.bytes out.new)) }
     ensures told { MatchOption
         result.fault
         (E.bytes err.new ≡ E.bytes err.old)

@@ -3,7 +3,7 @@ use Rattle.std.proofs.Common.{sym, inr}
 use Rattle.hg_base.specs.Fault.{Rose}
 use Rattle.hg_shelf.specs.History as shelf
 use Rattle.hg_tree.specs.History as tree
-use Rattle.hg_cli.specs.Command.{CommandCause, LeavesOut, TellsLine, expected, is_status}
+use Rattle.hg_cli.specs.Command.{CommandCause, LeavesFront, LeavesOut, TellsLine, expected, is_status}
 use Rattle.hg_cli.proofs.Commands.{as_expected, is_answered, left_any, not_without, of_answered, status_is, steady_meets}
 use Rattle.hg_cli.proofs.command.run.Goals as goal
 
@@ -42,3 +42,9 @@ returns-in-Err-clause-told g c =
 
 pub returns-in-Err-clause-status : goal.returns-in-Err-clause-status
 returns-in-Err-clause-status g c = status_is c.failed.result.fault c.in-Err.fault c.failed.result.status c.failed.ensures.fault c.failed.ensures.status
+
+pub returns-in-Err-clause-front : goal.returns-in-Err-clause-front
+returns-in-Err-clause-front g c = λ quiet still.
+    of_answered
+    (λ f. LeavesFront (shelf.now (g.S.Shelf.history c.args.shelf.now)).files (tree.now (g.T.Tree.history c.args.tree.now)) (g.O.Sink.bytes c.args.out.now) (g.O.Sink.bytes c.status.new.out)) c.failed.result.fault c.in-Err.fault
+    c.failed.ensures.fault (c.in-Err.ensures.front quiet still) (c.in-Err.ensures.front quiet still)

@@ -1,11 +1,11 @@
 -- A status: the rows, their text, and printing it.
-use Rattle.std.proofs.Common.{◌∙◌, sym, Err, Ok}
+use Rattle.std.proofs.Common.{◌∙◌, inl, inr, refl, sym, Err, Ok}
 use Rattle.std.proofs.lemmas.Result.{err_from_is_err_and}
 use Rattle.hg_base.specs.Fault.{Rose}
 use Rattle.hg_shelf.specs.History as shelf
 use Rattle.hg_tree.specs.History as tree
 use Rattle.hg_cli.specs.Command.{Meets, expected, is_status}
-use Rattle.hg_cli.proofs.Commands.{cause_listed, expected_built, left_same, meets_memory, printed}
+use Rattle.hg_cli.proofs.Commands.{begun, cause_listed, expected_built, left_same, meets_memory, printed}
 use Rattle.hg_cli.proofs.command.status.Goals as goal
 
 pub returns-in_err-rows-clause-expected : goal.returns-in_err-rows-clause-expected
@@ -45,3 +45,14 @@ pub returns-clause-expected : goal.returns-clause-expected
 returns-clause-expected g c = λ quiet still.
     rw (expected_built c.args.words.now (shelf.now (g.S.Shelf.history c.args.shelf.now)).files (tree.now (g.T.Tree.history c.args.tree.now)) (sym c.is_status_alone.ensures ∙ c.if-not-is_status_alone.false))
     (c.in_ok-rows.ensures.expected quiet still)
+
+pub returns-in_err-rows-clause-front : goal.returns-in_err-rows-clause-front
+returns-in_err-rows-clause-front g c = λ quiet still. let p = err_from_is_err_and c.from_residual.result c.from_residual.ensures.1 in rw p.1 (inl refl)
+
+pub returns-in_err-text-clause-front : goal.returns-in_err-text-clause-front
+returns-in_err-text-clause-front g c = λ quiet still. let p = err_from_is_err_and c.from_residual-in_err-text.result c.from_residual-in_err-text.ensures.1 in rw p.1 (inl refl)
+
+pub returns-in-Err-clause-front : goal.returns-in-Err-clause-front
+returns-in-Err-clause-front g c = λ quiet still.
+    inr (begun (shelf.now (g.S.Shelf.history c.args.shelf.now)).files (tree.now (g.T.Tree.history c.args.tree.now)) c.in_ok-rows.rows c.as_slice.result.now (g.O.Sink.bytes c.args.out.now) (g.O.Sink.bytes c.put_all.new.out)
+    (c.in_ok-rows.ensures.full quiet still) (c.as_slice.ensures.value ∙ c.in_ok-text.ensures) c.in-Err.ensures.prefix)
