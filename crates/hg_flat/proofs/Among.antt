@@ -1,12 +1,11 @@
 -- The names of a directory, and the first name of what stands in it.
-use Rattle.std.proofs.Common.{ℕ, ◌≡◌, ◌+◌, ◌<◌, ◌≤◌, ◌==◌, Bool, true, false, ◌&&◌, ◌||◌, List, [], ◌∷◌, ◌++◌, length, Option, Some, None, is_some, IsTrue, codes, refl, sym, ap, ◌∙◌, subst, inl, inr, ◌⊎◌, arith, append_assoc}
-use Rattle.std.specs.List.{All, Contains, list_all, list_any}
-use Rattle.std.specs.Str.{bytes_eq}
+use Rattle.std.proofs.Common.{ℕ, ◌≡◌, ◌==◌, true, false, List, [], ◌∷◌, ◌++◌, Option, Some, None, is_some, IsTrue, codes, refl, sym, ap, ◌∙◌, subst, inl, inr, ◌⊎◌, append_assoc}
+use Rattle.std.specs.List.{list_all}
 use Rattle.std.proofs.lemmas.List.Elements.{All-contains}
 use Rattle.std.proofs.lemmas.List.Folds.{list_all-append}
 use Rattle.std.proofs.lemmas.Map.Views.{Contains-from_any}
 use Rattle.std.proofs.lemmas.Slice.Eq.{bytes_eq-Decides}
-use Rattle.std.proofs.lemmas.Bool.{and_parts, cases_Bool, eqb-true, false_from_ne_true, or_from, or_left, or_right}
+use Rattle.std.proofs.lemmas.Bool.{and_parts, cases_Bool, eqb-true, or_from, or_left, or_right}
 use Rattle.hg_base.specs.PathText.{components, has_slash, is_component, is_path, is_below, joined}
 use Rattle.hg_base.proofs.Below.{below_joined, below_split}
 use Rattle.hg_base.proofs.Components.{components_joined, components_name}
@@ -46,8 +45,8 @@ first_more b bs first other = record {
   name = b ∷ first.name;
   plain = or_from (b == 47) (has_slash first.name) other first.plain;
   rest = elim first.rest as (λ _. (b ∷ bs ≡ b ∷ first.name) ⊎ ((more : List ℕ) × (b ∷ bs ≡ b ∷ (first.name ++ 47 ∷ more)))) [
-    inl same ↦ inl (ap (λ (t : List ℕ). b ∷ t) same)
-  | inr more ↦ inr (more.0, ap (λ (t : List ℕ). b ∷ t) more.1)
+    | inl same ↦ inl (ap (λ (t : List ℕ). b ∷ t) same)
+    | inr more ↦ inr (more.0, ap (λ (t : List ℕ). b ∷ t) more.1)
   ];
 }
 
@@ -68,10 +67,10 @@ pub record Reached (dir : Option (List ℕ)) (path : List ℕ) : Type 0 where
 first_component : (text : List ℕ) (first : First text) → list_all is_component (components text) ≡ true → is_component first.name ≡ true
 first_component text first all =
     elim first.rest [
-      inl same ↦ (and_parts (is_component first.name) true (sym (ap (list_all is_component) (ap components same ∙ components_name first.name first.plain)) ∙ all)).0
-    | inr more ↦
-        (and_parts (is_component first.name) (list_all is_component (components more.0))
-         (sym (ap (list_all is_component) (cut_pieces text first.name more.0 more.1 first.plain)) ∙ all)).0
+      | inl same ↦ (and_parts (is_component first.name) true (sym (ap (list_all is_component) (ap components same ∙ components_name first.name first.plain)) ∙ all)).0
+      | inr more ↦
+          (and_parts (is_component first.name) (list_all is_component (components more.0))
+          (sym (ap (list_all is_component) (cut_pieces text first.name more.0 more.1 first.plain)) ∙ all)).0
     ]
 
 reached_root : (path : List ℕ) (first : First path) → list_all is_component (components path) ≡ true → Reached None path
@@ -79,8 +78,8 @@ reached_root path first all = record {
   name = first.name;
   component = first_component path first all;
   from = elim first.rest [
-    inl same ↦ or_left _ _ ((bytes_eq-Decides first.name path).1 (sym same))
-  | inr more ↦ or_right _ _ (subst (λ (p : List ℕ). is_below first.name p ≡ true) (sym more.1) (below_joined first.name more.0))
+    | inl same ↦ or_left _ _ ((bytes_eq-Decides first.name path).1 (sym same))
+    | inr more ↦ or_right _ _ (subst (λ (p : List ℕ). is_below first.name p ≡ true) (sym more.1) (below_joined first.name more.0))
   ];
 }
 
@@ -89,11 +88,11 @@ reached_dir dir path rest is first all = record {
   name = first.name;
   component = first_component rest first all;
   from = elim first.rest [
-    inl same ↦ or_left _ _ ((bytes_eq-Decides (dir ++ 47 ∷ first.name) path).1 (ap (λ (r : List ℕ). dir ++ 47 ∷ r) (sym same) ∙ sym is))
-  | inr more ↦
-      or_right _ _ (subst (λ (p : List ℕ). is_below (dir ++ 47 ∷ first.name) p ≡ true)
-       (append_assoc dir (47 ∷ first.name) (47 ∷ more.0) ∙ ap (λ (r : List ℕ). dir ++ 47 ∷ r) (sym more.1) ∙ sym is)
-       (below_joined (dir ++ 47 ∷ first.name) more.0))
+    | inl same ↦ or_left _ _ ((bytes_eq-Decides (dir ++ 47 ∷ first.name) path).1 (ap (λ (r : List ℕ). dir ++ 47 ∷ r) (sym same) ∙ sym is))
+    | inr more ↦
+        or_right _ _ (subst (λ (p : List ℕ). is_below (dir ++ 47 ∷ first.name) p ≡ true)
+        (append_assoc dir (47 ∷ first.name) (47 ∷ more.0) ∙ ap (λ (r : List ℕ). dir ++ 47 ∷ r) (sym more.1) ∙ sym is)
+        (below_joined (dir ++ 47 ∷ first.name) more.0))
   ];
 }
 
@@ -104,5 +103,5 @@ reached (Some dir) path is inside =
     let split = below_split dir path inside in
     reached_dir dir path split.0 split.1 (first_of split.0)
     (and_parts (list_all is_component (components dir)) (list_all is_component (components split.0))
-     (sym (ap (list_all is_component) (ap components split.1 ∙ components_joined dir split.0) ∙ list_all-append is_component (components dir) (components split.0))
-      ∙ (path_parts path is).pieces)).1
+    (sym (ap (list_all is_component) (ap components split.1 ∙ components_joined dir split.0) ∙ list_all-append is_component (components dir) (components split.0))
+    ∙ (path_parts path is).pieces)).1

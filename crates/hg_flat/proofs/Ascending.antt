@@ -1,5 +1,5 @@
 -- The order of the rows of a listing, where the source follows from the path.
-use Rattle.std.proofs.Common.{ℕ, ◌≡◌, ◌==◌, Bool, true, false, cond, List, [], ◌∷◌, ◌++◌, map, Option, Some, None, refl, sym, ap, ◌∙◌, subst, inl, inr, ◌⊎◌, arith}
+use Rattle.std.proofs.Common.{ℕ, ◌≡◌, ◌==◌, true, cond, List, [], ◌∷◌, Option, Some, None, refl, sym, ap, ◌∙◌, subst}
 use Rattle.std.specs.List.{AllByRecursion, Contains, dedup}
 use Rattle.std.specs.List.Sorted.{IsPermutation, IsSorted, IsStrictlySortedBy}
 use Rattle.std.specs.Option.{option_cmp}
@@ -69,7 +69,7 @@ less_by source a b Equal at bt is less =
     let row = both_equal (nat_cmp (group_of a.letter) (group_of b.letter)) (slice_cmp nat_cmp a.path b.path) is in
     let same : a.source ≡ b.source = at ∙ ap source (exact_bytes a.path b.path row.1) ∙ sym bt in
     let tied : option_cmp (slice_cmp nat_cmp) a.source b.source ≡ Equal =
-        ap (option_cmp (slice_cmp nat_cmp) a.source) (sym same) ∙ tied_itself (options_total nat_list_cmp_total) a.source in
+    ap (option_cmp (slice_cmp nat_cmp) a.source) (sym same) ∙ tied_itself (options_total nat_list_cmp_total) a.source in
     let whole : whole_order a b ≡ Equal = ap (λ (o : Ordering). ordering_then o (option_cmp (slice_cmp nat_cmp) a.source b.source)) is ∙ tied in
     absurd (cc (whole, less))
 less_by source a b Greater at bt is less =

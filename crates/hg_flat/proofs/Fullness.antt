@@ -1,20 +1,20 @@
 -- That the rows of the paths with an entry and of what else stands in the working copy are the full listing.
-use Rattle.std.proofs.Common.{ℕ, ◌≡◌, ◌<◌, Bool, true, false, not, cond, List, [], ◌∷◌, ◌++◌, length, map, Option, Some, None, is_some, IsTrue, option_map, IfSome, refl, sym, ap, ◌∙◌, subst, inl, inr, ◌⊎◌, arith}
-use Rattle.std.specs.List.{Contains, dedup, All}
+use Rattle.std.proofs.Common.{ℕ, ◌≡◌, Bool, true, false, not, cond, List, [], ◌∷◌, map, Option, Some, None, is_some, option_map, IfSome, refl, sym, ap, ◌∙◌, subst, inl, inr, ◌⊎◌, arith}
+use Rattle.std.specs.List.{Contains, dedup}
 use Rattle.std.specs.List.Sorted.{IsPermutation, IsSorted}
 use Rattle.std.specs.Ordering.{eq_by_cmp}
 use Rattle.std.proofs.Math.ListN.{get_or-map}
 use Rattle.std.proofs.lemmas.List.{length-map}
-use Rattle.std.proofs.lemmas.List.Elements.{All-contains, All-contains_itself, All-map, Contains-append_cases, Contains-append_left, Contains-append_right, Contains-push_cases, Contains-push}
+use Rattle.std.proofs.lemmas.List.Elements.{Contains-append_cases, Contains-append_left, Contains-append_right, Contains-push_cases, Contains-push}
 use Rattle.hg_entry.specs.Entry.{view}
 use Rattle.hg_entry.specs.Table.{Marks, marks_of}
 use Rattle.hg_tree.specs.Moment.{Moment}
 use Rattle.hg_compare.specs.Tracked.{is_file_or_link, tracked_letter}
 use Rattle.hg_compare.specs.declared.letter.Letter.{Letter}
 use Rattle.hg_compare.specs.declared.letter.Letter.TheVariants as a_letter
-use Rattle.hg_flat.specs.Full.{HasLetter, HasLetterBy, HasUntrackedLetter, IsFull, IsTold, default_wanted, nothing_ignored, null_rows, wants}
+use Rattle.hg_flat.specs.Full.{HasLetterBy, IsFull, IsTold, default_wanted, nothing_ignored, null_rows, wants}
 use Rattle.hg_flat.specs.Kept.{AreAdded, AreNamed, Kept, flat_of, null_parent, source_of}
-use Rattle.hg_flat.specs.Listing.{IsListing, IsUnknownIn, Lists, added_row, unknown_row}
+use Rattle.hg_flat.specs.Listing.{IsUnknownIn, Lists, added_row, unknown_row}
 use Rattle.hg_flat.specs.Order.{whole_order}
 use Rattle.hg_flat.specs.declared.kept.FlatRow.{FlatRow}
 use Rattle.hg_flat.specs.declared.row.Row.{Row}
@@ -56,7 +56,6 @@ wanted_is true = refl
 wanted_is false = refl
 
 module _ (kept : Kept) (moment : Moment) (added : AreAdded kept) (named : AreNamed kept) where
-
   -- what is told of a path, by what is kept of it
   Told : Option FlatRow → List ℕ → Letter → Type 0
   Told o path letter =
@@ -75,8 +74,8 @@ module _ (kept : Kept) (moment : Moment) (added : AreAdded kept) (named : AreNam
   told_added row is = (
     wanted_is (is_file_or_link (moment.things row.path)),
     subst (λ (o : Option FlatRow).
-      HasLetterBy (option_map (λ r. marks_of (view r.entry)) o) (flat_of null_parent null_parent kept) moment null_rows nothing_ignored row.path (added_row moment row).letter)
-    (sym is) (letter_at row.path row is),
+        HasLetterBy (option_map (λ r. marks_of (view r.entry)) o) (flat_of null_parent null_parent kept) moment null_rows nothing_ignored row.path (added_row moment row).letter)
+        (sym is) (letter_at row.path row is),
     sym (ap source_of is),
   )
 
@@ -84,8 +83,8 @@ module _ (kept : Kept) (moment : Moment) (added : AreAdded kept) (named : AreNam
   told_unknown path u = (
     refl,
     subst (λ (o : Option FlatRow).
-      HasLetterBy (option_map (λ r. marks_of (view r.entry)) o) (flat_of null_parent null_parent kept) moment null_rows nothing_ignored path a_letter.Unknown)
-    (sym u.untracked.1) (u.untracked.0, λ d below. u.visible d refl below, inr (refl, λ h. h)),
+        HasLetterBy (option_map (λ r. marks_of (view r.entry)) o) (flat_of null_parent null_parent kept) moment null_rows nothing_ignored path a_letter.Unknown)
+        (sym u.untracked.1) (u.untracked.0, λ d below. u.visible d refl below, inr (refl, λ h. h)),
     sym (ap source_of u.untracked.1),
   )
 
@@ -99,12 +98,12 @@ module _ (kept : Kept) (moment : Moment) (added : AreAdded kept) (named : AreNam
       → row.source ≡ source_of (kept row.path) → ((k : FlatRow) × (kept row.path ≡ Some k) × (row ≡ added_row moment k)) ⊎ (IsUnknownIn kept moment None row.path × (row ≡ unknown_row row.path))
   row_of row None is letter source =
       elim letter.2 [
-        inl ignored ↦ absurd ignored.1
-      | inr unknown ↦
-          inr (
-            record { inside = refl; untracked = (letter.0, is); visible = λ d from below. letter.1 d below },
-            same_row row (unknown_row row.path) unknown.0 refl (source ∙ ap source_of is),
-          )
+        | inl ignored ↦ absurd ignored.1
+        | inr unknown ↦
+            inr (
+              record { inside = refl; untracked = (letter.0, is); visible = λ d from below. letter.1 d below },
+              same_row row (unknown_row row.path) unknown.0 refl (source ∙ ap source_of is),
+            )
       ]
   row_of row (Some k) is letter source =
       let at = letter_at row.path k is in
@@ -121,26 +120,26 @@ module _ (kept : Kept) (moment : Moment) (added : AreAdded kept) (named : AreNam
       → d ≡ dedup (eq_by_cmp whole_order) c → IsFull (flat_of null_parent null_parent kept) moment null_rows nothing_ignored default_wanted d
   full rows a b c d holds is lists moved sorted once =
       let told : (row : Row) → Contains b row → IsTold (flat_of null_parent null_parent kept) moment null_rows nothing_ignored default_wanted row =
-          λ row has.
-            elim (Contains-append_cases a lists.0 row (subst (λ (l : List Row). Contains l row) lists.1 has)) [
-              inl first ↦
-                let from = from_map (added_row moment) rows row (subst (λ (l : List Row). Contains l row) is first) in
-                subst (IsTold (flat_of null_parent null_parent kept) moment null_rows nothing_ignored default_wanted) (sym from.2) (told_added from.0 (holds.found from.0 from.1))
-            | inr second ↦
-                let s = lists.2.sound row second in
-                subst (IsTold (flat_of null_parent null_parent kept) moment null_rows nothing_ignored default_wanted) (sym s.2) (told_unknown s.0 s.1)
-            ]
+      λ row has.
+      elim (Contains-append_cases a lists.0 row (subst (λ (l : List Row). Contains l row) lists.1 has)) [
+        | inl first ↦
+            let from = from_map (added_row moment) rows row (subst (λ (l : List Row). Contains l row) is first) in
+            subst (IsTold (flat_of null_parent null_parent kept) moment null_rows nothing_ignored default_wanted) (sym from.2) (told_added from.0 (holds.found from.0 from.1))
+        | inr second ↦
+            let s = lists.2.sound row second in
+            subst (IsTold (flat_of null_parent null_parent kept) moment null_rows nothing_ignored default_wanted) (sym s.2) (told_unknown s.0 s.1)
+      ]
       in record {
         sound = λ row has. told row (kept_of b c d row moved once has);
         all = λ row tells.
-          kept_by b c d row moved once
-          (subst (λ (l : List Row). Contains l row) (sym lists.1)
-           (elim (row_of row (kept row.path) refl tells.1 tells.2) [
-             inl entry ↦
-               Contains-append_left a lists.0 row
-               (subst (λ (l : List Row). Contains l row) (sym is)
-                (subst (Contains (map (added_row moment) rows)) (sym entry.2) (map_contains (added_row moment) rows entry.0 (holds.all row.path entry.0 entry.1))))
-           | inr unknown ↦ Contains-append_right a lists.0 row (subst (Contains lists.0) (sym unknown.1) (lists.2.all row.path unknown.0))
-           ]));
+            kept_by b c d row moved once
+            (subst (λ (l : List Row). Contains l row) (sym lists.1)
+            (elim (row_of row (kept row.path) refl tells.1 tells.2) [
+              | inl entry ↦
+                  Contains-append_left a lists.0 row
+                  (subst (λ (l : List Row). Contains l row) (sym is)
+                  (subst (Contains (map (added_row moment) rows)) (sym entry.2) (map_contains (added_row moment) rows entry.0 (holds.all row.path entry.0 entry.1))))
+              | inr unknown ↦ Contains-append_right a lists.0 row (subst (Contains lists.0) (sym unknown.1) (lists.2.all row.path unknown.0))
+            ]));
         ascending = ascending (λ path. source_of (kept path)) b c d moved sorted once (λ row has. (told row has).2);
       }

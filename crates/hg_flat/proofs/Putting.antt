@@ -15,7 +15,7 @@ use Rattle.hg_entry.specs.Entry.{EntryData, entry_of}
 use Rattle.hg_image.specs.Node.{fields_of}
 use Rattle.hg_image.specs.Rows as node
 use Rattle.hg_flat.specs.Kept.{AreNamed, Kept, shown_row}
-use Rattle.hg_flat.specs.Recorded.{Overlays, Puts, Recorded, or_else, recorded_at, recorded_in, recorded_of}
+use Rattle.hg_flat.specs.Recorded.{Overlays, Puts, Recorded, or_else, recorded_at, recorded_of}
 use Rattle.hg_flat.specs.declared.kept.FlatRow.{FlatRow}
 
 updated : (old new : BTreeMap (String Global) FlatRow) (key : String Global) (row : FlatRow) → Updates string_cmp old new key (Some row) → (at : List ℕ)
@@ -51,7 +51,7 @@ or_else_assoc (Some a) b c = refl
 
 recorded_append : (xs ys : List node.Row) (path : List ℕ) → recorded_at (xs ++ ys) path ≡ or_else (recorded_at ys path) (recorded_at xs path)
 recorded_append [] ys path = or_else_none (recorded_at ys path)
-    where
+  where
     or_else_none : (a : Option Recorded) → a ≡ or_else a None
     or_else_none None = refl
     or_else_none (Some a) = refl

@@ -1,5 +1,5 @@
 -- The steps of a listing over a span in which nothing changes, in the words of the moment at its start.
-use Rattle.std.proofs.Common.{ℕ, ◌≡◌, ◌+◌, ◌<◌, Bool, true, false, cond, List, length, take, map, get_or, Option, Some, None, is_some, IsTrue, option_map, refl, sym, ap, ◌∙◌, subst, inl, inr, ◌⊎◌, arith, ◌++◌, ◌∷◌, []}
+use Rattle.std.proofs.Common.{ℕ, ◌≡◌, ◌+◌, ◌<◌, Bool, true, false, cond, List, length, take, map, get_or, Option, Some, None, is_some, option_map, refl, sym, ap, ◌∙◌, subst, inl, inr, ◌⊎◌, arith, ◌++◌, ◌∷◌, []}
 use Rattle.hg_base.specs.declared.stat.Stat.{Stat}
 use Rattle.hg_base.specs.declared.stat.Kind.TheVariants as a_kind
 use Rattle.hg_base.specs.PathText.{joined}
@@ -90,7 +90,7 @@ pub look_dir : (kept : Kept) (old mid new : History) (path text : List ℕ) (fou
 look_dir kept old mid new path text found stat a b first second quiet s some kind same lists =
     dir_from kept (now old) s.formed path a b (dir_is ((now old).things path) stat (sym some ∙ s.is) kind)
     (subst (λ (t : List ℕ). Lists (IsUnknownIn kept (now old) (Some t)) a b) same
-     (subst (λ (m : Moment). Lists (IsUnknownIn kept m (Some text)) a b) (now_same old mid first (quiet_first old mid new first second quiet)) lists))
+    (subst (λ (m : Moment). Lists (IsUnknownIn kept m (Some text)) a b) (now_same old mid first (quiet_first old mid new first second quiet)) lists))
 
 -- ---- the rows of what stands in a directory
 
@@ -145,7 +145,7 @@ each_more kept old mid new dir names i name text path a b c first second quiet b
     let early = quiet_first old mid new first second quiet in
     among_more kept (now old) dir names i name a b c below (sym is) (before early)
     (subst (λ (p : List ℕ). Lists (IsUnknownFrom kept (now old) p) b c) (at ∙ ap (joined dir) same)
-     (subst (λ (m : Moment). Lists (IsUnknownFrom kept m path) b c) (now_same old mid first early) one))
+    (subst (λ (m : Moment). Lists (IsUnknownFrom kept m path) b c) (now_same old mid first early) one))
 
 -- ---- the rows of paths with an entry
 

@@ -1,5 +1,5 @@
 -- Which rows the files and links without an entry below a directory have, from those at its names.
-use Rattle.std.proofs.Common.{ℕ, ◌≡◌, ◌+◌, ◌<◌, ◌≤◌, Bool, true, false, ◌&&◌, ◌||◌, cond, List, [], ◌∷◌, ◌++◌, length, take, get_or, Option, Some, None, is_some, IsTrue, refl, sym, ap, ◌∙◌, subst, inl, inr, ◌⊎◌, arith}
+use Rattle.std.proofs.Common.{ℕ, ◌≡◌, ◌+◌, ◌<◌, true, false, cond, List, [], ◌∷◌, ◌++◌, length, take, get_or, Option, Some, None, is_some, refl, sym, ap, ◌∙◌, subst, inl, inr, ◌⊎◌, arith}
 use Rattle.std.specs.List.{Contains}
 use Rattle.std.specs.Str.{bytes_eq}
 use Rattle.std.proofs.lemmas.List.{append-nil, append_assoc}
@@ -7,7 +7,7 @@ use Rattle.std.proofs.lemmas.List.Elements.{Contains-append_cases, Contains-appe
 use Rattle.std.proofs.lemmas.List.Folds.{list_any_more}
 use Rattle.std.proofs.lemmas.Slice.Eq.{bytes_eq-Decides}
 use Rattle.std.proofs.lemmas.Bool.{and_parts, or_cases, or_left, or_right}
-use Rattle.hg_base.specs.PathText.{has_slash, is_component, is_below, joined}
+use Rattle.hg_base.specs.PathText.{has_slash, is_below, joined}
 use Rattle.hg_base.proofs.Below.{below_compared, below_itself, below_joined, below_name, below_not_back, below_of_joined, below_trans}
 use Rattle.hg_base.proofs.Paths.{component_plain}
 use Rattle.hg_tree.specs.Moment.{Moment, AreNames, IsFormed, has_dir, is_among, is_dir}
@@ -18,7 +18,7 @@ use Rattle.hg_compare.specs.Tracked.{is_file_or_link, is_file_or_link_thing}
 use Rattle.hg_tree.specs.Moment.{is_dir_thing}
 use Rattle.hg_flat.specs.Full.{is_repository}
 use Rattle.hg_flat.specs.Kept.{Kept}
-use Rattle.hg_flat.specs.Listing.{IsListing, IsUnknownAmong, IsUnknownFrom, IsUnknownIn, IsVisibleFrom, Lists, holds_repository, is_from, is_inside, unknown_row}
+use Rattle.hg_flat.specs.Listing.{IsListing, IsUnknownAmong, IsUnknownFrom, IsUnknownIn, IsVisibleFrom, Lists, holds_repository, is_from, unknown_row}
 use Rattle.hg_flat.specs.declared.kept.FlatRow.{FlatRow}
 use Rattle.hg_flat.specs.declared.row.Row.{Row}
 use Rattle.hg_flat.proofs.Among.{reached, Reached}
@@ -31,22 +31,22 @@ listing_none P never = record { sound = λ row (k, below, is). absurd (omega (ar
 listing_one : (P : List ℕ → Type 0) (path : List ℕ) → P path → ((p : List ℕ) → P p → p ≡ path) → IsListing P (unknown_row path ∷ [])
 listing_one P path here only = record {
   sound = λ row has.
-    (path, here, elim (Contains-push_cases [] (unknown_row path) row has) [ inl (k, below, is) ↦ absurd (omega (arith, below)) | inr same ↦ sym same ]);
+      (path, here, elim (Contains-push_cases [] (unknown_row path) row has) [ inl (k, below, is) ↦ absurd (omega (arith, below)) | inr same ↦ sym same ]);
   all = λ p there. subst (λ (q : List ℕ). Contains (unknown_row path ∷ []) (unknown_row q)) (sym (only p there)) (Contains-push [] (unknown_row path));
 }
 
 listing_append : (P Q : List ℕ → Type 0) (xs ys : List Row) → IsListing P xs → IsListing Q ys → IsListing (λ p. P p ⊎ Q p) (xs ++ ys)
 listing_append P Q xs ys first second = record {
   sound = λ row has.
-    elim (Contains-append_cases xs ys row has) [
-      inl left ↦ let s = first.sound row left in (s.0, inl s.1, s.2)
-    | inr right ↦ let s = second.sound row right in (s.0, inr s.1, s.2)
-    ];
+      elim (Contains-append_cases xs ys row has) [
+        | inl left ↦ let s = first.sound row left in (s.0, inl s.1, s.2)
+        | inr right ↦ let s = second.sound row right in (s.0, inr s.1, s.2)
+      ];
   all = λ path here.
-    elim here [
-      inl p ↦ Contains-append_left xs ys (unknown_row path) (first.all path p)
-    | inr q ↦ Contains-append_right xs ys (unknown_row path) (second.all path q)
-    ];
+      elim here [
+        | inl p ↦ Contains-append_left xs ys (unknown_row path) (first.all path p)
+        | inr q ↦ Contains-append_right xs ys (unknown_row path) (second.all path q)
+      ];
 }
 
 listing_same : (P Q : List ℕ → Type 0) (xs : List Row) → ((p : List ℕ) → P p → Q p) → ((p : List ℕ) → Q p → P p) → IsListing P xs → IsListing Q xs
@@ -106,7 +106,6 @@ back a b there again = let never = below_not_back a b there in absurd (cc)
 -- ---- what stands at a path or below it
 
 module _ (kept : Kept) (moment : Moment) (formed : IsFormed moment) where
-
   -- nothing stands below what is never directory
   none_below : (path p : List ℕ) → is_dir (moment.things path) ≡ false → is_below path p ≡ true → is_file_or_link (moment.things p) ≡ true → ⊥
   none_below path p other below file = let dir = formed.rooted path p below (some_of_file (moment.things p) file) in absurd (cc)
@@ -125,10 +124,10 @@ module _ (kept : Kept) (moment : Moment) (formed : IsFormed moment) where
     inside = from_same path path refl;
     untracked = (file, none);
     visible = λ d from below.
-      elim (from_cases path d from) [
-        inl same ↦ absurd (back path d (subst (λ (q : List ℕ). is_below q d ≡ true) (sym same) (subst (λ (q : List ℕ). is_below d q ≡ true) same below)) below)
-      | inr under ↦ absurd (back path d under below)
-      ];
+        elim (from_cases path d from) [
+          | inl same ↦ absurd (back path d (subst (λ (q : List ℕ). is_below q d ≡ true) (sym same) (subst (λ (q : List ℕ). is_below d q ≡ true) same below)) below)
+          | inr under ↦ absurd (back path d under below)
+        ];
   }
 
   file_by : (path : List ℕ) (old new : List Row) (o : Option FlatRow) → kept path ≡ o → is_file_or_link (moment.things path) ≡ true
@@ -139,7 +138,7 @@ module _ (kept : Kept) (moment : Moment) (formed : IsFormed moment) where
   file_by path old new (Some row) is file rows =
       subst (λ (n : List Row). Lists (IsUnknownFrom kept moment path) old n) (sym rows)
       (lists_none (IsUnknownFrom kept moment path) old
-       (λ p u. let at = ap kept (only_here path p (not_dir (moment.things path) file) u) in absurd (cc (u.untracked.1, at, is))))
+      (λ p u. let at = ap kept (only_here path p (not_dir (moment.things path) file) u) in absurd (cc (u.untracked.1, at, is))))
 
   -- a file or link has a row exactly where it has never entry
   pub file_from : (path : List ℕ) (old new : List Row) → is_file_or_link (moment.things path) ≡ true
@@ -153,11 +152,11 @@ module _ (kept : Kept) (moment : Moment) (formed : IsFormed moment) where
       (λ p u. record { inside = from_below path p u.inside; untracked = u.untracked; visible = u.visible })
       (λ p u. record {
         inside =
-          elim (from_cases path p u.inside) [
-            inl same ↦
-              let file = not_dir (moment.things p) u.untracked.0 in let is = ap (λ (q : List ℕ). is_dir (moment.things q)) same in absurd (cc (file, is, dir))
-          | inr below ↦ below
-          ];
+            elim (from_cases path p u.inside) [
+              | inl same ↦
+                  let file = not_dir (moment.things p) u.untracked.0 in let is = ap (λ (q : List ℕ). is_dir (moment.things q)) same in absurd (cc (file, is, dir))
+              | inr below ↦ below
+            ];
         untracked = u.untracked;
         visible = u.visible;
       })
@@ -180,19 +179,19 @@ module _ (kept : Kept) (moment : Moment) (formed : IsFormed moment) where
   visible_by : (j path d : List ℕ) → is_from (Some j) path ≡ true → IsVisibleFrom moment (Some j) path → (is_below d j ≡ true → ⊥) → is_below d path ≡ true → is_repository moment d ≡ false
   visible_by j path d from visible not_above below =
       elim (from_cases j path from) [
-        inl same ↦ absurd (not_above (subst (λ (q : List ℕ). is_below d q ≡ true) (sym same) below))
-      | inr under ↦
-          elim (below_compared d j path below under) [
-            inl same ↦ visible d (from_same j d (sym same)) below
-          | inr compared ↦ elim compared [ inl above ↦ absurd (not_above above) | inr deeper ↦ visible d (from_below j d deeper) below ]
-          ]
+        | inl same ↦ absurd (not_above (subst (λ (q : List ℕ). is_below d q ≡ true) (sym same) below))
+        | inr under ↦
+            elim (below_compared d j path below under) [
+              | inl same ↦ visible d (from_same j d (sym same)) below
+              | inr compared ↦ elim compared [ inl above ↦ absurd (not_above above) | inr deeper ↦ visible d (from_below j d deeper) below ]
+            ]
       ]
 
   not_above : (dir name d : List ℕ) → has_slash name ≡ false → is_below dir d ≡ true → is_below d (joined (Some dir) name) ≡ true → ⊥
   not_above dir name d plain deeper above =
       elim (below_of_joined d dir name plain above) [
-        inl same ↦ let never = below_itself dir in absurd (cc (never, subst (λ (q : List ℕ). is_below dir q ≡ true) same deeper))
-      | inr higher ↦ back d dir higher deeper
+        | inl same ↦ let never = below_itself dir in absurd (cc (never, subst (λ (q : List ℕ). is_below dir q ≡ true) same deeper))
+        | inr higher ↦ back d dir higher deeper
       ]
 
   forward : (dir : Option (List ℕ)) (name path : List ℕ) → has_slash name ≡ false → holds_repository moment dir ≡ false → IsUnknownFrom kept moment (joined dir name) path → IsUnknownIn kept moment dir path
@@ -200,35 +199,35 @@ module _ (kept : Kept) (moment : Moment) (formed : IsFormed moment) where
     inside = refl;
     untracked = u.untracked;
     visible = λ d from below.
-      visible_by name path d u.inside u.visible (λ above. let not = below_name d name plain in absurd (cc (not, above))) below;
+        visible_by name path d u.inside u.visible (λ above. let not = below_name d name plain in absurd (cc (not, above))) below;
   }
   forward (Some dir) name path plain never u = record {
     inside =
-      elim (from_cases (joined (Some dir) name) path u.inside) [
-        inl same ↦ subst (λ (q : List ℕ). is_below dir q ≡ true) same (below_joined dir name)
-      | inr below ↦ below_trans dir (joined (Some dir) name) path (below_joined dir name) below
-      ];
+        elim (from_cases (joined (Some dir) name) path u.inside) [
+          | inl same ↦ subst (λ (q : List ℕ). is_below dir q ≡ true) same (below_joined dir name)
+          | inr below ↦ below_trans dir (joined (Some dir) name) path (below_joined dir name) below
+        ];
     untracked = u.untracked;
     visible = λ d from below.
-      elim (from_cases dir d from) [
-        inl same ↦ subst (λ (q : List ℕ). is_repository moment q ≡ false) same never
-      | inr deeper ↦ visible_by (joined (Some dir) name) path d u.inside u.visible (not_above dir name d plain deeper) below
-      ];
+        elim (from_cases dir d from) [
+          | inl same ↦ subst (λ (q : List ℕ). is_repository moment q ≡ false) same never
+          | inr deeper ↦ visible_by (joined (Some dir) name) path d u.inside u.visible (not_above dir name d plain deeper) below
+        ];
   }
 
   from_joined : (dir : Option (List ℕ)) (name d : List ℕ) → is_from (Some (joined dir name)) d ≡ true → is_from dir d ≡ true
   from_joined None name d from = refl
   from_joined (Some dir) name d from =
       elim (from_cases (joined (Some dir) name) d from) [
-        inl same ↦ from_below dir d (subst (λ (q : List ℕ). is_below dir q ≡ true) same (below_joined dir name))
-      | inr below ↦ from_below dir d (below_trans dir (joined (Some dir) name) d (below_joined dir name) below)
+        | inl same ↦ from_below dir d (subst (λ (q : List ℕ). is_below dir q ≡ true) same (below_joined dir name))
+        | inr below ↦ from_below dir d (below_trans dir (joined (Some dir) name) d (below_joined dir name) below)
       ]
 
   stands_at : (j path : List ℕ) → is_from (Some j) path ≡ true → is_file_or_link (moment.things path) ≡ true → is_some (moment.things j) ≡ true
   stands_at j path from file =
       elim (from_cases j path from) [
-        inl same ↦ subst (λ (q : List ℕ). is_some (moment.things q) ≡ true) (sym same) (some_of_file (moment.things path) file)
-      | inr below ↦ some_of_dir (moment.things j) (formed.rooted j path below (some_of_file (moment.things path) file))
+        | inl same ↦ subst (λ (q : List ℕ). is_some (moment.things q) ≡ true) (sym same) (some_of_file (moment.things path) file)
+        | inr below ↦ some_of_dir (moment.things j) (formed.rooted j path below (some_of_file (moment.things path) file))
       ]
 
   backward : (dir : Option (List ℕ)) (names : List (List ℕ)) (path : List ℕ) → AreNames moment dir names → (r : Reached dir path) → IsUnknownIn kept moment dir path → IsUnknownAmong kept moment dir names path
@@ -257,15 +256,15 @@ pub among_more : (kept : Kept) (moment : Moment) (dir : Option (List ℕ)) (name
 among_more kept moment dir names i name a b c below is first second =
     lists_same (λ p. IsUnknownAmong kept moment dir (take i names) p ⊎ IsUnknownFrom kept moment (joined dir name) p) (IsUnknownAmong kept moment dir (take (i + 1) names)) a c
     (λ p.
-      elim [
-        inl (n, among, u) ↦ (n, list_any_more (bytes_eq n) names i name below ∙ or_left _ _ among, u)
+    elim [
+      | inl (n, among, u) ↦ (n, list_any_more (bytes_eq n) names i name below ∙ or_left _ _ among, u)
       | inr u ↦
           (name, list_any_more (bytes_eq name) names i name below ∙ or_right _ _ ((bytes_eq-Decides name (get_or names i name)).1 (sym is)), u)
-      ])
+    ])
     (λ p (n, among, u).
-      elim (or_cases (is_among n (take i names)) (bytes_eq n (get_or names i name)) (sym (list_any_more (bytes_eq n) names i name below) ∙ among)) [
-        inl before ↦ inl (n, before, u)
+    elim (or_cases (is_among n (take i names)) (bytes_eq n (get_or names i name)) (sym (list_any_more (bytes_eq n) names i name below) ∙ among)) [
+      | inl before ↦ inl (n, before, u)
       | inr same ↦
           inr (subst (λ (q : List ℕ). IsUnknownFrom kept moment (joined dir q) p) (same_of n (get_or names i name) same ∙ is) u)
-      ])
+    ])
     (lists_trans (IsUnknownAmong kept moment dir (take i names)) (IsUnknownFrom kept moment (joined dir name)) a b c first second)

@@ -1,6 +1,6 @@
 -- The full listing of a status: every path with its letter, by looking at every tracked path and at everything that stands in the
 -- working copy (help topic `status`). No recorded times, no directories passed over.
-use Rattle.std.specs.Prelude.{ℕ, ◌≡◌, ◌⊎◌, Bool, true, false, List, ◌++◌, Option, Some, None, IsTrue, is_some, codes}
+use Rattle.std.specs.Prelude.{ℕ, ◌≡◌, ◌⊎◌, Bool, true, false, List, Option, Some, None, IsTrue, is_some, codes}
 use Rattle.std.specs.List.{Contains}
 use Rattle.std.specs.List.Sorted.{IsStrictlySortedBy}
 use Rattle.hg_base.specs.PathText.{is_below, joined}

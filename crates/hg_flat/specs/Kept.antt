@@ -1,5 +1,5 @@
 -- The rows that a dirstate keeps, and the maps that they stand for.
-use Rattle.std.specs.Prelude.{ℕ, ◌≡◌, Bool, true, false, List, replicate, Option, Some, None, option_map, IfSome}
+use Rattle.std.specs.Prelude.{ℕ, ◌≡◌, true, false, List, replicate, Option, Some, None, option_map, IfSome}
 use Rattle.hg_entry.specs.Entry.{EntryData, view}
 use Rattle.hg_entry.specs.Table.{Marks, marks_of}
 use Rattle.hg_entry.specs.Table as plain

@@ -2,7 +2,6 @@
 use Rattle.std.specs.BTreeMap.{get_by_text}
 use Rattle.hg_flat.specs.Kept.{Kept}
 use Rattle.hg_flat.specs.declared.flat.Flat.{Flat}
-use Rattle.hg_flat.specs.declared.kept.FlatRow.{FlatRow}
 
 -- what is kept of each path
 abbrev pub kept_of : Flat → Kept

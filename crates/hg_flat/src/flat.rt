@@ -3,12 +3,11 @@
 ghost use Rattle.std.specs.Prelude.{◌≡◌, ℕ, List, option_map};
 ghost use Rattle.std.specs.BTreeMap.{get_by_text};
 
+use crate::kept::{FlatRow, item_of};
 use hg_base::{OutOfMemory, PathRef};
 use hg_entry::Item;
 use std::alloc::Global;
 use std::collections::BTreeMap;
-
-use crate::kept::{FlatRow, item_of};
 
 /// The paths with an entry, in order.
 #[derive(Drop)]

@@ -9,15 +9,14 @@ ghost use Rattle.hg_flat.specs.declared.fault.StatusFault.TheVariants as a_fault
 ghost use Rattle.hg_flat.specs.Listing.{added_row, shows_file_or_link, unknown_row};
 ghost use Rattle.hg_flat.specs.Shown.{kept_of};
 
-use hg_base::{Kind, OutOfMemory, Path, Stat};
-use hg_compare::Letter;
-use hg_tree::Tree;
-use std::alloc::Global;
-
 use crate::fault::StatusFault;
 use crate::flat::Flat;
 use crate::kept::FlatRow;
 use crate::row::Row;
+use hg_base::{Kind, OutOfMemory, Path, Stat};
+use hg_compare::Letter;
+use hg_tree::Tree;
+use std::alloc::Global;
 
 fn is_file_or_link(found: Option<Stat>) -> bool
     ensures { result ≡ shows_file_or_link found }
@@ -32,7 +31,11 @@ fn is_file_or_link(found: Option<Stat>) -> bool
 fn added_letter(found: Option<Stat>) -> Letter
     ensures { result ≡ (if shows_file_or_link found then a_letter.A else a_letter.Gone) }
 {
-    if is_file_or_link(found) { Letter::A } else { Letter::Gone }
+    if is_file_or_link(found) {
+        Letter::A
+    } else {
+        Letter::Gone
+    }
 }
 
 fn copy_of(alloc: Global, path: &Option<Path>) -> Result<Option<Path>, OutOfMemory>
@@ -45,7 +48,12 @@ fn copy_of(alloc: Global, path: &Option<Path>) -> Result<Option<Path>, OutOfMemo
 }
 
 /// Puts the row of a tracked path that is in neither parent, after a stat of it.
-pub(crate) fn add_tracked<T: Tree>(alloc: Global, tree: &mut T, kept: &FlatRow, rows: &mut Vec<Row>) -> Result<(), StatusFault>
+pub(crate) fn add_tracked<T: Tree>(
+    alloc: Global,
+    tree: &mut T,
+    kept: &FlatRow,
+    rows: &mut Vec<Row>,
+) -> Result<(), StatusFault>
     ensures passes { Passes (T.history tree.old) (T.history tree.new) }
     ensures row { IsQuiet (T.history tree.old) (T.history tree.new)
         → OnOk result (rows.new.items ≡ rows.old.items ++ (added_row (now (T.history tree.old)) kept.now) ∷ []) }

@@ -8,14 +8,13 @@ ghost use Rattle.hg_flat.specs.Cause.{HasStatusCause};
 ghost use Rattle.hg_flat.specs.Listing.{IsUnknownAmong, IsUnknownFrom, IsUnknownIn, Lists, holds_repository, shows_dir};
 ghost use Rattle.hg_flat.specs.Shown.{kept_of};
 
-use hg_base::{Kind, Path, PathRef, Stat};
-use hg_tree::{Name, Tree};
-use std::alloc::Global;
-
 use crate::fault::StatusFault;
 use crate::flat::Flat;
 use crate::letter::add_unknown;
 use crate::row::Row;
+use hg_base::{Kind, Path, PathRef, Stat};
+use hg_tree::{Name, Tree};
+use std::alloc::Global;
 
 fn is_dir_stat(found: Option<Stat>) -> bool
     ensures { result ≡ shows_dir found }
@@ -45,7 +44,12 @@ fn holds_hg<T: Tree>(alloc: Global, tree: &mut T, dir: PathRef<'_>) -> Result<bo
     Ok(is_dir_stat(found))
 }
 
-fn is_nested<T: Tree>(alloc: Global, tree: &mut T, dir: Option<PathRef<'_>>, names: &[Name]) -> Result<bool, StatusFault>
+fn is_nested<T: Tree>(
+    alloc: Global,
+    tree: &mut T,
+    dir: Option<PathRef<'_>>,
+    names: &[Name],
+) -> Result<bool, StatusFault>
     requires { AreFit (option_map (λ d. d.text.now) dir) names.now }
     ensures passes { Passes (T.history tree.old) (T.history tree.new) }
     ensures found { IsQuiet (T.history tree.old) (T.history tree.new)
@@ -64,7 +68,13 @@ fn is_nested<T: Tree>(alloc: Global, tree: &mut T, dir: Option<PathRef<'_>>, nam
 
 // What stands at a path or below it.
 #[cycle(listing)]
-fn look<T: Tree>(alloc: Global, tree: &mut T, flat: &Flat, path: Path, rows: &mut Vec<Row>) -> Result<(), StatusFault>
+fn look<T: Tree>(
+    alloc: Global,
+    tree: &mut T,
+    flat: &Flat,
+    path: Path,
+    rows: &mut Vec<Row>,
+) -> Result<(), StatusFault>
     ensures passes { Passes (T.history tree.old) (T.history tree.new) }
     ensures listed { IsQuiet (T.history tree.old) (T.history tree.new)
         → OnOk result (Lists (IsUnknownFrom (kept_of flat.now) (now (T.history tree.old)) path) rows.old.items rows.new.items) }

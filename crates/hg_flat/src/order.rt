@@ -3,10 +3,9 @@
 ghost use Rattle.std.specs.Prelude.{◌≡◌};
 ghost use Rattle.hg_flat.specs.Order.{group_of};
 
+use crate::row::Row;
 use hg_compare::Letter;
 use std::cmp::Ordering;
-
-use crate::row::Row;
 
 // The place of the letter's group in a listing.
 fn group(letter: Letter) -> u8

@@ -8,16 +8,20 @@ ghost use Rattle.hg_flat.specs.Kept.{shown_row};
 ghost use Rattle.hg_flat.specs.Recorded.{Overlays, Records, are_added, is_added_entry};
 ghost use Rattle.hg_flat.specs.Shown.{kept_of};
 
+use crate::flat::Flat;
+use crate::kept::FlatRow;
 use hg_base::{OutOfMemory, Path, PathRef};
 use hg_entry::Entry;
 use hg_image::{Image, List, NodeRef};
 use std::alloc::Global;
 
-use crate::flat::Flat;
-use crate::kept::FlatRow;
-
 // A row of its own for a path with an entry.
-fn row_for(alloc: Global, path: PathRef<'_>, entry: Entry, source: Option<PathRef<'_>>) -> Result<FlatRow, OutOfMemory>
+fn row_for(
+    alloc: Global,
+    path: PathRef<'_>,
+    entry: Entry,
+    source: Option<PathRef<'_>>,
+) -> Result<FlatRow, OutOfMemory>
     ensures path { IfOk result (λ r. r.path ≡ path.entry.text.now) }
     ensures shown { IfOk result (λ r. shown_row r ≡ (record_of.view entry, option_map (λ s. s.text.now) source.entry)) }
 {

@@ -3,11 +3,10 @@
 ghost use Rattle.std.specs.Prelude.{◌≡◌, ◌<◌, ◌++◌, ◌∷◌, [], Some, length, OnOk, OnErr};
 ghost use Rattle.std.specs.List.{slice_get};
 
-use std::alloc::Global;
-use std::marker::Model;
-
 use hg_base::{OutOfMemory, Path};
 use hg_compare::Letter;
+use std::alloc::Global;
+use std::marker::Model;
 
 /// One line of a status: a path, its letter, and what it was copied from where that is recorded.
 #[derive(Debug, Drop)]

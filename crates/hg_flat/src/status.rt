@@ -11,17 +11,21 @@ ghost use Rattle.hg_flat.specs.Kept.{AreAdded, flat_of, null_parent};
 ghost use Rattle.hg_flat.specs.Listing.{added_row};
 ghost use Rattle.hg_flat.specs.Shown.{kept_of};
 
-use hg_tree::Tree;
-use std::alloc::Global;
-
 use crate::fault::StatusFault;
 use crate::flat::Flat;
 use crate::letter::add_tracked;
 use crate::listing::visit;
 use crate::row::{Row, Rows};
+use hg_tree::Tree;
+use std::alloc::Global;
 
 // Looks at each path with an entry, in order.
-fn add_each<T: Tree>(alloc: Global, tree: &mut T, flat: &Flat, rows: &mut Vec<Row>) -> Result<(), StatusFault>
+fn add_each<T: Tree>(
+    alloc: Global,
+    tree: &mut T,
+    flat: &Flat,
+    rows: &mut Vec<Row>,
+) -> Result<(), StatusFault>
     ensures passes { Passes (T.history tree.old) (T.history tree.new) }
     ensures added { IsQuiet (T.history tree.old) (T.history tree.new)
         → OnOk result (rows.new.items ≡ rows.old.items ++ map (added_row (now (T.history tree.old))) (values_of flat.now.rows.entries)) }

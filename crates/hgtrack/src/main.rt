@@ -98,6 +98,8 @@ fn main(rt: HostRuntime) -> ExitCode {
     }
     let mut tree = RealTree::new(&rt);
     let mut shelf = RealShelf::new(&rt);
-    let outcome = run(alloc, &words, &mut tree, &mut shelf, &mut input, &mut out, &mut err);
+    let outcome = run(
+        alloc, &words, &mut tree, &mut shelf, &mut input, &mut out, &mut err,
+    );
     ExitCode::from(outcome.status)
 }

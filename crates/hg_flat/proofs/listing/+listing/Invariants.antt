@@ -1,4 +1,4 @@
-use Rattle.std.proofs.Common.{ℕ, ◌≡◌, ◌+◌, ◌-◌, ◌*◌, length, take, option_map}
+use Rattle.std.proofs.Common.{◌≡◌, ◌+◌, ◌-◌, ◌*◌, length, take, option_map}
 use Rattle.hg_tree.specs.History.{IsQuiet, Passes, now}
 use Rattle.hg_flat.specs.Listing.{IsUnknownAmong, Lists}
 use Rattle.hg_flat.specs.Shown.{kept_of}

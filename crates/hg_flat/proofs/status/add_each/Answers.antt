@@ -1,5 +1,4 @@
-use Rattle.std.proofs.Common.{◌≡◌, ◌++◌, map, ◌∙◌}
-use Rattle.hg_tree.specs.History.{now}
+use Rattle.std.proofs.Common.{◌∙◌}
 use Rattle.hg_tree.proofs.Spans.{passes_trans}
 use Rattle.hg_flat.proofs.Quiet.{added_more}
 use Rattle.hg_flat.proofs.status.add_each.Goals as goal
@@ -8,7 +7,7 @@ pub loop-kept-preserved : goal.loop-kept-preserved
 loop-kept-preserved g c = record {
   passes = passes_trans _ _ _ c.loop-kept.invariant.passes c.add_tracked.ensures.passes;
   added = added_more (g.T.Tree.history c.args.tree.now) (g.T.Tree.history c.loop-kept.tree) (g.T.Tree.history c.add_tracked.new.tree) c.loop-kept.yielded c.in-Some.kept
-    c.args.rows.now.items c.loop-kept.rows.items c.add_tracked.new.rows.items c.loop-kept.invariant.passes.past c.add_tracked.ensures.passes.past
-    c.loop-kept.invariant.added c.in_ok-add_tracked.ensures.row;
+      c.args.rows.now.items c.loop-kept.rows.items c.add_tracked.new.rows.items c.loop-kept.invariant.passes.past c.add_tracked.ensures.passes.past
+      c.loop-kept.invariant.added c.in_ok-add_tracked.ensures.row;
   still = c.in_ok-add_tracked.ensures.cause.quiet ∙ c.loop-kept.invariant.still;
 }

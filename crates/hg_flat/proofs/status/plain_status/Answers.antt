@@ -1,12 +1,10 @@
-use Rattle.std.proofs.Common.{◌≡◌, ◌∙◌, sym, ap, subst, map, [], None}
-use Rattle.std.specs.List.{dedup}
+use Rattle.std.proofs.Common.{subst, None}
 use Rattle.std.specs.Map.{values_of}
 use Rattle.std.specs.Ordering.{eq_by_cmp}
 use Rattle.std.proofs.lemmas.List.Filters.{dedup_is}
 use Rattle.hg_tree.specs.History.{now}
 use Rattle.hg_tree.specs.Moment.{Moment}
 use Rattle.hg_tree.proofs.Histories.{now_same, quiet_first, quiet_second}
-use Rattle.hg_flat.specs.Kept.{null_parent}
 use Rattle.hg_flat.specs.Listing.{IsUnknownIn, Lists}
 use Rattle.hg_flat.specs.Order.{whole_order}
 use Rattle.hg_flat.specs.Shown.{kept_of}
@@ -23,10 +21,10 @@ returns-clause-full g c = λ quiet.
     let later = quiet_second old mid new c.add_each.ensures.passes.past c.visit.ensures.passes.past quiet in
     rw c.of.ensures
     (full (kept_of c.args.flat.now) (now old) c.requires c.args.flat.now.named (values_of c.args.flat.now.rows.entries)
-     c.add_each.new.rows.items c.visit.new.rows.items c.sort.new.self.items c.dedup.new.self.items
-     (holds_map c.args.flat.now.rows c.add_each.ensures.ordered c.args.flat.now.named)
-     (rw c.new-rows.ensures.items at (c.in_ok-add_each.ensures.added first))
-     (subst (λ (m : Moment). Lists (IsUnknownIn (kept_of c.args.flat.now) m None) c.add_each.new.rows.items c.visit.new.rows.items) (now_same old mid c.add_each.ensures.passes.past first)
-      (c.in_ok-visit.ensures.listed later))
-     c.in_ok-sort.ensures.permutation c.in_ok-sort.ensures.sorted
-     (dedup_is (eq_by_cmp whole_order) c.sort.new.self.items c.dedup.new.self.items c.dedup.ensures.filtered))
+    c.add_each.new.rows.items c.visit.new.rows.items c.sort.new.self.items c.dedup.new.self.items
+    (holds_map c.args.flat.now.rows c.add_each.ensures.ordered c.args.flat.now.named)
+    (rw c.new-rows.ensures.items at (c.in_ok-add_each.ensures.added first))
+    (subst (λ (m : Moment). Lists (IsUnknownIn (kept_of c.args.flat.now) m None) c.add_each.new.rows.items c.visit.new.rows.items) (now_same old mid c.add_each.ensures.passes.past first)
+    (c.in_ok-visit.ensures.listed later))
+    c.in_ok-sort.ensures.permutation c.in_ok-sort.ensures.sorted
+    (dedup_is (eq_by_cmp whole_order) c.sort.new.self.items c.dedup.new.self.items c.dedup.ensures.filtered))
