@@ -90,8 +90,8 @@ pub(crate) fn docket(alloc: Global, of: DocketOf) -> Result<Vec<u8>, Fail> {
     Ok(bytes)
 }
 
-// The 44 bytes of a record.
-fn put_record(bytes: &mut Vec<u8>, of: Record) -> Result<(), Fail> {
+/// Puts the 44 bytes of a record behind the others.
+pub(crate) fn put_record(bytes: &mut Vec<u8>, of: Record) -> Result<(), Fail> {
     put4(bytes, of.path.0)?;
     put2(bytes, of.path.1)?;
     put2(bytes, of.base_at)?;

@@ -9,7 +9,7 @@
 //!
 //! ```text
 //! let setting = Setting { things: &[("a", What::File)], ..EMPTY };
-//! expect(&rt, "an unknown file", setting, "? a\n", "")?;
+//! expect(&rt, "an unknown file", &NONE, setting, "? a\n", "")?;
 //! ```
 #![tactic(auto)]
 
@@ -17,6 +17,8 @@
 mod bytes;
 #[cfg(test)]
 mod data_faults;
+#[cfg(test)]
+mod depth;
 #[cfg(test)]
 mod devices;
 #[cfg(test)]
@@ -27,3 +29,5 @@ mod listings;
 mod refusals;
 #[cfg(test)]
 mod setting;
+#[cfg(test)]
+mod trees;

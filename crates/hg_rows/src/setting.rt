@@ -18,28 +18,50 @@ pub(crate) enum What {
     Other,
 }
 
-/// What stands before a run. A failing call is counted from 0.
+/// What stands before a run, but for the files. A failing call is counted from 0.
 #[derive(Clone, Copy)]
-pub(crate) struct Setting<'a> {
-    pub words: &'a [&'a str],
-    pub files: &'a [(&'a str, &'a [u8])],
-    pub things: &'a [(&'a str, What)],
+pub(crate) struct Setting {
+    pub words: &'static [&'static str],
+    pub things: Things,
     pub tree_fails: Option<u64>,
     pub shelf_fails: Option<u64>,
     pub out_fails: Option<u64>,
     pub err_fails: Option<u64>,
 }
 
-/// An empty working copy without a dirstate, where no call fails.
-pub(crate) const EMPTY: Setting<'static> = Setting {
+/// Things with their paths.
+pub(crate) type Things = &'static [(&'static str, What)];
+
+/// An empty working copy, where no call fails.
+pub(crate) const EMPTY: Setting = Setting {
     words: &["status"],
-    files: &[],
     things: &[],
     tree_fails: None,
     shelf_fails: None,
     out_fails: None,
     err_fails: None,
 };
+
+/// The files below `.hg`: the docket, and the data file of sixteen zeros.
+#[derive(Drop)]
+pub(crate) struct Files {
+    pub docket: Option<Vec<u8>>,
+    pub data: Option<Vec<u8>>,
+}
+
+/// No files.
+pub(crate) const NONE: Files = Files {
+    docket: None,
+    data: None,
+};
+
+/// Both files.
+pub(crate) fn both(docket: Vec<u8>, data: Vec<u8>) -> Files {
+    Files {
+        docket: Some(docket),
+        data: Some(data),
+    }
+}
 
 const NOON: Time = Time {
     seconds: 43_200,
@@ -58,7 +80,7 @@ fn place(alloc: Global, tree: &mut MemTree, path: &str, what: What) -> Result<()
     Ok(())
 }
 
-fn tree_of(alloc: Global, setting: Setting<'_>) -> Result<MemTree, Fail> {
+fn tree_of(alloc: Global, setting: Setting) -> Result<MemTree, Fail> {
     let mut tree = MemTree::new(alloc, NOON);
     for (path, what) in setting.things {
         place(alloc, &mut tree, path, *what)?;
@@ -69,10 +91,13 @@ fn tree_of(alloc: Global, setting: Setting<'_>) -> Result<MemTree, Fail> {
     Ok(tree)
 }
 
-fn shelf_of(alloc: Global, setting: Setting<'_>) -> Result<MemShelf, Fail> {
+fn shelf_of(alloc: Global, files: &Files, setting: Setting) -> Result<MemShelf, OutOfMemory> {
     let mut shelf = MemShelf::new(alloc);
-    for (name, bytes) in setting.files {
-        shelf.place(name, bytes)?;
+    if let Some(bytes) = &files.docket {
+        shelf.place("dirstate", bytes)?;
+    }
+    if let Some(bytes) = &files.data {
+        shelf.place("dirstate.0000000000000000", bytes)?;
     }
     if let Some(call) = setting.shelf_fails {
         shelf.fail_at(call)?;
@@ -89,7 +114,7 @@ fn sink_of(alloc: Global, fails: Option<u64>) -> Result<MemSink, OutOfMemory> {
     Ok(sink)
 }
 
-fn words_of(alloc: Global, setting: Setting<'_>) -> Result<Words, OutOfMemory> {
+fn words_of(alloc: Global, setting: Setting) -> Result<Words, OutOfMemory> {
     let mut words = Words::new(alloc);
     for word in setting.words {
         words.push(Text::of(alloc, word)?)?;
@@ -106,10 +131,10 @@ pub(crate) struct Left {
 }
 
 /// Runs once.
-pub(crate) fn run_in(alloc: Global, setting: Setting<'_>) -> Result<Left, Fail> {
+pub(crate) fn run_in(alloc: Global, files: &Files, setting: Setting) -> Result<Left, Fail> {
     let words = words_of(alloc, setting)?;
     let mut tree = tree_of(alloc, setting)?;
-    let mut shelf = shelf_of(alloc, setting)?;
+    let mut shelf = shelf_of(alloc, files, setting)?;
     let mut input = MemSource::new(alloc, b"status\n", 1)?;
     let mut out = sink_of(alloc, setting.out_fails)?;
     let mut err = sink_of(alloc, setting.err_fails)?;
@@ -131,12 +156,13 @@ fn answered(alloc: Global, fault: &Option<Fault>) -> Result<Vec<u8>, OutOfMemory
 pub(crate) fn expect_left<R: Abort + AllocGlobal>(
     rt: &R,
     name: &str,
-    setting: Setting<'_>,
+    files: &Files,
+    setting: Setting,
     out: &str,
     err: &str,
     line: &str,
 ) -> Result<(), Fail> {
-    let left = run_in(rt.alloc(), setting)?;
+    let left = run_in(rt.alloc(), files, setting)?;
     assert_eq!(rt; left.out.bytes(), out.as_bytes(), "{name}: standard output");
     assert_eq!(rt; left.err.bytes(), err.as_bytes(), "{name}: error stream");
     assert_eq!(rt;
@@ -156,9 +182,10 @@ pub(crate) fn expect_left<R: Abort + AllocGlobal>(
 pub(crate) fn expect<R: Abort + AllocGlobal>(
     rt: &R,
     name: &str,
-    setting: Setting<'_>,
+    files: &Files,
+    setting: Setting,
     out: &str,
     err: &str,
 ) -> Result<(), Fail> {
-    expect_left(rt, name, setting, out, err, err)
+    expect_left(rt, name, files, setting, out, err, err)
 }
