@@ -5,26 +5,21 @@ ghost use Rattle.std.specs.List.{flat_map};
 ghost use Rattle.std.specs.String.{string_bytes};
 ghost use Rattle.hg_report.specs.Fault.{at_node, docket_words, line_of, node_words, words_of};
 
-use crate::fault::Fault;
 use hg_base::OutOfMemory;
 use hg_docket::{DocketFault, Idents};
 use hg_image::NodeFault;
 use std::alloc::Global;
 
+use crate::fault::Fault;
+
 fn docket_text(alloc: Global, fault: &DocketFault) -> Result<String, OutOfMemory>
     ensures { IfOk result (λ text. string_bytes text ≡ docket_words fault.now) }
 {
     match fault {
-        DocketFault::Marker { at } => Ok(format!(in alloc;
-            "dirstate: marker differs at byte {at}"
-        )?),
-        DocketFault::Short { len, needed } => Ok(format!(in alloc;
-            "dirstate: {len} bytes where {needed} are needed"
-        )?),
+        DocketFault::Marker { at } => Ok(format!(in alloc; "dirstate: marker differs at byte {at}")?),
+        DocketFault::Short { len, needed } => Ok(format!(in alloc; "dirstate: {len} bytes where {needed} are needed")?),
         DocketFault::Identifier { at } => Ok(format!(in alloc; "dirstate: identifier byte {at}")?),
-        DocketFault::NoIdentifier { used } => Ok(format!(in alloc;
-            "dirstate: no identifier for {used} bytes"
-        )?),
+        DocketFault::NoIdentifier { used } => Ok(format!(in alloc; "dirstate: no identifier for {used} bytes")?),
     }
 }
 
@@ -38,12 +33,8 @@ fn node_text(alloc: Global, fault: &NodeFault) -> Result<String, OutOfMemory>
     ensures { IfOk result (λ text. string_bytes text ≡ node_words fault.now) }
 {
     match fault {
-        NodeFault::DataShort { have, used } => Ok(format!(in alloc;
-            "dirstate data: {have} bytes where {used} are used"
-        )?),
-        NodeFault::List { start, count } => Ok(format!(in alloc;
-            "dirstate data: list at {start} of {count} nodes"
-        )?),
+        NodeFault::DataShort { have, used } => Ok(format!(in alloc; "dirstate data: {have} bytes where {used} are used")?),
+        NodeFault::List { start, count } => Ok(format!(in alloc; "dirstate data: list at {start} of {count} nodes")?),
         NodeFault::Text { node } => at_text(alloc, *node, "text"),
         NodeFault::Name { node } => at_text(alloc, *node, "name"),
         NodeFault::Deep { node } => at_text(alloc, *node, "depth"),
