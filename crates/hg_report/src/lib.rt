@@ -17,3 +17,6 @@ mod status;
 pub use fault::Fault;
 pub use fault_line::fault_text;
 pub use status::{Style, status_text};
+
+#[cfg(test)]
+mod tests;

@@ -1,0 +1,191 @@
+// A working copy, the files below `.hg` and the streams, all in memory, and one run over them.
+use hg_base::{Blob, OutOfMemory, PathRef, Text, Time, Words};
+use hg_cli::{Outcome, run};
+use hg_report::{Fault, fault_text};
+use hg_shelf::MemShelf;
+use hg_stream::{MemSink, MemSource};
+use hg_tree::{MemTree, Thing};
+use std::alloc::Global;
+use std::process::Abort;
+use std::test::Fail;
+
+/// What is placed at a path.
+#[derive(Clone, Copy, Debug)]
+pub(crate) enum What {
+    File,
+    Link,
+    Dir,
+    Other,
+}
+
+/// What stands before a run, but for the files. A failing call is counted from 0.
+#[derive(Clone, Copy)]
+pub(crate) struct Setting {
+    pub words: &'static [&'static str],
+    pub things: Things,
+    pub tree_fails: Option<u64>,
+    pub shelf_fails: Option<u64>,
+    pub out_fails: Option<u64>,
+    pub err_fails: Option<u64>,
+}
+
+/// Things with their paths.
+pub(crate) type Things = &'static [(&'static str, What)];
+
+/// An empty working copy, where no call fails.
+pub(crate) const EMPTY: Setting = Setting {
+    words: &["status"],
+    things: &[],
+    tree_fails: None,
+    shelf_fails: None,
+    out_fails: None,
+    err_fails: None,
+};
+
+/// The files below `.hg`: the docket, and the data file of sixteen zeros.
+#[derive(Drop)]
+pub(crate) struct Files {
+    pub docket: Option<Vec<u8>>,
+    pub data: Option<Vec<u8>>,
+}
+
+/// No files.
+pub(crate) const NONE: Files = Files {
+    docket: None,
+    data: None,
+};
+
+/// Both files.
+pub(crate) fn both(docket: Vec<u8>, data: Vec<u8>) -> Files {
+    Files {
+        docket: Some(docket),
+        data: Some(data),
+    }
+}
+
+const NOON: Time = Time {
+    seconds: 43_200,
+    nanos: 0,
+};
+
+fn place(alloc: Global, tree: &mut MemTree, path: &str, what: What) -> Result<(), Fail> {
+    let path = PathRef::read(path)?;
+    let bytes = Blob::of(alloc, b"b")?;
+    match what {
+        What::File => tree.place(path, Thing::File { exec: false, bytes }, NOON)?,
+        What::Link => tree.place(path, Thing::Link { target: bytes }, NOON)?,
+        What::Dir => tree.place(path, Thing::Dir, NOON)?,
+        What::Other => tree.place(path, Thing::Other, NOON)?,
+    }
+    Ok(())
+}
+
+fn tree_of(alloc: Global, setting: Setting) -> Result<MemTree, Fail> {
+    let mut tree = MemTree::new(alloc, NOON);
+    for (path, what) in setting.things {
+        place(alloc, &mut tree, path, *what)?;
+    }
+    if let Some(call) = setting.tree_fails {
+        tree.fail_at(call)?;
+    }
+    Ok(tree)
+}
+
+fn shelf_of(alloc: Global, files: &Files, setting: Setting) -> Result<MemShelf, OutOfMemory> {
+    let mut shelf = MemShelf::new(alloc);
+    if let Some(bytes) = &files.docket {
+        shelf.place("dirstate", bytes)?;
+    }
+    if let Some(bytes) = &files.data {
+        shelf.place("dirstate.0000000000000000", bytes)?;
+    }
+    if let Some(call) = setting.shelf_fails {
+        shelf.fail_at(call)?;
+    }
+    Ok(shelf)
+}
+
+// A stream that takes three bytes at each call.
+fn sink_of(alloc: Global, fails: Option<u64>) -> Result<MemSink, OutOfMemory> {
+    let mut sink = MemSink::new(alloc, 3);
+    if let Some(call) = fails {
+        sink.fail_at(call)?;
+    }
+    Ok(sink)
+}
+
+fn words_of(alloc: Global, setting: Setting) -> Result<Words, OutOfMemory> {
+    let mut words = Words::new(alloc);
+    for word in setting.words {
+        words.push(Text::of(alloc, word)?)?;
+    }
+    Ok(words)
+}
+
+/// What a run left: its answer, and the bytes on both streams.
+#[derive(Drop)]
+pub(crate) struct Left {
+    pub outcome: Outcome,
+    pub out: MemSink,
+    pub err: MemSink,
+}
+
+/// Runs once.
+pub(crate) fn run_in(alloc: Global, files: &Files, setting: Setting) -> Result<Left, Fail> {
+    let words = words_of(alloc, setting)?;
+    let mut tree = tree_of(alloc, setting)?;
+    let mut shelf = shelf_of(alloc, files, setting)?;
+    let mut input = MemSource::new(alloc, b"status\n", 1)?;
+    let mut out = sink_of(alloc, setting.out_fails)?;
+    let mut err = sink_of(alloc, setting.err_fails)?;
+    let outcome = run(
+        alloc, &words, &mut tree, &mut shelf, &mut input, &mut out, &mut err,
+    );
+    Ok(Left { outcome, out, err })
+}
+
+/// The line of the fault that a run answers; empty without a fault.
+fn answered(alloc: Global, fault: &Option<Fault>) -> Result<Vec<u8>, OutOfMemory> {
+    match fault {
+        None => Ok(Vec::new(alloc)),
+        Some(fault) => fault_text(alloc, fault),
+    }
+}
+
+/// Runs once, and compares: what is printed on both streams, the line of the fault that is answered, and the status.
+pub(crate) fn expect_left<R: Abort + AllocGlobal>(
+    rt: &R,
+    name: &str,
+    files: &Files,
+    setting: Setting,
+    out: &str,
+    err: &str,
+    line: &str,
+) -> Result<(), Fail> {
+    let left = run_in(rt.alloc(), files, setting)?;
+    assert_eq!(rt; left.out.bytes(), out.as_bytes(), "{name}: standard output");
+    assert_eq!(rt; left.err.bytes(), err.as_bytes(), "{name}: error stream");
+    assert_eq!(rt;
+        answered(rt.alloc(), &left.outcome.fault)?.as_slice(),
+        line.as_bytes(),
+        "{name}: fault"
+    );
+    assert_eq!(rt;
+        left.outcome.status,
+        if line.is_empty() { 0 } else { 255 },
+        "{name}: status"
+    );
+    Ok(())
+}
+
+/// The same where the line of the fault is printed.
+pub(crate) fn expect<R: Abort + AllocGlobal>(
+    rt: &R,
+    name: &str,
+    files: &Files,
+    setting: Setting,
+    out: &str,
+    err: &str,
+) -> Result<(), Fail> {
+    expect_left(rt, name, files, setting, out, err, err)
+}
