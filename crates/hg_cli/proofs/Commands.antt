@@ -1,5 +1,5 @@
 -- What a command answers, from what its parts answer.
-use Rattle.std.proofs.Common.{ℕ, ◌≡◌, ◌+◌, ◌-◌, ◌<◌, ◌≤◌, Bool, true, false, cond, List, [], Option, Some, None, option_map, Result, Ok, Err, IsTrue, IfErr, IfSome, codes, refl, sym, ap, ◌∙◌, subst, inl, inr, ◌⊎◌, arith}
+use Rattle.std.proofs.Common.{ℕ, ◌≡◌, Bool, true, false, cond, List, [], Option, Some, None, option_map, Result, Ok, Err, IsTrue, IfSome, refl, sym, ap, ◌∙◌, subst, inl, inr, arith}
 use Rattle.std.specs.Option.{MatchOption}
 use Rattle.hg_base.specs.Fault.{HasCause, IsSteady, Rose}
 use Rattle.hg_base.proofs.Faults.{steady_not_rose}
@@ -25,7 +25,7 @@ use Rattle.hg_report.specs.declared.fault.Fault.TheVariants as a_fault
 use Rattle.hg_shelf.specs.History as shelf
 use Rattle.hg_tree.specs.History as tree
 use Rattle.hg_tree.specs.Moment.{Moment}
-use Rattle.hg_cli.specs.Command.{CommandCause, IsAsExpected, IsBegun, IsFaultOrMemory, FromShelf, FromTree, IgnoreAnswer, IgnoreFound, IsIgnoreFault, IsListed, IsPrinted, LeavesOut, ListCause, Meets, MeetsResult, ShelfFound, expected, expected_of, has_ignore_file, is_status, plain_style}
+use Rattle.hg_cli.specs.Command.{CommandCause, IsAsExpected, IsBegun, IsFaultOrMemory, IgnoreAnswer, IgnoreFound, IsIgnoreFault, IsListed, IsPrinted, LeavesOut, ListCause, Meets, ShelfFound, expected, expected_of, has_ignore_file, is_status, plain_style}
 use Rattle.hg_cli.specs.Load.{load_result}
 use Rattle.hg_cli.specs.Loaded.{During, FaultFound, Finds, FindsDuring, IsLoadFault, files_at}
 
@@ -134,8 +134,8 @@ listed files old mid rows kept listing past quiet loaded records full = record {
   recorded = rows;
   loaded = loaded;
   full =
-    subst (λ (m : Moment). IsFull (flat_of_rows null_parent null_parent rows) m null_rows nothing_ignored default_wanted listing) (now_same old mid past quiet)
-    (subst (λ (f : plain.Flat). IsFull f (tree.now mid) null_rows nothing_ignored default_wanted listing) (flat_same rows kept records) full);
+      subst (λ (m : Moment). IsFull (flat_of_rows null_parent null_parent rows) m null_rows nothing_ignored default_wanted listing) (now_same old mid past quiet)
+      (subst (λ (f : plain.Flat). IsFull f (tree.now mid) null_rows nothing_ignored default_wanted listing) (flat_same rows kept records) full);
 }
 
 -- what was found at the root later is what stands there at the start

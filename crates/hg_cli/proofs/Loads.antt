@@ -1,18 +1,17 @@
 -- What a load finds, from what its reads find.
-use Rattle.std.proofs.Common.{ℕ, ◌≡◌, ◌+◌, ◌-◌, ◌*◌, ◌<◌, ◌≤◌, ◌==◌, Bool, true, false, cond, not, ◌||◌, min, List, [], ◌∷◌, ◌++◌, length, take, drop, Vec, Global, Option, Some, None, option_map, IfSome, IfErr, Result, Ok, Err, codes, refl, sym, ap, ◌∙◌, subst, inl, inr, ◌⊎◌, arith, IsTrue, ltb}
+use Rattle.std.proofs.Common.{ℕ, ◌≡◌, ◌<◌, ◌≤◌, ◌==◌, Bool, true, false, cond, not, ◌||◌, min, List, [], ◌∷◌, ◌++◌, length, take, drop, Vec, Global, Option, Some, None, option_map, IfSome, IfErr, Result, Ok, Err, codes, refl, sym, ap, ◌∙◌, subst, inl, inr, ◌⊎◌, arith, ltb}
 use Rattle.std.specs.Str.{bytes_eq}
 use Rattle.std.proofs.Math.Seq.{take-append_seam}
 use Rattle.std.proofs.lemmas.List.{length-take, take-append-le, take-take, take_all, take_min}
 use Rattle.std.proofs.lemmas.Bool.{and_parts, cases_eq, cases_lt, false_from_ne_true, lt-ltb, ltb-true, not-true, or_parts}
 use Rattle.hg_base.specs.Fault.{HasCause}
-use Rattle.hg_base.specs.declared.stat.Got.{Got}
 use Rattle.hg_base.specs.declared.stat.Got.TheVariants as a_got
 use Rattle.hg_docket.specs.Docket.{Contents, docket_of, docket_refusal}
 use Rattle.hg_docket.specs.declared.fault.DocketFault.{DocketFault}
 use Rattle.hg_entry.specs.Entry.{EntryData, entry_of, view}
 use Rattle.hg_entry.specs.Table.{marks_of}
 use Rattle.hg_flat.specs.Kept.{AreAdded, Kept, shown_row}
-use Rattle.hg_flat.specs.Recorded.{Recorded, Records, are_added, is_added_entry, or_else, recorded_at, recorded_in, recorded_of}
+use Rattle.hg_flat.specs.Recorded.{Recorded, Records, are_added, is_added_entry, or_else, recorded_at, recorded_of}
 use Rattle.hg_flat.specs.declared.flat.Flat.{Flat}
 use Rattle.hg_flat.specs.declared.kept.FlatRow.{FlatRow}
 use Rattle.hg_image.specs.Node.{fields_of}
@@ -85,10 +84,10 @@ file_free old new id used fault past free = record {
   at = new.last;
   file = during_last old new past;
   finds =
-    elim free [
-      inl memory ↦ subst (λ (f : Fault). FileFinds id used (Err f) (files_at new new.last (data_name id))) (sym memory) tt
-    | inr failed ↦ subst (λ (f : Fault). FileFinds id used (Err f) (files_at new new.last (data_name id))) (sym failed) tt
-    ];
+      elim free [
+        | inl memory ↦ subst (λ (f : Fault). FileFinds id used (Err f) (files_at new new.last (data_name id))) (sym memory) tt
+        | inr failed ↦ subst (λ (f : Fault). FileFinds id used (Err f) (files_at new new.last (data_name id))) (sym failed) tt
+      ];
 }
 
 read_by : (old mid new : History) (id : List ℕ) (used : ℕ) (a b nodes : List ℕ) → Passes old mid → Passes mid new → (now mid).files (data_name id) ≡ Some a → (now new).files (data_name id) ≡ Some b
@@ -162,13 +161,13 @@ short_of d bytes short =
 front_same : (d : Contents) (bytes : List ℕ) → nodes_result d (take d.used bytes) ≡ nodes_result d bytes
 front_same d bytes =
     elim (cases_lt (length bytes) d.used) [
-      inl short ↦ ap (nodes_result d) (take_all d.used bytes (omega (arith, short)))
-    | inr long ↦
-        let len = length-take d.used bytes in
-        walk_of d (take d.used bytes) (omega (arith, len, long))
-        ∙ ap (λ (l : List ℕ). walked_result (list_fault levels l None d.root_start d.root_count) (list_rows levels l d.root_start d.root_count))
+      | inl short ↦ ap (nodes_result d) (take_all d.used bytes (omega (arith, short)))
+      | inr long ↦
+          let len = length-take d.used bytes in
+          walk_of d (take d.used bytes) (omega (arith, len, long))
+          ∙ ap (λ (l : List ℕ). walked_result (list_fault levels l None d.root_start d.root_count) (list_rows levels l d.root_start d.root_count))
           (take_all d.used (take d.used bytes) (omega (arith, len)))
-        ∙ sym (walk_of d bytes long)
+          ∙ sym (walk_of d bytes long)
     ]
 
 covers_same : (d : Contents) (nodes bytes : List ℕ) → Covers d.used nodes bytes → nodes_result d nodes ≡ nodes_result d bytes
@@ -205,9 +204,9 @@ used old new d id result some same finds = record {
   at = finds.at;
   file = finds.file;
   finds =
-    subst (DataFinds d result)
-    (ap (λ (n : List ℕ). files_at new finds.at (data_name n)) same ∙ sym (ap (λ (b : Bool). cond b (Some []) (files_at new finds.at (data_name d.id))) some))
-    (data_by d id result (files_at new finds.at (data_name id)) same finds.finds);
+      subst (DataFinds d result)
+      (ap (λ (n : List ℕ). files_at new finds.at (data_name n)) same ∙ sym (ap (λ (b : Bool). cond b (Some []) (files_at new finds.at (data_name d.id))) some))
+      (data_by d id result (files_at new finds.at (data_name id)) same finds.finds);
 }
 
 -- ---- the nodes
@@ -221,7 +220,7 @@ added_by : (o : Option EntryData) (source : Option (List ℕ)) (b : Bool) (entry
 added_by None source true entry is added = absurd (cc (is))
 added_by (Some e) source true entry is added =
     let same : e ≡ entry.0 = ap (λ (o : Option Recorded). first_in o e) is in subst (λ (x : EntryData). not (x.p1 || x.p2) ≡ true) same added
-    where
+  where
     first_in : Option Recorded → EntryData → EntryData
     first_in None e = e
     first_in (Some r) e = r.0
@@ -233,7 +232,7 @@ recorded_added (row ∷ rows) path entry added is =
     let parts = and_parts (is_added_entry (entry_of (fields_of row.rec))) (are_added rows) added in
     step (recorded_at rows path) (recorded_of row path) entry is (λ later. recorded_added rows path entry parts.1 later)
     (λ own. added_by (entry_of (fields_of row.rec)) row.source (bytes_eq row.path path) entry own parts.0)
-    where
+  where
     step : (first second : Option Recorded) (entry : Recorded) → or_else first second ≡ Some entry → (first ≡ Some entry → not (entry.0.p1 || entry.0.p2) ≡ true) → (second ≡ Some entry → not (entry.0.p1 || entry.0.p2) ≡ true)
         → not (entry.0.p1 || entry.0.p2) ≡ true
     step None second entry is later own = own is
@@ -313,9 +312,9 @@ loaded old mid new bytes result first second is finds = record {
   file = record { from = omega (arith, first.past.later, finds.file.from); to = finds.file.to };
   order = finds.file.from;
   finds =
-    subst (Finds result)
-    (ap (λ (l : List ℕ). docket_result l (files_at new finds.at)) (is ∙ ap docket_in (sym (second.past.stay mid.last (omega arith)).shown)))
-    finds.finds;
+      subst (Finds result)
+      (ap (λ (l : List ℕ). docket_result l (files_at new finds.at)) (is ∙ ap docket_in (sym (second.past.stay mid.last (omega arith)).shown)))
+      finds.finds;
 }
 
 -- the docket could not be read

@@ -1,5 +1,5 @@
 -- What a load of the dirstate finds: the docket as it stands at one moment, the data file as it stands at that or a later one.
-use Rattle.std.specs.Prelude.{ℕ, ◌≡◌, Bool, true, false, not, ◌&&◌, if◌then◌else◌, List, [], ◌∷◌, ◌++◌, take, Option, Some, None, Result, Ok, Err, codes, ◌==◌}
+use Rattle.std.specs.Prelude.{ℕ, Bool, ◌&&◌, if◌then◌else◌, List, [], ◌∷◌, ◌++◌, take, Option, Some, None, Result, Ok, Err, codes, ◌==◌}
 use Rattle.std.specs.Str.{bytes_eq}
 use Rattle.hg_docket.specs.Docket.{Contents, docket_of, docket_refusal}
 use Rattle.hg_docket.specs.declared.fault.DocketFault.{DocketFault}

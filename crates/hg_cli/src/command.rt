@@ -6,14 +6,13 @@ ghost use Rattle.hg_shelf.specs.History as shelf_is;
 ghost use Rattle.hg_tree.specs.History as tree_is;
 ghost use Rattle.hg_cli.specs.Command.{CommandCause, IsAsExpected, IsFaultOrMemory, IsPrinted, IsTold, LeavesFront, LeavesOut, MeetsResult, TellsLine, expected, is_status};
 
+use crate::listing::list;
 use hg_base::Words;
 use hg_report::{Fault, Style, fault_text, status_text};
 use hg_shelf::Shelf;
 use hg_stream::{Sink, Source, put_all};
 use hg_tree::Tree;
 use std::alloc::Global;
-
-use crate::listing::list;
 
 /// How a status is printed without options.
 const PLAIN: Style = Style {

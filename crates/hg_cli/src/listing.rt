@@ -8,14 +8,13 @@ ghost use Rattle.hg_tree.specs.History as tree_is;
 ghost use Rattle.hg_cli.specs.Command.{IgnoreAnswer, IsIgnoreFault, IsListed, ListCause, MeetsResult, expected_of, has_ignore_file, shows_file};
 ghost use Rattle.hg_cli.specs.Load.{load_result};
 
+use crate::load::load;
 use hg_base::{Kind, PathRef, Stat};
 use hg_flat::{Rows, plain_status};
 use hg_report::Fault;
 use hg_shelf::Shelf;
 use hg_tree::Tree;
 use std::alloc::Global;
-
-use crate::load::load;
 
 fn is_file(found: Option<Stat>) -> bool
     ensures { result ≡ shows_file found }
@@ -45,7 +44,11 @@ fn no_ignore_file<T: Tree>(tree: &mut T) -> Result<(), Fault>
 }
 
 /// Every path with its letter: the dirstate is loaded, `.hgignore` is looked for, then the working copy is listed.
-pub(crate) fn list<T: Tree, S: Shelf>(alloc: Global, tree: &mut T, shelf: &mut S) -> Result<Rows, Fault>
+pub(crate) fn list<T: Tree, S: Shelf>(
+    alloc: Global,
+    tree: &mut T,
+    shelf: &mut S,
+) -> Result<Rows, Fault>
     ensures tree { tree_is.Passes (T.history tree.old) (T.history tree.new) }
     ensures shelf { shelf_is.Passes (S.history shelf.old) (S.history shelf.new) }
     ensures full { tree_is.IsQuiet (T.history tree.old) (T.history tree.new)

@@ -58,7 +58,12 @@ fn gone(id: Ident) -> Fault
 }
 
 // So many bytes from the front of a data file, fewer where it is shorter.
-fn read_front<S: Shelf>(alloc: Global, shelf: &mut S, id: Ident, want: usize) -> Result<Vec<u8>, Fault>
+fn read_front<S: Shelf>(
+    alloc: Global,
+    shelf: &mut S,
+    id: Ident,
+    want: usize,
+) -> Result<Vec<u8>, Fault>
     ensures passes { Passes (S.history shelf.old) (S.history shelf.new) }
     ensures found { IsTrue (S.history shelf.old).told
         → FrontFinds id want (bytes_of result) ((now (S.history shelf.new)).files (data_name id)) }

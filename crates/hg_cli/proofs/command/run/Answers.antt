@@ -17,8 +17,8 @@ pub returns-in-Err-clause-cause : goal.returns-in-Err-clause-cause
 returns-in-Err-clause-cause g c =
     of_answered
     (CommandCause (is_status c.args.words.now) (g.S.Shelf.history c.args.shelf.now) (g.S.Shelf.history c.status.new.shelf) (g.T.Tree.history c.args.tree.now) (g.T.Tree.history c.status.new.tree)
-     (Rose (g.S.Shelf.faults c.args.shelf.now) (g.S.Shelf.faults c.status.new.shelf)) (Rose (g.T.Tree.faults c.args.tree.now) (g.T.Tree.faults c.status.new.tree))
-     (Rose (g.O.Sink.faults c.args.out.now) (g.O.Sink.faults c.status.new.out)))
+    (Rose (g.S.Shelf.faults c.args.shelf.now) (g.S.Shelf.faults c.status.new.shelf)) (Rose (g.T.Tree.faults c.args.tree.now) (g.T.Tree.faults c.status.new.tree))
+    (Rose (g.O.Sink.faults c.args.out.now) (g.O.Sink.faults c.status.new.out)))
     c.failed.result.fault c.in-Err.fault c.failed.ensures.fault c.in-Err.ensures.cause tt
 
 pub returns-in-Err-clause-complete : goal.returns-in-Err-clause-complete
@@ -26,9 +26,9 @@ returns-in-Err-clause-complete g c = λ quiet still p q r.
     as_expected c.failed.result.fault c.in-Err.fault
     (expected c.args.words.now (shelf.now (g.S.Shelf.history c.args.shelf.now)).files (tree.now (g.T.Tree.history c.args.tree.now))) c.failed.ensures.fault
     (steady_meets c.args.words.now (shelf.now (g.S.Shelf.history c.args.shelf.now)).files (tree.now (g.T.Tree.history c.args.tree.now)) (is_status c.args.words.now)
-     (g.S.Shelf.history c.args.shelf.now) (g.S.Shelf.history c.status.new.shelf) (g.T.Tree.history c.args.tree.now) (g.T.Tree.history c.status.new.tree)
-     (g.S.Shelf.faults c.args.shelf.now) (g.T.Tree.faults c.args.tree.now) (g.O.Sink.faults c.args.out.now)
-     (g.S.Shelf.faults c.status.new.shelf) (g.T.Tree.faults c.status.new.tree) (g.O.Sink.faults c.status.new.out) c.in-Err.fault p q r c.in-Err.ensures.cause (c.in-Err.ensures.expected quiet still))
+    (g.S.Shelf.history c.args.shelf.now) (g.S.Shelf.history c.status.new.shelf) (g.T.Tree.history c.args.tree.now) (g.T.Tree.history c.status.new.tree)
+    (g.S.Shelf.faults c.args.shelf.now) (g.T.Tree.faults c.args.tree.now) (g.O.Sink.faults c.args.out.now)
+    (g.S.Shelf.faults c.status.new.shelf) (g.T.Tree.faults c.status.new.tree) (g.O.Sink.faults c.status.new.out) c.in-Err.fault p q r c.in-Err.ensures.cause (c.in-Err.ensures.expected quiet still))
 
 pub returns-in-Err-clause-left : goal.returns-in-Err-clause-left
 returns-in-Err-clause-left g c =

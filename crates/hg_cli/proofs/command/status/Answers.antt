@@ -1,10 +1,10 @@
 -- A status: the rows, their text, and printing it.
-use Rattle.std.proofs.Common.{◌∙◌, inl, inr, refl, sym, Err, Ok}
+use Rattle.std.proofs.Common.{◌∙◌, inl, inr, refl, sym}
 use Rattle.std.proofs.lemmas.Result.{err_from_is_err_and}
 use Rattle.hg_base.specs.Fault.{Rose}
 use Rattle.hg_shelf.specs.History as shelf
 use Rattle.hg_tree.specs.History as tree
-use Rattle.hg_cli.specs.Command.{Meets, expected, is_status}
+use Rattle.hg_cli.specs.Command.{expected, is_status}
 use Rattle.hg_cli.proofs.Commands.{begun, cause_listed, expected_built, left_same, meets_memory, printed}
 use Rattle.hg_cli.proofs.command.status.Goals as goal
 
@@ -13,15 +13,15 @@ returns-in_err-rows-clause-expected g c = λ quiet still.
     let p = err_from_is_err_and c.from_residual.result c.from_residual.ensures.1 in
     rw (p.1, p.2)
     (rw (expected_built c.args.words.now (shelf.now (g.S.Shelf.history c.args.shelf.now)).files (tree.now (g.T.Tree.history c.args.tree.now)) (sym c.is_status_alone.ensures ∙ c.if-not-is_status_alone.false))
-     (c.in_err-rows.ensures.expected quiet still))
+    (c.in_err-rows.ensures.expected quiet still))
 
 pub returns-in_err-rows-clause-cause : goal.returns-in_err-rows-clause-cause
 returns-in_err-rows-clause-cause g c =
     let p = err_from_is_err_and c.from_residual.result c.from_residual.ensures.1 in
     rw (p.1, p.2)
     (cause_listed (is_status c.args.words.now) (g.S.Shelf.history c.args.shelf.now) (g.S.Shelf.history c.list.new.shelf) (g.T.Tree.history c.args.tree.now) (g.T.Tree.history c.list.new.tree)
-     (Rose (g.S.Shelf.faults c.args.shelf.now) (g.S.Shelf.faults c.list.new.shelf)) (Rose (g.T.Tree.faults c.args.tree.now) (g.T.Tree.faults c.list.new.tree)) _ c.in_err-rows.field-0.0
-     c.in_err-rows.ensures.cause c.in_err-rows.ensures.shelf_cause.rose c.in_err-rows.ensures.tree_cause.rose)
+    (Rose (g.S.Shelf.faults c.args.shelf.now) (g.S.Shelf.faults c.list.new.shelf)) (Rose (g.T.Tree.faults c.args.tree.now) (g.T.Tree.faults c.list.new.tree)) _ c.in_err-rows.field-0.0
+    c.in_err-rows.ensures.cause c.in_err-rows.ensures.shelf_cause.rose c.in_err-rows.ensures.tree_cause.rose)
 
 pub returns-in_err-rows-clause-left : goal.returns-in_err-rows-clause-left
 returns-in_err-rows-clause-left g c =

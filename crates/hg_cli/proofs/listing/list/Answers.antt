@@ -1,11 +1,11 @@
 -- The rows of a status: the load, the look for ignore patterns, the listing.
-use Rattle.std.proofs.Common.{◌∙◌, sym, refl, Err, Ok}
+use Rattle.std.proofs.Common.{refl, Err, Ok}
 use Rattle.std.proofs.lemmas.Result.{err_from_is_err_and}
 use Rattle.hg_flat.specs.Shown.{kept_of}
 use Rattle.hg_shelf.specs.History as shelf
 use Rattle.hg_tree.specs.History as tree
 use Rattle.hg_tree.proofs.Histories.{quiet_first, quiet_second}
-use Rattle.hg_cli.specs.Command.{Meets, expected_of}
+use Rattle.hg_cli.specs.Command.{expected_of}
 use Rattle.hg_cli.specs.Load.{load_result}
 use Rattle.hg_cli.proofs.Commands.{cause_ignore, cause_load, cause_other, ignore_now, listed, meets_ignore, meets_listed, meets_load, meets_status, not_shelf, not_tree, quiet_finds}
 use Rattle.hg_report.specs.declared.fault.Fault.TheVariants as a_fault
@@ -17,14 +17,14 @@ returns-in_err-flat-clause-expected g c = λ quiet still.
     let old = g.S.Shelf.history c.args.shelf.now in
     rw (p.1, p.2)
     (meets_load c.in_err-flat.field-0.0 (load_result (shelf.now old).files (shelf.now old).files) (tree.now (g.T.Tree.history c.args.tree.now))
-     (quiet_finds old (g.S.Shelf.history c.load.new.shelf) (Err c.in_err-flat.field-0.0) c.load.ensures.passes.past still (c.in_err-flat.ensures.found still.told)))
+    (quiet_finds old (g.S.Shelf.history c.load.new.shelf) (Err c.in_err-flat.field-0.0) c.load.ensures.passes.past still (c.in_err-flat.ensures.found still.told)))
 
 pub returns-in_err-flat-clause-cause : goal.returns-in_err-flat-clause-cause
 returns-in_err-flat-clause-cause g c =
     let p = err_from_is_err_and c.from_residual.result c.from_residual.ensures.1 in
     rw (p.1, p.2)
     (cause_load (g.S.Shelf.history c.args.shelf.now) (g.S.Shelf.history c.load.new.shelf) (g.T.Tree.history c.args.tree.now) (g.T.Tree.history c.args.tree.now) c.in_err-flat.field-0.0
-     c.in_err-flat.ensures.kind c.in_err-flat.ensures.found)
+    c.in_err-flat.ensures.kind c.in_err-flat.ensures.found)
 
 pub returns-in_err-flat-clause-tree_cause : goal.returns-in_err-flat-clause-tree_cause
 returns-in_err-flat-clause-tree_cause g c =
@@ -41,21 +41,21 @@ returns-in_err-no_ignore_file-clause-expected g c = λ quiet still.
     let f = quiet_finds old (g.S.Shelf.history c.load.new.shelf) (Ok c.in_ok-flat.flat) c.load.ensures.passes.past still (c.in_ok-flat.ensures.found still.told) in
     rw (p.1, p.2)
     (meets_ignore c.in_err-no_ignore_file.field-0.0 (load_result (shelf.now old).files (shelf.now old).files) f.0 (tree.now before) f.1
-     (ignore_now {T = Unit {0}} (Err c.in_err-no_ignore_file.field-0.0) before after c.no_ignore_file.ensures.passes.past quiet (c.in_err-no_ignore_file.ensures.found quiet.told)))
+    (ignore_now {T = Unit {0}} (Err c.in_err-no_ignore_file.field-0.0) before after c.no_ignore_file.ensures.passes.past quiet (c.in_err-no_ignore_file.ensures.found quiet.told)))
 
 pub returns-in_err-no_ignore_file-clause-cause : goal.returns-in_err-no_ignore_file-clause-cause
 returns-in_err-no_ignore_file-clause-cause g c =
     let p = err_from_is_err_and c.from_residual-in_err-no_ignore_file.result c.from_residual-in_err-no_ignore_file.ensures.1 in
     rw (p.1, p.2)
     (cause_ignore (g.S.Shelf.history c.args.shelf.now) (g.S.Shelf.history c.load.new.shelf) (g.T.Tree.history c.args.tree.now) (g.T.Tree.history c.no_ignore_file.new.tree)
-     c.in_err-no_ignore_file.field-0.0 c.no_ignore_file.ensures.passes.past c.in_err-no_ignore_file.ensures.kind c.in_err-no_ignore_file.ensures.found)
+    c.in_err-no_ignore_file.field-0.0 c.no_ignore_file.ensures.passes.past c.in_err-no_ignore_file.ensures.kind c.in_err-no_ignore_file.ensures.found)
 
 pub returns-in_err-no_ignore_file-clause-shelf_cause : goal.returns-in_err-no_ignore_file-clause-shelf_cause
 returns-in_err-no_ignore_file-clause-shelf_cause g c =
     let p = err_from_is_err_and c.from_residual-in_err-no_ignore_file.result c.from_residual-in_err-no_ignore_file.ensures.1 in
     rw (p.1, p.2)
     (cause_other (g.S.Shelf.faults c.args.shelf.now) (g.S.Shelf.faults c.load.new.shelf) c.in_err-no_ignore_file.field-0.0 a_fault.ShelfFailed c.in_ok-flat.ensures.cause.quiet
-     (not_shelf c.in_err-no_ignore_file.field-0.0 c.in_err-no_ignore_file.ensures.kind))
+    (not_shelf c.in_err-no_ignore_file.field-0.0 c.in_err-no_ignore_file.ensures.kind))
 
 pub returns-in_err-rows-clause-expected : goal.returns-in_err-rows-clause-expected
 returns-in_err-rows-clause-expected g c = λ quiet still.

@@ -1,4 +1,4 @@
-use Rattle.std.proofs.Common.{◌∙◌, sym}
+use Rattle.std.proofs.Common.{◌∙◌}
 use Rattle.std.proofs.lemmas.Result.{err_from_is_err_and}
 use Rattle.hg_cli.proofs.Loads.{loaded, unloaded}
 use Rattle.hg_cli.proofs.load.load.Goals as goal

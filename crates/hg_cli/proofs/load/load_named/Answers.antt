@@ -19,7 +19,7 @@ returns-in_err-nodes-clause-found g c = λ told.
     let p = err_from_is_err_and c.from_residual-in_err-nodes.result c.from_residual-in_err-nodes.ensures.1 in
     rw (p.1, p.2)
     (named_unread (g.S.Shelf.history c.args.shelf.now) (g.S.Shelf.history c.read_data.new.shelf) c.args.bytes.now (view c.in_ok-docket.docket) c.in_err-nodes.field-0.0
-     (sym c.in_ok-docket.ensures.refused) c.in_ok-docket.ensures.fields (sym c.is_unborn.ensures ∙ c.if-not-is_unborn.false) (c.in_err-nodes.ensures.found told))
+    (sym c.in_ok-docket.ensures.refused) c.in_ok-docket.ensures.fields (sym c.is_unborn.ensures ∙ c.if-not-is_unborn.false) (c.in_err-nodes.ensures.found told))
 
 pub returns-clause-found : goal.returns-clause-found
 returns-clause-found g c = λ told.

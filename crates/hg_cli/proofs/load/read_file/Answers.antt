@@ -1,4 +1,4 @@
-use Rattle.std.proofs.Common.{◌∙◌, sym}
+use Rattle.std.proofs.Common.{◌∙◌}
 use Rattle.hg_cli.specs.Loaded.{bytes_of}
 use Rattle.hg_cli.proofs.Loads.{file_rest, gone_sized}
 use Rattle.hg_cli.proofs.load.read_file.Goals as goal
