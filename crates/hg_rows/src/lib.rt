@@ -24,6 +24,8 @@ mod devices;
 #[cfg(test)]
 mod docket_faults;
 #[cfg(test)]
+mod flat;
+#[cfg(test)]
 mod listings;
 #[cfg(test)]
 mod refusals;

@@ -80,7 +80,7 @@ fn place(alloc: Global, tree: &mut MemTree, path: &str, what: What) -> Result<()
     Ok(())
 }
 
-fn tree_of(alloc: Global, setting: Setting) -> Result<MemTree, Fail> {
+pub(crate) fn tree_of(alloc: Global, setting: Setting) -> Result<MemTree, Fail> {
     let mut tree = MemTree::new(alloc, NOON);
     for (path, what) in setting.things {
         place(alloc, &mut tree, path, *what)?;

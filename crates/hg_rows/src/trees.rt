@@ -19,8 +19,8 @@ const DIR: Record = Record {
     ..NODE
 };
 
-// `a`, `d/0` and `d/1` as the format's example lays them out.
-fn three(alloc: Global) -> Result<Files, Fail> {
+/// `a`, `d/0` and `d/1` as the format's example lays them out.
+pub(crate) fn three(alloc: Global) -> Result<Files, Fail> {
     let mut bytes = data(
         alloc,
         b"ad/0d/1",
