@@ -3,13 +3,10 @@ ghost use Rattle.std.specs.Prelude.{◌≡◌};
 ghost use Rattle.hg_base.specs.Fault.{HasCause};
 
 use hg_base::{Failed, risen};
-use std::fs::Metadata;
-use std::io::{Error, ErrorKind};
-use std::rt::Files;
-use std::{fs, io};
+use std::io::{self, Error, ErrorKind};
 
 // Nothing stands there: no such name, an ancestor that is no directory, or a name that is too long for the system to hold.
-fn is_absence(error: &Error) -> bool {
+pub(crate) fn is_absence(error: &Error) -> bool {
     matches!(
         error.kind(),
         ErrorKind::NotFound | ErrorKind::NotADirectory | ErrorKind::InvalidFilename
@@ -23,11 +20,6 @@ pub(crate) fn found<T: Drop>(answer: io::Result<T>) -> Result<Option<T>, Failed>
         Err(error) if is_absence(&error) => Ok(None),
         Err(_) => Err(Failed),
     }
-}
-
-// The metadata of what stands at the path, a link at its end not followed.
-pub(crate) fn look<R: Files>(rt: &R, path: &str) -> Result<Option<Metadata>, Failed> {
-    found(fs::symlink_metadata(rt, path))
 }
 
 // Counts a failure, and hands the answer on.
