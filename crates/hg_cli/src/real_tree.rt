@@ -70,7 +70,8 @@ fn counted_listing<T: Drop>(faults: &mut u64, answer: Result<T, TreeFault>) -> R
     }
 }
 
-// What stands at the path, no link followed. It has a frame of its own, as the listing has.
+// What stands at the path, no link followed. It has a frame of its own, as the listing has. Metadata are large: they are looked at
+// where they come, and not handed on.
 #[inline(never)]
 fn stat_at<R: Files>(rt: &R, path: &str) -> Result<Option<Stat>, Failed>
     ensures { IfOk result (λ found. IfSome found IsPlain) }
