@@ -99,14 +99,17 @@ def make_files(root, paths):
 
 
 def directory(number):
-    """The directories of a tree, counted from 1: ten at the top, and ten in each of the others, as far as the numbers go."""
-    name = f"dir{number % 10}"
-    return f"{directory((number - 1) // 10)}/{name}" if number > 10 else name
+    """The directories, counted from 0: each fifty of them are a package, with three directories in it and three in each of these, as far as
+    the fifty go. So a copy with more packages is no deeper."""
+    inner = number % 50
+    if not inner:
+        return f"package{number // 50:03}"
+    return f"{directory(number - inner + (inner - 1) // 3)}/dir{inner % 3}"
 
 
 def in_directories(count):
-    """Paths of that many files, 20 in each directory of such a tree."""
-    return [f"{directory(i + 1)}/file{j:02}" for i in range(count // IN_EACH) for j in range(IN_EACH)]
+    """Paths of that many files, 20 in each directory."""
+    return [f"{directory(i)}/file{j:02}" for i in range(count // IN_EACH) for j in range(IN_EACH)]
 
 
 def listing(bench):
