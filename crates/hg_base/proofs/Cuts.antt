@@ -4,7 +4,9 @@ use Rattle.std.specs.Option.{MatchOption}
 use Rattle.std.specs.Str.Pattern.{RFindsChar}
 use Rattle.std.specs.Prelude.{codes}
 use Rattle.std.specs.Str.{bytes_eq}
+use Rattle.std.specs.Prelude.{count_by, ◌==◌}
 use Rattle.std.proofs.lemmas.List.{length-append}
+use Rattle.std.proofs.lemmas.List.Splits.{length-slice_split}
 use Rattle.std.proofs.lemmas.Bool.{or_from, ne_eqb}
 use Rattle.std.proofs.lemmas.Str.Pattern.{IsSplitOnceResult, split_parts, NoCharPasses-char, drop_at_char}
 use Rattle.hg_base.specs.PathText.{has_slash, components, is_component, is_reserved, base_of, parent_of, is_same_dir, child_of}
@@ -86,12 +88,9 @@ bad_found at text front rest e plain bad =
 pub bad_last : (at : ℕ) (text : List ℕ) → has_slash text ≡ false → bad_place at (components text) ≡ cond (is_component text) None (Some at)
 bad_last at text plain = ap (bad_place at) (components_name text plain)
 
--- a count of the pieces: one piece on, and at the last
-pub count_more : (text front rest : List ℕ) → text ≡ front ++ 47 ∷ rest → has_slash front ≡ false → length (components text) ≡ length (components rest) + 1
-count_more text front rest e plain = ap length (cut_pieces text front rest e plain) ∙ omega arith
-
-pub count_last : (text : List ℕ) → has_slash text ≡ false → length (components text) ≡ 1
-count_last text plain = ap length (components_name text plain)
+-- the pieces are one more than the slashes
+pub one_more_than_slashes : (text : List ℕ) → length (components text) ≡ count_by (λ b. b == 47) text + 1
+one_more_than_slashes text = length-slice_split (λ b. b == 47) text
 
 -- what is behind a slash is shorter
 pub cut_length : (text front rest : List ℕ) → text ≡ front ++ 47 ∷ rest → length text ≡ length front + 1 + length rest

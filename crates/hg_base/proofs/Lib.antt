@@ -4,4 +4,5 @@ pub mod Compared
 pub mod Components
 pub mod Cuts
 pub mod Faults
+pub mod Joined
 pub mod Paths

@@ -22,6 +22,7 @@
 
 mod fault;
 mod id;
+mod names;
 mod order;
 mod owned;
 mod path;
@@ -32,6 +33,7 @@ mod words;
 
 pub use fault::{Failed, OutOfMemory, risen};
 pub use id::Id20;
+pub use names::makes_path;
 pub use owned::{Blob, Text};
 pub use path::{Path, PathFault, PathRef};
 pub use rules::{child_name, is_below, is_component};

@@ -73,18 +73,13 @@ fn bad_place(text: &str) -> Option<u32>
 }
 
 /// How many components a text has.
-#[tactic(auto, using(crate::proofs::Cuts::count_more, crate::proofs::Cuts::count_last, crate::proofs::Cuts::cut_length))]
-fn depth(text: &str) -> u32
+#[tactic(auto, using(crate::proofs::Cuts::one_more_than_slashes))]
+pub(crate) fn depth(text: &str) -> u32
     requires { length text.now < 2 ^ 32 - 1 }
     ensures { result ≡ length (components text.now) }
 {
-    let mut slashes = 0;
-    let mut rest = text;
-    while let Some((_, behind)) = cut(rest) {
-        slashes += 1;
-        rest = behind;
-    }
-    slashes + 1
+    let slashes = text.bytes().filter(|b| *b == b'/').count();
+    slashes as u32 + 1
 }
 
 /// Why a text is no path, if it isn't: the first rule that it breaks.
