@@ -3,10 +3,8 @@ ghost use Rattle.std.specs.Prelude.{◌≡◌};
 ghost use Rattle.hg_base.specs.Fault.{HasCause};
 
 use hg_base::{Failed, risen};
-use std::fs::Metadata;
+use std::io;
 use std::io::{Error, ErrorKind};
-use std::rt::Files;
-use std::{fs, io};
 
 // Nothing stands there: no such name, an ancestor that is no directory, or a name that is too long for the system to hold.
 fn is_absence(error: &Error) -> bool {
@@ -16,18 +14,24 @@ fn is_absence(error: &Error) -> bool {
     )
 }
 
+// An error that says that nothing stands there is an answer, and any other a failure.
+pub(crate) fn missing(error: &Error) -> Result<(), Failed> {
+    if is_absence(error) {
+        Ok(())
+    } else {
+        Err(Failed)
+    }
+}
+
 // What a call on a path found, where anything stands there.
 pub(crate) fn found<T: Drop>(answer: io::Result<T>) -> Result<Option<T>, Failed> {
     match answer {
         Ok(thing) => Ok(Some(thing)),
-        Err(error) if is_absence(&error) => Ok(None),
-        Err(_) => Err(Failed),
+        Err(error) => {
+            missing(&error)?;
+            Ok(None)
+        }
     }
-}
-
-// The metadata of what stands at the path, a link at its end not followed.
-pub(crate) fn look<R: Files>(rt: &R, path: &str) -> Result<Option<Metadata>, Failed> {
-    found(fs::symlink_metadata(rt, path))
 }
 
 // Counts a failure, and hands the answer on.

@@ -1,14 +1,14 @@
 // The working copy in the file system: the names in a directory.
-ghost use Rattle.std.specs.Prelude.{◌≡◌, IsTrue, IfOk, OnOk, IfSome, All, option_map};
+ghost use Rattle.std.specs.Prelude.{IfOk, OnOk, IfSome, All, option_map};
 ghost use Rattle.hg_tree.specs.Moment.{AreFit, IsFit};
 
-use crate::disk::found;
+use crate::disk::missing;
 use crate::real_tree::{is_dir, is_reached};
-use hg_base::{Failed, PathRef};
+use hg_base::{Failed, PathRef, makes_path};
 use hg_tree::{Name, TreeFault};
 use std::alloc::Global;
 use std::fs::{DirEntry, ReadDir};
-use std::io::ErrorKind;
+use std::io::{Error, ErrorKind};
 use std::rt::Files;
 use std::{fs, io};
 
@@ -25,12 +25,15 @@ pub(crate) fn list_at<R: Files + AllocGlobal + Clone + Drop>(
     if !has_dir(rt, dir)? {
         return Ok(None);
     }
-    match opened(fs::read_dir(rt, folder(dir)))? {
-        Some(entries) => {
+    match fs::read_dir(rt, folder(dir)) {
+        Ok(entries) => {
             let names = read_names(alloc, dir, entries)?;
             Ok(Some(names))
         }
-        None => Ok(None),
+        Err(error) => {
+            unlisted(&error)?;
+            Ok(None)
+        }
     }
 }
 
@@ -54,11 +57,13 @@ fn folder(dir: Option<PathRef<'_>>) -> &str {
     }
 }
 
-fn opened<T: Drop>(answer: io::Result<T>) -> Result<Option<T>, TreeFault> {
-    match answer {
-        Err(error) if error.kind() == ErrorKind::OutOfMemory => Err(TreeFault::OutOfMemory),
-        answer => Ok(found(answer)?),
+// An error of a listing that says that no directory stands there is an answer.
+fn unlisted(error: &Error) -> Result<(), TreeFault> {
+    if error.kind() == ErrorKind::OutOfMemory {
+        return Err(TreeFault::OutOfMemory);
     }
+    missing(error)?;
+    Ok(())
 }
 
 // The names that the entries have, each once.
@@ -103,12 +108,20 @@ fn read_name<R: Files + Clone + Drop>(
     ensures { IfOk result (λ found. IfSome found (λ name. IsFit (option_map (λ d. d.text.now) dir.entry) name)) }
 {
     let entry = present(entry)?;
-    let text = path_text(dir, &entry);
-    if text == ".hg" {
+    let name = entry.file_name();
+    if is_own(dir, name) {
         return Ok(None);
     }
-    let name = Name::of(alloc, fit_name(dir, text)?)?;
+    if !makes_path(dir, name) {
+        return Err(TreeFault::Failed);
+    }
+    let name = Name::of(alloc, name)?;
     Ok(Some(name))
+}
+
+// Mercurial's own directory, which is no part of the working copy.
+fn is_own(dir: Option<PathRef<'_>>, name: &str) -> bool {
+    dir.is_none() && name == ".hg"
 }
 
 // An entry that isn't text is a failure, as is one that couldn't be read.
@@ -117,33 +130,5 @@ fn present<T: Drop>(entry: io::Result<T>) -> Result<T, TreeFault> {
         Ok(entry) => Ok(entry),
         Err(error) if error.kind() == ErrorKind::OutOfMemory => Err(TreeFault::OutOfMemory),
         Err(_) => Err(TreeFault::Failed),
-    }
-}
-
-// The path of an entry below the root of the working copy.
-fn path_text<'a, R: Files>(dir: Option<PathRef<'_>>, entry: &'a DirEntry<R, Global>) -> &'a str {
-    match dir {
-        Some(_) => entry.path().as_str(),
-        None => entry.file_name(),
-    }
-}
-
-// The name in the directory of what stands at a path right in it.
-fn fit_name<'a>(dir: Option<PathRef<'_>>, text: &'a str) -> Result<&'a str, Failed>
-    ensures { IfOk result (λ name. IsFit (option_map (λ d. d.text.now) dir.entry) name.now) }
-{
-    match PathRef::read(text) {
-        Ok(path) if is_same(path.parent(), dir) => Ok(path.base()),
-        _ => Err(Failed),
-    }
-}
-
-fn is_same(parent: Option<PathRef<'_>>, dir: Option<PathRef<'_>>) -> bool
-    ensures { IsTrue result → option_map (λ d. d.text.now) parent.entry ≡ option_map (λ d. d.text.now) dir.entry }
-{
-    match (parent, dir) {
-        (Some(parent), Some(dir)) => parent.text == dir.text,
-        (None, None) => true,
-        _ => false,
     }
 }

@@ -4,11 +4,12 @@ ghost use Rattle.hg_tree.specs.Moment.{IsPlain};
 ghost use Rattle.hg_tree.specs.declared.fault.TreeFault.TheVariants as a_fault;
 ghost use Rattle.hg_base.specs.Fault.{HasCause};
 
-use crate::disk::{counted, look};
+use crate::disk::{counted, missing};
 use crate::entries::list_at;
 use hg_base::{Failed, Kind, PathRef, Stat, Time, risen};
 use hg_tree::{Name, Tree, TreeFault};
 use std::alloc::Global;
+use std::fs;
 use std::fs::Metadata;
 use std::os::unix::fs::MetadataExt;
 use std::rt::Files;
@@ -78,38 +79,47 @@ fn stat_at<R: Files>(rt: &R, path: &str) -> Result<Option<Stat>, Failed>
     if !is_reached(rt, path)? {
         return Ok(None);
     }
-    match look(rt, path)? {
-        Some(metadata) => {
+    match fs::symlink_metadata(rt, path) {
+        Ok(metadata) => {
             let stat = stat_of(&metadata)?;
             Ok(Some(stat))
         }
-        None => Ok(None),
+        Err(error) => {
+            missing(&error)?;
+            Ok(None)
+        }
     }
 }
 
 // Whether each proper ancestor of the path is a directory, and no link to one. The highest is looked at first.
 pub(crate) fn is_reached<R: Files>(rt: &R, path: &str) -> Result<bool, Failed> {
-    for end in 1..path.len() {
-        if !leads(rt, path, end)? {
-            return Ok(false);
+    for (end, byte) in path.bytes().enumerate() {
+        if byte == b'/' {
+            if !leads(rt, path, end)? {
+                return Ok(false);
+            }
         }
     }
     Ok(true)
 }
 
-// Where a slash stands at `end`, what is before it is a directory.
+// Whether what is before `end` is a directory.
 fn leads<R: Files>(rt: &R, path: &str, end: usize) -> Result<bool, Failed> {
     match path.split_at_checked(end) {
-        Some((ancestor, rest)) if rest.starts_with('/') => is_dir(rt, ancestor),
-        _ => Ok(true),
+        Some((ancestor, _)) => is_dir(rt, ancestor),
+        None => Ok(false),
     }
 }
 
-// Whether a directory stands at the path, and no link to one.
+// Whether a directory stands at the path, and no link to one. (The metadata are looked at where they come, since each copy of them
+// costs time.)
 pub(crate) fn is_dir<R: Files>(rt: &R, path: &str) -> Result<bool, Failed> {
-    match look(rt, path)? {
-        Some(metadata) => Ok(metadata.is_dir()),
-        None => Ok(false),
+    match fs::symlink_metadata(rt, path) {
+        Ok(metadata) => Ok(metadata.is_dir()),
+        Err(error) => {
+            missing(&error)?;
+            Ok(false)
+        }
     }
 }
 
