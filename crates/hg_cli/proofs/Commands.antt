@@ -25,7 +25,7 @@ use Rattle.hg_report.specs.declared.fault.Fault.TheVariants as a_fault
 use Rattle.hg_shelf.specs.History as shelf
 use Rattle.hg_tree.specs.History as tree
 use Rattle.hg_tree.specs.Moment.{Moment}
-use Rattle.hg_cli.specs.Command.{CommandCause, IsAsExpected, IsBegun, IsFaultOrMemory, IgnoreAnswer, IgnoreFound, IsIgnoreFault, IsListed, IsPrinted, LeavesOut, ListCause, Meets, ShelfFound, expected, expected_of, has_ignore_file, is_status, plain_style}
+use Rattle.hg_cli.specs.Command.{CommandCause, IsAsExpected, IsBegun, IsBrokenOff, IsFaultOrMemory, IgnoreAnswer, IgnoreFound, IsIgnoreFault, IsListed, IsPrinted, LeavesOut, ListCause, Meets, ShelfFound, expected, expected_of, has_ignore_file, is_status, plain_style}
 use Rattle.hg_cli.specs.Load.{load_result}
 use Rattle.hg_cli.specs.Loaded.{During, FaultFound, Finds, FindsDuring, IsLoadFault, files_at}
 
@@ -162,19 +162,20 @@ cause_listed built old new before after shelf_rose tree_rose out_rose a_fault.Tr
 cause_listed built old new before after shelf_rose tree_rose out_rose a_fault.ShelfFailed cause shelf_failed tree_failed = shelf_failed refl
 cause_listed built old new before after shelf_rose tree_rose out_rose a_fault.OutFailed cause shelf_failed tree_failed = absurd cause
 
-no_text : (bytes : Option (List ℕ)) → (text : List ℕ) × GrownByFront bytes bytes text
-no_text bytes = ([], ([], record { front = []; parts = refl; grown = grown_by_nothing bytes }))
+-- a listing prints nothing, so that no output fails it
+pub not_printing : (old new : shelf.History) (before after : tree.History) (fault : Fault) → ListCause old new before after fault → fault ≡ a_fault.OutFailed → ⊥
+not_printing old new before after fault cause is = subst (ListCause old new before after) is cause
 
 -- a fault that is met before anything is printed
-pub left_same : (fault : Fault) (bytes : Option (List ℕ)) → LeavesOut fault bytes bytes
-left_same a_fault.OutOfMemory bytes = no_text bytes
-left_same a_fault.OutFailed bytes = no_text bytes
-left_same a_fault.NotBuilt bytes = refl
-left_same (a_fault.Docket fault) bytes = refl
-left_same (a_fault.Node fault) bytes = refl
-left_same (a_fault.DataGone ids) bytes = refl
-left_same a_fault.TreeFailed bytes = refl
-left_same a_fault.ShelfFailed bytes = refl
+pub left_same : (Failed : Type 0) (fault : Fault) (bytes : Option (List ℕ)) → (fault ≡ a_fault.OutFailed → ⊥) → LeavesOut Failed fault bytes bytes
+left_same Failed a_fault.OutOfMemory bytes other = inl refl
+left_same Failed a_fault.OutFailed bytes other = absurd (other refl)
+left_same Failed a_fault.NotBuilt bytes other = refl
+left_same Failed (a_fault.Docket fault) bytes other = refl
+left_same Failed (a_fault.Node fault) bytes other = refl
+left_same Failed (a_fault.DataGone ids) bytes other = refl
+left_same Failed a_fault.TreeFailed bytes other = refl
+left_same Failed a_fault.ShelfFailed bytes other = refl
 
 pub meets_memory : (fault : Fault) (expects : Option Fault) → fault ≡ a_fault.OutOfMemory → Meets fault expects
 meets_memory fault expects is = subst (λ (f : Fault). Meets f expects) (sym is) tt
@@ -185,6 +186,9 @@ printed files moment rows text old new listing is grown = record { rows = rows; 
 
 pub begun : (files : shelf.Files) (moment : Moment) (rows : List listing_row.Row) (text : List ℕ) (old new : Option (List ℕ)) → IsListed files moment rows → text ≡ text_of plain_style rows → GrownByFront old new text → IsBegun files moment old new
 begun files moment rows text old new listing is grown = record { rows = rows; listing = listing; printed = subst (GrownByFront old new) is grown }
+
+pub broken_off : (Failed : Type 0) (rows : List listing_row.Row) (text : List ℕ) (old new : Option (List ℕ)) → text ≡ text_of plain_style rows → Failed → GrownByFront old new text → IsBrokenOff Failed old new
+broken_off Failed rows text old new is failed grown = record { rows = rows; failed = failed; printed = subst (GrownByFront old new) is grown }
 
 -- ---- the run
 
@@ -200,16 +204,16 @@ steady_meets words files moment built old new before after s t o s' t' o' a_faul
 steady_meets words files moment built old new before after s t o s' t' o' a_fault.ShelfFailed p q r cause meets = absurd (steady_not_rose s s' p cause)
 steady_meets words files moment built old new before after s t o s' t' o' a_fault.OutFailed p q r cause meets = absurd (steady_not_rose o o' r cause)
 
--- every fault may leave a front of a text, where it is answered as want of memory
-pub left_any : (fault : Fault) (old new : Option (List ℕ)) → LeavesOut fault old new → (text : List ℕ) × GrownByFront old new text
-left_any a_fault.OutOfMemory old new left = left
-left_any a_fault.OutFailed old new left = left
-left_any a_fault.NotBuilt old new left = subst (λ (n : Option (List ℕ)). (text : List ℕ) × GrownByFront old n text) (sym left) (no_text old)
-left_any (a_fault.Docket fault) old new left = subst (λ (n : Option (List ℕ)). (text : List ℕ) × GrownByFront old n text) (sym left) (no_text old)
-left_any (a_fault.Node fault) old new left = subst (λ (n : Option (List ℕ)). (text : List ℕ) × GrownByFront old n text) (sym left) (no_text old)
-left_any (a_fault.DataGone ids) old new left = subst (λ (n : Option (List ℕ)). (text : List ℕ) × GrownByFront old n text) (sym left) (no_text old)
-left_any a_fault.TreeFailed old new left = subst (λ (n : Option (List ℕ)). (text : List ℕ) × GrownByFront old n text) (sym left) (no_text old)
-left_any a_fault.ShelfFailed old new left = subst (λ (n : Option (List ℕ)). (text : List ℕ) × GrownByFront old n text) (sym left) (no_text old)
+-- what a fault leaves may also be left where there is no memory for its line
+pub left_any : (Failed : Type 0) (fault : Fault) (old new : Option (List ℕ)) → LeavesOut Failed fault old new → LeavesOut Failed a_fault.OutOfMemory old new
+left_any Failed a_fault.OutOfMemory old new left = left
+left_any Failed a_fault.OutFailed old new left = inr left
+left_any Failed a_fault.NotBuilt old new left = inl left
+left_any Failed (a_fault.Docket fault) old new left = inl left
+left_any Failed (a_fault.Node fault) old new left = inl left
+left_any Failed (a_fault.DataGone ids) old new left = inl left
+left_any Failed a_fault.TreeFailed old new left = inl left
+left_any Failed a_fault.ShelfFailed old new left = inl left
 
 -- what holds of the fault that was met, and of want of memory, holds of the one that is answered
 pub of_answered : (P : Fault → Type 0) (answered : Option Fault) (fault : Fault) → IsFaultOrMemory answered fault → P fault → P a_fault.OutOfMemory → IfSome answered P

@@ -144,16 +144,27 @@ TellsLine old new before after fault = IsTold old new before after (line_of faul
 abbrev pub IsFaultOrMemory : Option Fault → Fault → Type 0
 IsFaultOrMemory answered fault = (answered ≡ Some fault) ⊎ (answered ≡ Some a_fault.OutOfMemory)
 
--- a fault that is met before anything is printed leaves standard output; one that printing meets leaves a front of a text there
-abbrev pub LeavesOut : Fault → Option (List ℕ) → Option (List ℕ) → Type 0
-LeavesOut a_fault.OutOfMemory old new = (text : List ℕ) × GrownByFront old new text
-LeavesOut a_fault.OutFailed old new = (text : List ℕ) × GrownByFront old new text
-LeavesOut a_fault.NotBuilt old new = new ≡ old
-LeavesOut (a_fault.Docket fault) old new = new ≡ old
-LeavesOut (a_fault.Node fault) old new = new ≡ old
-LeavesOut (a_fault.DataGone ids) old new = new ≡ old
-LeavesOut a_fault.TreeFailed old new = new ≡ old
-LeavesOut a_fault.ShelfFailed old new = new ≡ old
+-- how a status is printed without options
+abbrev pub plain_style : Style
+plain_style = record { plain = false; nul = false; copies = false }
+
+-- standard output failed behind a front of the text of some rows
+pub record IsBrokenOff (Failed : Type 0) (old new : Option (List ℕ)) : Type 0 where
+  pub rows : List listed.Row
+  pub failed : Failed
+  pub printed : GrownByFront old new (text_of plain_style rows)
+
+-- a fault that is met before anything is printed leaves standard output as it was; one that printing meets leaves a front of the text. For
+-- the line of that one there may be no memory
+abbrev pub LeavesOut : Type 0 → Fault → Option (List ℕ) → Option (List ℕ) → Type 0
+LeavesOut failed a_fault.OutOfMemory old new = (new ≡ old) ⊎ IsBrokenOff failed old new
+LeavesOut failed a_fault.OutFailed old new = IsBrokenOff failed old new
+LeavesOut failed a_fault.NotBuilt old new = new ≡ old
+LeavesOut failed (a_fault.Docket fault) old new = new ≡ old
+LeavesOut failed (a_fault.Node fault) old new = new ≡ old
+LeavesOut failed (a_fault.DataGone ids) old new = new ≡ old
+LeavesOut failed a_fault.TreeFailed old new = new ≡ old
+LeavesOut failed a_fault.ShelfFailed old new = new ≡ old
 
 -- why a command met a fault: the words, what stood in the files or at the root, or a device whose count rose
 abbrev pub CommandCause : Bool → shelf.History → shelf.History → tree.History → tree.History → Type 0 → Type 0 → Type 0 → Fault → Type 0
@@ -170,10 +181,6 @@ CommandCause built shelf_old shelf_new tree_old tree_new shelf_rose tree_rose ou
 -- a command answers the expected fault, or finds no memory
 abbrev pub IsAsExpected : Option Fault → Option Fault → Type 0
 IsAsExpected fault expects = (fault ≡ Some a_fault.OutOfMemory) ⊎ (fault ≡ expects)
-
--- how a status is printed without options
-abbrev pub plain_style : Style
-plain_style = record { plain = false; nul = false; copies = false }
 
 -- the full listing was printed
 pub record IsPrinted (files : shelf.Files) (moment : Moment) (old new : Option (List ℕ)) : Type 0 where

@@ -61,7 +61,7 @@ fn status<T: Tree, S: Shelf, O: Sink>(
         (Rose (S.faults shelf.old) (S.faults shelf.new))
         (Rose (T.faults tree.old) (T.faults tree.new))
         (Rose (O.faults out.old) (O.faults out.new))) }
-    ensures left { IfErr result (λ fault. LeavesOut fault (O.bytes out.old) (O.bytes out.new)) }
+    ensures left { IfErr result (λ fault. LeavesOut (Rose (O.faults out.old) (O.faults out.new)) fault (O.bytes out.old) (O.bytes out.new)) }
     ensures front { tree_is.IsQuiet (T.history tree.old) (T.history tree.new)
         → shelf_is.IsQuiet (S.history shelf.old) (S.history shelf.new)
         → IfErr result (λ _. LeavesFront (shelf_is.now (S.history shelf.old)).files (tree_is.now (T.history tree.old)) (O.bytes out.old) (O.bytes out.new)) }
@@ -157,7 +157,7 @@ pub fn run<T: Tree, S: Shelf, I: Source, O: Sink, E: Sink>(
     ensures asked_shelf { shelf_is.Passes (S.history shelf.old) (S.history shelf.new) }
     ensures unread { input.new ≡ input.old }
     // What stands on the streams after a fault, and with which status it ends.
-    ensures left { IfSome result.fault (λ fault. LeavesOut fault (O.bytes out.old) (O.bytes out.new)) }
+    ensures left { IfSome result.fault (λ fault. LeavesOut (Rose (O.faults out.old) (O.faults out.new)) fault (O.bytes out.old) (O.bytes out.new)) }
     ensures front { tree_is.IsQuiet (T.history tree.old) (T.history tree.new)
         → shelf_is.IsQuiet (S.history shelf.old) (S.history shelf.new)
         → IfSome

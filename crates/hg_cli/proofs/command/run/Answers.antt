@@ -32,8 +32,8 @@ returns-in-Err-clause-complete g c = λ quiet still p q r.
 
 pub returns-in-Err-clause-left : goal.returns-in-Err-clause-left
 returns-in-Err-clause-left g c =
-    of_answered (λ f. LeavesOut f (g.O.Sink.bytes c.args.out.now) (g.O.Sink.bytes c.status.new.out)) c.failed.result.fault c.in-Err.fault c.failed.ensures.fault c.in-Err.ensures.left
-    (left_any c.in-Err.fault (g.O.Sink.bytes c.args.out.now) (g.O.Sink.bytes c.status.new.out) c.in-Err.ensures.left)
+    of_answered (λ f. LeavesOut (Rose (g.O.Sink.faults c.args.out.now) (g.O.Sink.faults c.status.new.out)) f (g.O.Sink.bytes c.args.out.now) (g.O.Sink.bytes c.status.new.out)) c.failed.result.fault c.in-Err.fault c.failed.ensures.fault c.in-Err.ensures.left
+    (left_any (Rose (g.O.Sink.faults c.args.out.now) (g.O.Sink.faults c.status.new.out)) c.in-Err.fault (g.O.Sink.bytes c.args.out.now) (g.O.Sink.bytes c.status.new.out) c.in-Err.ensures.left)
 
 pub returns-in-Err-clause-told : goal.returns-in-Err-clause-told
 returns-in-Err-clause-told g c =

@@ -5,7 +5,7 @@ use Rattle.hg_base.specs.Fault.{Rose}
 use Rattle.hg_shelf.specs.History as shelf
 use Rattle.hg_tree.specs.History as tree
 use Rattle.hg_cli.specs.Command.{expected, is_status}
-use Rattle.hg_cli.proofs.Commands.{begun, cause_listed, expected_built, left_same, meets_memory, printed}
+use Rattle.hg_cli.proofs.Commands.{begun, broken_off, cause_listed, expected_built, left_same, meets_memory, not_printing, printed}
 use Rattle.hg_cli.proofs.command.status.Goals as goal
 
 pub returns-in_err-rows-clause-expected : goal.returns-in_err-rows-clause-expected
@@ -25,7 +25,10 @@ returns-in_err-rows-clause-cause g c =
 
 pub returns-in_err-rows-clause-left : goal.returns-in_err-rows-clause-left
 returns-in_err-rows-clause-left g c =
-    let p = err_from_is_err_and c.from_residual.result c.from_residual.ensures.1 in rw p.1 (left_same p.0 (g.O.Sink.bytes c.args.out.now))
+    let p = err_from_is_err_and c.from_residual.result c.from_residual.ensures.1 in
+    rw p.1
+    (left_same (Rose (g.O.Sink.faults c.args.out.now) (g.O.Sink.faults c.args.out.now)) p.0 (g.O.Sink.bytes c.args.out.now)
+    (not_printing (g.S.Shelf.history c.args.shelf.now) (g.S.Shelf.history c.list.new.shelf) (g.T.Tree.history c.args.tree.now) (g.T.Tree.history c.list.new.tree) p.0 (rw p.2 c.in_err-rows.ensures.cause)))
 
 pub returns-in_err-text-clause-expected : goal.returns-in_err-text-clause-expected
 returns-in_err-text-clause-expected g c = λ quiet still.
@@ -34,7 +37,8 @@ returns-in_err-text-clause-expected g c = λ quiet still.
 
 pub returns-in_err-text-clause-left : goal.returns-in_err-text-clause-left
 returns-in_err-text-clause-left g c =
-    let p = err_from_is_err_and c.from_residual-in_err-text.result c.from_residual-in_err-text.ensures.1 in rw p.1 (left_same p.0 (g.O.Sink.bytes c.args.out.now))
+    let p = err_from_is_err_and c.from_residual-in_err-text.result c.from_residual-in_err-text.ensures.1 in
+    rw p.1 (left_same (Rose (g.O.Sink.faults c.args.out.now) (g.O.Sink.faults c.args.out.now)) p.0 (g.O.Sink.bytes c.args.out.now) (λ is. absurd (cc (p.2, is))))
 
 pub returns-clause-printed : goal.returns-clause-printed
 returns-clause-printed g c = λ quiet still.
@@ -56,3 +60,8 @@ pub returns-in-Err-clause-front : goal.returns-in-Err-clause-front
 returns-in-Err-clause-front g c = λ quiet still.
     inr (begun (shelf.now (g.S.Shelf.history c.args.shelf.now)).files (tree.now (g.T.Tree.history c.args.tree.now)) c.in_ok-rows.rows c.as_slice.result.now (g.O.Sink.bytes c.args.out.now) (g.O.Sink.bytes c.put_all.new.out)
     (c.in_ok-rows.ensures.full quiet still) (c.as_slice.ensures.value ∙ c.in_ok-text.ensures) c.in-Err.ensures.prefix)
+
+pub returns-in-Err-clause-left : goal.returns-in-Err-clause-left
+returns-in-Err-clause-left g c =
+    broken_off (Rose (g.O.Sink.faults c.args.out.now) (g.O.Sink.faults c.put_all.new.out)) c.in_ok-rows.rows c.as_slice.result.now (g.O.Sink.bytes c.args.out.now) (g.O.Sink.bytes c.put_all.new.out)
+    (c.as_slice.ensures.value ∙ c.in_ok-text.ensures) (c.in-Err.ensures.cause.rose tt) c.in-Err.ensures.prefix
