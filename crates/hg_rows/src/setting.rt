@@ -81,7 +81,7 @@ fn place(alloc: Global, tree: &mut MemTree, path: &str, what: What) -> Result<()
 }
 
 pub(crate) fn tree_of(alloc: Global, setting: Setting) -> Result<MemTree, Fail> {
-    let mut tree = MemTree::new(alloc, NOON);
+    let mut tree = MemTree::new(alloc, NOON)?;
     for (path, what) in setting.things {
         place(alloc, &mut tree, path, *what)?;
     }
@@ -92,7 +92,7 @@ pub(crate) fn tree_of(alloc: Global, setting: Setting) -> Result<MemTree, Fail> 
 }
 
 fn shelf_of(alloc: Global, files: &Files, setting: Setting) -> Result<MemShelf, OutOfMemory> {
-    let mut shelf = MemShelf::new(alloc);
+    let mut shelf = MemShelf::new(alloc)?;
     if let Some(bytes) = &files.docket {
         shelf.place("dirstate", bytes)?;
     }

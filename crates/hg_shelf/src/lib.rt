@@ -6,7 +6,7 @@
 //! tells them all.
 //!
 //! ```text
-//! let mut shelf = MemShelf::new(alloc);
+//! let mut shelf = MemShelf::new(alloc)?;
 //! shelf.place("dirstate", b"dirstate-v2\n")?;
 //! shelf.size("dirstate");             // Ok(Some(12))
 //! shelf.size("branch");               // Ok(None)

@@ -43,15 +43,15 @@ impl Model for MemShelf {
 
 impl MemShelf {
     /// A shelf without files.
-    pub fn new(alloc: Global) -> MemShelf
-        ensures { result ≡ fresh }
+    pub fn new(alloc: Global) -> Result<MemShelf, OutOfMemory>
+        ensures { IfOk result (λ shelf. shelf ≡ fresh) }
     {
-        MemShelf {
+        Ok(MemShelf {
             alloc,
             files: BTreeMap::new(alloc),
             changes: Vec::new(alloc),
             calls: Calls::new(alloc),
-        }
+        })
     }
 
     /// Another puts a file, in place of one of that name.

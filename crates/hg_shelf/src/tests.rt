@@ -5,7 +5,7 @@ use std::test::Fail;
 
 #[test]
 fn tells_sizes(rt: HostRuntime) -> Result<(), Fail> {
-    let mut shelf = MemShelf::new(rt.alloc());
+    let mut shelf = MemShelf::new(rt.alloc())?;
     shelf.place("dirstate", b"dirstate-v2\n")?;
     shelf.place("dirstate", b"v2\n")?;
     shelf.place("branch", b"")?;
@@ -24,7 +24,7 @@ fn tells_sizes(rt: HostRuntime) -> Result<(), Fail> {
 
 #[test]
 fn reads_past_a_place(rt: HostRuntime) -> Result<(), Fail> {
-    let mut shelf = MemShelf::new(rt.alloc());
+    let mut shelf = MemShelf::new(rt.alloc())?;
     shelf.place("dirstate", b"abcdef")?;
     shelf.fail_at(7)?;
     for (name, place, answer, bytes) in [

@@ -9,7 +9,7 @@
 //! (names that fit into paths, a failure only where the count of failures rose) holds of that one too.
 //!
 //! ```text
-//! let mut tree = MemTree::new(alloc, clock);
+//! let mut tree = MemTree::new(alloc, clock)?;
 //! tree.place(PathRef::read("src/main.c")?, Thing::File { exec: false, bytes }, mtime)?;
 //! tree.stat(PathRef::read("src")?)?;  // Some(Stat { kind: Kind::Dir, .. })
 //! tree.list(alloc, None)?;            // Some([src])

@@ -47,11 +47,13 @@ impl Model for MemTree {
 }
 
 impl MemTree {
-    /// An empty working copy whose clock stands at that time. It takes no memory.
-    pub fn new(alloc: Global, clock: Time) -> MemTree
-        ensures { result ≡ record { start = clock; changes = []; asked = []; failing = []; calls = 0; faults = 0 } }
+    /// An empty working copy whose clock stands at that time.
+    pub fn new(alloc: Global, clock: Time) -> Result<MemTree, OutOfMemory>
+        ensures { IfOk
+            result
+            (λ tree. tree ≡ record { start = clock; changes = []; asked = []; failing = []; calls = 0; faults = 0 }) }
     {
-        MemTree {
+        Ok(MemTree {
             alloc,
             start: clock,
             changes: Vec::new(alloc),
@@ -60,7 +62,7 @@ impl MemTree {
             calls: 0,
             faults: 0,
             things: BTreeMap::new(alloc),
-        }
+        })
     }
 
     /// Places a thing with the time of its last modification, or leaves all as it was.

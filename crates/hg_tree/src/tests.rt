@@ -19,7 +19,7 @@ fn at(seconds: i64) -> Time {
 
 // A file, a link below two directories, and a fifo beside them.
 fn sample(alloc: Global) -> Result<MemTree, Fail> {
-    let mut tree = MemTree::new(alloc, NOON);
+    let mut tree = MemTree::new(alloc, NOON)?;
     let bytes = Blob::of(alloc, b"hello")?;
     tree.place(
         PathRef::read("a")?,
