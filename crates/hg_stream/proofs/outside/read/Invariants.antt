@@ -1,0 +1,10 @@
+-- A read that was interrupted took nothing, and the buffer keeps its length.
+use Rattle.std.proofs.Common.{◌≡◌, length}
+use Rattle.std.specs.Io.KnownBytes.{Keeps}
+use Rattle.hg_stream.proofs.outside.read.Given as goal
+
+abbrev pub invariant-loop : goal.invariant-loop
+invariant-loop g l = record {
+  room : length l.buf ≡ length l.initial.buf;
+  kept : Keeps (g.R.Read.remaining l.initial.reader) (g.R.Read.remaining l.reader);
+}
