@@ -1,3 +1,4 @@
+pub mod Calls
 pub mod Cut
 pub mod Fault
 pub mod PathRefusal

@@ -17,9 +17,10 @@
 //! `Below`, `Children`, `Components`, `Compared`, `Paths`, and `Faults` for counts of failures.
 //!
 //! Devices (the working copy, `.hg`, input and output) count their failures; what "a count rose" means stands here once, in
-//! `specs/Fault.antt`.
+//! `specs/Fault.antt`. `Calls` counts those of a device in memory, which fails at the calls that it was told to.
 #![tactic(auto)]
 
+mod calls;
 mod fault;
 mod id;
 mod names;
@@ -31,6 +32,7 @@ mod stat;
 mod time;
 mod words;
 
+pub use calls::Calls;
 pub use fault::{Failed, OutOfMemory, risen};
 pub use id::Id20;
 pub use names::makes_path;

@@ -14,7 +14,6 @@
 //! ```
 #![tactic(auto)]
 
-mod calls;
 mod memory;
 mod outside;
 mod shelf;

@@ -1,16 +1,16 @@
 // A shelf in memory: the files as they are now, beside the changes that made them.
 ghost use Rattle.std.specs.Prelude.{◌≡◌, ℕ, ◌-◌, List, [], ◌∷◌, ◌++◌, length, take, drop, min, IfOk, OnOk, OnErr, is_err};
 ghost use Rattle.std.specs.BTreeMap.{get_by_text};
+ghost use Rattle.hg_base.specs.Calls.{fails_at, is_due, answered, failed};
 ghost use Rattle.hg_base.specs.Fault.{HasCause};
 ghost use Rattle.hg_shelf.specs.History.{now};
-ghost use Rattle.hg_shelf.specs.Memory.{history_of, with_file, fresh, is_due, answered, failed};
+ghost use Rattle.hg_shelf.specs.Memory.{history_of, with_file, fresh};
 ghost use Rattle.hg_shelf.specs.Reads.{size_of, ReadsBytes, IsWithin};
 ghost use Rattle.hg_shelf.specs.declared.outside.Outside.TheVariants as a_change;
 
-use crate::calls::Calls;
 use crate::outside::Outside;
 use crate::shelf::Shelf;
-use hg_base::{Blob, Failed, Got, OutOfMemory, Text};
+use hg_base::{Blob, Calls, Failed, Got, OutOfMemory, Text};
 use std::alloc::Global;
 use std::collections::BTreeMap;
 use std::marker::Model;
@@ -31,12 +31,7 @@ impl Model for MemShelf {
 
     ghost Value = { Memory };
 
-    ghost view = { λ s. record {
-      changes = s.changes.items;
-      failing = s.calls.failing.items;
-      calls = s.calls.made;
-      faults = s.calls.faults;
-    } };
+    ghost view = { λ s. record { changes = s.changes.items; calls = s.calls } };
 
     ghost invariant = { λ s. (name : List ℕ) → get_by_text s.files name ≡ (replayed s.changes.items empty).files name };
 }
@@ -71,7 +66,7 @@ impl MemShelf {
 
     /// Makes a call fail. Calls of the trait are counted from 0.
     pub fn fail_at(&mut self, call: u64) -> Result<(), OutOfMemory>
-        ensures ok { OnOk result (self.new ≡ record self.old { failing = self.old.failing ++ call ∷ [] }) }
+        ensures ok { OnOk result (self.new ≡ record self.old { calls = fails_at call self.old.calls }) }
         ensures err { OnErr result (self.new ≡ self.old) }
     {
         self.calls.fail_at(call)
@@ -81,15 +76,15 @@ impl MemShelf {
 impl Shelf for MemShelf {
     ghost history = { history_of };
 
-    ghost faults = { λ s. s.faults };
+    ghost faults = { λ s. s.calls.faults };
 
     // A call fails exactly where it was told to, and only counts.
     fn size(&mut self, name: &str) -> Result<Option<u64>, Failed>
         ensures found { IfOk result (λ size. size ≡ size_of ((now (history_of self.old)).files name.now)) }
-        ensures cause { HasCause self.old.faults self.new.faults result (λ e. Unit {0}) }
-        ensures due { is_err result ≡ is_due self.old }
-        ensures answered { OnOk result (self.new ≡ answered self.old) }
-        ensures failed { OnErr result (self.new ≡ failed self.old) }
+        ensures cause { HasCause self.old.calls.faults self.new.calls.faults result (λ e. Unit {0}) }
+        ensures due { is_err result ≡ is_due self.old.calls }
+        ensures answered { OnOk result (self.new ≡ record self.old { calls = answered self.old.calls }) }
+        ensures failed { OnErr result (self.new ≡ record self.old { calls = failed self.old.calls }) }
     {
         self.calls.begin()?;
         Ok(
@@ -102,10 +97,10 @@ impl Shelf for MemShelf {
     fn read_at(&mut self, name: &str, place: u64, buf: &mut [u8]) -> Result<Got, Failed>
         ensures found { IfOk result (λ got. ReadsBytes ((now (history_of self.old)).files name.now) place buf.old buf.new got) }
         ensures fit { IfOk result (λ got. IsWithin (length buf.old) got) }
-        ensures cause { HasCause self.old.faults self.new.faults result (λ e. Unit {0}) }
-        ensures due { is_err result ≡ is_due self.old }
-        ensures answered { OnOk result (self.new ≡ answered self.old) }
-        ensures failed { OnErr result (self.new ≡ failed self.old) }
+        ensures cause { HasCause self.old.calls.faults self.new.calls.faults result (λ e. Unit {0}) }
+        ensures due { is_err result ≡ is_due self.old.calls }
+        ensures answered { OnOk result (self.new ≡ record self.old { calls = answered self.old.calls }) }
+        ensures failed { OnErr result (self.new ≡ record self.old { calls = failed self.old.calls }) }
     {
         self.calls.begin()?;
         match self.files.get(name) {

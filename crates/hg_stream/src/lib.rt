@@ -11,7 +11,6 @@
 //! ```
 #![tactic(auto)]
 
-mod calls;
 mod memory;
 mod outside;
 mod sink;

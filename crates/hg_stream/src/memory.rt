@@ -1,13 +1,13 @@
 // Streams in memory: a sink that keeps what is put into it, and a source of given bytes.
 ghost use Rattle.std.specs.Prelude.{◌≡◌, ◌<◌, ◌≤◌, ◌↔◌, false, List, [], ◌∷◌, ◌++◌, length, take, drop, min, Some, IfOk, IfSome, OnOk, OnErr, is_err};
+ghost use Rattle.hg_base.specs.Calls.{fails_at, is_due, answered, failed};
 ghost use Rattle.hg_base.specs.Fault.{HasCause};
-ghost use Rattle.hg_stream.specs.Memory.{fresh, is_due, answered, failed};
+ghost use Rattle.hg_stream.specs.Memory.{fresh};
 ghost use Rattle.hg_stream.specs.Stream.{Takes};
 
-use crate::calls::Calls;
 use crate::sink::Sink;
 use crate::source::Source;
-use hg_base::{Failed, OutOfMemory};
+use hg_base::{Calls, Failed, OutOfMemory};
 use std::alloc::Global;
 use std::marker::Model;
 
@@ -28,9 +28,7 @@ impl Model for MemSink {
     ghost view = { λ s. record {
       bytes = s.put.items;
       most = s.most;
-      failing = s.calls.failing.items;
-      calls = s.calls.made;
-      faults = s.calls.faults;
+      calls = s.calls;
     } };
 
     ghost invariant = { λ s. 0 < s.most };
@@ -51,7 +49,7 @@ impl MemSink {
 
     /// Makes a call fail; calls are counted from 0.
     pub fn fail_at(&mut self, call: u64) -> Result<(), OutOfMemory>
-        ensures ok { OnOk result (self.new ≡ record self.old { failing = self.old.failing ++ call ∷ [] }) }
+        ensures ok { OnOk result (self.new ≡ record self.old { calls = fails_at call self.old.calls }) }
         ensures err { OnErr result (self.new ≡ self.old) }
     {
         self.calls.fail_at(call)
@@ -68,17 +66,17 @@ impl MemSink {
 impl Sink for MemSink {
     ghost bytes = { λ s. Some s.bytes };
 
-    ghost faults = { λ s. s.faults };
+    ghost faults = { λ s. s.calls.faults };
 
     fn put(&mut self, piece: &[u8]) -> Result<usize, Failed>
         ensures least { IfOk result (λ n. 0 < length piece.now → 0 < n) }
-        ensures cause { HasCause self.old.faults self.new.faults result (λ e. Unit {0}) }
+        ensures cause { HasCause self.old.calls.faults self.new.calls.faults result (λ e. Unit {0}) }
 
         // A call that was told to fail fails, and else only one that finds no memory. What it takes is all that it may.
-        ensures due { OnOk result (is_due self.old ≡ false) }
+        ensures due { OnOk result (is_due self.old.calls ≡ false) }
         ensures answer { IfOk result (λ n. n ≡ min (length piece.now) self.old.most) }
-        ensures answered { IfOk result (λ n. self.new ≡ answered (self.old.bytes ++ take n piece.now) self.old) }
-        ensures failed { OnErr result (self.new ≡ failed self.old) }
+        ensures answered { IfOk result (λ n. self.new ≡ record self.old { bytes = self.old.bytes ++ take n piece.now; calls = answered self.old.calls }) }
+        ensures failed { OnErr result (self.new ≡ record self.old { calls = failed self.old.calls }) }
     {
         self.calls.begin()?;
         let n = piece.len().min(self.most);
@@ -108,9 +106,7 @@ impl Model for MemSource {
     ghost view = { λ s. record {
       bytes = drop s.at s.bytes.items;
       most = s.most;
-      failing = s.calls.failing.items;
-      calls = s.calls.made;
-      faults = s.calls.faults;
+      calls = s.calls;
     } };
 
     ghost invariant = { λ s. (0 < s.most) × (s.at ≤ length s.bytes.items) };
@@ -132,7 +128,7 @@ impl MemSource {
 
     /// Makes a call fail; calls are counted from 0.
     pub fn fail_at(&mut self, call: u64) -> Result<(), OutOfMemory>
-        ensures ok { OnOk result (self.new ≡ record self.old { failing = self.old.failing ++ call ∷ [] }) }
+        ensures ok { OnOk result (self.new ≡ record self.old { calls = fails_at call self.old.calls }) }
         ensures err { OnErr result (self.new ≡ self.old) }
     {
         self.calls.fail_at(call)
@@ -142,18 +138,18 @@ impl MemSource {
 impl Source for MemSource {
     ghost left = { λ s. Some s.bytes };
 
-    ghost faults = { λ s. s.faults };
+    ghost faults = { λ s. s.calls.faults };
 
     fn take(&mut self, buf: &mut [u8]) -> Result<usize, Failed>
         ensures taken { IfOk result (λ n. Takes self.old.bytes self.new.bytes buf.old buf.new n) }
         ensures end { IfOk result (λ n. 0 < length buf.old → n ≡ 0 ↔ self.old.bytes ≡ []) }
-        ensures cause { HasCause self.old.faults self.new.faults result (λ e. Unit {0}) }
+        ensures cause { HasCause self.old.calls.faults self.new.calls.faults result (λ e. Unit {0}) }
 
         // A call fails exactly where it was told to. What it gives is all that it may.
-        ensures due { is_err result ≡ is_due self.old }
+        ensures due { is_err result ≡ is_due self.old.calls }
         ensures answer { IfOk result (λ n. n ≡ min (length self.old.bytes) (min (length buf.old) self.old.most)) }
-        ensures answered { IfOk result (λ n. self.new ≡ answered (drop n self.old.bytes) self.old) }
-        ensures failed { OnErr result (self.new ≡ failed self.old) }
+        ensures answered { IfOk result (λ n. self.new ≡ record self.old { bytes = drop n self.old.bytes; calls = answered self.old.calls }) }
+        ensures failed { OnErr result (self.new ≡ record self.old { calls = failed self.old.calls }) }
     {
         self.calls.begin()?;
         let left = self.bytes.as_slice().split_at(self.at).1;

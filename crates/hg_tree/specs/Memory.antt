@@ -1,6 +1,6 @@
 -- The tree in memory: how it began, what others changed, what it was asked and which of its calls fail.
-use Rattle.std.specs.Prelude.{ℕ, ◌≡◌, ◌≤◌, ◌+◌, ◌-◌, ◌^◌, min, ◌==◌, Bool, true, if◌then◌else◌, List, length, take}
-use Rattle.std.specs.List.{list_any}
+use Rattle.std.specs.Prelude.{ℕ, ◌≡◌, ◌≤◌, true, List, length, take}
+use Rattle.hg_base.specs.Calls.{Counted}
 use Rattle.hg_base.specs.declared.time.Time.{Time}
 use Rattle.hg_tree.specs.declared.asked.Asked.{Asked}
 use Rattle.hg_tree.specs.declared.asked.Outside.{Outside}
@@ -8,15 +8,12 @@ use Rattle.hg_tree.specs.Moment.{Things, empty_at, IsFormed}
 use Rattle.hg_tree.specs.Change.{replayed}
 use Rattle.hg_tree.specs.History.{History, others}
 
--- the changes and the asks stand in the order in which they were made. Calls are counted from 0, and `failing` has the numbers of
--- those that fail
+-- the changes and the asks stand in the order in which they were made
 pub record Memory : Type 0 where
   pub start : Time
   pub changes : List Outside
   pub asked : List Asked
-  pub failing : List ℕ
-  pub calls : ℕ
-  pub faults : ℕ
+  pub calls : Counted
 
 -- its moments are the empty working copy and then one for each change, all made by others
 abbrev pub history_of : Memory → History
@@ -26,17 +23,6 @@ history_of memory = record {
   at = λ k. replayed (take k memory.changes) (empty_at memory.start);
   who = λ k. others;
   asked = memory.asked;
-}
-
--- the next call was told to fail
-abbrev pub is_due : Memory → Bool
-is_due memory = list_any (λ call. call == memory.calls) memory.failing
-
--- a call is counted, and so is its failure where it was told to fail
-abbrev pub begun : Memory → Memory
-begun memory = record memory {
-  calls = min (memory.calls + 1) (2 ^ 64 - 1);
-  faults = if is_due memory then min (memory.faults + 1) (2 ^ 64 - 1) else memory.faults;
 }
 
 -- what is shown now is what the changes make, and each moment so far is well formed

@@ -1,12 +1,14 @@
 //! A working copy in memory, for tests.
 
-ghost use Rattle.std.specs.Prelude.{◌≡◌, ◌++◌, ◌∷◌, [], not, option_map, IsTrue, OnOk, OnErr, IfOk, IfSome, is_ok};
+ghost use Rattle.std.specs.Prelude.{◌≡◌, ◌++◌, ◌∷◌, [], false, option_map, IsTrue, OnOk, OnErr, IfOk, IfErr, IfSome, is_ok, is_err};
+ghost use Rattle.hg_base.specs.Calls.{unmade, fails_at, is_due, answered, failed};
 ghost use Rattle.hg_base.specs.Fault.{HasCause};
 ghost use Rattle.hg_tree.specs.declared.asked.Outside.TheVariants as a_change;
 ghost use Rattle.hg_tree.specs.declared.asked.Asked.TheVariants as an_ask;
+ghost use Rattle.hg_tree.specs.declared.fault.TreeFault.TheVariants as a_fault;
 ghost use Rattle.hg_tree.specs.Moment.{AreFit, IsPlain, Lists, is_short_thing, stat_at};
-ghost use Rattle.hg_tree.specs.History.{AreFormed, now};
-ghost use Rattle.hg_tree.specs.Memory.{begun, history_of, is_due};
+ghost use Rattle.hg_tree.specs.History.{AreFormed, Asks, Passes, now};
+ghost use Rattle.hg_tree.specs.Memory.{history_of};
 
 use crate::asked::{Asked, Outside};
 use crate::device::Tree;
@@ -15,7 +17,7 @@ use crate::listing::{is_listed, names_in};
 use crate::name::Name;
 use crate::thing::{Placed, Thing, stat_of};
 use crate::things::{remove, settle};
-use hg_base::{Failed, OutOfMemory, Path, PathRef, Stat, Time, risen};
+use hg_base::{Calls, Failed, OutOfMemory, Path, PathRef, Stat, Time};
 use std::alloc::Global;
 use std::collections::BTreeMap;
 use std::marker::Model;
@@ -29,9 +31,7 @@ pub struct MemTree {
     start: Time,
     changes: Vec<Outside>,
     asked: Vec<Asked>,
-    failing: Vec<u64>,
-    calls: u64,
-    faults: u64,
+    calls: Calls,
     things: BTreeMap<String, Placed>,
 }
 
@@ -41,7 +41,7 @@ impl Model for MemTree {
 
     ghost Value = { Memory };
 
-    ghost view = { λ m. record { start = m.start; changes = m.changes.items; asked = m.asked.items; failing = m.failing.items; calls = m.calls; faults = m.faults } };
+    ghost view = { λ m. record { start = m.start; changes = m.changes.items; asked = m.asked.items; calls = m.calls } };
 
     ghost invariant = { λ m. IsKept m.start m.changes.items (get_by_text m.things) };
 }
@@ -51,16 +51,14 @@ impl MemTree {
     pub fn new(alloc: Global, clock: Time) -> Result<MemTree, OutOfMemory>
         ensures { IfOk
             result
-            (λ tree. tree ≡ record { start = clock; changes = []; asked = []; failing = []; calls = 0; faults = 0 }) }
+            (λ tree. tree ≡ record { start = clock; changes = []; asked = []; calls = unmade }) }
     {
         Ok(MemTree {
             alloc,
             start: clock,
             changes: Vec::new(alloc),
             asked: Vec::new(alloc),
-            failing: Vec::new(alloc),
-            calls: 0,
-            faults: 0,
+            calls: Calls::new(alloc),
             things: BTreeMap::new(alloc),
         })
     }
@@ -114,11 +112,10 @@ impl MemTree {
 
     /// Makes the call of that number fail; calls are counted from 0.
     pub fn fail_at(&mut self, call: u64) -> Result<(), OutOfMemory>
-        ensures ok { OnOk result (self.new ≡ record self.old { failing = self.old.failing ++ call ∷ [] }) }
+        ensures ok { OnOk result (self.new ≡ record self.old { calls = fails_at call self.old.calls }) }
         ensures err { OnErr result (self.new ≡ self.old) }
     {
-        self.failing.push(call)?;
-        Ok(())
+        self.calls.fail_at(call)
     }
 
     /// What the tree was asked so far, the first call first.
@@ -126,21 +123,6 @@ impl MemTree {
         ensures { result.now ≡ self.now.asked }
     {
         self.asked.as_slice()
-    }
-
-    // Counts a call, and fails where it was told to.
-    fn begin(&mut self) -> Result<(), Failed>
-        ensures counted { self.new ≡ begun self.old }
-        ensures due { is_ok result ≡ not (is_due self.old) }
-        ensures cause { HasCause self.old.faults self.new.faults result (λ e. Unit {0}) }
-    {
-        let due = self.failing.as_slice().contains(&self.calls);
-        self.calls = risen(self.calls);
-        if due {
-            self.faults = risen(self.faults);
-            return Err(Failed);
-        }
-        Ok(())
     }
 
     fn look(&self, path: &str) -> Option<Stat>
@@ -200,19 +182,45 @@ impl Tree for MemTree {
 
     ghost history = { history_of };
 
-    ghost faults = { λ m. m.faults };
+    ghost faults = { λ m. m.calls.faults };
 
-    fn stat(&mut self, path: PathRef<'_>) -> Result<Option<Stat>, Failed> {
-        self.begin()?;
+    // A call fails exactly where it was told to, and only counts.
+    fn stat(&mut self, path: PathRef<'_>) -> Result<Option<Stat>, Failed>
+        ensures found { IfOk result (λ found. found ≡ stat_at (now (history_of self.old)) path.entry.text.now) }
+        ensures fit { IfOk result (λ found. IfSome found IsPlain) }
+        ensures formed { OnOk result (AreFormed (history_of self.new)) }
+        ensures cause { HasCause self.old.calls.faults self.new.calls.faults result (λ e. Unit {0}) }
+        ensures due { is_err result ≡ is_due self.old.calls }
+        ensures answered { OnOk result (self.new ≡ record self.old { calls = answered self.old.calls }) }
+        ensures failed { OnErr result (self.new ≡ record self.old { calls = failed self.old.calls }) }
+    {
+        self.calls.begin()?;
         Ok(self.look(path.text))
     }
 
+    // A call that was told to fail fails, and else only one that finds no memory. Each is counted.
     fn list(
         &mut self,
         alloc: Global,
         dir: Option<PathRef<'_>>,
-    ) -> Result<Option<Vec<Name>>, TreeFault> {
-        let begun = self.begin();
+    ) -> Result<Option<Vec<Name>>, TreeFault>
+        ensures passes { Passes (history_of self.old) (history_of self.new) }
+        ensures asked { Asks
+            (is_ok result)
+            ((an_ask.List (option_map (λ d. d.text.now) dir.entry)) ∷ [])
+            (history_of self.old)
+            (history_of self.new) }
+        ensures found { IfOk
+            result
+            (λ found. Lists (option_map (λ d. d.text.now) dir.entry) (option_map (λ v. v.items) found) (now (history_of self.new))) }
+        ensures fit { IfOk result (λ found. IfSome found (λ names. AreFit (option_map (λ d. d.text.now) dir.entry) names.items)) }
+        ensures formed { OnOk result (AreFormed (history_of self.new)) }
+        ensures cause { HasCause self.old.calls.faults self.new.calls.faults result (λ e. e ≡ a_fault.Failed) }
+        ensures due { OnOk result (is_due self.old.calls ≡ false) }
+        ensures answered { OnOk result (self.new.calls ≡ answered self.old.calls) }
+        ensures failed { IfErr result (λ e. e ≡ a_fault.Failed → self.new.calls ≡ failed self.old.calls) }
+    {
+        let begun = self.calls.begin();
         self.note(dir)?;
         begun?;
         let names = self.names(alloc, dir)?;
