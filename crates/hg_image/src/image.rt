@@ -50,6 +50,11 @@ impl<'a> Image<'a> {
     pub fn root(&self) -> List<'a>
         ensures rows { rows_in result ≡ rows self.now }
         ensures dir { result.dir ≡ None }
+        // It is the list that the docket names, with no node too.
+        ensures start { result.start ≡ self.now.docket.root_start }
+        ensures count { result.count ≡ self.now.docket.root_count }
+        ensures bytes { result.bytes.now ≡ self.now.bytes.now }
+        ensures levels { result.depth ≡ walk.levels }
         // No two nodes of an image are of one path.
         ensures distinct { AreDistinct (rows self.now) }
     {

@@ -61,6 +61,10 @@ impl<'a> NodeRef<'a> {
     pub fn children(self) -> List<'a>
         ensures rows { rows_in result ≡ rows_below self.entry }
         ensures dir { option_map (λ d. d.text.now) result.dir ≡ Some (row self.entry).path }
+        // It is the list that the record names, with no node too.
+        ensures start { result.start ≡ self.entry.rec.kids_start }
+        ensures count { result.count ≡ self.entry.rec.kids_count }
+        ensures bytes { result.bytes.now ≡ self.entry.bytes.now }
         ensures levels { result.depth ≡ self.entry.depth }
     {
         List {
