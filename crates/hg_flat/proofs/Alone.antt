@@ -1,5 +1,5 @@
 -- Full listings of the same are equal: each has the rows of the other, and both ascend.
-use Rattle.std.proofs.Common.{◌≡◌, List, [], ◌∷◌, refl, sym, ◌∙◌, subst, inl, inr, ◌⊎◌, ⊎_elim, arith}
+use Rattle.std.proofs.Common.{ℕ, ◌≡◌, List, [], ◌∷◌, refl, sym, ◌∙◌, subst, inl, inr, ◌⊎◌, ⊎_elim, arith}
 use Rattle.std.specs.List.{AllByRecursion, Contains}
 use Rattle.std.specs.List.Sorted.{IsStrictlySortedBy}
 use Rattle.std.specs.Cmp.{IsTotalOrder, nat_cmp_total, on_total, tied_itself, then_total}
@@ -65,6 +65,6 @@ one_list (a ∷ xs) (b ∷ ys) up_x up_y there back =
     let rest : xs ≡ ys = one_list xs ys up_x.1 up_y.1 (later_too a b xs ys head up_x.0 there) (later_too b a ys xs (sym head) up_y.0 back) in
     λ i. head i ∷ rest i
 
-pub alone : OneListing
-alone flat moment rows ignored wanted a b is_a is_b =
+pub alone : (Ignored : List ℕ → Type 0) → OneListing Ignored
+alone Ignored flat moment rows wanted a b is_a is_b =
     one_list a b is_a.ascending is_b.ascending (λ row has. is_b.all row (is_a.sound row has)) (λ row has. is_a.all row (is_b.sound row has))

@@ -15,9 +15,7 @@ use Rattle.hg_flat.specs.Kept.{Kept}
 use Rattle.hg_flat.specs.Listing.{added_row, IsUnknownAmong, IsUnknownFrom, IsUnknownIn, Lists, holds_repository, unknown_row}
 use Rattle.hg_flat.specs.declared.row.Row.{Row}
 use Rattle.hg_flat.specs.declared.kept.FlatRow.{FlatRow}
-use Rattle.std.specs.Borrow.{Bor}
-use Rattle.std.specs.Map.Iter.{deref}
-use Rattle.std.proofs.lemmas.List.{append_assoc, map-append}
+use Rattle.std.proofs.lemmas.List.{append_assoc, map-append, take_more}
 use Rattle.hg_flat.proofs.Unknowns.{among_in, among_more, dir_from, file_from, nested_in, no_dir_in, nothing_from}
 
 -- a path of a well-formed moment, and what a stat shows there
@@ -149,16 +147,17 @@ each_more kept old mid new dir names i name text path a b c first second quiet b
 
 -- ---- the rows of paths with an entry
 
-added_map : (m : Moment) (yielded : List (Bor FlatRow)) (kept : Bor FlatRow) (a b c : List Row) → b ≡ a ++ map (added_row m) (map deref yielded) → c ≡ b ++ added_row m kept.now ∷ []
-    → c ≡ a ++ map (added_row m) (map deref (yielded ++ kept ∷ []))
-added_map m yielded kept a b c before one =
-    one ∙ ap (λ (l : List Row). l ++ added_row m kept.now ∷ []) before ∙ append_assoc a (map (added_row m) (map deref yielded)) (added_row m kept.now ∷ [])
-    ∙ ap (λ (l : List Row). a ++ l) (sym (ap (map (added_row m)) (map-append deref yielded (kept ∷ [])) ∙ map-append (added_row m) (map deref yielded) (map deref (kept ∷ []))))
+added_map : (m : Moment) (all : List FlatRow) (i : ℕ) (kept : FlatRow) (a b c : List Row) → i < length all → get_or all i kept ≡ kept → b ≡ a ++ map (added_row m) (take i all) → c ≡ b ++ added_row m kept ∷ []
+    → c ≡ a ++ map (added_row m) (take (i + 1) all)
+added_map m all i kept a b c below is before one =
+    one ∙ ap (λ (l : List Row). l ++ added_row m kept ∷ []) before ∙ append_assoc a (map (added_row m) (take i all)) (added_row m kept ∷ [])
+    ∙ ap (λ (l : List Row). a ++ l)
+    (sym (ap (map (added_row m)) (take_more all i kept below ∙ ap (λ (r : FlatRow). take i all ++ r ∷ []) is) ∙ map-append (added_row m) (take i all) (kept ∷ [])))
 
-pub added_more : (old mid new : History) (yielded : List (Bor FlatRow)) (kept : Bor FlatRow) (a b c : List Row) → Extends old mid → Extends mid new
-    → (IsQuiet old mid → b ≡ a ++ map (added_row (now old)) (map deref yielded)) → (IsQuiet mid new → c ≡ b ++ added_row (now mid) kept.now ∷ [])
-    → IsQuiet old new → c ≡ a ++ map (added_row (now old)) (map deref (yielded ++ kept ∷ []))
-added_more old mid new yielded kept a b c first second before one quiet =
+pub added_more : (old mid new : History) (all : List FlatRow) (i : ℕ) (kept : FlatRow) (a b c : List Row) → i < length all → get_or all i kept ≡ kept → Extends old mid → Extends mid new
+    → (IsQuiet old mid → b ≡ a ++ map (added_row (now old)) (take i all)) → (IsQuiet mid new → c ≡ b ++ added_row (now mid) kept ∷ []) → IsQuiet old new
+    → c ≡ a ++ map (added_row (now old)) (take (i + 1) all)
+added_more old mid new all i kept a b c below is first second before one quiet =
     let early = quiet_first old mid new first second quiet in
-    added_map (now old) yielded kept a b c (before early)
-    (subst (λ (m : Moment). c ≡ b ++ added_row m kept.now ∷ []) (now_same old mid first early) (one (quiet_second old mid new first second quiet)))
+    added_map (now old) all i kept a b c below is (before early)
+    (subst (λ (m : Moment). c ≡ b ++ added_row m kept ∷ []) (now_same old mid first early) (one (quiet_second old mid new first second quiet)))

@@ -70,7 +70,7 @@ pub record IsFull (flat : Flat) (moment : Moment) (rows : List ℕ → Option Pa
   pub all : (row : Row) → IsTold flat moment rows Ignored wanted row → Contains listing row
   pub ascending : IsStrictlySortedBy row_order listing
 
--- two full listings of the same are equal, so that one may speak of the full listing
-abbrev pub OneListing : Type 0
-OneListing = (flat : Flat) (moment : Moment) (rows : List ℕ → Option ParentRow) (ignored : List ℕ → Bool) (wanted : Wanted) (a b : List Row)
-    → IsFull flat moment rows (λ path. IsTrue (ignored path)) wanted a → IsFull flat moment rows (λ path. IsTrue (ignored path)) wanted b → a ≡ b
+-- two full listings of the same that ignore the same paths are equal, so that one may speak of the full listing
+abbrev pub OneListing : (List ℕ → Type 0) → Type 0
+OneListing Ignored = (flat : Flat) (moment : Moment) (rows : List ℕ → Option ParentRow) (wanted : Wanted) (a b : List Row)
+    → IsFull flat moment rows Ignored wanted a → IsFull flat moment rows Ignored wanted b → a ≡ b

@@ -1,5 +1,10 @@
 -- The rows that a dirstate keeps, and the maps that they stand for.
-use Rattle.std.specs.Prelude.{ℕ, ◌≡◌, true, false, List, replicate, Option, Some, None, option_map, IfSome}
+use Rattle.std.specs.Prelude.{ℕ, ◌≡◌, true, false, List, map, replicate, Option, Some, None, option_map, IfSome}
+use Rattle.std.specs.List.{IsDistinct, find}
+use Rattle.std.specs.List.Sorted.{IsSortedBy}
+use Rattle.std.specs.Ordering.{is_lt, nat_cmp}
+use Rattle.std.specs.Cmp.Lexicographic.{slice_cmp}
+use Rattle.std.specs.Str.{bytes_eq}
 use Rattle.hg_entry.specs.Entry.{EntryData, view}
 use Rattle.hg_entry.specs.Table.{Marks, marks_of}
 use Rattle.hg_entry.specs.Table as plain
@@ -13,6 +18,18 @@ null_parent = replicate 20 0
 -- what is kept of each path
 abbrev pub Kept : Type 0
 Kept = List ℕ → Option FlatRow
+
+-- the row of a path among some rows
+abbrev pub row_at : List FlatRow → Kept
+row_at rows path = find (λ row. bytes_eq row.path path) rows
+
+-- rows ascend by the bytes of their paths
+abbrev pub AreAscending : List FlatRow → Type 0
+AreAscending rows = IsSortedBy (λ a b. is_lt (slice_cmp nat_cmp a.path b.path)) rows
+
+-- no two rows are of one path
+abbrev pub HaveOwnPaths : List FlatRow → Type 0
+HaveOwnPaths rows = IsDistinct bytes_eq (map (λ row. row.path) rows)
 
 -- the copy source of a row, none where there is no row
 abbrev pub source_of : Option FlatRow → Option (List ℕ)

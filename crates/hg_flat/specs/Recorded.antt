@@ -1,5 +1,5 @@
 -- What a data file records of each path, from its rows.
-use Rattle.std.specs.Prelude.{ℕ, ◌≡◌, Bool, true, not, ◌||◌, if◌then◌else◌, List, [], ◌∷◌, Option, Some, None, option_map}
+use Rattle.std.specs.Prelude.{ℕ, ◌≡◌, Bool, true, not, ◌||◌, if◌then◌else◌, List, [], ◌∷◌, ◌++◌, map, Option, Some, None, option_map}
 use Rattle.std.specs.List.{list_all}
 use Rattle.std.specs.Str.{bytes_eq}
 use Rattle.hg_entry.specs.Entry.{EntryData, entry_of}
@@ -54,10 +54,16 @@ are_added rows = list_all (λ row. is_added_entry (entry_of (fields_of row.rec))
 abbrev pub Records : List node.Row → Kept → Type 0
 Records rows kept = (path : List ℕ) → option_map shown_row (kept path) ≡ recorded_at rows path
 
--- what these rows record was put over what was kept
-abbrev pub Overlays : List node.Row → Kept → Kept → Type 0
-Overlays rows old new = (path : List ℕ) → option_map shown_row (new path) ≡ or_else (recorded_at rows path) (option_map shown_row (old path))
+-- a path with what is recorded of it, where anything is
+abbrev pub recording : List ℕ → Option Recorded → List (List ℕ × Recorded)
+recording path None = []
+recording path (Some recorded) = (path, recorded) ∷ []
 
--- a row was put at its own path
-abbrev pub Puts : FlatRow → Kept → Kept → Type 0
-Puts row old new = (path : List ℕ) → new path ≡ (if bytes_eq row.path path then Some row else old path)
+-- what rows record, each at its path, in their order
+abbrev pub recordings : List node.Row → List (List ℕ × Recorded)
+recordings [] = []
+recordings (row ∷ rows) = recording row.path (recorded_in row) ++ recordings rows
+
+-- what these rows record was put behind the rows so far
+abbrev pub Adds : List node.Row → List FlatRow → List FlatRow → Type 0
+Adds rows old new = map (λ row. (row.path, shown_row row)) new ≡ map (λ row. (row.path, shown_row row)) old ++ recordings rows

@@ -5,7 +5,7 @@ ghost use Rattle.hg_entry.specs.Entry as record_of;
 ghost use Rattle.hg_image.specs.Node.{fields_of};
 ghost use Rattle.hg_image.specs.View.{row, rows, rows_below, rows_in};
 ghost use Rattle.hg_flat.specs.Kept.{shown_row};
-ghost use Rattle.hg_flat.specs.Recorded.{Overlays, Records, are_added, is_added_entry};
+ghost use Rattle.hg_flat.specs.Recorded.{Adds, Records, are_added, is_added_entry};
 ghost use Rattle.hg_flat.specs.Shown.{kept_of};
 
 use crate::flat::Flat;
@@ -44,30 +44,30 @@ fn owned(alloc: Global, path: Option<PathRef<'_>>) -> Result<Option<Path>, OutOf
 }
 
 // Puts what a node records of its own path.
-fn add_own(alloc: Global, flat: &mut Flat, node: NodeRef<'_>) -> Result<(), OutOfMemory>
-    ensures { OnOk result (Overlays (row node.entry ∷ []) (kept_of flat.old) (kept_of flat.new)) }
+fn add_own(alloc: Global, found: &mut Vec<FlatRow>, node: NodeRef<'_>) -> Result<(), OutOfMemory>
+    ensures { OnOk result (Adds (row node.entry ∷ []) found.old.items found.new.items) }
 {
-    match node.entry() {
-        None => Ok(()),
-        Some(entry) => flat.put(alloc, row_for(alloc, node.path(), entry, node.source())?),
+    if let Some(entry) = node.entry() {
+        found.push(row_for(alloc, node.path(), entry, node.source())?)?;
     }
+    Ok(())
 }
 
 // Puts what a node and the nodes below it record.
 #[cycle(reading)]
-fn add_node(alloc: Global, flat: &mut Flat, node: NodeRef<'_>) -> Result<(), OutOfMemory>
-    ensures { OnOk result (Overlays (row node.entry ∷ rows_below node.entry) (kept_of flat.old) (kept_of flat.new)) }
+fn add_node(alloc: Global, found: &mut Vec<FlatRow>, node: NodeRef<'_>) -> Result<(), OutOfMemory>
+    ensures { OnOk result (Adds (row node.entry ∷ rows_below node.entry) found.old.items found.new.items) }
 {
-    add_own(alloc, flat, node)?;
-    add_list(alloc, flat, node.children())
+    add_own(alloc, found, node)?;
+    add_list(alloc, found, node.children())
 }
 
 #[cycle(reading)]
-fn add_list(alloc: Global, flat: &mut Flat, list: List<'_>) -> Result<(), OutOfMemory>
-    ensures { OnOk result (Overlays (rows_in list.entry) (kept_of flat.old) (kept_of flat.new)) }
+fn add_list(alloc: Global, found: &mut Vec<FlatRow>, list: List<'_>) -> Result<(), OutOfMemory>
+    ensures { OnOk result (Adds (rows_in list.entry) found.old.items found.new.items) }
 {
     for i in 0..list.len() {
-        add_node(alloc, flat, list.get(i))?;
+        add_node(alloc, found, list.get(i))?;
     }
     Ok(())
 }
@@ -77,9 +77,12 @@ impl Flat {
     pub fn read(alloc: Global, image: &Image<'_>) -> Result<Flat, OutOfMemory>
         ensures { IfOk result (λ flat. Records (rows image.now) (kept_of flat)) }
     {
-        let mut flat = Flat::new(alloc);
-        add_list(alloc, &mut flat, image.root())?;
-        Ok(flat)
+        let docket = image.docket();
+        // The docket's count may be wrong; there are never more entries than the bytes can hold.
+        let room = docket.entries.min(docket.used / 44);
+        let mut found = Vec::with_capacity(alloc, room as usize)?;
+        add_list(alloc, &mut found, image.root())?;
+        Flat::of(found)
     }
 }
 

@@ -1,9 +1,6 @@
 //! The plain status of a working copy.
 
 ghost use Rattle.std.specs.Prelude.{◌≡◌, ◌++◌, map, OnOk, IfOk};
-ghost use Rattle.std.specs.BTreeMap.{IsOrdered};
-ghost use Rattle.std.specs.Map.{values_of};
-ghost use Rattle.std.specs.String.{string_cmp};
 ghost use Rattle.hg_tree.specs.History.{IsQuiet, Passes, now};
 ghost use Rattle.hg_flat.specs.Cause.{HasStatusCause};
 ghost use Rattle.hg_flat.specs.Full.{IsFull, nothing_ignored, null_rows, default_wanted};
@@ -28,11 +25,10 @@ fn add_each<T: Tree>(
 ) -> Result<(), StatusFault>
     ensures passes { Passes (T.history tree.old) (T.history tree.new) }
     ensures added { IsQuiet (T.history tree.old) (T.history tree.new)
-        → OnOk result (rows.new.items ≡ rows.old.items ++ map (added_row (now (T.history tree.old))) (values_of flat.now.rows.entries)) }
-    ensures ordered { IsOrdered string_cmp flat.now.rows }
+        → OnOk result (rows.new.items ≡ rows.old.items ++ map (added_row (now (T.history tree.old))) flat.now.rows.items) }
     ensures cause { HasStatusCause (T.faults tree.old) (T.faults tree.new) result }
 {
-    for kept in flat.rows.values() {
+    for kept in &flat.rows {
         add_tracked(alloc, tree, kept, rows)?;
     }
     Ok(())

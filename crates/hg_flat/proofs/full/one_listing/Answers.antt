@@ -1,5 +1,10 @@
+use Rattle.std.specs.Prelude.{IsTrue}
 use Rattle.hg_flat.proofs.Alone.{alone}
+use Rattle.hg_flat.specs.Full.{nothing_ignored}
 use Rattle.hg_flat.proofs.full.one_listing.Goals as goal
 
-pub returns : goal.returns
-returns c = alone
+pub returns-clause-plain : goal.returns-clause-plain
+returns-clause-plain c = alone nothing_ignored
+
+pub returns-clause-tested : goal.returns-clause-tested
+returns-clause-tested c is_ignored = alone (λ path. IsTrue (is_ignored path))

@@ -1,8 +1,7 @@
 use Rattle.std.proofs.Common.{◌≡◌, ◌+◌, ◌*◌, ◌++◌, List}
 use Rattle.hg_image.specs.Rows as node
 use Rattle.hg_image.specs.View.{rows_from, rows_in}
-use Rattle.hg_flat.specs.Recorded.{Overlays}
-use Rattle.hg_flat.specs.Shown.{kept_of}
+use Rattle.hg_flat.specs.Recorded.{Adds}
 use Rattle.hg_flat.proofs.reading.+reading.Given as goal
 
 -- a list has one level more than the nodes in it
@@ -14,5 +13,4 @@ decreases-add_list l = 2 * l.list.depth
 
 -- the rows so far were put
 abbrev pub invariant-add_list-loop-i : goal.invariant-add_list-loop-i
-invariant-add_list-loop-i l =
-    (done : List node.Row) × (rows_in l.list ≡ done ++ rows_from l.list l.i) × Overlays done (kept_of l.initial.flat) (kept_of l.flat)
+invariant-add_list-loop-i l = (done : List node.Row) × (rows_in l.list ≡ done ++ rows_from l.list l.i) × Adds done l.initial.found.items l.found.items

@@ -1,5 +1,4 @@
 use Rattle.std.proofs.Common.{subst, None}
-use Rattle.std.specs.Map.{values_of}
 use Rattle.std.specs.Ordering.{eq_by_cmp}
 use Rattle.std.proofs.lemmas.List.Filters.{dedup_is}
 use Rattle.hg_tree.specs.History.{now}
@@ -9,7 +8,7 @@ use Rattle.hg_flat.specs.Listing.{IsUnknownIn, Lists}
 use Rattle.hg_flat.specs.Order.{whole_order}
 use Rattle.hg_flat.specs.Shown.{kept_of}
 use Rattle.hg_flat.proofs.Fullness.{full}
-use Rattle.hg_flat.proofs.Holding.{holds_map}
+use Rattle.hg_flat.proofs.Holding.{holds_rows, named}
 use Rattle.hg_flat.proofs.status.plain_status.Goals as goal
 
 pub returns-clause-full : goal.returns-clause-full
@@ -20,9 +19,9 @@ returns-clause-full g c = λ quiet.
     let first = quiet_first old mid new c.add_each.ensures.passes.past c.visit.ensures.passes.past quiet in
     let later = quiet_second old mid new c.add_each.ensures.passes.past c.visit.ensures.passes.past quiet in
     rw c.of.ensures
-    (full (kept_of c.args.flat.now) (now old) c.requires c.args.flat.now.named (values_of c.args.flat.now.rows.entries)
+    (full (kept_of c.args.flat.now) (now old) c.requires (named c.args.flat.now.rows.items) c.args.flat.now.rows.items
     c.add_each.new.rows.items c.visit.new.rows.items c.sort.new.self.items c.dedup.new.self.items
-    (holds_map c.args.flat.now.rows c.add_each.ensures.ordered c.args.flat.now.named)
+    (holds_rows c.args.flat.now.rows.items c.args.flat.now.own)
     (rw c.new-rows.ensures.items at (c.in_ok-add_each.ensures.added first))
     (subst (λ (m : Moment). Lists (IsUnknownIn (kept_of c.args.flat.now) m None) c.add_each.new.rows.items c.visit.new.rows.items) (now_same old mid c.add_each.ensures.passes.past first)
     (c.in_ok-visit.ensures.listed later))
