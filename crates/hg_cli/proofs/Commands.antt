@@ -118,7 +118,7 @@ ignore_absent before mid after first second is = record {
 pub cause_ignore : (old new : shelf.History) (before after : tree.History) (fault : Fault) → LedToRows old new → tree.Extends before after → IsIgnoreFault fault → (IsTrue before.told → IgnoreAnswer {T = Unit {0}} (Err fault) (has_ignore_file (tree.now after)))
     → ListCause old new before after fault
 cause_ignore old new before after a_fault.NotBuilt rows past kind answer = inr (rows, λ told. ignore_at before after past (answer told))
-cause_ignore old new before after a_fault.TreeFailed rows past kind answer = tt
+cause_ignore old new before after a_fault.TreeFailed rows past kind answer = rows
 cause_ignore old new before after a_fault.OutOfMemory rows past kind answer = tt
 cause_ignore old new before after a_fault.ShelfFailed rows past kind answer = tt
 cause_ignore old new before after a_fault.OutFailed rows past kind answer = absurd kind
@@ -131,6 +131,10 @@ cause_ignore old new before after (a_fault.DataGone ids) rows past kind answer =
 pub meets_status : (status : StatusFault) (fault : Fault) (expects : Option Fault) → fault ≡ of_status status → Meets fault expects
 meets_status a_status.OutOfMemory fault expects is = subst (λ (f : Fault). Meets f expects) (sym is) tt
 meets_status a_status.TreeFailed fault expects is = subst (λ (f : Fault). Meets f expects) (sym is) tt
+
+pub cause_status : (old new : shelf.History) (before after : tree.History) (status : StatusFault) (fault : Fault) → fault ≡ of_status status → LedToRows old new → ListCause old new before after fault
+cause_status old new before after a_status.OutOfMemory fault is rows = subst (ListCause old new before after) (sym is) tt
+cause_status old new before after a_status.TreeFailed fault is rows = subst (ListCause old new before after) (sym is) rows
 
 marks_same : (o : Option FlatRow) → option_map (λ row. marks_of (view row.entry)) o ≡ option_map (λ recorded. marks_of recorded.0) (option_map shown_row o)
 marks_same None = refl
@@ -179,7 +183,7 @@ cause_listed built old new before after shelf_rose tree_rose out_rose a_fault.No
 cause_listed built old new before after shelf_rose tree_rose out_rose (a_fault.Docket fault) cause shelf_failed tree_failed = cause
 cause_listed built old new before after shelf_rose tree_rose out_rose (a_fault.Node fault) cause shelf_failed tree_failed = cause
 cause_listed built old new before after shelf_rose tree_rose out_rose (a_fault.DataGone ids) cause shelf_failed tree_failed = cause
-cause_listed built old new before after shelf_rose tree_rose out_rose a_fault.TreeFailed cause shelf_failed tree_failed = tree_failed refl
+cause_listed built old new before after shelf_rose tree_rose out_rose a_fault.TreeFailed cause shelf_failed tree_failed = (tree_failed refl, cause)
 cause_listed built old new before after shelf_rose tree_rose out_rose a_fault.ShelfFailed cause shelf_failed tree_failed = shelf_failed refl
 cause_listed built old new before after shelf_rose tree_rose out_rose a_fault.OutFailed cause shelf_failed tree_failed = absurd cause
 
@@ -221,9 +225,9 @@ steady_meets words files moment built old new before after s t o s' t' o' a_faul
 steady_meets words files moment built old new before after s t o s' t' o' (a_fault.Docket fault) p q r cause meets = inr (sym meets)
 steady_meets words files moment built old new before after s t o s' t' o' (a_fault.Node fault) p q r cause meets = inr (sym meets)
 steady_meets words files moment built old new before after s t o s' t' o' (a_fault.DataGone ids) p q r cause meets = inr (sym meets)
-steady_meets words files moment built old new before after s t o s' t' o' a_fault.TreeFailed p q r cause meets = absurd (steady_not_rose t t' q cause)
+steady_meets words files moment built old new before after s t o s' t' o' a_fault.TreeFailed p q r cause meets = absurd (steady_not_rose t t' q cause.0)
 steady_meets words files moment built old new before after s t o s' t' o' a_fault.ShelfFailed p q r cause meets = absurd (steady_not_rose s s' p cause)
-steady_meets words files moment built old new before after s t o s' t' o' a_fault.OutFailed p q r cause meets = absurd (steady_not_rose o o' r cause)
+steady_meets words files moment built old new before after s t o s' t' o' a_fault.OutFailed p q r cause meets = absurd (steady_not_rose o o' r cause.0)
 
 -- what a fault leaves may also be left where there is no memory for its line
 pub left_any : (Failed : Type 0) (fault : Fault) (old new : Option (List ℕ)) → LeavesOut Failed fault old new → LeavesOut Failed a_fault.OutOfMemory old new

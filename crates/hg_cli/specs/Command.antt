@@ -96,15 +96,15 @@ pub record IsListable (shelf_old shelf_new : shelf.History) (old new : tree.Hist
   pub loaded : LedToRows shelf_old shelf_new
   pub looked : IsTrue old.told → NoIgnoreFound old new
 
--- why a listing met a fault: what stood in the files or at the root. Want of memory needs no reason; of a failing device its count
--- speaks
+-- why a listing met a fault: what stood in the files or at the root, and that no earlier fault was found. Want of memory needs no
+-- reason; of a failing device its count speaks
 abbrev pub ListCause : shelf.History → shelf.History → tree.History → tree.History → Fault → Type 0
 ListCause shelf_old shelf_new tree_old tree_new a_fault.OutOfMemory = Unit {0}
 ListCause shelf_old shelf_new tree_old tree_new a_fault.NotBuilt = FromShelf shelf_old shelf_new a_fault.NotBuilt ⊎ FromTree shelf_old shelf_new tree_old tree_new
 ListCause shelf_old shelf_new tree_old tree_new (a_fault.Docket fault) = FromShelf shelf_old shelf_new (a_fault.Docket fault)
 ListCause shelf_old shelf_new tree_old tree_new (a_fault.Node fault) = FromShelf shelf_old shelf_new (a_fault.Node fault)
 ListCause shelf_old shelf_new tree_old tree_new (a_fault.DataGone ids) = FromShelf shelf_old shelf_new (a_fault.DataGone ids)
-ListCause shelf_old shelf_new tree_old tree_new a_fault.TreeFailed = Unit {0}
+ListCause shelf_old shelf_new tree_old tree_new a_fault.TreeFailed = LedToRows shelf_old shelf_new
 ListCause shelf_old shelf_new tree_old tree_new a_fault.ShelfFailed = Unit {0}
 ListCause shelf_old shelf_new tree_old tree_new a_fault.OutFailed = ⊥
 
@@ -192,7 +192,8 @@ LeavesOut failed (a_fault.DataGone ids) old new = new ≡ old
 LeavesOut failed a_fault.TreeFailed old new = new ≡ old
 LeavesOut failed a_fault.ShelfFailed old new = new ≡ old
 
--- why a command met a fault: the words, what stood in the files or at the root, or a device whose count rose
+-- why a command met a fault: the words, what stood in the files or at the root, or a device whose count rose; and that no earlier
+-- fault was found
 abbrev pub CommandCause : Bool → shelf.History → shelf.History → tree.History → tree.History → Type 0 → Type 0 → Type 0 → Fault → Type 0
 CommandCause built shelf_old shelf_new tree_old tree_new shelf_rose tree_rose out_rose a_fault.OutOfMemory = Unit {0}
 CommandCause built shelf_old shelf_new tree_old tree_new shelf_rose tree_rose out_rose a_fault.NotBuilt =
@@ -200,9 +201,9 @@ CommandCause built shelf_old shelf_new tree_old tree_new shelf_rose tree_rose ou
 CommandCause built shelf_old shelf_new tree_old tree_new shelf_rose tree_rose out_rose (a_fault.Docket fault) = FromShelf shelf_old shelf_new (a_fault.Docket fault)
 CommandCause built shelf_old shelf_new tree_old tree_new shelf_rose tree_rose out_rose (a_fault.Node fault) = FromShelf shelf_old shelf_new (a_fault.Node fault)
 CommandCause built shelf_old shelf_new tree_old tree_new shelf_rose tree_rose out_rose (a_fault.DataGone ids) = FromShelf shelf_old shelf_new (a_fault.DataGone ids)
-CommandCause built shelf_old shelf_new tree_old tree_new shelf_rose tree_rose out_rose a_fault.TreeFailed = tree_rose
+CommandCause built shelf_old shelf_new tree_old tree_new shelf_rose tree_rose out_rose a_fault.TreeFailed = tree_rose × LedToRows shelf_old shelf_new
 CommandCause built shelf_old shelf_new tree_old tree_new shelf_rose tree_rose out_rose a_fault.ShelfFailed = shelf_rose
-CommandCause built shelf_old shelf_new tree_old tree_new shelf_rose tree_rose out_rose a_fault.OutFailed = out_rose
+CommandCause built shelf_old shelf_new tree_old tree_new shelf_rose tree_rose out_rose a_fault.OutFailed = out_rose × IsListable shelf_old shelf_new tree_old tree_new
 
 -- a command answers the expected fault, or finds no memory
 abbrev pub IsAsExpected : Option Fault → Option Fault → Type 0
