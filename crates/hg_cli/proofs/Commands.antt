@@ -25,7 +25,7 @@ use Rattle.hg_report.specs.declared.fault.Fault.TheVariants as a_fault
 use Rattle.hg_shelf.specs.History as shelf
 use Rattle.hg_tree.specs.History as tree
 use Rattle.hg_tree.specs.Moment.{Moment}
-use Rattle.hg_cli.specs.Command.{CommandCause, IsAsExpected, IsBegun, IsBrokenOff, IsFaultOrMemory, IgnoreAnswer, IgnoreFound, IsIgnoreFault, IsListed, IsPrinted, LeavesOut, ListCause, Meets, ShelfFound, expected, expected_of, has_ignore_file, is_status, plain_style}
+use Rattle.hg_cli.specs.Command.{CommandCause, IsAsExpected, IsBegun, IsBrokenOff, IsFaultOrMemory, IgnoreAnswer, IgnoreFound, IsIgnoreFault, IsListed, IsPrinted, LeavesOut, LedToRows, ListCause, Meets, NoIgnoreFound, RowsFound, ShelfFound, expected, expected_of, has_ignore_file, is_status, plain_style}
 use Rattle.hg_cli.specs.Load.{load_result}
 use Rattle.hg_cli.specs.Loaded.{During, FaultFound, Finds, FindsDuring, IsLoadFault, files_at}
 
@@ -40,6 +40,18 @@ pub quiet_finds : (old new : shelf.History) (result : Result Flat Fault) → she
 quiet_finds old new result past quiet finds =
     subst (λ (f : shelf.Files). Finds result (load_result f (shelf.now old).files)) (still_at old new finds.first past quiet finds.docket)
     (subst (λ (f : shelf.Files). Finds result (load_result (files_at new finds.first) f)) (still_at old new finds.second past quiet finds.file) finds.finds)
+
+-- a load without fault found rows
+pub rows_found : (old new : shelf.History) (flat : Flat) → FindsDuring old new (Ok flat) → RowsFound old new
+rows_found old new flat finds = record {
+  first = finds.first;
+  second = finds.second;
+  docket = finds.docket;
+  file = finds.file;
+  order = finds.order;
+  recorded = finds.finds.0;
+  is = finds.finds.1;
+}
 
 pub meets_load : (fault : Fault) (found : Result (List Row) Fault) (moment : Moment) → FaultFound fault found → Meets fault (expected_of found moment)
 meets_load a_fault.OutOfMemory found moment is = tt
@@ -94,22 +106,35 @@ meets_listed found rows moment is answer =
 ignore_at : (before after : tree.History) → tree.Extends before after → has_ignore_file (tree.now after) ≡ true → IgnoreFound before after
 ignore_at before after past is = record { at = after.last; from = past.later; to = omega arith; is = is }
 
-pub cause_ignore : (old new : shelf.History) (before after : tree.History) (fault : Fault) → tree.Extends before after → IsIgnoreFault fault → (IsTrue before.told → IgnoreAnswer {T = Unit {0}} (Err fault) (has_ignore_file (tree.now after)))
+-- what was found at the root at one time stays so, whatever comes later
+pub ignore_absent : (before mid after : tree.History) → tree.Extends before mid → tree.Extends mid after → has_ignore_file (tree.now mid) ≡ false → NoIgnoreFound before after
+ignore_absent before mid after first second is = record {
+  at = mid.last;
+  from = first.later;
+  to = second.later;
+  is = ap has_ignore_file (second.stay mid.last (omega arith)) ∙ is;
+}
+
+pub cause_ignore : (old new : shelf.History) (before after : tree.History) (fault : Fault) → LedToRows old new → tree.Extends before after → IsIgnoreFault fault → (IsTrue before.told → IgnoreAnswer {T = Unit {0}} (Err fault) (has_ignore_file (tree.now after)))
     → ListCause old new before after fault
-cause_ignore old new before after a_fault.NotBuilt past kind answer = inr (λ told. ignore_at before after past (answer told))
-cause_ignore old new before after a_fault.TreeFailed past kind answer = tt
-cause_ignore old new before after a_fault.OutOfMemory past kind answer = tt
-cause_ignore old new before after a_fault.ShelfFailed past kind answer = tt
-cause_ignore old new before after a_fault.OutFailed past kind answer = absurd kind
-cause_ignore old new before after (a_fault.Docket fault) past kind answer = absurd kind
-cause_ignore old new before after (a_fault.Node fault) past kind answer = absurd kind
-cause_ignore old new before after (a_fault.DataGone ids) past kind answer = absurd kind
+cause_ignore old new before after a_fault.NotBuilt rows past kind answer = inr (rows, λ told. ignore_at before after past (answer told))
+cause_ignore old new before after a_fault.TreeFailed rows past kind answer = rows
+cause_ignore old new before after a_fault.OutOfMemory rows past kind answer = tt
+cause_ignore old new before after a_fault.ShelfFailed rows past kind answer = tt
+cause_ignore old new before after a_fault.OutFailed rows past kind answer = absurd kind
+cause_ignore old new before after (a_fault.Docket fault) rows past kind answer = absurd kind
+cause_ignore old new before after (a_fault.Node fault) rows past kind answer = absurd kind
+cause_ignore old new before after (a_fault.DataGone ids) rows past kind answer = absurd kind
 
 -- ---- the listing
 
 pub meets_status : (status : StatusFault) (fault : Fault) (expects : Option Fault) → fault ≡ of_status status → Meets fault expects
 meets_status a_status.OutOfMemory fault expects is = subst (λ (f : Fault). Meets f expects) (sym is) tt
 meets_status a_status.TreeFailed fault expects is = subst (λ (f : Fault). Meets f expects) (sym is) tt
+
+pub cause_status : (old new : shelf.History) (before after : tree.History) (status : StatusFault) (fault : Fault) → fault ≡ of_status status → LedToRows old new → ListCause old new before after fault
+cause_status old new before after a_status.OutOfMemory fault is rows = subst (ListCause old new before after) (sym is) tt
+cause_status old new before after a_status.TreeFailed fault is rows = subst (ListCause old new before after) (sym is) rows
 
 marks_same : (o : Option FlatRow) → option_map (λ row. marks_of (view row.entry)) o ≡ option_map (λ recorded. marks_of recorded.0) (option_map shown_row o)
 marks_same None = refl
@@ -158,7 +183,7 @@ cause_listed built old new before after shelf_rose tree_rose out_rose a_fault.No
 cause_listed built old new before after shelf_rose tree_rose out_rose (a_fault.Docket fault) cause shelf_failed tree_failed = cause
 cause_listed built old new before after shelf_rose tree_rose out_rose (a_fault.Node fault) cause shelf_failed tree_failed = cause
 cause_listed built old new before after shelf_rose tree_rose out_rose (a_fault.DataGone ids) cause shelf_failed tree_failed = cause
-cause_listed built old new before after shelf_rose tree_rose out_rose a_fault.TreeFailed cause shelf_failed tree_failed = tree_failed refl
+cause_listed built old new before after shelf_rose tree_rose out_rose a_fault.TreeFailed cause shelf_failed tree_failed = (tree_failed refl, cause)
 cause_listed built old new before after shelf_rose tree_rose out_rose a_fault.ShelfFailed cause shelf_failed tree_failed = shelf_failed refl
 cause_listed built old new before after shelf_rose tree_rose out_rose a_fault.OutFailed cause shelf_failed tree_failed = absurd cause
 
@@ -200,9 +225,9 @@ steady_meets words files moment built old new before after s t o s' t' o' a_faul
 steady_meets words files moment built old new before after s t o s' t' o' (a_fault.Docket fault) p q r cause meets = inr (sym meets)
 steady_meets words files moment built old new before after s t o s' t' o' (a_fault.Node fault) p q r cause meets = inr (sym meets)
 steady_meets words files moment built old new before after s t o s' t' o' (a_fault.DataGone ids) p q r cause meets = inr (sym meets)
-steady_meets words files moment built old new before after s t o s' t' o' a_fault.TreeFailed p q r cause meets = absurd (steady_not_rose t t' q cause)
+steady_meets words files moment built old new before after s t o s' t' o' a_fault.TreeFailed p q r cause meets = absurd (steady_not_rose t t' q cause.0)
 steady_meets words files moment built old new before after s t o s' t' o' a_fault.ShelfFailed p q r cause meets = absurd (steady_not_rose s s' p cause)
-steady_meets words files moment built old new before after s t o s' t' o' a_fault.OutFailed p q r cause meets = absurd (steady_not_rose o o' r cause)
+steady_meets words files moment built old new before after s t o s' t' o' a_fault.OutFailed p q r cause meets = absurd (steady_not_rose o o' r cause.0)
 
 -- what a fault leaves may also be left where there is no memory for its line
 pub left_any : (Failed : Type 0) (fault : Fault) (old new : Option (List ℕ)) → LeavesOut Failed fault old new → LeavesOut Failed a_fault.OutOfMemory old new
@@ -219,6 +244,10 @@ left_any Failed a_fault.ShelfFailed old new left = inl left
 pub of_answered : (P : Fault → Type 0) (answered : Option Fault) (fault : Fault) → IsFaultOrMemory answered fault → P fault → P a_fault.OutOfMemory → IfSome answered P
 of_answered P answered fault (inl same) here memory = subst (λ (o : Option Fault). IfSome o P) (sym same) here
 of_answered P answered fault (inr none) here memory = subst (λ (o : Option Fault). IfSome o P) (sym none) memory
+
+-- the fault that was met is this one
+pub other_answered : (answered : Option Fault) (fault met : Fault) → IsFaultOrMemory answered fault → fault ≡ met → IsFaultOrMemory answered met
+other_answered answered fault met is same = subst (IsFaultOrMemory answered) same is
 
 -- a fault is answered
 pub is_answered : (P : Fault → Type 0) (Q : Type 0) (answered : Option Fault) (fault : Fault) → IsFaultOrMemory answered fault → IfSome answered P → MatchOption answered Q P

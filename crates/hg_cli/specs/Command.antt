@@ -63,22 +63,48 @@ pub record IgnoreFound (old new : tree.History) : Type 0 where
   pub to : at ≤ new.last
   pub is : has_ignore_file (new.at at) ≡ true
 
+-- a load found rows at moments of the call
+pub record RowsFound (old new : shelf.History) : Type 0 where
+  pub first : ℕ
+  pub second : ℕ
+  pub docket : During old new first
+  pub file : During old new second
+  pub order : first ≤ second
+  pub recorded : List Row
+  pub is : load_result (files_at new first) (files_at new second) ≡ Ok recorded
+
+-- at a moment of the call no file of ignore patterns stood at the root
+pub record NoIgnoreFound (old new : tree.History) : Type 0 where
+  pub at : ℕ
+  pub from : old.last ≤ at
+  pub to : at ≤ new.last
+  pub is : has_ignore_file (new.at at) ≡ false
+
 -- what the files show, where they are told
 abbrev pub FromShelf : shelf.History → shelf.History → Fault → Type 0
 FromShelf old new fault = IsTrue old.told → ShelfFound old new fault
 
-abbrev pub FromTree : tree.History → tree.History → Type 0
-FromTree old new = IsTrue old.told → IgnoreFound old new
+abbrev pub LedToRows : shelf.History → shelf.History → Type 0
+LedToRows old new = IsTrue old.told → RowsFound old new
 
--- why a listing met a fault: what stood in the files or at the root. Want of memory needs no reason; of a failing device its count
--- speaks
+-- the files led to rows, and the file of ignore patterns was found, where the tree is told
+abbrev pub FromTree : shelf.History → shelf.History → tree.History → tree.History → Type 0
+FromTree shelf_old shelf_new old new = LedToRows shelf_old shelf_new × (IsTrue old.told → IgnoreFound old new)
+
+-- a listing met no fault: the files led to rows, and no file of ignore patterns was found
+pub record IsListable (shelf_old shelf_new : shelf.History) (old new : tree.History) : Type 0 where
+  pub loaded : LedToRows shelf_old shelf_new
+  pub looked : IsTrue old.told → NoIgnoreFound old new
+
+-- why a listing met a fault: what stood in the files or at the root, and that no earlier fault was found. Want of memory needs no
+-- reason; of a failing device its count speaks
 abbrev pub ListCause : shelf.History → shelf.History → tree.History → tree.History → Fault → Type 0
 ListCause shelf_old shelf_new tree_old tree_new a_fault.OutOfMemory = Unit {0}
-ListCause shelf_old shelf_new tree_old tree_new a_fault.NotBuilt = FromShelf shelf_old shelf_new a_fault.NotBuilt ⊎ FromTree tree_old tree_new
+ListCause shelf_old shelf_new tree_old tree_new a_fault.NotBuilt = FromShelf shelf_old shelf_new a_fault.NotBuilt ⊎ FromTree shelf_old shelf_new tree_old tree_new
 ListCause shelf_old shelf_new tree_old tree_new (a_fault.Docket fault) = FromShelf shelf_old shelf_new (a_fault.Docket fault)
 ListCause shelf_old shelf_new tree_old tree_new (a_fault.Node fault) = FromShelf shelf_old shelf_new (a_fault.Node fault)
 ListCause shelf_old shelf_new tree_old tree_new (a_fault.DataGone ids) = FromShelf shelf_old shelf_new (a_fault.DataGone ids)
-ListCause shelf_old shelf_new tree_old tree_new a_fault.TreeFailed = Unit {0}
+ListCause shelf_old shelf_new tree_old tree_new a_fault.TreeFailed = LedToRows shelf_old shelf_new
 ListCause shelf_old shelf_new tree_old tree_new a_fault.ShelfFailed = Unit {0}
 ListCause shelf_old shelf_new tree_old tree_new a_fault.OutFailed = ⊥
 
@@ -166,17 +192,18 @@ LeavesOut failed (a_fault.DataGone ids) old new = new ≡ old
 LeavesOut failed a_fault.TreeFailed old new = new ≡ old
 LeavesOut failed a_fault.ShelfFailed old new = new ≡ old
 
--- why a command met a fault: the words, what stood in the files or at the root, or a device whose count rose
+-- why a command met a fault: the words, what stood in the files or at the root, or a device whose count rose; and that no earlier
+-- fault was found
 abbrev pub CommandCause : Bool → shelf.History → shelf.History → tree.History → tree.History → Type 0 → Type 0 → Type 0 → Fault → Type 0
 CommandCause built shelf_old shelf_new tree_old tree_new shelf_rose tree_rose out_rose a_fault.OutOfMemory = Unit {0}
 CommandCause built shelf_old shelf_new tree_old tree_new shelf_rose tree_rose out_rose a_fault.NotBuilt =
-    (built ≡ false) ⊎ (FromShelf shelf_old shelf_new a_fault.NotBuilt ⊎ FromTree tree_old tree_new)
+    (built ≡ false) ⊎ (FromShelf shelf_old shelf_new a_fault.NotBuilt ⊎ FromTree shelf_old shelf_new tree_old tree_new)
 CommandCause built shelf_old shelf_new tree_old tree_new shelf_rose tree_rose out_rose (a_fault.Docket fault) = FromShelf shelf_old shelf_new (a_fault.Docket fault)
 CommandCause built shelf_old shelf_new tree_old tree_new shelf_rose tree_rose out_rose (a_fault.Node fault) = FromShelf shelf_old shelf_new (a_fault.Node fault)
 CommandCause built shelf_old shelf_new tree_old tree_new shelf_rose tree_rose out_rose (a_fault.DataGone ids) = FromShelf shelf_old shelf_new (a_fault.DataGone ids)
-CommandCause built shelf_old shelf_new tree_old tree_new shelf_rose tree_rose out_rose a_fault.TreeFailed = tree_rose
+CommandCause built shelf_old shelf_new tree_old tree_new shelf_rose tree_rose out_rose a_fault.TreeFailed = tree_rose × LedToRows shelf_old shelf_new
 CommandCause built shelf_old shelf_new tree_old tree_new shelf_rose tree_rose out_rose a_fault.ShelfFailed = shelf_rose
-CommandCause built shelf_old shelf_new tree_old tree_new shelf_rose tree_rose out_rose a_fault.OutFailed = out_rose
+CommandCause built shelf_old shelf_new tree_old tree_new shelf_rose tree_rose out_rose a_fault.OutFailed = out_rose × IsListable shelf_old shelf_new tree_old tree_new
 
 -- a command answers the expected fault, or finds no memory
 abbrev pub IsAsExpected : Option Fault → Option Fault → Type 0
@@ -187,6 +214,10 @@ pub record IsPrinted (files : shelf.Files) (moment : Moment) (old new : Option (
   pub rows : List listed.Row
   pub listing : IsListed files moment rows
   pub printed : Grown old new (text_of plain_style rows)
+
+-- two results of printing the full listing of the same are equal, so that one may speak of its text
+abbrev pub OneText : Type 0
+OneText = (files : shelf.Files) (moment : Moment) (old a b : Option (List ℕ)) → IsPrinted files moment old a → IsPrinted files moment old b → a ≡ b
 
 -- a front of the full listing was printed
 pub record IsBegun (files : shelf.Files) (moment : Moment) (old new : Option (List ℕ)) : Type 0 where

@@ -1,10 +1,11 @@
 //! The top call: one command over a working copy, the files below `.hg`, and the standard streams.
 
-ghost use Rattle.std.specs.Prelude.{◌≡◌, None, IfErr, IfSome, MatchOption, OnOk};
+ghost use Rattle.std.specs.Prelude.{◌≡◌, false, Err, None, IfErr, IfSome, MatchOption, OnOk};
 ghost use Rattle.hg_base.specs.Fault.{IsSteady, Rose};
+ghost use Rattle.hg_report.specs.declared.fault.Fault.TheVariants as a_fault;
 ghost use Rattle.hg_shelf.specs.History as shelf_is;
 ghost use Rattle.hg_tree.specs.History as tree_is;
-ghost use Rattle.hg_cli.specs.Command.{CommandCause, IsAsExpected, IsFaultOrMemory, IsPrinted, IsTold, LeavesFront, LeavesOut, MeetsResult, TellsLine, expected, is_status};
+ghost use Rattle.hg_cli.specs.Command.{CommandCause, IsAsExpected, IsFaultOrMemory, IsListable, IsPrinted, IsTold, LeavesFront, LeavesOut, MeetsResult, TellsLine, expected, is_status};
 
 use crate::listing::list;
 use hg_base::Words;
@@ -61,11 +62,15 @@ fn status<T: Tree, S: Shelf, O: Sink>(
         (Rose (S.faults shelf.old) (S.faults shelf.new))
         (Rose (T.faults tree.old) (T.faults tree.new))
         (Rose (O.faults out.old) (O.faults out.new))) }
+    ensures words { is_status words.now ≡ false → result ≡ Err a_fault.NotBuilt }
+    ensures listable { OnOk result (IsListable (S.history shelf.old) (S.history shelf.new) (T.history tree.old) (T.history tree.new)) }
     ensures left { IfErr result (λ fault. LeavesOut (Rose (O.faults out.old) (O.faults out.new)) fault (O.bytes out.old) (O.bytes out.new)) }
     ensures front { tree_is.IsQuiet (T.history tree.old) (T.history tree.new)
         → shelf_is.IsQuiet (S.history shelf.old) (S.history shelf.new)
         → IfErr result (λ _. LeavesFront (shelf_is.now (S.history shelf.old)).files (tree_is.now (T.history tree.old)) (O.bytes out.old) (O.bytes out.new)) }
-    ensures steady { OnOk result (O.faults out.new ≡ O.faults out.old) }
+    ensures steady_tree { OnOk result (T.faults tree.new ≡ T.faults tree.old) }
+    ensures steady_shelf { OnOk result (S.faults shelf.new ≡ S.faults shelf.old) }
+    ensures steady_out { OnOk result (O.faults out.new ≡ O.faults out.old) }
 {
     if !is_status_alone(words) {
         return Err(Fault::NotBuilt);
@@ -145,6 +150,10 @@ pub fn run<T: Tree, S: Shelf, I: Source, O: Sink, E: Sink>(
         (Rose (S.faults shelf.old) (S.faults shelf.new))
         (Rose (T.faults tree.old) (T.faults tree.new))
         (Rose (O.faults out.old) (O.faults out.new))) }
+    // Other words are answered as such, whatever else holds.
+    ensures words { is_status words.now ≡ false → IsFaultOrMemory result.fault a_fault.NotBuilt }
+    // There is no fault only where none was found.
+    ensures listable { result.fault ≡ None → IsListable (S.history shelf.old) (S.history shelf.new) (T.history tree.old) (T.history tree.new) }
     // Where nothing changes and no count rises, the answer is the expected one, or there was no memory.
     ensures complete { tree_is.IsQuiet (T.history tree.old) (T.history tree.new)
         → shelf_is.IsQuiet (S.history shelf.old) (S.history shelf.new)
@@ -152,6 +161,11 @@ pub fn run<T: Tree, S: Shelf, I: Source, O: Sink, E: Sink>(
         → IsSteady (T.faults tree.old) (T.faults tree.new)
         → IsSteady (O.faults out.old) (O.faults out.new)
         → IsAsExpected result.fault (expected words.now (shelf_is.now (S.history shelf.old)).files (tree_is.now (T.history tree.old))) }
+    // Where a device failed there is a fault.
+    ensures steady_tree { result.fault ≡ None → T.faults tree.new ≡ T.faults tree.old }
+    ensures steady_shelf { result.fault ≡ None → S.faults shelf.new ≡ S.faults shelf.old }
+    ensures steady_out { result.fault ≡ None → O.faults out.new ≡ O.faults out.old }
+    ensures steady_err { result.fault ≡ None → E.faults err.new ≡ E.faults err.old }
     // The working copy and the files below `.hg` are only looked at, and the input isn't.
     ensures asked_tree { tree_is.Passes (T.history tree.old) (T.history tree.new) }
     ensures asked_shelf { shelf_is.Passes (S.history shelf.old) (S.history shelf.new) }

@@ -2,7 +2,8 @@
 //!
 //! `run` takes the words of a command, the working copy, the files below `.hg` and the standard streams; it answers with the fault,
 //! where there was one, and the status that the program ends with. One command exists: `status` (help topic `status`), where the
-//! dirstate has no parents (help topic `internals.dirstate-v2`). All that is promised of the program stands in the contract of `run`.
+//! dirstate has no parents (help topic `internals.dirstate-v2`). All that is promised of the program stands in the contract of `run`;
+//! that the text of which it speaks is one, in that of `one_text`.
 //! `RealTree` and `RealShelf` are the working copy and `.hg` in the current folder.
 //!
 //! ```text
@@ -18,10 +19,12 @@ mod disk;
 mod entries;
 mod listing;
 mod load;
+mod printed;
 mod real_shelf;
 mod real_tree;
 
 pub use command::{Outcome, run};
+pub use printed::one_text;
 pub use real_shelf::RealShelf;
 pub use real_tree::RealTree;
 

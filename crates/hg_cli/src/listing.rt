@@ -1,11 +1,11 @@
 //! The rows of a status, from the dirstate and the working copy.
 
-ghost use Rattle.std.specs.Prelude.{◌≡◌, IsTrue, IfErr, IfOk, codes};
+ghost use Rattle.std.specs.Prelude.{◌≡◌, IsTrue, IfErr, IfOk, OnOk, codes};
 ghost use Rattle.hg_base.specs.Fault.{HasCause};
 ghost use Rattle.hg_report.specs.declared.fault.Fault.TheVariants as a_fault;
 ghost use Rattle.hg_shelf.specs.History as shelf_is;
 ghost use Rattle.hg_tree.specs.History as tree_is;
-ghost use Rattle.hg_cli.specs.Command.{IgnoreAnswer, IsIgnoreFault, IsListed, ListCause, MeetsResult, expected_of, has_ignore_file, shows_file};
+ghost use Rattle.hg_cli.specs.Command.{IgnoreAnswer, IsIgnoreFault, IsListable, IsListed, ListCause, MeetsResult, expected_of, has_ignore_file, shows_file};
 ghost use Rattle.hg_cli.specs.Load.{load_result};
 
 use crate::load::load;
@@ -62,6 +62,7 @@ pub(crate) fn list<T: Tree, S: Shelf>(
         (load_result (shelf_is.now (S.history shelf.old)).files (shelf_is.now (S.history shelf.old)).files)
         (tree_is.now (T.history tree.old))) }
     ensures cause { IfErr result (ListCause (S.history shelf.old) (S.history shelf.new) (T.history tree.old) (T.history tree.new)) }
+    ensures listable { OnOk result (IsListable (S.history shelf.old) (S.history shelf.new) (T.history tree.old) (T.history tree.new)) }
     ensures tree_cause { HasCause (T.faults tree.old) (T.faults tree.new) result (λ e. e ≡ a_fault.TreeFailed) }
     ensures shelf_cause { HasCause (S.faults shelf.old) (S.faults shelf.new) result (λ e. e ≡ a_fault.ShelfFailed) }
 {

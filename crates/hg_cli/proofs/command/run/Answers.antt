@@ -1,10 +1,11 @@
 -- A run: what the status answered, and the line of its fault.
-use Rattle.std.proofs.Common.{sym, inr}
+use Rattle.std.proofs.Common.{◌≡◌, sym, inr}
 use Rattle.hg_base.specs.Fault.{Rose}
+use Rattle.hg_report.specs.declared.fault.Fault.TheVariants as a_fault
 use Rattle.hg_shelf.specs.History as shelf
 use Rattle.hg_tree.specs.History as tree
 use Rattle.hg_cli.specs.Command.{CommandCause, LeavesFront, LeavesOut, TellsLine, expected, is_status}
-use Rattle.hg_cli.proofs.Commands.{as_expected, is_answered, left_any, not_without, of_answered, status_is, steady_meets}
+use Rattle.hg_cli.proofs.Commands.{as_expected, is_answered, left_any, not_without, of_answered, other_answered, status_is, steady_meets}
 use Rattle.hg_cli.proofs.command.run.Goals as goal
 
 pub returns-in-Ok-clause-complete : goal.returns-in-Ok-clause-complete
@@ -48,3 +49,23 @@ returns-in-Err-clause-front g c = λ quiet still.
     of_answered
     (λ f. LeavesFront (shelf.now (g.S.Shelf.history c.args.shelf.now)).files (tree.now (g.T.Tree.history c.args.tree.now)) (g.O.Sink.bytes c.args.out.now) (g.O.Sink.bytes c.status.new.out)) c.failed.result.fault c.in-Err.fault
     c.failed.ensures.fault (c.in-Err.ensures.front quiet still) (c.in-Err.ensures.front quiet still)
+
+pub returns-in-Err-clause-steady_tree : goal.returns-in-Err-clause-steady_tree
+returns-in-Err-clause-steady_tree g c = λ none. not_without c.failed.result.fault c.in-Err.fault c.failed.ensures.fault none
+
+pub returns-in-Err-clause-steady_shelf : goal.returns-in-Err-clause-steady_shelf
+returns-in-Err-clause-steady_shelf g c = λ none. not_without c.failed.result.fault c.in-Err.fault c.failed.ensures.fault none
+
+pub returns-in-Err-clause-steady_out : goal.returns-in-Err-clause-steady_out
+returns-in-Err-clause-steady_out g c = λ none. not_without c.failed.result.fault c.in-Err.fault c.failed.ensures.fault none
+
+pub returns-in-Err-clause-steady_err : goal.returns-in-Err-clause-steady_err
+returns-in-Err-clause-steady_err g c = λ none. not_without c.failed.result.fault c.in-Err.fault c.failed.ensures.fault none
+
+pub returns-in-Err-clause-listable : goal.returns-in-Err-clause-listable
+returns-in-Err-clause-listable g c = λ none. not_without c.failed.result.fault c.in-Err.fault c.failed.ensures.fault none
+
+pub returns-in-Err-clause-words : goal.returns-in-Err-clause-words
+returns-in-Err-clause-words g c = λ other.
+    let met : c.in-Err.fault ≡ a_fault.NotBuilt = cc (c.in-Err.ensures.words other) in
+    other_answered c.failed.result.fault c.in-Err.fault a_fault.NotBuilt c.failed.ensures.fault met

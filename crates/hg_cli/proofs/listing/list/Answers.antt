@@ -7,7 +7,7 @@ use Rattle.hg_tree.specs.History as tree
 use Rattle.hg_tree.proofs.Histories.{quiet_first, quiet_second}
 use Rattle.hg_cli.specs.Command.{expected_of}
 use Rattle.hg_cli.specs.Load.{load_result}
-use Rattle.hg_cli.proofs.Commands.{cause_ignore, cause_load, cause_other, ignore_now, listed, meets_ignore, meets_listed, meets_load, meets_status, not_shelf, not_tree, quiet_finds}
+use Rattle.hg_cli.proofs.Commands.{cause_ignore, cause_load, cause_other, cause_status, ignore_now, listed, ignore_absent, meets_ignore, meets_listed, meets_load, meets_status, not_shelf, not_tree, quiet_finds, rows_found}
 use Rattle.hg_report.specs.declared.fault.Fault.TheVariants as a_fault
 use Rattle.hg_cli.proofs.listing.list.Goals as goal
 
@@ -48,7 +48,9 @@ returns-in_err-no_ignore_file-clause-cause g c =
     let p = err_from_is_err_and c.from_residual-in_err-no_ignore_file.result c.from_residual-in_err-no_ignore_file.ensures.1 in
     rw (p.1, p.2)
     (cause_ignore (g.S.Shelf.history c.args.shelf.now) (g.S.Shelf.history c.load.new.shelf) (g.T.Tree.history c.args.tree.now) (g.T.Tree.history c.no_ignore_file.new.tree)
-    c.in_err-no_ignore_file.field-0.0 c.no_ignore_file.ensures.passes.past c.in_err-no_ignore_file.ensures.kind c.in_err-no_ignore_file.ensures.found)
+    c.in_err-no_ignore_file.field-0.0
+    (λ told. rows_found (g.S.Shelf.history c.args.shelf.now) (g.S.Shelf.history c.load.new.shelf) c.in_ok-flat.flat (c.in_ok-flat.ensures.found told))
+    c.no_ignore_file.ensures.passes.past c.in_err-no_ignore_file.ensures.kind c.in_err-no_ignore_file.ensures.found)
 
 pub returns-in_err-no_ignore_file-clause-shelf_cause : goal.returns-in_err-no_ignore_file-clause-shelf_cause
 returns-in_err-no_ignore_file-clause-shelf_cause g c =
@@ -63,6 +65,13 @@ returns-in_err-rows-clause-expected g c = λ quiet still.
     let old = g.S.Shelf.history c.args.shelf.now in
     rw p.1
     (meets_status c.in_err-rows.field-0.0 p.0 (expected_of (load_result (shelf.now old).files (shelf.now old).files) (tree.now (g.T.Tree.history c.args.tree.now))) p.2)
+
+pub returns-in_err-rows-clause-cause : goal.returns-in_err-rows-clause-cause
+returns-in_err-rows-clause-cause g c =
+    let p = err_from_is_err_and c.from_residual-in_err-rows.result c.from_residual-in_err-rows.ensures.1 in
+    rw p.1
+    (cause_status (g.S.Shelf.history c.args.shelf.now) (g.S.Shelf.history c.load.new.shelf) (g.T.Tree.history c.args.tree.now) (g.T.Tree.history c.plain_status.new.tree) c.in_err-rows.field-0.0 p.0 p.2
+    (λ told. rows_found (g.S.Shelf.history c.args.shelf.now) (g.S.Shelf.history c.load.new.shelf) c.in_ok-flat.flat (c.in_ok-flat.ensures.found told)))
 
 pub returns-clause-full : goal.returns-clause-full
 returns-clause-full g c = λ quiet still.
@@ -87,3 +96,11 @@ returns-clause-expected g c = λ quiet still.
     let f = quiet_finds old (g.S.Shelf.history c.load.new.shelf) (Ok c.in_ok-flat.flat) c.load.ensures.passes.past still (c.in_ok-flat.ensures.found still.told) in
     meets_listed (load_result (shelf.now old).files (shelf.now old).files) f.0 (tree.now before) f.1
     (ignore_now {T = Unit {0}} (Ok c.in_ok-no_ignore_file.field-0) before mid first early (c.in_ok-no_ignore_file.ensures.found early.told))
+
+pub returns-clause-listable : goal.returns-clause-listable
+returns-clause-listable g c = record {
+  loaded = λ told. rows_found (g.S.Shelf.history c.args.shelf.now) (g.S.Shelf.history c.load.new.shelf) c.in_ok-flat.flat (c.in_ok-flat.ensures.found told);
+  looked =
+      λ told. ignore_absent (g.T.Tree.history c.args.tree.now) (g.T.Tree.history c.no_ignore_file.new.tree) (g.T.Tree.history c.plain_status.new.tree) c.no_ignore_file.ensures.passes.past
+      c.plain_status.ensures.passes.past (c.in_ok-no_ignore_file.ensures.found told);
+}

@@ -1,0 +1,9 @@
+//! The printed text: the law that there is one.
+
+ghost use Rattle.hg_cli.specs.Command.{OneText};
+
+/// What a status prints is one text: from the same files, the same moment and the same bytes that stood in the sink before, printing
+/// the full listing leads to the same bytes.
+pub fn one_text()
+    ensures { OneText }
+{}
