@@ -1,5 +1,5 @@
 -- What a command answers, from what its parts answer.
-use Rattle.std.proofs.Common.{ℕ, ◌≡◌, Bool, true, false, cond, List, [], Option, Some, None, option_map, Result, Ok, Err, IsTrue, IfSome, refl, sym, ap, ◌∙◌, subst, inl, inr, arith}
+use Rattle.std.proofs.Common.{ℕ, ◌≡◌, Bool, true, false, cond, List, Option, Some, None, option_map, Result, Ok, Err, IsTrue, IfSome, refl, sym, ap, ◌∙◌, subst, inl, inr, arith}
 use Rattle.std.specs.Option.{MatchOption}
 use Rattle.hg_base.specs.Fault.{HasCause, IsSteady, Rose}
 use Rattle.hg_base.proofs.Faults.{steady_not_rose}
@@ -19,7 +19,6 @@ use Rattle.hg_image.specs.Rows.{Row}
 use Rattle.hg_report.specs.Cause.{of_status}
 use Rattle.hg_report.specs.Status.{text_of}
 use Rattle.hg_stream.specs.Stream.{Grown, GrownByFront}
-use Rattle.hg_stream.proofs.Grown.{grown_by_nothing}
 use Rattle.hg_report.specs.declared.fault.Fault.{Fault}
 use Rattle.hg_report.specs.declared.fault.Fault.TheVariants as a_fault
 use Rattle.hg_shelf.specs.History as shelf

@@ -1,5 +1,5 @@
 -- What a status prints is one text: the load is a function, there is one full listing, and its lines are put behind what stood there.
-use Rattle.std.proofs.Common.{ℕ, ◌≡◌, List, [], ◌++◌, Option, option_map, Result, Ok, Err, sym, ap, ◌∙◌, subst}
+use Rattle.std.proofs.Common.{◌≡◌, List, [], ◌++◌, option_map, Result, Ok, Err, sym, ap, ◌∙◌, subst}
 use Rattle.hg_flat.specs.Full.{IsFull, default_wanted, nothing_ignored, null_rows}
 use Rattle.hg_flat.specs.Kept.{null_parent}
 use Rattle.hg_flat.specs.Recorded.{flat_of_rows}
