@@ -1,4 +1,4 @@
-//! Worked bytes of a docket, and worked identifiers.
+//! Worked bytes of a docket, and identifiers.
 
 ghost use Rattle.std.specs.Prelude.{◌<◌, ◌≤◌};
 
@@ -88,25 +88,6 @@ fn worked_faults(rt: HostRuntime) {
     ];
     for (at, byte, len, wanted) in cases {
         assert_eq!(rt; fault_of(at, byte, len), wanted, "byte {at} of {len}");
-    }
-}
-
-#[test]
-fn next_identifiers(rt: HostRuntime) {
-    let cases: [(&str, Option<&str>); 5] = [
-        ("7F", Some("0000000000000080")),
-        ("foo", Some("0000000000000000")),
-        ("", Some("0000000000000000")),
-        ("00000000000000000", Some("0000000000000000")),
-        ("ffffffffffffffff", None),
-    ];
-    for (id, wanted) in cases {
-        let next = Ident::read(id.as_bytes()).and_then(|id| id.next());
-        assert_eq!(rt;
-            next.as_ref().map(|id| id.as_bytes()),
-            wanted.map(|text| text.as_bytes()),
-            "after {id}"
-        );
     }
 }
 
