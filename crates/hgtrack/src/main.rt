@@ -7,6 +7,13 @@
 //! ```
 #![tactic(auto)]
 
+ghost use Rattle.std.specs.Prelude.{◌≡◌, ◌⊎◌, is_some};
+ghost use Rattle.hg_base.specs.Fault.{Rose};
+ghost use Rattle.hg_stream.specs.Stream.{Grown, GrownByFront};
+ghost use Rattle.hg_cli.specs.Command.{TellsLine};
+ghost use Rattle.hg_report.specs.declared.fault.Fault.TheVariants as a_fault;
+ghost use Rattle.hgtrack.specs.Words.{asks_of_program};
+
 use hg_base::{OutOfMemory, Text, Words};
 use hg_cli::{RealShelf, RealTree, run};
 use hg_report::{Fault, fault_text};
@@ -46,7 +53,9 @@ fn read_words(alloc: Global, rt: &HostRuntime) -> Result<Words, Fault> {
 }
 
 // Arguments that aren't text are no command.
-fn unread(kind: ErrorKind) -> Fault {
+fn unread(kind: ErrorKind) -> Fault
+    ensures { ((kind ≡ ErrorKind.OutOfMemory) × (result ≡ a_fault.OutOfMemory)) ⊎ ((¬ (kind ≡ ErrorKind.OutOfMemory)) × (result ≡ a_fault.NotBuilt)) }
+{
     match kind {
         ErrorKind::OutOfMemory => Fault::OutOfMemory,
         _ => Fault::NotBuilt,
@@ -54,7 +63,9 @@ fn unread(kind: ErrorKind) -> Fault {
 }
 
 // What is printed for a single word that asks of the program itself.
-fn own_text(words: &Words) -> Option<&'static str> {
+fn own_text(words: &Words) -> Option<&'static str>
+    ensures { is_some result ≡ asks_of_program words.now }
+{
     if words.len() != 1 {
         return None;
     }
@@ -66,7 +77,10 @@ fn own_text(words: &Words) -> Option<&'static str> {
 }
 
 // Prints a text of the program's own.
-fn print<O: Sink>(out: &mut O, text: &str, status: u8) -> u8 {
+fn print<O: Sink>(out: &mut O, text: &str, status: u8) -> u8
+    ensures { ((result ≡ status) × Grown (O.bytes out.old) (O.bytes out.new) text.now)
+        ⊎ ((result ≡ 255) × GrownByFront (O.bytes out.old) (O.bytes out.new) text.now × Rose (O.faults out.old) (O.faults out.new)) }
+{
     match put_all(out, text.as_bytes()) {
         Ok(()) => status,
         Err(_) => FAILED,
@@ -74,7 +88,11 @@ fn print<O: Sink>(out: &mut O, text: &str, status: u8) -> u8 {
 }
 
 // Prints the line of a fault that came before a command ran.
-fn refuse<E: Sink>(alloc: Global, err: &mut E, fault: Fault) -> u8 {
+fn refuse<E: Sink>(alloc: Global, err: &mut E, fault: Fault) -> u8
+    ensures status { result ≡ 255 }
+    ensures told { TellsLine (E.bytes err.old) (E.bytes err.new) (E.faults err.old) (E.faults err.new) fault
+        ⊎ TellsLine (E.bytes err.old) (E.bytes err.new) (E.faults err.old) (E.faults err.new) a_fault.OutOfMemory }
+{
     match fault_text(alloc, &fault) {
         Ok(line) => {
             let _ = put_all(err, line.as_slice());
