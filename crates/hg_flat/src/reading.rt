@@ -78,7 +78,7 @@ impl Flat {
         ensures { IfOk result (λ flat. Records (rows image.now) (kept_of flat)) }
     {
         let docket = image.docket();
-        // The docket's count may be wrong; there are never more entries than the bytes can hold.
+        // The docket's count may be wrong: no more room is taken at once than for nodes that stand side by side in the used bytes.
         let room = docket.entries.min(docket.used / 44);
         let mut found = Vec::with_capacity(alloc, room as usize)?;
         add_list(alloc, &mut found, image.root())?;
