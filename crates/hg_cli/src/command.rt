@@ -96,8 +96,8 @@ fn tell<E: Sink>(err: &mut E, line: &[u8])
     }
 }
 
-// Ends with a fault, whose line is printed.
-fn failed<E: Sink>(alloc: Global, fault: Fault, err: &mut E) -> Outcome
+/// What a command ends with that met this fault, whose line is printed on the error stream.
+pub fn failed<E: Sink>(alloc: Global, fault: Fault, err: &mut E) -> Outcome
     ensures status { result.status ≡ 255 }
     ensures fault { IsFaultOrMemory result.fault fault }
     ensures told { IfSome

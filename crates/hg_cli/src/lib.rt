@@ -23,7 +23,7 @@ mod printed;
 mod real_shelf;
 mod real_tree;
 
-pub use command::{Outcome, run};
+pub use command::{Outcome, failed, run};
 pub use printed::one_text;
 pub use real_shelf::RealShelf;
 pub use real_tree::RealTree;

@@ -3,6 +3,7 @@ ghost use Rattle.std.specs.Prelude.{◌≡◌, IfOk, IfSome};
 ghost use Rattle.hg_tree.specs.Moment.{IsPlain};
 ghost use Rattle.hg_tree.specs.declared.fault.TreeFault.TheVariants as a_fault;
 ghost use Rattle.hg_base.specs.Fault.{HasCause};
+ghost use Rattle.hg_base.specs.declared.stat.Kind.TheVariants as a_kind;
 
 use crate::disk::{counted, missing};
 use crate::entries::list_at;
@@ -156,7 +157,8 @@ fn kind_of(metadata: &Metadata) -> Kind {
 
 // What a fifo, a socket or a device shows.
 fn other() -> Stat
-    ensures { IsPlain result }
+    ensures plain { IsPlain result }
+    ensures kind { result.kind ≡ a_kind.Other }
 {
     Stat {
         kind: Kind::Other,

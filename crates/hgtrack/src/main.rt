@@ -10,13 +10,12 @@
 ghost use Rattle.std.specs.Prelude.{◌≡◌, ◌⊎◌, is_some};
 ghost use Rattle.hg_base.specs.Fault.{Rose};
 ghost use Rattle.hg_stream.specs.Stream.{Grown, GrownByFront};
-ghost use Rattle.hg_cli.specs.Command.{TellsLine};
 ghost use Rattle.hg_report.specs.declared.fault.Fault.TheVariants as a_fault;
 ghost use Rattle.hgtrack.specs.Words.{asks_of_program};
 
-use hg_base::{OutOfMemory, Text, Words};
-use hg_cli::{RealShelf, RealTree, run};
-use hg_report::{Fault, fault_text};
+use hg_base::{Text, Words};
+use hg_cli::{RealShelf, RealTree, failed, run};
+use hg_report::Fault;
 use hg_stream::{ReaderSource, Sink, WriterSink, put_all};
 use std::alloc::Global;
 use std::env;
@@ -33,8 +32,6 @@ Letters of status: A added, ! missing, ? not tracked. It ends with 0, or with 25
 ";
 
 const VERSION: &str = "hgtrack 0.1.0\n";
-
-const NO_MEMORY: &str = "abort: out of memory\n";
 
 /// How a command ends that failed.
 const FAILED: u8 = 255;
@@ -87,21 +84,6 @@ fn print<O: Sink>(out: &mut O, text: &str, status: u8) -> u8
     }
 }
 
-// Prints the line of a fault that came before a command ran.
-fn refuse<E: Sink>(alloc: Global, err: &mut E, fault: Fault) -> u8
-    ensures status { result ≡ 255 }
-    ensures told { TellsLine (E.bytes err.old) (E.bytes err.new) (E.faults err.old) (E.faults err.new) fault
-        ⊎ TellsLine (E.bytes err.old) (E.bytes err.new) (E.faults err.old) (E.faults err.new) a_fault.OutOfMemory }
-{
-    match fault_text(alloc, &fault) {
-        Ok(line) => {
-            let _ = put_all(err, line.as_slice());
-            FAILED
-        }
-        Err(OutOfMemory) => print(err, NO_MEMORY, FAILED),
-    }
-}
-
 fn main(rt: HostRuntime) -> ExitCode {
     let alloc = rt.alloc();
     let mut input = ReaderSource::new(rt.stdin());
@@ -109,7 +91,7 @@ fn main(rt: HostRuntime) -> ExitCode {
     let mut err = WriterSink::new(rt.stderr());
     let words = match read_words(alloc, &rt) {
         Ok(words) => words,
-        Err(fault) => return ExitCode::from(refuse(alloc, &mut err, fault)),
+        Err(fault) => return ExitCode::from(failed(alloc, fault, &mut err).status),
     };
     if let Some(text) = own_text(&words) {
         return ExitCode::from(print(&mut out, text, 0));
