@@ -3,3 +3,5 @@ pub mod Cut
 pub mod Fault
 pub mod PathRefusal
 pub mod PathText
+pub mod Reads
+pub mod Times

@@ -22,7 +22,8 @@ use Rattle.hg_image.specs.declared.fault.NodeFault.TheVariants as a_node
 use Rattle.hg_report.specs.declared.fault.Fault.{Fault}
 use Rattle.hg_report.specs.declared.fault.Fault.TheVariants as a_fault
 use Rattle.hg_shelf.specs.History.{Extends, Files, History, Passes, now}
-use Rattle.hg_shelf.specs.Reads.{ReadsBytes, size_of}
+use Rattle.hg_base.specs.Reads.{ReadsBytes}
+use Rattle.hg_shelf.specs.Reads.{size_of}
 use Rattle.hg_shelf.proofs.Histories.{extends_trans}
 use Rattle.hg_cli.specs.Load.{added_result, content, data_in, data_name, data_result, docket_in, docket_result, has_null_parents, load_result, nodes_result, parents_result, refused_result, walked_result}
 use Rattle.hg_cli.specs.Loaded.{Covers, DataFinds, DataFindsDuring, During, FaultFound, FileCovered, FileFinds, FileFindsDuring, Finds, FindsDuring, FrontFinds, NamedFinds, bytes_of, files_at}

@@ -1,6 +1,6 @@
 // The files below `.hg` in the file system.
 ghost use Rattle.std.specs.Prelude.{◌≡◌, ◌≤◌, IfOk, length};
-ghost use Rattle.hg_shelf.specs.Reads.{IsWithin};
+ghost use Rattle.hg_base.specs.Reads.{IsWithin};
 
 use crate::disk::{counted, found};
 use hg_base::{Failed, Got};
