@@ -1,9 +1,11 @@
+pub mod Alike
 pub mod Alone
 pub mod Among
 pub mod Ascending
+pub mod Asks
 pub mod Fullness
 pub mod Holding
 pub mod Recording
-pub mod Quiet
 pub mod Rooms
+pub mod Steps
 pub mod Unknowns

@@ -1,3 +1,4 @@
+pub mod Asked
 pub mod Cause
 pub mod Full
 pub mod Kept
