@@ -13,7 +13,7 @@ use Rattle.hg_compare.specs.Tracked.{is_file_or_link, tracked_letter}
 use Rattle.hg_compare.specs.declared.letter.Letter.{Letter}
 use Rattle.hg_compare.specs.declared.letter.Letter.TheVariants as a_letter
 use Rattle.hg_flat.specs.Full.{HasLetterBy, IsFull, IsTold, default_wanted, nothing_ignored, null_rows, wants}
-use Rattle.hg_flat.specs.Kept.{AreAdded, AreNamed, Kept, flat_of, null_parent, source_of}
+use Rattle.hg_flat.specs.Kept.{AreAdded, AreNamed, Kept, flat_from, null_parent, source_of}
 use Rattle.hg_flat.specs.Listing.{IsUnknownIn, Lists, added_row, unknown_row}
 use Rattle.hg_flat.specs.Order.{whole_order}
 use Rattle.hg_flat.specs.declared.kept.FlatRow.{FlatRow}
@@ -59,7 +59,7 @@ module _ (kept : Kept) (moment : Moment) (added : AreAdded kept) (named : AreNam
   -- what is told of a path, by what is kept of it
   Told : Option FlatRow → List ℕ → Letter → Type 0
   Told o path letter =
-      HasLetterBy (option_map (λ row. marks_of (view row.entry)) o) (flat_of null_parent null_parent kept) moment null_rows nothing_ignored path letter
+      HasLetterBy (option_map (λ row. marks_of (view row.entry)) o) (flat_from null_parent null_parent kept) moment null_rows nothing_ignored path letter
 
   marks_at : (path : List ℕ) (row : FlatRow) → kept path ≡ Some row → marks_of (view row.entry) ≡ record { w = true; p1 = false; p2 = false }
   marks_at path row is = subst (λ (o : Option FlatRow). IfSome o (λ r. marks_of (view r.entry) ≡ record { w = true; p1 = false; p2 = false })) is (added path)
@@ -70,20 +70,20 @@ module _ (kept : Kept) (moment : Moment) (added : AreAdded kept) (named : AreNam
       ap (λ (marks : Marks). tracked_letter None marks (is_some (source_of (kept path))) (moment.things path)) (marks_at path row is)
       ∙ letter_is (is_file_or_link (moment.things path))
 
-  told_added : (row : FlatRow) → kept row.path ≡ Some row → IsTold (flat_of null_parent null_parent kept) moment null_rows nothing_ignored default_wanted (added_row moment row)
+  told_added : (row : FlatRow) → kept row.path ≡ Some row → IsTold (flat_from null_parent null_parent kept) moment null_rows nothing_ignored default_wanted (added_row moment row)
   told_added row is = (
     wanted_is (is_file_or_link (moment.things row.path)),
     subst (λ (o : Option FlatRow).
-        HasLetterBy (option_map (λ r. marks_of (view r.entry)) o) (flat_of null_parent null_parent kept) moment null_rows nothing_ignored row.path (added_row moment row).letter)
+        HasLetterBy (option_map (λ r. marks_of (view r.entry)) o) (flat_from null_parent null_parent kept) moment null_rows nothing_ignored row.path (added_row moment row).letter)
         (sym is) (letter_at row.path row is),
     sym (ap source_of is),
   )
 
-  told_unknown : (path : List ℕ) → IsUnknownIn kept moment None path → IsTold (flat_of null_parent null_parent kept) moment null_rows nothing_ignored default_wanted (unknown_row path)
+  told_unknown : (path : List ℕ) → IsUnknownIn kept moment None path → IsTold (flat_from null_parent null_parent kept) moment null_rows nothing_ignored default_wanted (unknown_row path)
   told_unknown path u = (
     refl,
     subst (λ (o : Option FlatRow).
-        HasLetterBy (option_map (λ r. marks_of (view r.entry)) o) (flat_of null_parent null_parent kept) moment null_rows nothing_ignored path a_letter.Unknown)
+        HasLetterBy (option_map (λ r. marks_of (view r.entry)) o) (flat_from null_parent null_parent kept) moment null_rows nothing_ignored path a_letter.Unknown)
         (sym u.untracked.1) (u.untracked.0, λ d below. u.visible d refl below, inr (refl, λ h. h)),
     sym (ap source_of u.untracked.1),
   )
@@ -94,7 +94,7 @@ module _ (kept : Kept) (moment : Moment) (added : AreAdded kept) (named : AreNam
 
   -- a row that is told is that of an entry, or of a path without one
   row_of : (row : Row) (o : Option FlatRow) → kept row.path ≡ o
-      → HasLetterBy (option_map (λ r. marks_of (view r.entry)) o) (flat_of null_parent null_parent kept) moment null_rows nothing_ignored row.path row.letter
+      → HasLetterBy (option_map (λ r. marks_of (view r.entry)) o) (flat_from null_parent null_parent kept) moment null_rows nothing_ignored row.path row.letter
       → row.source ≡ source_of (kept row.path) → ((k : FlatRow) × (kept row.path ≡ Some k) × (row ≡ added_row moment k)) ⊎ (IsUnknownIn kept moment None row.path × (row ≡ unknown_row row.path))
   row_of row None is letter source =
       elim letter.2 [
@@ -117,17 +117,17 @@ module _ (kept : Kept) (moment : Moment) (added : AreAdded kept) (named : AreNam
 
   -- the rows of what is kept, then those of what else stands there, put in order without doubles, are the full listing
   pub full : (rows : List FlatRow) (a b c d : List Row) → Holds kept rows → a ≡ map (added_row moment) rows → Lists (IsUnknownIn kept moment None) a b → IsPermutation b c → IsSorted whole_order c
-      → d ≡ dedup (eq_by_cmp whole_order) c → IsFull (flat_of null_parent null_parent kept) moment null_rows nothing_ignored default_wanted d
+      → d ≡ dedup (eq_by_cmp whole_order) c → IsFull (flat_from null_parent null_parent kept) moment null_rows nothing_ignored default_wanted d
   full rows a b c d holds is lists moved sorted once =
-      let told : (row : Row) → Contains b row → IsTold (flat_of null_parent null_parent kept) moment null_rows nothing_ignored default_wanted row =
+      let told : (row : Row) → Contains b row → IsTold (flat_from null_parent null_parent kept) moment null_rows nothing_ignored default_wanted row =
       λ row has.
       elim (Contains-append_cases a lists.0 row (subst (λ (l : List Row). Contains l row) lists.1 has)) [
         | inl first ↦
             let from = from_map (added_row moment) rows row (subst (λ (l : List Row). Contains l row) is first) in
-            subst (IsTold (flat_of null_parent null_parent kept) moment null_rows nothing_ignored default_wanted) (sym from.2) (told_added from.0 (holds.found from.0 from.1))
+            subst (IsTold (flat_from null_parent null_parent kept) moment null_rows nothing_ignored default_wanted) (sym from.2) (told_added from.0 (holds.found from.0 from.1))
         | inr second ↦
             let s = lists.2.sound row second in
-            subst (IsTold (flat_of null_parent null_parent kept) moment null_rows nothing_ignored default_wanted) (sym s.2) (told_unknown s.0 s.1)
+            subst (IsTold (flat_from null_parent null_parent kept) moment null_rows nothing_ignored default_wanted) (sym s.2) (told_unknown s.0 s.1)
       ]
       in record {
         sound = λ row has. told row (kept_of b c d row moved once has);

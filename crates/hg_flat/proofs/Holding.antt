@@ -46,7 +46,7 @@ each_of P (row ∷ rows) all r has =
     elim (either row rows r has) [ inl same ↦ subst (λ (q : FlatRow). P q.path) same all.0 | inr later ↦ each_of P rows all.1 r later ]
 
 -- a row is found at its path
-found_at : (rows : List FlatRow) → HaveOwnPaths rows → (r : FlatRow) → Contains rows r → row_at rows r.path ≡ Some r
+pub found_at : (rows : List FlatRow) → HaveOwnPaths rows → (r : FlatRow) → Contains rows r → row_at rows r.path ≡ Some r
 unfolding IsDistinct
 found_at [] own r (k, below, is) = absurd (omega (arith, below))
 found_at (row ∷ rows) own r has =

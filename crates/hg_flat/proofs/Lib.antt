@@ -3,6 +3,7 @@ pub mod Among
 pub mod Ascending
 pub mod Fullness
 pub mod Holding
+pub mod Parents
 pub mod Recording
 pub mod Quiet
 pub mod Rooms

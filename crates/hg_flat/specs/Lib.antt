@@ -4,4 +4,5 @@ pub mod Kept
 pub mod Listing
 pub mod Order
 pub mod Recorded
+pub mod Unborn
 pub mod Shown

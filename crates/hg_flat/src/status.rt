@@ -4,7 +4,7 @@ ghost use Rattle.std.specs.Prelude.{◌≡◌, ◌++◌, map, OnOk, IfOk};
 ghost use Rattle.hg_tree.specs.History.{IsQuiet, Passes, now};
 ghost use Rattle.hg_flat.specs.Cause.{HasStatusCause};
 ghost use Rattle.hg_flat.specs.Full.{IsFull, nothing_ignored, null_rows, default_wanted};
-ghost use Rattle.hg_flat.specs.Kept.{AreAdded, flat_of, null_parent};
+ghost use Rattle.hg_flat.specs.Kept.{AreAdded, flat_from, null_parent};
 ghost use Rattle.hg_flat.specs.Listing.{added_row};
 ghost use Rattle.hg_flat.specs.Shown.{kept_of};
 
@@ -44,7 +44,7 @@ pub fn plain_status<T: Tree>(alloc: Global, flat: &Flat, tree: &mut T) -> Result
     ensures full { IsQuiet (T.history tree.old) (T.history tree.new)
         → IfOk
         result
-        (IsFull (flat_of null_parent null_parent (kept_of flat.now)) (now (T.history tree.old)) null_rows nothing_ignored default_wanted) }
+        (IsFull (flat_from null_parent null_parent (kept_of flat.now)) (now (T.history tree.old)) null_rows nothing_ignored default_wanted) }
     ensures cause { HasStatusCause (T.faults tree.old) (T.faults tree.new) result }
 {
     let mut rows = Vec::new(alloc);
