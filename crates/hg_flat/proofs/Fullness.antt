@@ -13,7 +13,7 @@ use Rattle.hg_compare.specs.Tracked.{ParentRow, is_file_or_link, tracked_letter}
 use Rattle.hg_compare.specs.declared.letter.Letter.{Letter}
 use Rattle.hg_compare.specs.declared.letter.Letter.TheVariants as a_letter
 use Rattle.hg_flat.specs.Full.{HasLetterBy, IsFull, IsFullFor, IsTold, default_wanted, nothing_ignored, null_rows, wants}
-use Rattle.hg_flat.specs.Kept.{AreAdded, AreNamed, HaveOwnPaths, Kept, flat_of, source_of}
+use Rattle.hg_flat.specs.Kept.{AreAdded, AreNamed, HaveOwnPaths, Kept, flat_from, source_of}
 use Rattle.hg_flat.specs.Listing.{AddsTracked, IsTrackedRow, IsUnknownIn, Lists, added_row, unknown_row}
 use Rattle.hg_flat.specs.Order.{row_order, whole_order}
 use Rattle.hg_flat.specs.declared.kept.FlatRow.{FlatRow}
@@ -52,7 +52,7 @@ module _ (p1 p2 : List ℕ) (kept : Kept) (moment : Moment) (added : AreAdded ke
   -- what is told of a path, by what is kept of it
   Told : Option FlatRow → List ℕ → Letter → Type 0
   Told o path letter =
-      HasLetterBy (option_map (λ row. marks_of (view row.entry)) o) (flat_of p1 p2 kept) moment null_rows nothing_ignored path letter
+      HasLetterBy (option_map (λ row. marks_of (view row.entry)) o) (flat_from p1 p2 kept) moment null_rows nothing_ignored path letter
 
   marks_at : (path : List ℕ) (row : FlatRow) → kept path ≡ Some row → marks_of (view row.entry) ≡ record { w = true; p1 = false; p2 = false }
   marks_at path row is = subst (λ (o : Option FlatRow). IfSome o (λ r. marks_of (view r.entry) ≡ record { w = true; p1 = false; p2 = false })) is (added path)
@@ -63,20 +63,20 @@ module _ (p1 p2 : List ℕ) (kept : Kept) (moment : Moment) (added : AreAdded ke
       ap (λ (marks : Marks). tracked_letter None marks (is_some (source_of (kept path))) (moment.things path)) (marks_at path row is)
       ∙ letter_is (is_file_or_link (moment.things path))
 
-  told_added : (row : FlatRow) → kept row.path ≡ Some row → IsTold (flat_of p1 p2 kept) moment null_rows nothing_ignored default_wanted (added_row moment row)
+  told_added : (row : FlatRow) → kept row.path ≡ Some row → IsTold (flat_from p1 p2 kept) moment null_rows nothing_ignored default_wanted (added_row moment row)
   told_added row is = (
     wanted_is (is_file_or_link (moment.things row.path)),
     subst (λ (o : Option FlatRow).
-        HasLetterBy (option_map (λ r. marks_of (view r.entry)) o) (flat_of p1 p2 kept) moment null_rows nothing_ignored row.path (added_row moment row).letter)
+        HasLetterBy (option_map (λ r. marks_of (view r.entry)) o) (flat_from p1 p2 kept) moment null_rows nothing_ignored row.path (added_row moment row).letter)
         (sym is) (letter_at row.path row is),
     sym (ap source_of is),
   )
 
-  told_unknown : (path : List ℕ) → IsUnknownIn kept moment None path → IsTold (flat_of p1 p2 kept) moment null_rows nothing_ignored default_wanted (unknown_row path)
+  told_unknown : (path : List ℕ) → IsUnknownIn kept moment None path → IsTold (flat_from p1 p2 kept) moment null_rows nothing_ignored default_wanted (unknown_row path)
   told_unknown path u = (
     refl,
     subst (λ (o : Option FlatRow).
-        HasLetterBy (option_map (λ r. marks_of (view r.entry)) o) (flat_of p1 p2 kept) moment null_rows nothing_ignored path a_letter.Unknown)
+        HasLetterBy (option_map (λ r. marks_of (view r.entry)) o) (flat_from p1 p2 kept) moment null_rows nothing_ignored path a_letter.Unknown)
         (sym u.untracked.1) (u.untracked.0, λ d below. u.visible d refl below, inr (refl, λ h. h)),
     sym (ap source_of u.untracked.1),
   )
@@ -87,7 +87,7 @@ module _ (p1 p2 : List ℕ) (kept : Kept) (moment : Moment) (added : AreAdded ke
 
   -- a row that is told is that of an entry, or of a path without one
   row_of : (row : Row) (o : Option FlatRow) → kept row.path ≡ o
-      → HasLetterBy (option_map (λ r. marks_of (view r.entry)) o) (flat_of p1 p2 kept) moment null_rows nothing_ignored row.path row.letter
+      → HasLetterBy (option_map (λ r. marks_of (view r.entry)) o) (flat_from p1 p2 kept) moment null_rows nothing_ignored row.path row.letter
       → row.source ≡ source_of (kept row.path) → ((k : FlatRow) × (kept row.path ≡ Some k) × (row ≡ added_row moment k)) ⊎ (IsUnknownIn kept moment None row.path × (row ≡ unknown_row row.path))
   row_of row None is letter source =
       elim letter.2 [
@@ -152,18 +152,18 @@ module _ (p1 p2 : List ℕ) (kept : Kept) (moment : Moment) (added : AreAdded ke
           | inr second ↦ inr second
         ]
 
-    told : (row : Row) → Contains b row → S row.path → IsTold (flat_of p1 p2 kept) moment null_rows nothing_ignored default_wanted row
+    told : (row : Row) → Contains b row → S row.path → IsTold (flat_from p1 p2 kept) moment null_rows nothing_ignored default_wanted row
     told row has meets =
         elim (cases row has) [
           | inl (k, of, is) ↦
-              subst (IsTold (flat_of p1 p2 kept) moment null_rows nothing_ignored default_wanted) (sym (tracked_is S k row is (subst S is.path meets)))
+              subst (IsTold (flat_from p1 p2 kept) moment null_rows nothing_ignored default_wanted) (sym (tracked_is S k row is (subst S is.path meets)))
               (told_added k (holds.found k of))
           | inr second ↦
               let e = lists.2.each row second in
-              subst (IsTold (flat_of p1 p2 kept) moment null_rows nothing_ignored default_wanted) (sym e.0) (told_unknown row.path (lists.2.sound row second meets))
+              subst (IsTold (flat_from p1 p2 kept) moment null_rows nothing_ignored default_wanted) (sym e.0) (told_unknown row.path (lists.2.sound row second meets))
         ]
 
-    has_told : (row : Row) → S row.path → IsTold (flat_of p1 p2 kept) moment null_rows nothing_ignored default_wanted row → Contains b row
+    has_told : (row : Row) → S row.path → IsTold (flat_from p1 p2 kept) moment null_rows nothing_ignored default_wanted row → Contains b row
     has_told row meets tells =
         subst (λ (l : List Row). Contains l row) (sym lists.1)
         (elim (row_of row (kept row.path) refl tells.1 tells.2) [
@@ -229,7 +229,7 @@ module _ (p1 p2 : List ℕ) (kept : Kept) (moment : Moment) (added : AreAdded ke
             let none = (lists.2.each q second).1 in absurd (cc (there, none))
 
     -- these rows put in order without doubles are the full listing of the paths that meet S
-    pub full_for : (c d : List Row) → IsPermutation b c → IsSorted whole_order c → d ≡ dedup (eq_by_cmp whole_order) c → IsFullFor S (flat_of p1 p2 kept) moment null_rows nothing_ignored default_wanted d
+    pub full_for : (c d : List Row) → IsPermutation b c → IsSorted whole_order c → d ≡ dedup (eq_by_cmp whole_order) c → IsFullFor S (flat_from p1 p2 kept) moment null_rows nothing_ignored default_wanted d
     full_for c d moved sorted once =
         let up : IsStrictlySortedBy row_order d = ascending (λ path. source_of (kept path)) b c d moved sorted once sourced in record {
           sound = λ row has meets. told row (kept_of b c d row moved once has) meets;

@@ -41,7 +41,7 @@ either row rows r has =
     ]
 
 -- a row is found at its path
-found_at : (rows : List FlatRow) → HaveOwnPaths rows → (r : FlatRow) → Contains rows r → row_at rows r.path ≡ Some r
+pub found_at : (rows : List FlatRow) → HaveOwnPaths rows → (r : FlatRow) → Contains rows r → row_at rows r.path ≡ Some r
 unfolding IsDistinct
 found_at [] own r (k, below, is) = absurd (omega (arith, below))
 found_at (row ∷ rows) own r has =

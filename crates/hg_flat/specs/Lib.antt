@@ -5,4 +5,5 @@ pub mod Kept
 pub mod Listing
 pub mod Order
 pub mod Recorded
+pub mod Unborn
 pub mod Shown

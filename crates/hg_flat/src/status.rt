@@ -6,9 +6,9 @@ ghost use Rattle.hg_tree.specs.Still.{Untouched};
 ghost use Rattle.hg_flat.specs.Asked.{AsksFor, AsksNothing, IsVisibleDir};
 ghost use Rattle.hg_flat.specs.Cause.{HasStatusCause};
 ghost use Rattle.hg_flat.specs.Full.{IsFull, IsFullFor, nothing_ignored, null_rows, default_wanted};
-ghost use Rattle.hg_flat.specs.Kept.{AreAdded, flat_of, null_parent};
+ghost use Rattle.hg_flat.specs.Kept.{AreAdded};
 ghost use Rattle.hg_flat.specs.Listing.{AddsTracked};
-ghost use Rattle.hg_flat.specs.Shown.{kept_of};
+ghost use Rattle.hg_flat.specs.Shown.{flat_in, kept_of};
 
 use crate::fault::StatusFault;
 use crate::flat::Flat;
@@ -55,7 +55,7 @@ pub fn plain_status<T: Tree>(alloc: Global, flat: &Flat, tree: &mut T) -> Result
         result
         (IsFullFor
         (Untouched (T.history tree.new) (T.history tree.old).last)
-        (flat_of null_parent null_parent (kept_of flat.now))
+        (flat_in flat.now)
         (now (T.history tree.old))
         null_rows
         nothing_ignored
@@ -63,7 +63,7 @@ pub fn plain_status<T: Tree>(alloc: Global, flat: &Flat, tree: &mut T) -> Result
     ensures full { IsOurs (T.history tree.old) (T.history tree.new)
         → IfOk
         result
-        (IsFull (flat_of null_parent null_parent (kept_of flat.now)) (now (T.history tree.old)) null_rows nothing_ignored default_wanted) }
+        (IsFull (flat_in flat.now) (now (T.history tree.old)) null_rows nothing_ignored default_wanted) }
     ensures asked { IsTrue (T.history tree.old).told
         → AsksFor
         (λ dir. IsOurs (T.history tree.old) (T.history tree.new) → IsVisibleDir (now (T.history tree.old)) dir)

@@ -7,10 +7,9 @@ use Rattle.hg_tree.proofs.Spans.{passes_trans}
 use Rattle.hg_tree.proofs.Stillness.{ours_quiet, quiet_untouched}
 use Rattle.hg_flat.specs.Asked.{IsVisibleDir}
 use Rattle.hg_flat.specs.Full.{default_wanted, nothing_ignored, null_rows}
-use Rattle.hg_flat.specs.Kept.{flat_of, null_parent}
 use Rattle.hg_flat.specs.Listing.{IsUnknownIn}
 use Rattle.hg_flat.specs.Order.{whole_order}
-use Rattle.hg_flat.specs.Shown.{kept_of}
+use Rattle.hg_flat.specs.Shown.{flat_in, kept_of}
 use Rattle.hg_flat.proofs.Asks.{asks_none, status_asks}
 use Rattle.hg_flat.proofs.Fullness.{full_for, full_of}
 use Rattle.hg_flat.proofs.Holding.{holds_rows, named}
@@ -25,7 +24,7 @@ returns-clause-still g c =
     let first = c.add_each.ensures.passes.past in
     let second = c.visit.ensures.passes.past in
     rw c.of.ensures
-    (full_for null_parent null_parent (kept_of c.args.flat.now) (now old) c.requires (named c.args.flat.now.rows.items)
+    (full_for c.args.flat.now.p1.0 c.args.flat.now.p2.0 (kept_of c.args.flat.now) (now old) c.requires (named c.args.flat.now.rows.items)
     (Untouched new old.last) c.args.flat.now.rows.items c.args.flat.now.own (holds_rows c.args.flat.now.rows.items c.args.flat.now.own)
     c.add_each.new.rows.items c.visit.new.rows.items
     (tracked_first old mid new first second c.args.flat.now.rows.items c.add_each.new.rows.items (rw c.new-rows.ensures.items at c.in_ok-add_each.ensures.added))
@@ -40,7 +39,7 @@ returns-clause-full g c = λ ours.
     let new = g.T.Tree.history c.visit.new.tree in
     let whole = passes_trans old (g.T.Tree.history c.add_each.new.tree) new c.add_each.ensures.passes c.visit.ensures.passes in
     rw c.of.ensures
-    (full_of (Untouched new old.last) (flat_of null_parent null_parent (kept_of c.args.flat.now)) (now old) null_rows nothing_ignored default_wanted c.dedup.new.self.items
+    (full_of (Untouched new old.last) (flat_in c.args.flat.now) (now old) null_rows nothing_ignored default_wanted c.dedup.new.self.items
     (quiet_untouched old new whole.past (ours_quiet old new whole ours)) (rw (c.of.ensures) at (returns-clause-still g c)))
 
 -- ---- what the tree is asked
