@@ -5,3 +5,4 @@ pub mod PathRefusal
 pub mod PathText
 pub mod Reads
 pub mod Times
+pub mod Within
