@@ -1,13 +1,12 @@
 -- What is on the way from the root to a path.
-use Rattle.std.proofs.Common.{◌≡◌, ℕ, ◌<◌, Bool, true, false, ◌||◌, ◌⊎◌, inl, inr, List, ◌∷◌, ◌++◌, length, Option, Some, None, refl, sym, ap, ◌∙◌}
+use Rattle.std.proofs.Common.{◌≡◌, ℕ, Bool, true, false, ◌||◌, ◌⊎◌, inl, inr, List, ◌∷◌, ◌++◌, Option, Some, None, refl, sym, ap, ◌∙◌}
 use Rattle.std.specs.Str.{bytes_eq}
-use Rattle.std.proofs.lemmas.Bool.{cases_Bool, both_ways, or_left, or_right, or_from, or_parts, false_from_ne_true}
+use Rattle.std.proofs.lemmas.Bool.{cases_Bool, both_ways, or_left, or_right, or_from, false_from_ne_true}
 use Rattle.std.proofs.lemmas.Slice.Eq.{bytes_eq-Decides}
 use Rattle.hg_base.specs.PathText.{is_below, is_path, parent_of, base_of, has_slash, joined}
 use Rattle.hg_base.specs.Within.{is_within}
 use Rattle.hg_base.proofs.Below.{below_trans, below_itself, below_joined, below_longer, below_of_joined, below_name}
 use Rattle.hg_base.proofs.Components.{joined_parent}
-use Rattle.hg_base.proofs.Children.{below_parent}
 use Rattle.hg_base.proofs.Paths.{path_base_plain, path_above}
 
 -- what is equal by bytes is the same

@@ -1,7 +1,6 @@
 -- What stays as it was: over parts of a span, and between two moments of one.
-use Rattle.std.proofs.Common.{ℕ, ◌≡◌, ◌≤◌, Bool, true, List, Option, Some, None, option_map, refl, sym, ap, ◌∙◌, subst, arith, inl, inr, []}
+use Rattle.std.proofs.Common.{ℕ, ◌≡◌, ◌≤◌, Bool, List, Option, Some, None, option_map, refl, sym, ap, ◌∙◌, subst, arith, inl, inr, []}
 use Rattle.std.proofs.lemmas.Bool.{cases_lt}
-use Rattle.hg_base.specs.declared.stat.Kind.{Kind}
 use Rattle.hg_tree.specs.declared.thing.Thing.TheVariants as a_thing
 use Rattle.hg_tree.specs.declared.thing.Thing.{Thing}
 use Rattle.hg_tree.specs.declared.thing.Placed.{Placed}
