@@ -20,7 +20,7 @@ use Rattle.hg_shelf.specs.History.{Extends, Files, History, IsQuiet, Passes, now
 use Rattle.hg_shelf.specs.Reads.{ReadsBytes, size_of}
 use Rattle.hg_shelf.proofs.Histories.{extends_trans}
 use Rattle.hg_cli.specs.Load.{content, data_in, data_name, docket_in, id_in, named_reading, needed_in, record_in}
-use Rattle.hg_cli.specs.Loaded.{Answers, Covers, DataFinds, DataFindsDuring, During, FileFinds, FileFindsDuring, FrontFinds, IsFlatOf, IsTry, IsUnread, Loads, NamedFinds, NodesFind, Try, bytes_of, files_at, found_by, id_by}
+use Rattle.hg_cli.specs.Loaded.{Answers, Covers, DataFinds, DataFindsDuring, During, FileFinds, FileFindsDuring, FrontFinds, IsTry, IsUnread, Loads, NamedFinds, NodesFind, Try, bytes_of, files_at, found_by, id_by}
 use Rattle.hg_cli.specs.declared.load_fault.LoadFault.{LoadFault}
 use Rattle.hg_cli.specs.declared.load_fault.LoadFault.TheVariants as a_fault
 
