@@ -19,6 +19,7 @@ mod disk;
 mod entries;
 mod listing;
 mod load;
+mod load_fault;
 mod printed;
 mod real_shelf;
 mod real_tree;
