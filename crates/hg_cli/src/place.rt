@@ -115,7 +115,19 @@ impl<'a, R: Files + Env + AllocGlobal> Place<'a, R> {
                 Gone::Shut => return Ok(Gone::Shut),
             }
         }
-        Err(self.failed_at(dir, Reason::Words("changed again and again")))
+        Err(self.unreached(dir))
+    }
+
+    // Each way was lost.
+    fn unreached(&mut self, dir: &str) -> Failed {
+        if self.way.depth() == 0 {
+            let home = self.home;
+            return self.failed_at(
+                home.name.as_str(),
+                Reason::Words("another folder stands there"),
+            );
+        }
+        self.failed_at(dir, Reason::Words("changed again and again"))
     }
 
     /// What stands at a path, no link followed.
@@ -163,6 +175,9 @@ impl<'a, R: Files + Env + AllocGlobal> Place<'a, R> {
         if self.way.is_lost() {
             self.go_home()?;
         }
+        if self.way.is_lost() {
+            return Ok(Gone::There);
+        }
         match self.way.rest_of(dir) {
             Some("") | None => Ok(Gone::There),
             Some(rest) => self.descend(rest),
@@ -180,15 +195,12 @@ impl<'a, R: Files + Env + AllocGlobal> Place<'a, R> {
         }
     }
 
+    // Where another folder has the root's name, the way stays lost.
     fn go_home(&mut self) -> Result<(), Failed> {
         self.way.restart();
         let home = self.home;
         match self.step(home.name.as_str()) {
-            Ok(()) if !self.way.is_lost() => Ok(()),
-            Ok(()) => Err(self.failed_at(
-                home.name.as_str(),
-                Reason::Words("another folder stands there"),
-            )),
+            Ok(()) => Ok(()),
             Err(error) => Err(self.failed_at(home.name.as_str(), Reason::System(error))),
         }
     }

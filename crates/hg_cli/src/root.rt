@@ -99,12 +99,12 @@ fn ups<R: AllocGlobal>(rt: &R) -> io::Result<String> {
 }
 
 fn found_above<'a, R: Files>(rt: &R, ups: &'a str) -> Above<'a> {
-    let Ok(mut spot) = spot_at(rt, ".") else {
-        return Above::Nowhere;
-    };
     if is_dir(rt, ".hg") {
         return Above::Here;
     }
+    let Ok(mut spot) = spot_at(rt, ".") else {
+        return Above::Nowhere;
+    };
     for level in 1..LEVELS {
         let (Some(path), Some(hg)) = (up(ups, level), ups.get(3 * (LEVELS - level)..)) else {
             return Above::Nowhere;
