@@ -136,7 +136,10 @@ fn joined_text(alloc: Global, dir: Option<PathRef<'_>>, name: &str) -> Result<St
     match dir {
         None => Ok(String::from_str(alloc, name)?),
         Some(dir) => {
-            let mut text = String::from_str(alloc, dir.text)?;
+            // (Its room is taken at once.)
+            let room = dir.text.len().saturating_add(name.len()).saturating_add(1);
+            let mut text = String::with_capacity(alloc, room)?;
+            text.push_str(dir.text)?;
             text.push('/')?;
             text.push_str(name)?;
             Ok(text)
