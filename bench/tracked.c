@@ -1,7 +1,8 @@
 // Makes the system calls of a status over tracked files, and nothing else: the two files of `.hg` are read, each tracked path is asked
-// for, then each directory is listed and each thing in it is asked for, and a line for each tracked path is written. Before a path,
-// each of its proper ancestors is asked for, since no link may be followed; so is a directory before it is listed. A path is asked
-// for by statx, as Rust's std does it. The tracked paths are the lines of the file that is named.
+// for, then each directory is listed and each thing in it is asked for, and a line for each tracked path is written. The process stands
+// in the directory whose names it asks for. On the way down a name is asked for, gone into, and `.` has to be what the name was; on the
+// way up `.` has to be what it was on the way down. A directory that was asked for last isn't asked for again before it is gone into. A
+// path is asked for by statx, as Rust's std does it. The tracked paths are the lines of the file that is named.
 #define _GNU_SOURCE
 #include <dirent.h>
 #include <fcntl.h>
@@ -9,49 +10,87 @@
 #include <stdlib.h>
 #include <string.h>
 #include <sys/stat.h>
+#include <sys/syscall.h>
 #include <unistd.h>
 
-static int ask(const char *path, struct statx *found) {
-    return statx(AT_FDCWD, path, AT_SYMLINK_NOFOLLOW, STATX_BASIC_STATS | STATX_BTIME, found) == 0;
+struct step {
+    size_t before;
+    struct statx spot;
+};
+
+static char way[70000], home[4096];
+static size_t length;
+static struct step steps[3000];
+static int depth;
+
+static int ask(const char *path, int flags, struct statx *found) {
+    return statx(AT_FDCWD, path, flags, STATX_BASIC_STATS | STATX_BTIME, found) == 0;
 }
 
-// Whether each proper ancestor is a directory, the highest first.
-static int is_reached(char *path) {
-    for (char *at = path; (at = strchr(at, '/')); at++) {
+static int is_same(const struct statx *a, const struct statx *b) {
+    return a->stx_ino == b->stx_ino && a->stx_dev_major == b->stx_dev_major && a->stx_dev_minor == b->stx_dev_minor;
+}
+
+static void step(const char *name) {
+    struct statx here;
+    if (chdir(name) || !ask(".", 0, &here) || !is_same(&here, &steps[depth].spot)) exit(1);
+}
+
+static void leave(void) {
+    length = steps[depth--].before;
+    step("..");
+}
+
+static void enter(const char *name, size_t size, const struct statx *spot) {
+    steps[++depth] = (struct step){length, *spot};
+    if (length) way[length++] = '/';
+    memcpy(way + length, name, size);
+    length += size;
+    step(name);
+}
+
+// Goes to the directory of a path. Answers whether it is one; the name in it is put into `name`.
+static int go(char *path, char **name) {
+    char *last = strrchr(path, '/');
+    size_t end = last ? last - path : 0;
+    *name = last ? last + 1 : path;
+    while (length > end || memcmp(way, path, length) || (length && length < end && path[length] != '/')) leave();
+    while (length < end) {
+        char *at = path + length + !!length, *slash = strchr(at, '/');
         struct statx found;
-        *at = 0;
-        int is_dir = ask(path, &found) && S_ISDIR(found.stx_mode);
-        *at = '/';
+        *slash = 0;
+        int is_dir = ask(at, AT_SYMLINK_NOFOLLOW, &found) && S_ISDIR(found.stx_mode);
+        if (is_dir) enter(at, slash - at, &found);
+        *slash = '/';
         if (!is_dir) return 0;
     }
     return 1;
 }
 
-static int look(char *path, struct statx *found) {
-    return is_reached(path) && ask(path, found);
-}
-
-static void visit(char *path, size_t length) {
-    struct statx found;
-    if (length && !(look(path, &found) && S_ISDIR(found.stx_mode))) return;
-    DIR *folder = opendir(length ? path : ".");
-    if (!folder) return;
+static void visit(void) {
+    static char room[4096];
+    int folder = open(".", O_RDONLY | O_DIRECTORY | O_NOFOLLOW | O_CLOEXEC);
+    if (folder < 0) exit(1);
     char **names = 0;
-    size_t count = 0, room = 0;
-    for (struct dirent *entry; (entry = readdir(folder));) {
-        char *name = entry->d_name;
-        if (!strcmp(name, ".") || !strcmp(name, "..") || (!length && !strcmp(name, ".hg"))) continue;
-        if (count == room) names = realloc(names, (room = room * 2 + 16) * sizeof *names);
-        names[count++] = strdup(name);
+    size_t count = 0, space = 0;
+    for (long n; (n = syscall(SYS_getdents64, folder, room, sizeof room)) > 0;) {
+        for (long at = 0; at < n;) {
+            struct dirent64 *entry = (struct dirent64 *)(room + at);
+            char *name = entry->d_name;
+            at += entry->d_reclen;
+            if (!strcmp(name, ".") || !strcmp(name, "..") || (!depth && !strcmp(name, ".hg"))) continue;
+            if (count == space) names = realloc(names, (space = space * 2 + 16) * sizeof *names);
+            names[count++] = strdup(name);
+        }
     }
-    closedir(folder);
+    close(folder);
+    int here = depth;
     for (size_t i = 0; i < count; i++) {
-        size_t whole = length + !!length + strlen(names[i]);
-        if (whole < 4096) {
-            if (length) path[length] = '/';
-            strcpy(path + length + !!length, names[i]);
-            if (look(path, &found) && S_ISDIR(found.stx_mode)) visit(path, whole);
-            path[length] = 0;
+        struct statx found;
+        while (depth > here) leave();
+        if (ask(names[i], AT_SYMLINK_NOFOLLOW, &found) && S_ISDIR(found.stx_mode)) {
+            enter(names[i], strlen(names[i]), &found);
+            visit();
         }
         free(names[i]);
     }
@@ -71,20 +110,22 @@ static void read_whole(const char *name) {
 int main(int count, char **words) {
     static char path[70000];
     FILE *tracked = count > 1 ? fopen(words[1], "r") : 0;
-    if (!tracked) return 1;
+    if (!tracked || !getcwd(home, sizeof home) || !ask(".", 0, &steps[0].spot)) return 1;
     read_whole(".hg/dirstate");
     read_whole(".hg/dirstate.0000000000000000");
     char *lines = 0;
     size_t used = 0, room = 0;
     while (fgets(path, sizeof path, tracked)) {
         struct statx found;
+        char *name;
         path[strcspn(path, "\n")] = 0;
-        size_t length = strlen(path);
-        if (used + length + 4 > room) lines = realloc(lines, room = room * 2 + length + 4);
-        used += sprintf(lines + used, "%c %s\n", look(path, &found) ? 'A' : '!', path);
+        size_t size = strlen(path);
+        if (used + size + 4 > room) lines = realloc(lines, room = room * 2 + size + 4);
+        int stands = go(path, &name) && ask(name, AT_SYMLINK_NOFOLLOW, &found);
+        used += sprintf(lines + used, "%c %s\n", stands ? 'A' : '!', path);
     }
     fclose(tracked);
-    path[0] = 0;
-    visit(path, 0);
+    while (depth) leave();
+    visit();
     return write(1, lines, used) != (ssize_t)used;
 }

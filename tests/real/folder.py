@@ -1,6 +1,7 @@
 """Lays out working copies in temporary folders, runs the program in them, and compares what it did with what it should have done."""
 
 import os
+import resource
 import shutil
 import stat
 import subprocess
@@ -70,6 +71,21 @@ def aborted(text):
     return lines(f"abort: {text}")
 
 
+def because(name, reason):
+    """The further line of a device's failure."""
+    return lines(f"hgtrack: {name}: {reason}")
+
+
+# What is said first where the current folder is in no working copy.
+NO_HG = b"hgtrack: no .hg here or above\n"
+# A small limit: how many files the program may have open.
+FILES = 16
+
+
+def limited():
+    resource.setrlimit(resource.RLIMIT_NOFILE, (FILES, FILES))
+
+
 class Tests:
     """Counts the cases, and prints those that fail."""
 
@@ -93,7 +109,7 @@ class Tests:
 
     def run(self, root, words=("status",), **how):
         """Runs the program in a folder. Answers its status, its standard output and its error stream."""
-        given = {"stdin": subprocess.DEVNULL, "stdout": subprocess.PIPE, "stderr": subprocess.PIPE, "timeout": SECONDS}
+        given = {"stdin": subprocess.DEVNULL, "stdout": subprocess.PIPE, "stderr": subprocess.PIPE, "timeout": SECONDS, "preexec_fn": limited}
         try:
             ran = subprocess.run([self.program, *words], cwd=root, **{**given, **how})
         except subprocess.TimeoutExpired:
@@ -110,10 +126,12 @@ class Tests:
         return False
 
     def check(self, what, root, out=b"", err=b"", words=("status",), **how):
-        """One case: the program prints these bytes, ends with 255 exactly where it names a fault, and changes nothing."""
+        """One case: the program prints these bytes, ends with 255 exactly where it names a fault, and changes nothing. Where the folder has no
+        folder `.hg`, it says so first."""
         before = seen(root)
+        said = b"" if os.path.isdir(os.path.join(root, ".hg")) else NO_HG
         answered = self.run(root, words, **how)
-        if self.compare(what, answered, (255 if err else 0, out, err)) and seen(root) != before:
+        if self.compare(what, answered, (255 if err else 0, out, said + err)) and seen(root) != before:
             self.passed -= 1
             self.failed += 1
             print(f"FAILED {what}\n  the folder was changed")

@@ -5,11 +5,23 @@ import subprocess
 import sys
 
 from dirstate import docket, written
-from folder import aborted, as_nobody, lay_out, lines, put, put_record
+from folder import NO_HG, aborted, as_nobody, because, lay_out, lines, put, put_record
 
 GOOD, DATA = written([b"a"])
 NOT_BUILT = aborted("not built yet")
-TREE, SHELF, OUT = aborted("working copy failed"), aborted(".hg failed"), aborted("output failed")
+OUT = aborted("output failed")
+DATA_FILE = ".hg/dirstate.0000000000000000"
+
+
+def tree(name, reason="permission denied"):
+    """What is said where the working copy failed."""
+    return aborted("working copy failed") + because(name, reason)
+
+
+def shelf(name, reason="permission denied"):
+    """What is said where .hg failed."""
+    return aborted(".hg failed") + because(name, reason)
+
 
 # words that are not built yet
 WORDS = [
@@ -20,24 +32,28 @@ WORDS = [
 
 # what is in the way, what is made of the folder (a path and its mode), the line that is printed to nobody's program
 RIGHTS = [
-    ("a dirstate that may not be read", ".hg/dirstate", 0o000, b"", SHELF),
-    ("a data file that may not be read", ".hg/dirstate.0000000000000000", 0o000, b"", SHELF),
-    ("a .hg that may not be searched", ".hg", 0o000, b"", SHELF),
+    ("a dirstate that may not be read", ".hg/dirstate", 0o000, b"", shelf(".hg/dirstate")),
+    ("a data file that may not be read", DATA_FILE, 0o000, b"", shelf(DATA_FILE)),
+    ("a .hg that may not be searched", ".hg", 0o000, b"", shelf(".hg/dirstate")),
     ("a .hg that may only be read", ".hg", 0o555, lines("A a", "? d/x"), b""),
     ("a dirstate that may only be read", ".hg/dirstate", 0o444, lines("A a", "? d/x"), b""),
-    ("a root that may not be listed", ".", 0o311, b"", TREE),
-    ("a directory that may not be listed", "d", 0o311, b"", TREE),
-    ("a directory that may not be searched", "d", 0o644, b"", TREE),
+    ("a root that may not be listed", ".", 0o311, b"", tree(".")),
+    ("a directory that may not be listed", "d", 0o311, b"", tree("d")),
+    ("a directory that may not be searched", "d", 0o644, b"", tree("d")),
+    ("an empty directory that may not be searched", "e", 0o444, lines("A a", "? d/x"), b""),
+    ("a directory below another that may not be searched", "f/g", 0o644, b"", tree("f/g")),
     ("a file that may not be read", "a", 0o000, lines("A a", "? d/x"), b""),
 ]
 
+NO_FILE, LINKS, NO_TEXT = "not a regular file", "too many levels of symbolic links", "a name that isn't text"
+
 # what stands where a file of .hg should, as folder.lay_out writes it, and the answer
 STRANGE = [
-    ("a directory as the dirstate", [".hg/dirstate/"], SHELF, b""),
-    ("a fifo as the dirstate", [".hg/dirstate |"], SHELF, b""),
+    ("a directory as the dirstate", [".hg/dirstate/"], shelf(".hg/dirstate", NO_FILE), b""),
+    ("a fifo as the dirstate", [".hg/dirstate |"], shelf(".hg/dirstate", NO_FILE), b""),
     ("a dangling link as the dirstate", [".hg/dirstate -> gone", "b"], b"", lines("? b")),
-    ("a dirstate behind a link that leads to itself", [".hg/dirstate -> dirstate"], SHELF, b""),
-    (".hg as a link that leads to itself", [".hg -> .hg"], SHELF, b""),
+    ("a dirstate behind a link that leads to itself", [".hg/dirstate -> dirstate"], shelf(".hg/dirstate", LINKS), b""),
+    (".hg as a link that leads to itself", [".hg -> .hg"], shelf(".hg/dirstate", LINKS), b""),
     (".hg as a link to a folder", [".hg -> ../", "b"], b"", lines("? b")),
 ]
 
@@ -46,7 +62,10 @@ def run_words(tests):
     for words in WORDS:
         with tests.working_copy() as root:
             lay_out(root, ["a"])
-            tests.check(f"words {words!r:.60}", root, b"", NOT_BUILT, words)
+            if all(isinstance(it, str) for it in words):
+                tests.check(f"words {words!r:.60}", root, b"", NOT_BUILT, words)
+            else:
+                tests.compare(f"words that are no text {words!r}", tests.run(root, words), (255, b"", NOT_BUILT))
     with tests.working_copy() as root:
         put_record(root, b"damaged")
         tests.check("words before the docket", root, b"", NOT_BUILT, ["stat"])
@@ -60,17 +79,17 @@ def run_streams(tests):
     with tests.working_copy() as root:
         lay_out(root, ["a", "b"])
         put_record(root, GOOD, DATA)
-        for what, words, status, line in (("status", ["status"], 255, OUT), ("help", ["--help"], 255, None)):
+        for what, words, status, line in (("status", ["status"], 255, OUT), ("help", ["--help"], 255, OUT), ("version", ["--version"], 255, OUT)):
             with open("/dev/full", "wb") as full:
                 at = tests.run(root, words, stdout=full)
-            tests.compare(f"{what}: output to a full device", (at[0], at[2] if line else None), (status, line))
+            tests.compare(f"{what}: output to a full device", (at[0], at[2]), (status, line))
             at = tests.run(root, ["-c", '"$0" "$1" >&-', tests.program, *words], executable="/bin/sh")
-            tests.compare(f"{what}: output closed", (at[0], at[2] if line else None), (status, line))
+            tests.compare(f"{what}: output closed", (at[0], at[2]), (status, line))
             reader, writer = os.pipe()
             os.close(reader)
             at = tests.run(root, words, stdout=writer)
             os.close(writer)
-            tests.compare(f"{what}: output into a pipe that nobody reads", (at[0], at[2] if line else None), (status, line))
+            tests.compare(f"{what}: output into a pipe that nobody reads", (at[0], at[2]), (status, line))
         with open(os.devnull, "rb") as only_read:
             tests.compare("output that may only be read", tests.run(root, stdout=only_read)[0], 255)
         with open("/dev/full", "wb") as full:
@@ -94,7 +113,7 @@ def run_large(tests):
             first = at.stdout.read(3)
             at.stdout.close()
             err = at.stderr.read()
-        tests.compare("a reader that leaves early", (at.returncode, first, err), (255, b"? 0", OUT))
+        tests.compare("a reader that leaves early", (at.returncode, first, err), (255, b"? 0", NO_HG + OUT))
 
 
 def run_rights(tests):
@@ -103,7 +122,7 @@ def run_rights(tests):
         return
     for what, path, mode, out, err in RIGHTS:
         with tests.working_copy() as root:
-            lay_out(root, ["a", "d/x"])
+            lay_out(root, ["a", "d/x", "e/"] + (["f/g/h"] if path == "f/g" else []))
             put_record(root, GOOD, DATA)
             os.chmod(f"{root}/{path}", mode)
             status, said, told = tests.run(root, **as_nobody())
@@ -125,15 +144,15 @@ def run_strange(tests):
     with tests.working_copy() as root:
         lay_out(root, ["a", ".hg/dirstate.0000000000000000/"])
         put(f"{root}/.hg/dirstate", GOOD)
-        tests.check("a directory as the data file", root, b"", SHELF)
+        tests.check("a directory as the data file", root, b"", shelf(DATA_FILE, NO_FILE))
 
 
 def run_names(tests):
     """Names that aren't text: `list` names them all, and no path can be made of them."""
     for what, things, out, err in [
-        ("a name that is not text", ["a", os.fsdecode(b"b\xff")], b"", TREE),
-        ("a name that is not text, below", ["a", os.fsdecode(b"d/\xc3")], b"", TREE),
-        ("a directory that is not text", [os.fsdecode(b"\xfe/x")], b"", TREE),
+        ("a name that is not text", ["a", os.fsdecode(b"b\xff")], b"", tree("b\\xff", NO_TEXT)),
+        ("a name that is not text, below", ["a", os.fsdecode(b"d/\xc3")], b"", tree("d/\\xc3", NO_TEXT)),
+        ("a directory that is not text", [os.fsdecode(b"\xfe/x")], b"", tree("\\xfe", NO_TEXT)),
         ("a link's target that is not text", [os.fsdecode(b"l -> \xff")], lines("? l"), b""),
         ("in .hg a name that is not text", [os.fsdecode(b".hg/\xff"), "a"], lines("? a"), b""),
     ]:

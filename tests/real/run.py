@@ -1,7 +1,7 @@
 #!/usr/bin/env python3
 """Black-box tests of the built program over real folders: python3 tests/real/run.py [PROGRAM] [PART ..].
 
-PROGRAM is build/hgtrack where it isn't named. The parts are listings, damage, outside and mercurial; all where none is named. The last line is
+PROGRAM is build/hgtrack where it isn't named. The parts are listings, damage, outside, standing and mercurial; all where none is named. The last line is
 'N passed, M failed', and the status 0 exactly where M is 0.
 """
 
@@ -17,9 +17,10 @@ import damage
 import listings
 import mercurial
 import outside
+import standing
 from folder import Tests
 
-PARTS = {"listings": listings, "damage": damage, "outside": outside, "mercurial": mercurial}
+PARTS = {"listings": listings, "damage": damage, "outside": outside, "standing": standing, "mercurial": mercurial}
 
 
 def main(words):

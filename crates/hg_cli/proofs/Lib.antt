@@ -2,3 +2,4 @@ pub mod Commands
 pub mod Listed
 pub mod Loads
 pub mod Texts
+pub mod Ways

@@ -1,3 +1,5 @@
 pub mod Command
 pub mod Load
 pub mod Loaded
+pub mod Place
+pub mod Way

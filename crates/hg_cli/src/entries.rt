@@ -1,134 +1,211 @@
-// The working copy in the file system: the names in a directory.
+//! The working copy in the file system: the names in a directory.
+
 ghost use Rattle.std.specs.Prelude.{IfOk, OnOk, IfSome, All, option_map};
 ghost use Rattle.hg_tree.specs.Moment.{AreFit, IsFit};
 
-use crate::disk::missing;
-use crate::real_tree::{is_dir, is_reached};
+use crate::ancestors::Staying;
+use crate::disk::is_absence;
+use crate::failure::{FirstFailure, Reason};
+use crate::place::{Gone, Place};
 use hg_base::{Failed, PathRef, makes_path};
 use hg_tree::{Name, TreeFault};
 use std::alloc::Global;
-use std::fs::{DirEntry, ReadDir};
-use std::io::{Error, ErrorKind};
-use std::rt::Files;
-use std::{fs, io};
+use std::io::{Error, ErrorKind, Read};
+use std::rt::{Env, Files};
+use std::str;
 
-// The names in the directory, no link followed, where one stands there. It has a frame of its own, so that the entries that it reads
-// take no room in the frames of a caller that goes from directory to directory.
-#[inline(never)]
-pub(crate) fn list_at<R: Files + AllocGlobal + Clone + Drop>(
-    rt: &R,
+// The directory as a text, which is empty for the root.
+fn text_of(dir: Option<PathRef<'_>>) -> &str {
+    match dir {
+        Some(dir) => dir.text,
+        None => "",
+    }
+}
+
+/// The names in a directory that the process goes to, where one stands there.
+pub(crate) fn list_there<R: Files + Env + AllocGlobal>(
+    place: &mut Place<'_, R>,
     alloc: Global,
     dir: Option<PathRef<'_>>,
 ) -> Result<Option<Vec<Name>>, TreeFault>
     ensures { IfOk result (λ found. IfSome found (λ names. AreFit (option_map (λ d. d.text.now) dir.entry) names.items)) }
 {
-    if !has_dir(rt, dir)? {
-        return Ok(None);
-    }
-    match fs::read_dir(rt, folder(dir)) {
-        Ok(entries) => {
-            let names = read_names(alloc, dir, entries)?;
-            Ok(Some(names))
-        }
-        Err(error) => {
-            unlisted(&error)?;
-            Ok(None)
-        }
+    match place.go(text_of(dir))? {
+        Gone::There => list_by(place.rt, alloc, dir, ".", &mut place.failure),
+        Gone::Absent => Ok(None),
+        Gone::Shut => list_shut(place, alloc, dir),
     }
 }
 
-// Whether a directory stands there, no link followed; the root is one.
-fn has_dir<R: Files>(rt: &R, dir: Option<PathRef<'_>>) -> Result<bool, Failed> {
-    match dir {
-        Some(dir) => if is_reached(rt, dir.text)? {
-            is_dir(rt, dir.text)
-        } else {
-            Ok(false)
-        },
-        None => Ok(true),
-    }
-}
-
-// The directory as the system names it.
-fn folder(dir: Option<PathRef<'_>>) -> &str {
-    match dir {
-        Some(dir) => dir.text,
-        None => ".",
-    }
-}
-
-// An error of a listing that says that no directory stands there is an answer.
-fn unlisted(error: &Error) -> Result<(), TreeFault> {
-    if error.kind() == ErrorKind::OutOfMemory {
-        return Err(TreeFault::OutOfMemory);
-    }
-    missing(error)?;
-    Ok(())
-}
-
-// The names that the entries have, each once.
-fn read_names<R: Files + Clone + Drop>(
+/// The names in a directory of which each ancestor is asked first, where one stands there.
+pub(crate) fn list_from_root<R: Files + AllocGlobal>(
+    staying: &mut Staying<'_, R>,
     alloc: Global,
     dir: Option<PathRef<'_>>,
-    entries: ReadDir<R, Global>,
+) -> Result<Option<Vec<Name>>, TreeFault>
+    ensures { IfOk result (λ found. IfSome found (λ names. AreFit (option_map (λ d. d.text.now) dir.entry) names.items)) }
+{
+    if !staying.has_dir(text_of(dir))? {
+        return Ok(None);
+    }
+    let path = match dir {
+        Some(dir) => dir.text,
+        None => ".",
+    };
+    list_by(staying.rt, alloc, dir, path, &mut staying.failure)
+}
+
+// A directory that may not be gone into is read by its name. What is in it can't be looked at, so names in it are a failure.
+fn list_shut<R: Files + Env + AllocGlobal>(
+    place: &mut Place<'_, R>,
+    alloc: Global,
+    dir: Option<PathRef<'_>>,
+) -> Result<Option<Vec<Name>>, TreeFault>
+    ensures { IfOk result (λ found. IfSome found (λ names. AreFit (option_map (λ d. d.text.now) dir.entry) names.items)) }
+{
+    let Some(path) = dir else {
+        return Err(TreeFault::from(place.shut("")));
+    };
+    if !place.is_at(text_of(path.parent())) {
+        return Err(TreeFault::from(place.shut(path.text)));
+    }
+    let names = list_by(place.rt, alloc, dir, path.base(), &mut place.failure)?;
+    match &names {
+        Some(names) if !names.is_empty() => Err(TreeFault::from(place.shut(path.text))),
+        _ => Ok(names),
+    }
+}
+
+// The names in a directory that the system finds by this path, whose last component isn't followed where it is a link.
+fn list_by<R: Files>(
+    rt: &R,
+    alloc: Global,
+    dir: Option<PathRef<'_>>,
+    path: &str,
+    failure: &mut FirstFailure,
+) -> Result<Option<Vec<Name>>, TreeFault>
+    ensures { IfOk result (λ found. IfSome found (λ names. AreFit (option_map (λ d. d.text.now) dir.entry) names.items)) }
+{
+    match rt.open_dir(path) {
+        Ok(mut entries) => {
+            let names = read_names(alloc, dir, &mut entries, failure)?;
+            Ok(Some(names))
+        }
+        Err(error) if is_absence(&error) => Ok(None),
+        Err(error) => Err(unread(alloc, dir, error, failure)),
+    }
+}
+
+// A directory couldn't be read.
+fn unread(
+    alloc: Global,
+    dir: Option<PathRef<'_>>,
+    error: Error,
+    failure: &mut FirstFailure,
+) -> TreeFault {
+    if error.kind() == ErrorKind::OutOfMemory {
+        return TreeFault::OutOfMemory;
+    }
+    failure.keep(alloc, text_of(dir).as_bytes(), b"", Reason::System(error));
+    TreeFault::Failed
+}
+
+// The names that a directory has, each once. It reads as names, each ended by a NUL; no read ends inside one.
+fn read_names<D: Read>(
+    alloc: Global,
+    dir: Option<PathRef<'_>>,
+    entries: &mut D,
+    failure: &mut FirstFailure,
 ) -> Result<Vec<Name>, TreeFault>
     ensures { IfOk result (λ names. AreFit (option_map (λ d. d.text.now) dir.entry) names.items) }
 {
     let mut names = Vec::new(alloc);
-    for entry in entries {
-        add_name(alloc, dir, &mut names, entry)?;
+    let mut room = [0; 4096];
+    for _ in 0..u64::MAX {
+        match entries.read(&mut room) {
+            Ok(0) => break,
+            Ok(length) => add_names(alloc, dir, &mut names, &room[..length], failure)?,
+            Err(error) => return Err(unread(alloc, dir, error, failure)),
+        }
     }
     names.sort_unstable();
     names.dedup();
     Ok(names)
 }
 
-// Puts the name of an entry behind the names so far.
-fn add_name<R: Files + Clone + Drop>(
+// Puts names behind those so far.
+fn add_names(
     alloc: Global,
     dir: Option<PathRef<'_>>,
     names: &mut Vec<Name>,
-    entry: io::Result<DirEntry<R, Global>>,
+    read: &[u8],
+    failure: &mut FirstFailure,
 ) -> Result<(), TreeFault>
     requires { All (IsFit (option_map (λ d. d.text.now) dir)) names.old.items }
     ensures { OnOk result (All (IsFit (option_map (λ d. d.text.now) dir.entry)) names.new.items) }
 {
-    match read_name(alloc, dir, entry)? {
+    for name in read.split(|byte| *byte == 0) {
+        add_name(alloc, dir, names, name, failure)?;
+    }
+    Ok(())
+}
+
+// Puts a name behind those so far, where it is one of the working copy.
+fn add_name(
+    alloc: Global,
+    dir: Option<PathRef<'_>>,
+    names: &mut Vec<Name>,
+    name: &[u8],
+    failure: &mut FirstFailure,
+) -> Result<(), TreeFault>
+    requires { All (IsFit (option_map (λ d. d.text.now) dir)) names.old.items }
+    ensures { OnOk result (All (IsFit (option_map (λ d. d.text.now) dir.entry)) names.new.items) }
+{
+    match name_of(alloc, dir, name, failure)? {
         Some(name) => Ok(names.push(name)?),
         None => Ok(()),
     }
 }
 
-// The name that an entry of the directory has. The root's `.hg` is left out.
-fn read_name<R: Files + Clone + Drop>(
+// The name of an entry of the directory. The directory itself, the one above and the root's `.hg` are left out.
+fn name_of(
     alloc: Global,
     dir: Option<PathRef<'_>>,
-    entry: io::Result<DirEntry<R, Global>>,
+    name: &[u8],
+    failure: &mut FirstFailure,
 ) -> Result<Option<Name>, TreeFault>
     ensures { IfOk result (λ found. IfSome found (λ name. IsFit (option_map (λ d. d.text.now) dir.entry) name)) }
 {
-    let entry = present(entry)?;
-    let name = entry.file_name();
-    if is_own(dir, name) {
+    if is_left_out(dir, name) {
         return Ok(None);
     }
-    if !makes_path(dir, name) {
-        return Err(TreeFault::Failed);
+    let Ok(text) = str::from_utf8(name) else {
+        return Err(unfit(alloc, dir, name, "a name that isn't text", failure));
+    };
+    if !makes_path(dir, text) {
+        return Err(unfit(alloc, dir, name, "a name that makes no path", failure));
     }
-    let name = Name::of(alloc, name)?;
+    let name = Name::of(alloc, text)?;
     Ok(Some(name))
 }
 
-// Mercurial's own directory, which is no part of the working copy.
-fn is_own(dir: Option<PathRef<'_>>, name: &str) -> bool {
-    dir.is_none() && name == ".hg"
+fn is_left_out(dir: Option<PathRef<'_>>, name: &[u8]) -> bool {
+    name.is_empty() || name == b".".as_slice() || name == b"..".as_slice() || is_own(dir, name)
 }
 
-// An entry that isn't text is a failure, as is one that couldn't be read.
-fn present<T: Drop>(entry: io::Result<T>) -> Result<T, TreeFault> {
-    match entry {
-        Ok(entry) => Ok(entry),
-        Err(error) if error.kind() == ErrorKind::OutOfMemory => Err(TreeFault::OutOfMemory),
-        Err(_) => Err(TreeFault::Failed),
-    }
+// Mercurial's own directory, which is no part of the working copy.
+fn is_own(dir: Option<PathRef<'_>>, name: &[u8]) -> bool {
+    dir.is_none() && name == b".hg".as_slice()
+}
+
+// A name that can't be listed.
+fn unfit(
+    alloc: Global,
+    dir: Option<PathRef<'_>>,
+    name: &[u8],
+    words: &'static str,
+    failure: &mut FirstFailure,
+) -> TreeFault {
+    failure.keep(alloc, text_of(dir).as_bytes(), name, Reason::Words(words));
+    TreeFault::Failed
 }

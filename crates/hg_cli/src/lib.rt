@@ -14,20 +14,28 @@
 //! ```
 #![tactic(auto)]
 
+mod ancestors;
 mod command;
 mod disk;
 mod entries;
+mod failure;
 mod listing;
 mod load;
 mod load_fault;
+mod look;
+mod place;
 mod printed;
 mod real_shelf;
 mod real_tree;
+mod root;
+mod spot;
+mod way;
 
 pub use command::{Outcome, failed, run};
 pub use printed::one_text;
 pub use real_shelf::RealShelf;
 pub use real_tree::RealTree;
+pub use root::{Root, enter_root};
 
 #[cfg(test)]
 mod real_tests;

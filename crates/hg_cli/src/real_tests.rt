@@ -1,12 +1,13 @@
 // What no clause says of the adapters over real files: that they look at the files.
 use crate::real_shelf::fill;
-use crate::{RealShelf, RealTree};
+use crate::{RealShelf, RealTree, Root};
 use hg_base::{Failed, Got, Kind, PathRef};
 use hg_shelf::Shelf;
 use hg_tree::Tree;
 use std::fs::Permissions;
 use std::io::{Error, ErrorKind, Read};
 use std::os::unix::fs::{PermissionsExt, symlink};
+use std::process::Abort;
 use std::test::Fail;
 use std::{fs, io};
 
@@ -30,10 +31,19 @@ fn lay_out(rt: &HostRuntime) -> io::Result<()> {
     symlink(rt, "nowhere", "real_tree_test/dangling")
 }
 
+// By the name of the root, and without it.
 #[test]
 fn looks_at_real_files(rt: HostRuntime) -> Result<(), Fail> {
     lay_out(&rt)?;
-    let mut tree = RealTree::new(&rt);
+    look_at_files(&rt, &rt, &Root { named: None })?;
+    look_at_files(&rt, &rt, &Root::current(&rt))?;
+    fs::remove_dir_all(&rt, FOLDER)?;
+    Ok(())
+}
+
+// At its end the process stands in the root again.
+fn look_at_files(at: &impl Abort, rt: &HostRuntime, root: &Root) -> Result<(), Fail> {
+    let mut tree = RealTree::new(rt, root);
     for (path, shown) in [
         ("real_tree_test", Some((Kind::Dir, false, 0))),
         ("real_tree_test/file", Some((Kind::File, false, 5))),
@@ -48,7 +58,7 @@ fn looks_at_real_files(rt: HostRuntime) -> Result<(), Fail> {
     ] {
         let stat = tree.stat(PathRef::read(path)?).ok().ok_or("a failure")?;
         let stat = stat.map(|stat| (stat.kind, stat.exec, stat.size));
-        assert_eq!(rt; stat, shown, "{path}");
+        assert_eq!(at; stat, shown, "{path}");
     }
     for (dir, names) in [
         (
@@ -61,13 +71,13 @@ fn looks_at_real_files(rt: HostRuntime) -> Result<(), Fail> {
         ("real_tree_test/file", "none"),
         ("real_tree_test/absent", "none"),
     ] {
-        assert_eq!(rt;
-            listed(&rt, &mut tree, Some(PathRef::read(dir)?))?.as_str(),
+        assert_eq!(at;
+            listed(rt, &mut tree, Some(PathRef::read(dir)?))?.as_str(),
             names,
             "{dir}"
         );
     }
-    fs::remove_dir_all(&rt, FOLDER)?;
+    let _ = listed(rt, &mut tree, None)?;
     Ok(())
 }
 
@@ -91,7 +101,8 @@ fn listed(
 
 #[test]
 fn reads_below_hg(rt: HostRuntime) -> Result<(), Fail> {
-    let mut shelf = RealShelf::new(&rt);
+    let root = Root::current(&rt);
+    let mut shelf = RealShelf::new(&rt, &root);
     assert_eq!(rt; shelf.size("dirstate"), Ok(None));
     fs::create_dir(&rt, ".hg")?;
     fs::write(&rt, ".hg/dirstate", b"".as_slice())?;
@@ -99,7 +110,7 @@ fn reads_below_hg(rt: HostRuntime) -> Result<(), Fail> {
     fs::create_dir(&rt, ".hg/folder")?;
     symlink(&rt, "data", ".hg/link")?;
     let mut buf = [b'.'; 4];
-    let mut tree = RealTree::new(&rt);
+    let mut tree = RealTree::new(&rt, &root);
     let root = listed(&rt, &mut tree, None)?;
     let sizes = [
         shelf.size("dirstate"),
@@ -150,14 +161,15 @@ impl Read for Slow<'_> {
 }
 
 #[test]
-fn reads_on_after_little(rt: HostRuntime) {
+fn reads_on_after_little(rt: HostRuntime) -> Result<(), Fail> {
     for (bytes, n, full) in [("", 0, "...."), ("ab", 2, "ab.."), ("abcdef", 4, "abcd")] {
         let mut slow = Slow {
             left: bytes.as_bytes(),
             ready: false,
         };
         let mut buf = [b'.'; 4];
-        assert_eq!(rt; fill(&mut slow, &mut buf), Ok(n), "{bytes}");
+        assert_eq!(rt; fill(&mut slow, &mut buf)?, n, "{bytes}");
         assert_eq!(rt; &buf[..], full.as_bytes(), "{bytes}");
     }
+    Ok(())
 }

@@ -1,40 +1,40 @@
-//! The program `hgtrack`: it reads its words, and runs one command over the current folder and the standard streams.
+//! The program `hgtrack`: it reads its words, finds the working copy that the current folder is in, and runs one command over it and the
+//! standard streams.
 //!
 //! ```text
-//! hgtrack status      # in the root folder of a working copy
+//! hgtrack status      # anywhere in a working copy
 //! hgtrack --help
 //! hgtrack --version
 //! ```
 #![tactic(auto)]
 
-ghost use Rattle.std.specs.Prelude.{◌≡◌, ◌⊎◌, is_some};
+ghost use Rattle.std.specs.Prelude.{◌≡◌, ◌⊎◌, ◌++◌, ◌∷◌, [], IfOk, codes, is_some, string_bytes};
+ghost use Rattle.hgtrack.specs.Lines.{TellsEither};
 ghost use Rattle.hg_base.specs.Fault.{Rose};
 ghost use Rattle.hg_stream.specs.Stream.{Grown, GrownByFront};
 ghost use Rattle.hg_report.specs.declared.fault.Fault.TheVariants as a_fault;
 ghost use Rattle.hgtrack.specs.Words.{asks_of_program};
 
 use hg_base::{Text, Words};
-use hg_cli::{RealShelf, RealTree, failed, run};
+use hg_cli::{RealShelf, RealTree, Root, enter_root, failed, run};
 use hg_report::Fault;
 use hg_stream::{ReaderSource, Sink, WriterSink, put_all};
-use std::alloc::Global;
+use std::alloc::{AllocError, Global};
 use std::env;
 use std::io::ErrorKind;
 use std::process::ExitCode;
 
 const HELP: &str = "hgtrack: the status of a Mercurial working copy, from its dirstate-v2
 
-Usage: hgtrack status       list what is tracked and what is not, in the root folder of a working copy
+Usage: hgtrack status       list what is tracked and what is not, from any folder of a working copy
        hgtrack --help       print this help
        hgtrack --version    print the version
 
-Letters of status: A added, ! missing, ? not tracked. It ends with 0, or with 255 after a line `abort: ...`.
+Letters of status: A added, ! missing, ? not tracked. Paths are told from the root of the working copy, which is the nearest folder
+with a folder `.hg`. It ends with 0, or with 255 after a line `abort: ...`.
 ";
 
 const VERSION: &str = "hgtrack 0.1.0\n";
-
-/// How a command ends that failed.
-const FAILED: u8 = 255;
 
 // The words after the program's name.
 fn read_words(alloc: Global, rt: &HostRuntime) -> Result<Words, Fault> {
@@ -73,20 +73,46 @@ fn own_text(words: &Words) -> Option<&'static str>
     }
 }
 
-// Prints a text of the program's own.
-fn print<O: Sink>(out: &mut O, text: &str, status: u8) -> u8
-    ensures { ((result ≡ status) × Grown (O.bytes out.old) (O.bytes out.new) text.now)
-        ⊎ ((result ≡ 255) × GrownByFront (O.bytes out.old) (O.bytes out.new) text.now × Rose (O.faults out.old) (O.faults out.new)) }
+// Prints a text of the program's own. Where that fails, it ends as a command does whose output failed.
+fn print<O: Sink, E: Sink>(alloc: Global, out: &mut O, err: &mut E, text: &str) -> u8
+    ensures { ((result ≡ 0) × Grown (O.bytes out.old) (O.bytes out.new) text.now × (E.bytes err.new ≡ E.bytes err.old))
+        ⊎ ((result ≡ 255) × GrownByFront (O.bytes out.old) (O.bytes out.new) text.now × Rose (O.faults out.old) (O.faults out.new)
+        × TellsEither (E.bytes err.old) (E.bytes err.new) (E.faults err.old) (E.faults err.new) a_fault.OutFailed a_fault.OutOfMemory) }
 {
     match put_all(out, text.as_bytes()) {
-        Ok(()) => status,
-        Err(_) => FAILED,
+        Ok(()) => 0,
+        Err(_) => failed(alloc, Fault::OutFailed, err).status,
     }
+}
+
+// The name and the reason of a failure, where they are known.
+fn explain<E: Sink>(alloc: Global, err: &mut E, failure: Option<&str>) {
+    if let Some(text) = failure {
+        say(alloc, err, text);
+    }
+}
+
+// A line on the error stream beside those of a command. That it can't be printed isn't told anywhere.
+fn say<E: Sink>(alloc: Global, err: &mut E, text: &str) {
+    if let Ok(line) = line_of(alloc, text) {
+        match put_all(err, line.as_bytes()) {
+            Ok(()) => {}
+            Err(_) => {}
+        }
+    }
+}
+
+fn line_of(alloc: Global, text: &str) -> Result<String, AllocError>
+    ensures { IfOk result (λ line. string_bytes line ≡ codes "hgtrack: " ++ text.now ++ 10 ∷ []) }
+{
+    let mut line = String::from_str(alloc, "hgtrack: ")?;
+    line.push_str(text)?;
+    line.push('\n')?;
+    Ok(line)
 }
 
 fn main(rt: HostRuntime) -> ExitCode {
     let alloc = rt.alloc();
-    let mut input = ReaderSource::new(rt.stdin());
     let mut out = WriterSink::new(rt.stdout());
     let mut err = WriterSink::new(rt.stderr());
     let words = match read_words(alloc, &rt) {
@@ -94,12 +120,34 @@ fn main(rt: HostRuntime) -> ExitCode {
         Err(fault) => return ExitCode::from(failed(alloc, fault, &mut err).status),
     };
     if let Some(text) = own_text(&words) {
-        return ExitCode::from(print(&mut out, text, 0));
+        return ExitCode::from(print(alloc, &mut out, &mut err, text));
     }
-    let mut tree = RealTree::new(&rt);
-    let mut shelf = RealShelf::new(&rt);
-    let outcome = run(
-        alloc, &words, &mut tree, &mut shelf, &mut input, &mut out, &mut err,
-    );
-    ExitCode::from(outcome.status)
+    match enter_root(&rt) {
+        Ok(true) => {}
+        Ok(false) => say(alloc, &mut err, "no .hg here or above"),
+        Err(_) => say(alloc, &mut err, "the folder that has .hg can't be gone to"),
+    }
+    let root = Root::current(&rt);
+    ExitCode::from(command(&rt, &root, &words, &mut out, &mut err))
+}
+
+// Runs a command over the working copy with this root, and says why where a device failed.
+fn command<'a, O: Sink, E: Sink>(
+    rt: &'a HostRuntime,
+    root: &'a Root,
+    words: &Words,
+    out: &mut O,
+    err: &mut E,
+) -> u8 {
+    let alloc = rt.alloc();
+    let mut input = ReaderSource::new(rt.stdin());
+    let mut tree = RealTree::new(rt, root);
+    let mut shelf = RealShelf::new(rt, root);
+    let outcome = run(alloc, words, &mut tree, &mut shelf, &mut input, out, err);
+    match outcome.fault {
+        Some(Fault::TreeFailed) => explain(alloc, err, tree.failure()),
+        Some(Fault::ShelfFailed) => explain(alloc, err, shelf.failure()),
+        _ => {}
+    }
+    outcome.status
 }

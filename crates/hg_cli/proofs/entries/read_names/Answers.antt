@@ -2,4 +2,4 @@ use Rattle.hg_cli.proofs.entries.read_names.Goals as goal
 use Rattle.hg_cli.proofs.Listed.{are_fit}
 
 pub returns : goal.returns
-returns g c = are_fit _ _ _ _ c.loop-entry.invariant c.sort_unstable.ensures.permutation c.sort_unstable.ensures.sorted c.dedup.ensures.filtered
+returns g c = are_fit _ _ _ _ c.loop.invariant c.sort_unstable.ensures.permutation c.sort_unstable.ensures.sorted c.dedup.ensures.filtered

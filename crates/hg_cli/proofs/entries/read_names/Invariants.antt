@@ -3,5 +3,5 @@ use Rattle.hg_tree.specs.Moment.{IsFit}
 use Rattle.hg_cli.proofs.entries.read_names.Given as goal
 
 -- each name so far makes a path in the directory
-abbrev pub invariant-loop-entry : goal.invariant-loop-entry
-invariant-loop-entry g l = All (IsFit (option_map (λ d. d.text.now) l.dir)) l.names.items
+abbrev pub invariant-loop : goal.invariant-loop
+invariant-loop g l = All (IsFit (option_map (λ d. d.text.now) l.dir)) l.names.items

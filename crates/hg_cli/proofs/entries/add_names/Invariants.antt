@@ -1,0 +1,7 @@
+use Rattle.std.proofs.Common.{option_map, All}
+use Rattle.hg_tree.specs.Moment.{IsFit}
+use Rattle.hg_cli.proofs.entries.add_names.Given as goal
+
+-- each name so far makes a path in the directory
+abbrev pub invariant-loop-name : goal.invariant-loop-name
+invariant-loop-name l = All (IsFit (option_map (λ d. d.text.now) l.dir)) l.names.items

@@ -1,0 +1,89 @@
+//! The working copy seen from its root alone, where that has no name that serves: each ancestor of a path is asked first.
+
+ghost use Rattle.std.specs.Prelude.{IfOk, IfSome};
+ghost use Rattle.hg_tree.specs.Moment.{IsPlain};
+
+use crate::disk::is_absence;
+use crate::failure::{FirstFailure, Reason};
+use crate::look::{NO_TIME, stat_of};
+use hg_base::{Failed, Stat};
+use std::fs;
+use std::rt::Files;
+
+/// A process that stays in the root. Names and paths that are too long for the system are absent.
+#[derive(Drop)]
+pub(crate) struct Staying<'a, R: Files> {
+    pub(crate) rt: &'a R,
+    pub(crate) failure: FirstFailure,
+}
+
+impl<'a, R: Files + AllocGlobal> Staying<'a, R> {
+    pub(crate) fn new(rt: &'a R) -> Staying<'a, R> {
+        Staying {
+            rt,
+            failure: FirstFailure::new(),
+        }
+    }
+
+    /// What stands at a path, no link followed.
+    pub(crate) fn stat(&mut self, path: &str) -> Result<Option<Stat>, Failed>
+        ensures { IfOk result (λ found. IfSome found IsPlain) }
+    {
+        if !self.is_reached(path)? {
+            return Ok(None);
+        }
+        match fs::symlink_metadata(self.rt, path) {
+            Ok(metadata) => match stat_of(&metadata) {
+                Some(stat) => Ok(Some(stat)),
+                None => Err(self.failed(path, NO_TIME)),
+            },
+            Err(error) if is_absence(&error) => Ok(None),
+            Err(error) => Err(self.failed(path, Reason::System(error))),
+        }
+    }
+
+    /// Whether a directory stands at the path, and no link to one; the empty text is the root.
+    pub(crate) fn has_dir(&mut self, dir: &str) -> Result<bool, Failed> {
+        if dir.is_empty() {
+            return Ok(true);
+        }
+        if !self.is_reached(dir)? {
+            return Ok(false);
+        }
+        self.is_dir(dir)
+    }
+
+    // Whether each proper ancestor of the path is a directory, and no link to one. The highest is looked at first.
+    fn is_reached(&mut self, path: &str) -> Result<bool, Failed> {
+        for (end, byte) in path.bytes().enumerate() {
+            if byte == b'/' {
+                if !self.leads(path, end)? {
+                    return Ok(false);
+                }
+            }
+        }
+        Ok(true)
+    }
+
+    // Whether what is before `end` is a directory.
+    fn leads(&mut self, path: &str, end: usize) -> Result<bool, Failed> {
+        match path.split_at_checked(end) {
+            Some((ancestor, _)) => self.is_dir(ancestor),
+            None => Ok(false),
+        }
+    }
+
+    fn is_dir(&mut self, path: &str) -> Result<bool, Failed> {
+        match fs::symlink_metadata(self.rt, path) {
+            Ok(metadata) => Ok(metadata.is_dir()),
+            Err(error) if is_absence(&error) => Ok(false),
+            Err(error) => Err(self.failed(path, Reason::System(error))),
+        }
+    }
+
+    fn failed(&mut self, path: &str, reason: Reason) -> Failed {
+        self.failure
+            .keep(self.rt.alloc(), b"", path.as_bytes(), reason);
+        Failed
+    }
+}

@@ -1,0 +1,295 @@
+//! The folder that the process stands in, and how it gets to another one below the root.
+//!
+//! A folder is gone into by its name in the folder above, where a look at that name showed a directory and a look at `.` behind it shows
+//! the same device and inode; so no link is ever followed. Upwards `.` has to be what it was on the way down. Where it isn't, or where a
+//! name has gone meanwhile, the way begins at the root again.
+
+ghost use Rattle.std.specs.Prelude.{IfOk, IfSome, OnErr, IsTrue};
+ghost use Rattle.hg_cli.specs.Way.{Kept};
+ghost use Rattle.hg_cli.specs.Place.{StandsAt};
+ghost use Rattle.hg_tree.specs.Moment.{IsPlain};
+
+use crate::disk::is_absence;
+use crate::failure::{FirstFailure, Reason};
+use crate::look::{NO_TIME, stat_of};
+use crate::root::Named;
+use crate::spot::{Spot, spot_of};
+use crate::way::Way;
+use hg_base::{Failed, Stat};
+use std::io::ErrorKind;
+use std::rt::{Env, Files};
+use std::{env, fs, io};
+
+/// How often a way is begun from the root that others change meanwhile.
+const ROUNDS: u32 = 3;
+
+/// What became of the way to a folder.
+pub(crate) enum Gone {
+    /// The process stands in it.
+    There,
+    /// No directory stands there, or one of its ancestors is none.
+    Absent,
+    /// It, or an ancestor, may not be gone into. The process stands in the folder above.
+    Shut,
+}
+
+#[derive(Drop)]
+pub(crate) struct Place<'a, R: Files + Env> {
+    pub(crate) rt: &'a R,
+    home: &'a Named,
+    way: Way,
+    seen: Seen,
+    pub(crate) failure: FirstFailure,
+}
+
+// The directory that the last look showed, in the folder where the process stands since.
+#[derive(Drop)]
+struct Seen {
+    name: String,
+    spot: Option<Spot>,
+}
+
+impl Seen {
+    fn keep(&mut self, name: &str, spot: Spot) {
+        self.name.clear();
+        self.spot = match self.name.push_str(name) {
+            Ok(()) => Some(spot),
+            Err(_) => None,
+        };
+    }
+
+    fn at(&self, name: &str) -> Option<Spot> {
+        let spot = self.spot?;
+        if self.name.as_str() == name {
+            Some(spot)
+        } else {
+            None
+        }
+    }
+}
+
+// The directory of a path, empty for the root, and the name in it.
+fn parted(path: &str) -> (&str, &str) {
+    match path.rsplit_once('/') {
+        Some((dir, name)) => (dir, name),
+        None => ("", path),
+    }
+}
+
+// The first component.
+fn first(path: &str) -> &str {
+    match path.split_once('/') {
+        Some((name, _)) => name,
+        None => path,
+    }
+}
+
+impl<'a, R: Files + Env + AllocGlobal> Place<'a, R> {
+    /// Somewhere: the first way begins at the root.
+    pub(crate) fn new(rt: &'a R, home: &'a Named) -> Place<'a, R> {
+        Place {
+            rt,
+            home,
+            way: Way::new(rt.alloc(), home.spot),
+            seen: Seen {
+                name: String::new(rt.alloc()),
+                spot: None,
+            },
+            failure: FirstFailure::new(),
+        }
+    }
+
+    /// Goes to a folder; the empty text is the root.
+    pub(crate) fn go(&mut self, dir: &str) -> Result<Gone, Failed>
+        ensures { IfOk result (λ gone. StandsAt self.new.way dir.now gone) }
+    {
+        if self.way.is_at(dir) {
+            return Ok(Gone::There);
+        }
+        for _ in 0..ROUNDS {
+            match self.walk(dir)? {
+                Gone::There => if self.way.is_at(dir) {
+                    return Ok(Gone::There);
+                },
+                Gone::Absent => return Ok(Gone::Absent),
+                Gone::Shut => return Ok(Gone::Shut),
+            }
+        }
+        Err(self.unreached(dir))
+    }
+
+    // Each way was lost.
+    fn unreached(&mut self, dir: &str) -> Failed {
+        if self.way.depth() == 0 {
+            let home = self.home;
+            return self.failed_at(
+                home.name.as_str(),
+                Reason::Words("another folder stands there"),
+            );
+        }
+        self.failed_at(dir, Reason::Words("changed again and again"))
+    }
+
+    /// What stands at a path, no link followed.
+    pub(crate) fn stat(&mut self, path: &str) -> Result<Option<Stat>, Failed>
+        ensures { IfOk result (λ found. IfSome found IsPlain) }
+    {
+        let (dir, name) = parted(path);
+        match self.go(dir)? {
+            Gone::There => self.look(name),
+            Gone::Absent => Ok(None),
+            Gone::Shut => Err(self.shut(dir)),
+        }
+    }
+
+    /// That a folder on the way to this one may not be gone into.
+    pub(crate) fn shut(&mut self, dir: &str) -> Failed {
+        let next = match self.way.rest_of(dir) {
+            Some(rest) => first(rest),
+            None => "",
+        };
+        self.failed(next, Reason::Words("permission denied"))
+    }
+
+    /// Whether the process is known to stand in this folder.
+    pub(crate) fn is_at(&self, dir: &str) -> bool {
+        self.way.is_at(dir)
+    }
+
+    /// A failure at a name in the folder that the way ends in, or at that folder itself.
+    pub(crate) fn failed(&mut self, name: &str, reason: Reason) -> Failed {
+        self.failure
+            .keep(self.rt.alloc(), self.way.text(), name.as_bytes(), reason);
+        Failed
+    }
+
+    fn failed_at(&mut self, path: &str, reason: Reason) -> Failed {
+        self.failure
+            .keep(self.rt.alloc(), b"", path.as_bytes(), reason);
+        Failed
+    }
+
+    // Goes up as far as is needed and down again; it may have lost its way.
+    fn walk(&mut self, dir: &str) -> Result<Gone, Failed> {
+        self.climb(dir);
+        if self.way.is_lost() {
+            self.go_home()?;
+        }
+        if self.way.is_lost() {
+            return Ok(Gone::There);
+        }
+        match self.way.rest_of(dir) {
+            Some("") | None => Ok(Gone::There),
+            Some(rest) => self.descend(rest),
+        }
+    }
+
+    // Goes up until the folder stands here or below.
+    fn climb(&mut self, dir: &str) {
+        for _ in 0..self.way.depth() {
+            if self.way.is_lost() || self.way.rest_of(dir).is_some() {
+                return;
+            }
+            self.way.leave();
+            let _ = self.step("..");
+        }
+    }
+
+    // Where another folder has the root's name, the way stays lost.
+    fn go_home(&mut self) -> Result<(), Failed> {
+        self.way.restart();
+        let home = self.home;
+        match self.step(home.name.as_str()) {
+            Ok(()) => Ok(()),
+            Err(error) => Err(self.failed_at(home.name.as_str(), Reason::System(error))),
+        }
+    }
+
+    // Goes down by each name.
+    fn descend(&mut self, rest: &str) -> Result<Gone, Failed> {
+        for name in rest.split('/') {
+            match self.enter(name)? {
+                Gone::There => if self.way.is_lost() {
+                    return Ok(Gone::There);
+                },
+                Gone::Absent => return Ok(Gone::Absent),
+                Gone::Shut => return Ok(Gone::Shut),
+            }
+        }
+        Ok(Gone::There)
+    }
+
+    // Goes down by a name, where it is a directory's.
+    fn enter(&mut self, name: &str) -> Result<Gone, Failed> {
+        let Some(spot) = self.spot_at(name)? else {
+            return Ok(Gone::Absent);
+        };
+        if self.way.enter(name, spot).is_err() {
+            return Err(self.failed(name, Reason::Words("out of memory")));
+        }
+        match self.step(name) {
+            Ok(()) => Ok(Gone::There),
+            Err(error) if error.kind() == ErrorKind::PermissionDenied => Ok(self.stay_out()),
+            Err(error) if is_absence(&error) => Ok(Gone::There),
+            Err(error) => Err(self.failed("", Reason::System(error))),
+        }
+    }
+
+    // The folder above the one that may not be gone into is where the process still stands.
+    fn stay_out(&mut self) -> Gone {
+        self.way.leave();
+        if let Ok(here) = fs::metadata(self.rt, ".") {
+            self.way.arrive(spot_of(&here));
+        }
+        Gone::Shut
+    }
+
+    // Which directory a name is, no link followed.
+    fn spot_at(&mut self, name: &str) -> Result<Option<Spot>, Failed> {
+        if let Some(spot) = self.seen.at(name) {
+            return Ok(Some(spot));
+        }
+        match fs::symlink_metadata(self.rt, name) {
+            Ok(metadata) if metadata.is_dir() => Ok(Some(spot_of(&metadata))),
+            Ok(_) => Ok(None),
+            Err(error) if is_absence(&error) => Ok(None),
+            Err(error) => Err(self.failed(name, Reason::System(error))),
+        }
+    }
+
+    // What a name in the folder shows, no link followed.
+    fn look(&mut self, name: &str) -> Result<Option<Stat>, Failed>
+        ensures { IfOk result (λ found. IfSome found IsPlain) }
+    {
+        match fs::symlink_metadata(self.rt, name) {
+            Ok(metadata) => {
+                if metadata.is_dir() {
+                    self.seen.keep(name, spot_of(&metadata));
+                }
+                match stat_of(&metadata) {
+                    Some(stat) => Ok(Some(stat)),
+                    None => Err(self.failed(name, NO_TIME)),
+                }
+            }
+            Err(error) if is_absence(&error) => Ok(None),
+            Err(error) => Err(self.failed(name, Reason::System(error))),
+        }
+    }
+
+    // The only change of folder: into a name that stands here, up, or home. The way says already where that should lead.
+    fn step(&mut self, name: &str) -> io::Result<()>
+        requires { IsTrue self.old.way.lost }
+        ensures kept { Kept self.old.way self.new.way }
+        ensures lost { OnErr result (IsTrue self.new.way.lost) }
+    {
+        self.seen.spot = None;
+        env::set_current_dir(self.rt, name)?;
+        match fs::metadata(self.rt, ".") {
+            Ok(here) => {
+                self.way.arrive(spot_of(&here));
+                Ok(())
+            }
+            Err(error) => Err(error),
+        }
+    }
+}
