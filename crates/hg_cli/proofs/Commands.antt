@@ -1,268 +1,322 @@
--- What a command answers, from what its parts answer.
-use Rattle.std.proofs.Common.{ℕ, ◌≡◌, Bool, true, false, cond, List, Option, Some, None, option_map, Result, Ok, Err, IsTrue, IfSome, refl, sym, ap, ◌∙◌, subst, inl, inr, arith}
+-- What a listing and a command answer, from what their parts answer.
+use Rattle.std.proofs.Common.{ℕ, ◌≡◌, Bool, true, false, List, [], ◌∷◌, map, Option, Some, None, Result, Ok, Err, IsTrue, IfErr, IfOk, IfSome, OnOk, codes, option_map, refl, sym, ap, ◌∙◌, subst, inl, inr, ◌⊎◌, arith}
+use Rattle.std.specs.List.{AllByRecursion}
 use Rattle.std.specs.Option.{MatchOption}
-use Rattle.hg_base.specs.Fault.{HasCause, IsSteady, Rose}
+use Rattle.std.proofs.lemmas.Bool.{cases_Bool}
 use Rattle.hg_base.proofs.Faults.{steady_not_rose}
+use Rattle.hg_entry.specs.Table.{Table, flat_of}
+use Rattle.hg_entry.specs.Table as plain
+use Rattle.hg_flat.specs.Full.{IsFull, IsFullFor, default_wanted, nothing_ignored, null_rows}
+use Rattle.hg_flat.specs.Shown.{flat_in}
+use Rattle.hg_flat.specs.Unborn.{IsBorn, IsUnborn}
 use Rattle.hg_flat.specs.declared.fault.StatusFault.{StatusFault}
 use Rattle.hg_flat.specs.declared.fault.StatusFault.TheVariants as a_status
 use Rattle.hg_flat.specs.declared.flat.Flat.{Flat}
-use Rattle.hg_entry.specs.Entry.{view}
-use Rattle.hg_entry.specs.Table.{marks_of}
-use Rattle.hg_entry.specs.Table as plain
-use Rattle.hg_flat.specs.Full.{IsFull, default_wanted, nothing_ignored, null_rows}
-use Rattle.hg_flat.specs.Kept.{Kept, flat_of, null_parent, shown_row, source_of}
-use Rattle.hg_flat.specs.Recorded.{Records, flat_of_rows, source_in}
-use Rattle.hg_flat.specs.declared.kept.FlatRow.{FlatRow}
-use Rattle.hg_flat.specs.declared.row.Row as listing_row
-use Rattle.hg_tree.proofs.Histories.{now_same}
-use Rattle.hg_image.specs.Rows.{Row}
+use Rattle.hg_flat.specs.declared.row.Row.{Row}
+use Rattle.hg_flat.specs.Asked.{AsksFor, AsksNothing, IsVisibleDir}
+use Rattle.hg_flat.proofs.Asks.{asks_then, asks_weaker}
+use Rattle.hg_flat.proofs.Fullness.{full_of}
+use Rattle.hg_flat.proofs.Moved.{full_moved}
+use Rattle.hg_image.specs.Reading.{RecordFault}
+use Rattle.hg_image.specs.Reading as a_record_fault
 use Rattle.hg_report.specs.Cause.{of_status}
 use Rattle.hg_report.specs.Status.{text_of}
 use Rattle.hg_stream.specs.Stream.{Grown, GrownByFront}
 use Rattle.hg_report.specs.declared.fault.Fault.{Fault}
 use Rattle.hg_report.specs.declared.fault.Fault.TheVariants as a_fault
 use Rattle.hg_shelf.specs.History as shelf
+use Rattle.hg_shelf.proofs.Histories as shelves
 use Rattle.hg_tree.specs.History as tree
-use Rattle.hg_tree.specs.Moment.{Moment}
-use Rattle.hg_cli.specs.Command.{CommandCause, IsAsExpected, IsBegun, IsBrokenOff, IsFaultOrMemory, IgnoreAnswer, IgnoreFound, IsIgnoreFault, IsListed, IsPrinted, LeavesOut, LedToRows, ListCause, Meets, NoIgnoreFound, RowsFound, ShelfFound, expected, expected_of, has_ignore_file, is_status, plain_style}
-use Rattle.hg_cli.specs.Load.{load_result}
-use Rattle.hg_cli.specs.Loaded.{During, FaultFound, Finds, FindsDuring, IsLoadFault, files_at}
+use Rattle.hg_base.specs.declared.stat.Stat.{Stat}
+use Rattle.hg_base.specs.declared.time.Time.{Time}
+use Rattle.hg_tree.specs.Moment.{Moment, is_file, is_file_thing, stat_at, stat_of}
+use Rattle.hg_tree.specs.declared.thing.Placed.{Placed}
+use Rattle.hg_tree.specs.declared.thing.Thing.{Thing}
+use Rattle.hg_tree.specs.declared.thing.Thing.TheVariants as a_thing
+use Rattle.hg_tree.specs.Still.{Untouched}
+use Rattle.hg_tree.proofs.Histories.{extends_trans, now_same, quiet_first}
+use Rattle.hg_tree.proofs.Spans.{passes_trans}
+use Rattle.hg_tree.proofs.Stillness.{alike_between, ours_quiet, quiet_untouched, untouched_second}
+use Rattle.hg_cli.specs.Call.{Call, Fails, Looked, Serves, Watched}
+use Rattle.hg_cli.specs.Command.{CommandCause, IsBegun, IsBegunFor, IsExpected, IsFaultOrMemory, IsPrinted, IsPrintedFor, LeavesFront, LeavesOut, MetBefore, MetPrinting, Prints, Ran, is_status, plain_style}
+use Rattle.hg_cli.specs.Listed.{IgnoreCause, IgnoreSeen, IsListable, IsListed, IsListedFor, IsOwn, IsRecorded, IsUntouched, LedTo, ListingCause, LoadCause, LoadMet, LooksFor, has_ignore_file, is_file_kind, shows_file}
+use Rattle.hg_cli.specs.Load.{id_in, of_load, record_in}
+use Rattle.hg_cli.specs.Loaded.{Answers, Loads, Try}
+use Rattle.hg_cli.specs.declared.load_fault.LoadFault.{LoadFault}
+use Rattle.hg_cli.specs.declared.load_fault.LoadFault.TheVariants as a_load
+use Rattle.hg_cli.proofs.Loads.{quiet_found, quiet_loads}
 
 -- ---- the load
 
-still_at : (old new : shelf.History) (k : ℕ) → shelf.Extends old new → shelf.IsQuiet old new → During old new k → files_at new k ≡ (shelf.now old).files
-still_at old new k past quiet during =
-    ap (files_at new) (omega (arith, during.from, during.to, quiet.none)) ∙ (past.stay old.last (omega arith)).shown
-
--- where nothing changes a load finds what stands at the start
-pub quiet_finds : (old new : shelf.History) (result : Result Flat Fault) → shelf.Extends old new → shelf.IsQuiet old new → FindsDuring old new result → Finds result (load_result (shelf.now old).files (shelf.now old).files)
-quiet_finds old new result past quiet finds =
-    subst (λ (f : shelf.Files). Finds result (load_result f (shelf.now old).files)) (still_at old new finds.first past quiet finds.docket)
-    (subst (λ (f : shelf.Files). Finds result (load_result (files_at new finds.first) f)) (still_at old new finds.second past quiet finds.file) finds.finds)
-
--- a load without fault found rows
-pub rows_found : (old new : shelf.History) (flat : Flat) → FindsDuring old new (Ok flat) → RowsFound old new
-rows_found old new flat finds = record {
-  first = finds.first;
-  second = finds.second;
-  docket = finds.docket;
-  file = finds.file;
-  order = finds.order;
-  recorded = finds.finds.0;
-  is = finds.finds.1;
+pub recorded_by : (old new : shelf.History) (tries : List Try) (flat : Flat) → Loads old new tries (Ok flat) → IsRecorded old new (flat_in flat)
+recorded_by old new tries flat loads = record {
+  tries = tries;
+  tried = loads.tried;
+  table = loads.answer.0;
+  found = loads.answer.1;
+  flat_is = sym loads.answer.2.flat;
 }
 
-pub meets_load : (fault : Fault) (found : Result (List Row) Fault) (moment : Moment) → FaultFound fault found → Meets fault (expected_of found moment)
-meets_load a_fault.OutOfMemory found moment is = tt
-meets_load a_fault.ShelfFailed found moment is = tt
-meets_load a_fault.NotBuilt found moment is = ap (λ (r : Result (List Row) Fault). expected_of r moment) is
-meets_load (a_fault.Docket fault) found moment is = ap (λ (r : Result (List Row) Fault). expected_of r moment) is
-meets_load (a_fault.Node fault) found moment is = ap (λ (r : Result (List Row) Fault). expected_of r moment) is
-meets_load (a_fault.DataGone ids) found moment is = ap (λ (r : Result (List Row) Fault). expected_of r moment) is
-meets_load a_fault.TreeFailed found moment is = absurd is
-meets_load a_fault.OutFailed found moment is = absurd is
+pub load_cause : (files : Watched shelf.History) (fault : LoadFault) → (IsTrue files.old.told → (tries : List Try) × Loads files.old files.new tries (Err fault)) → (fault ≡ a_load.Failed → Fails files) → LoadCause files (of_load fault)
+load_cause files a_load.OutOfMemory met failed = tt
+load_cause files (a_load.Docket fault) met failed = met
+load_cause files (a_load.Node fault) met failed = met
+load_cause files (a_load.DataGone ids) met failed = met
+load_cause files a_load.Failed met failed = failed refl
 
-found_at : (old new : shelf.History) (fault : Fault) (finds : FindsDuring old new (Err fault)) → load_result (files_at new finds.first) (files_at new finds.second) ≡ Err fault → ShelfFound old new fault
-found_at old new fault finds is = record { first = finds.first; second = finds.second; docket = finds.docket; file = finds.file; order = finds.order; is = is }
+-- ---- the root
 
-pub cause_load : (old new : shelf.History) (before after : tree.History) (fault : Fault) → IsLoadFault fault → (IsTrue old.told → FindsDuring old new (Err fault)) → ListCause old new before after fault
-cause_load old new before after a_fault.OutOfMemory kind finds = tt
-cause_load old new before after a_fault.ShelfFailed kind finds = tt
-cause_load old new before after a_fault.NotBuilt kind finds = inl (λ told. found_at old new a_fault.NotBuilt (finds told) (finds told).finds)
-cause_load old new before after (a_fault.Docket fault) kind finds = λ told. found_at old new (a_fault.Docket fault) (finds told) (finds told).finds
-cause_load old new before after (a_fault.Node fault) kind finds = λ told. found_at old new (a_fault.Node fault) (finds told) (finds told).finds
-cause_load old new before after (a_fault.DataGone ids) kind finds = λ told. found_at old new (a_fault.DataGone ids) (finds told) (finds told).finds
-cause_load old new before after a_fault.TreeFailed kind finds = absurd kind
-cause_load old new before after a_fault.OutFailed kind finds = absurd kind
-
-pub not_tree : (fault : Fault) → IsLoadFault fault → fault ≡ a_fault.TreeFailed → ⊥
-not_tree fault kind is = subst IsLoadFault is kind
-
--- an error that says nothing of a device whose count stands as it stood
-pub cause_other : {T : Type 0} (before now : ℕ) (fault lost : Fault) → now ≡ before → (fault ≡ lost → ⊥) → HasCause {T = T} before now (Err fault) (λ e. e ≡ lost)
-cause_other before now fault lost still other = record { later = omega (arith, still); quiet = tt; rose = λ failed. absurd (other failed) }
-
--- ---- the file of ignore patterns
-
-pub not_shelf : (fault : Fault) → IsIgnoreFault fault → fault ≡ a_fault.ShelfFailed → ⊥
-not_shelf fault kind is = subst IsIgnoreFault is kind
-
-pub meets_ignore : (fault : Fault) (found : Result (List Row) Fault) (rows : List Row) (moment : Moment) → found ≡ Ok rows → IgnoreAnswer {T = Unit {0}} (Err fault) (has_ignore_file moment) → Meets fault (expected_of found moment)
-meets_ignore a_fault.OutOfMemory found rows moment is answer = tt
-meets_ignore a_fault.ShelfFailed found rows moment is answer = tt
-meets_ignore a_fault.TreeFailed found rows moment is answer = tt
-meets_ignore a_fault.OutFailed found rows moment is answer = tt
-meets_ignore a_fault.NotBuilt found rows moment is answer =
-    ap (λ (r : Result (List Row) Fault). expected_of r moment) is ∙ ap (λ (b : Bool). cond b (Some a_fault.NotBuilt) None) answer
-meets_ignore (a_fault.Docket fault) found rows moment is answer = absurd answer
-meets_ignore (a_fault.Node fault) found rows moment is answer = absurd answer
-meets_ignore (a_fault.DataGone ids) found rows moment is answer = absurd answer
-
-pub meets_listed : (found : Result (List Row) Fault) (rows : List Row) (moment : Moment) → found ≡ Ok rows → has_ignore_file moment ≡ false → expected_of found moment ≡ None
-meets_listed found rows moment is answer =
-    ap (λ (r : Result (List Row) Fault). expected_of r moment) is ∙ ap (λ (b : Bool). cond b (Some a_fault.NotBuilt) None) answer
-
-ignore_at : (before after : tree.History) → tree.Extends before after → has_ignore_file (tree.now after) ≡ true → IgnoreFound before after
-ignore_at before after past is = record { at = after.last; from = past.later; to = omega arith; is = is }
-
--- what was found at the root at one time stays so, whatever comes later
-pub ignore_absent : (before mid after : tree.History) → tree.Extends before mid → tree.Extends mid after → has_ignore_file (tree.now mid) ≡ false → NoIgnoreFound before after
-ignore_absent before mid after first second is = record {
+pub ignore_at : (there : Bool) (old mid new : tree.History) → tree.Extends old mid → tree.Extends mid new → has_ignore_file (tree.now mid) ≡ there → IgnoreSeen there old new
+ignore_at there old mid new first second is = record {
   at = mid.last;
   from = first.later;
   to = second.later;
   is = ap has_ignore_file (second.stay mid.last (omega arith)) ∙ is;
 }
 
-pub cause_ignore : (old new : shelf.History) (before after : tree.History) (fault : Fault) → LedToRows old new → tree.Extends before after → IsIgnoreFault fault → (IsTrue before.told → IgnoreAnswer {T = Unit {0}} (Err fault) (has_ignore_file (tree.now after)))
-    → ListCause old new before after fault
-cause_ignore old new before after a_fault.NotBuilt rows past kind answer = inr (rows, λ told. ignore_at before after past (answer told))
-cause_ignore old new before after a_fault.TreeFailed rows past kind answer = rows
-cause_ignore old new before after a_fault.OutOfMemory rows past kind answer = tt
-cause_ignore old new before after a_fault.ShelfFailed rows past kind answer = tt
-cause_ignore old new before after a_fault.OutFailed rows past kind answer = absurd kind
-cause_ignore old new before after (a_fault.Docket fault) rows past kind answer = absurd kind
-cause_ignore old new before after (a_fault.Node fault) rows past kind answer = absurd kind
-cause_ignore old new before after (a_fault.DataGone ids) rows past kind answer = absurd kind
-
--- ---- the listing
-
-pub meets_status : (status : StatusFault) (fault : Fault) (expects : Option Fault) → fault ≡ of_status status → Meets fault expects
-meets_status a_status.OutOfMemory fault expects is = subst (λ (f : Fault). Meets f expects) (sym is) tt
-meets_status a_status.TreeFailed fault expects is = subst (λ (f : Fault). Meets f expects) (sym is) tt
-
-pub cause_status : (old new : shelf.History) (before after : tree.History) (status : StatusFault) (fault : Fault) → fault ≡ of_status status → LedToRows old new → ListCause old new before after fault
-cause_status old new before after a_status.OutOfMemory fault is rows = subst (ListCause old new before after) (sym is) tt
-cause_status old new before after a_status.TreeFailed fault is rows = subst (ListCause old new before after) (sym is) rows
-
-marks_same : (o : Option FlatRow) → option_map (λ row. marks_of (view row.entry)) o ≡ option_map (λ recorded. marks_of recorded.0) (option_map shown_row o)
-marks_same None = refl
-marks_same (Some row) = refl
-
-source_same : (o : Option FlatRow) → source_of o ≡ source_in (option_map shown_row o)
-source_same None = refl
-source_same (Some row) = refl
-
--- the flat map that is kept is the one that the rows stand for
-pub flat_same : (rows : List Row) (kept : Kept) → Records rows kept → flat_of null_parent null_parent kept ≡ flat_of_rows null_parent null_parent rows
-flat_same rows kept records = λ i. record {
-  p1 = null_parent;
-  p2 = null_parent;
-  marks = λ path. (marks_same (kept path) ∙ ap (option_map (λ recorded. marks_of recorded.0)) (records path)) i;
-  sources = λ path. (source_same (kept path) ∙ ap source_in (records path)) i;
+pub seen_longer : (there : Bool) (old mid new : tree.History) → tree.Extends mid new → IgnoreSeen there old mid → IgnoreSeen there old new
+seen_longer there old mid new second seen = record {
+  at = seen.at;
+  from = seen.from;
+  to = omega (arith, seen.to, second.later);
+  is = ap has_ignore_file (second.stay seen.at seen.to) ∙ seen.is;
 }
 
-pub listed : (files : shelf.Files) (old mid : tree.History) (rows : List Row) (kept : Kept) (listing : List listing_row.Row) → tree.Extends old mid → tree.IsQuiet old mid → load_result files files ≡ Ok rows → Records rows kept
-    → IsFull (flat_of null_parent null_parent kept) (tree.now mid) null_rows nothing_ignored default_wanted listing → IsListed files (tree.now old) listing
-listed files old mid rows kept listing past quiet loaded records full = record {
-  recorded = rows;
-  loaded = loaded;
+file_thing : (thing : Thing) (mtime : Time) → is_file_kind (stat_of thing mtime).kind ≡ is_file_thing thing
+file_thing (a_thing.File exec bytes) mtime = refl
+file_thing (a_thing.Link target) mtime = refl
+file_thing a_thing.Dir mtime = refl
+file_thing a_thing.Other mtime = refl
+
+file_shown : (o : Option Placed) → shows_file (option_map (λ placed. stat_of placed.thing placed.mtime) o) ≡ is_file o
+file_shown None = refl
+file_shown (Some placed) = file_thing placed.thing placed.mtime
+
+-- what a stat of the file of ignore patterns shows
+pub ignore_shown : (moment : Moment) (found : Option Stat) (answer there : Bool) → found ≡ stat_at moment (codes ".hgignore") → answer ≡ shows_file found → answer ≡ there → has_ignore_file moment ≡ there
+ignore_shown moment found answer there is answered same = sym (file_shown (moment.things (codes ".hgignore"))) ∙ ap shows_file (sym is) ∙ sym answered ∙ same
+
+-- ---- why a listing met its fault
+
+pub cause_loading : (looked : Looked) (fault : Fault) → LoadCause looked.shelf fault → ListingCause looked fault
+cause_loading looked a_fault.OutOfMemory cause = tt
+cause_loading looked a_fault.NotBuilt cause = inl cause
+cause_loading looked (a_fault.Docket fault) cause = cause
+cause_loading looked (a_fault.Node fault) cause = cause
+cause_loading looked (a_fault.DataGone ids) cause = cause
+cause_loading looked a_fault.TreeFailed cause = absurd cause
+cause_loading looked a_fault.ShelfFailed cause = cause
+cause_loading looked a_fault.OutFailed cause = absurd cause
+
+pub cause_looking : (looked : Looked) (fault : Fault) → LedTo IsUnborn looked.shelf → IgnoreCause looked.tree fault → ListingCause looked fault
+cause_looking looked a_fault.OutOfMemory led cause = absurd cause
+cause_looking looked a_fault.NotBuilt led cause = inr (led, cause)
+cause_looking looked (a_fault.Docket fault) led cause = absurd cause
+cause_looking looked (a_fault.Node fault) led cause = absurd cause
+cause_looking looked (a_fault.DataGone ids) led cause = absurd cause
+cause_looking looked a_fault.TreeFailed led cause = (cause, led)
+cause_looking looked a_fault.ShelfFailed led cause = absurd cause
+cause_looking looked a_fault.OutFailed led cause = absurd cause
+
+pub cause_status : (looked : Looked) (fault : StatusFault) (answered : Fault) → answered ≡ of_status fault → LedTo IsUnborn looked.shelf → (fault ≡ a_status.TreeFailed → Fails looked.tree) → ListingCause looked answered
+cause_status looked a_status.OutOfMemory answered is led failed = subst (ListingCause looked) (sym is) tt
+cause_status looked a_status.TreeFailed answered is led failed = subst (ListingCause looked) (sym is) (failed refl, led)
+
+pub led_unborn : (files : Watched shelf.History) (flat : Flat) → IsUnborn (flat_in flat) → (IsTrue files.old.told → IsRecorded files.old files.new (flat_in flat)) → LedTo IsUnborn files
+led_unborn files flat unborn recorded told = (flat_in flat, recorded told, unborn)
+
+-- ---- the rows
+
+-- the listing began behind a look at the root
+pub listed_for : (looked : Looked) (mid : tree.History) (flat : Flat) (rows : List Row) → tree.Extends looked.tree.old mid → tree.Extends mid looked.tree.new
+    → IsUnborn (flat_in flat) → (IsTrue looked.shelf.old.told → IsRecorded looked.shelf.old looked.shelf.new (flat_in flat))
+    → IsFullFor (Untouched looked.tree.new mid.last) (flat_in flat) (tree.now mid) null_rows nothing_ignored default_wanted rows → IsListedFor (IsUntouched looked) looked rows
+listed_for looked mid flat rows first second unborn recorded full = record {
+  flat = flat_in flat;
+  recorded = recorded;
+  unborn = unborn;
   full =
-      subst (λ (m : Moment). IsFull (flat_of_rows null_parent null_parent rows) m null_rows nothing_ignored default_wanted listing) (now_same old mid past quiet)
-      (subst (λ (f : plain.Flat). IsFull f (tree.now mid) null_rows nothing_ignored default_wanted listing) (flat_same rows kept records) full);
+      full_moved (Untouched looked.tree.new mid.last) (IsUntouched looked) (flat_in flat) (tree.now mid) (tree.now looked.tree.old) null_rows nothing_ignored default_wanted rows
+      (λ path is. untouched_second looked.tree.new looked.tree.old.last mid.last path first.later second.later is)
+      (λ path is. alike_between looked.tree.old mid looked.tree.new path first second is) full;
 }
 
--- what was found at the root later is what stands there at the start
-pub ignore_now : {T : Type 0} (result : Result T Fault) (old mid : tree.History) → tree.Extends old mid → tree.IsQuiet old mid → IgnoreAnswer result (has_ignore_file (tree.now mid)) → IgnoreAnswer result (has_ignore_file (tree.now old))
-ignore_now result old mid past quiet answer = subst (λ (m : Moment). IgnoreAnswer result (has_ignore_file m)) (now_same old mid past quiet) answer
+-- what a record that was found says, where the shelf made no step
+recorded_now : (old new : shelf.History) (flat : plain.Flat) → shelf.Extends old new → shelf.IsQuiet old new → (r : IsRecorded old new flat) → record_in (shelf.now old).files (shelf.now old).files ≡ Some (Ok r.table)
+recorded_now old new flat past quiet r = sym (quiet_found old new r.tries past quiet r.tried) ∙ r.found
 
--- ---- the command
+-- where nobody else steps the listing is the whole
+pub listed_own : (looked : Looked) (rows : List Row) → tree.Passes looked.tree.old looked.tree.new → shelf.Passes looked.shelf.old looked.shelf.new → IsOwn looked → IsListedFor (IsUntouched looked) looked rows
+    → IsListed (shelf.now looked.shelf.old).files (tree.now looked.tree.old) rows
+listed_own looked rows copy files own is =
+    let r = is.recorded own.shelf.told in record {
+      table = r.table;
+      recorded = recorded_now looked.shelf.old looked.shelf.new is.flat files.past (shelves.ours_quiet looked.shelf.old looked.shelf.new files own.shelf) r;
+      full =
+          subst (λ (f : plain.Flat). IsFull f (tree.now looked.tree.old) null_rows nothing_ignored default_wanted rows) (sym r.flat_is)
+          (full_of (IsUntouched looked) is.flat (tree.now looked.tree.old) null_rows nothing_ignored default_wanted rows
+          (quiet_untouched looked.tree.old looked.tree.new copy.past (ours_quiet looked.tree.old looked.tree.new copy own.tree)) is.full);
+    }
 
--- of the one word `status` is expected what the load and the root give
-pub expected_built : (words : List (List ℕ)) (files : shelf.Files) (moment : Moment) → is_status words ≡ true → expected words files moment ≡ expected_of (load_result files files) moment
-expected_built words files moment built = ap (λ (b : Bool). cond b (expected_of (load_result files files) moment) (Some a_fault.NotBuilt)) built
+-- ---- what the tree is asked
 
-pub expected_other : (words : List (List ℕ)) (files : shelf.Files) (moment : Moment) → is_status words ≡ false → expected words files moment ≡ Some a_fault.NotBuilt
-expected_other words files moment other = ap (λ (b : Bool). cond b (expected_of (load_result files files) moment) (Some a_fault.NotBuilt)) other
+ours_second : (old mid new : tree.History) → tree.Extends old mid → tree.IsOurs old new → tree.IsOurs mid new
+ours_second old mid new first ours = record { told = first.told ∙ ours.told; ours = λ k from upto. ours.ours k (omega (arith, from, first.later)) upto }
 
-pub cause_listed : (built : Bool) (old new : shelf.History) (before after : tree.History) (shelf_rose tree_rose out_rose : Type 0) (fault : Fault) → ListCause old new before after fault
-    → (fault ≡ a_fault.ShelfFailed → shelf_rose) → (fault ≡ a_fault.TreeFailed → tree_rose) → CommandCause built old new before after shelf_rose tree_rose out_rose fault
-cause_listed built old new before after shelf_rose tree_rose out_rose a_fault.OutOfMemory cause shelf_failed tree_failed = tt
-cause_listed built old new before after shelf_rose tree_rose out_rose a_fault.NotBuilt cause shelf_failed tree_failed = inr cause
-cause_listed built old new before after shelf_rose tree_rose out_rose (a_fault.Docket fault) cause shelf_failed tree_failed = cause
-cause_listed built old new before after shelf_rose tree_rose out_rose (a_fault.Node fault) cause shelf_failed tree_failed = cause
-cause_listed built old new before after shelf_rose tree_rose out_rose (a_fault.DataGone ids) cause shelf_failed tree_failed = cause
-cause_listed built old new before after shelf_rose tree_rose out_rose a_fault.TreeFailed cause shelf_failed tree_failed = (tree_failed refl, cause)
-cause_listed built old new before after shelf_rose tree_rose out_rose a_fault.ShelfFailed cause shelf_failed tree_failed = shelf_failed refl
-cause_listed built old new before after shelf_rose tree_rose out_rose a_fault.OutFailed cause shelf_failed tree_failed = absurd cause
+-- a listing behind a call that asked for nothing
+pub asks_later : (old mid new : tree.History) → tree.Passes old mid → tree.Passes mid new → AsksNothing old mid → AsksFor (λ dir. tree.IsOurs mid new → IsVisibleDir (tree.now mid) dir) mid new
+    → AsksFor (λ dir. tree.IsOurs old new → IsVisibleDir (tree.now old) dir) old new
+asks_later old mid new first second none asks =
+    asks_then (λ dir. tree.IsOurs old new → IsVisibleDir (tree.now old) dir) old mid new none
+    (asks_weaker (λ dir. tree.IsOurs mid new → IsVisibleDir (tree.now mid) dir) (λ dir. tree.IsOurs old new → IsVisibleDir (tree.now old) dir) mid new
+    (λ dir visible ours.
+    subst (λ (m : Moment). IsVisibleDir m dir)
+    (now_same old mid first.past (quiet_first old mid new first.past second.past (ours_quiet old new (passes_trans old mid new first second) ours)))
+    (visible (ours_second old mid new first.past ours)))
+    asks)
 
--- a listing prints nothing, so that no output fails it
-pub not_printing : (old new : shelf.History) (before after : tree.History) (fault : Fault) → ListCause old new before after fault → fault ≡ a_fault.OutFailed → ⊥
-not_printing old new before after fault cause is = subst (ListCause old new before after) is cause
+-- ---- what is expected, where nobody else steps
 
--- a fault that is met before anything is printed
-pub left_same : (Failed : Type 0) (fault : Fault) (bytes : Option (List ℕ)) → (fault ≡ a_fault.OutFailed → ⊥) → LeavesOut Failed fault bytes bytes
-left_same Failed a_fault.OutOfMemory bytes other = inl refl
-left_same Failed a_fault.OutFailed bytes other = absurd (other refl)
-left_same Failed a_fault.NotBuilt bytes other = refl
-left_same Failed (a_fault.Docket fault) bytes other = refl
-left_same Failed (a_fault.Node fault) bytes other = refl
-left_same Failed (a_fault.DataGone ids) bytes other = refl
-left_same Failed a_fault.TreeFailed bytes other = refl
-left_same Failed a_fault.ShelfFailed bytes other = refl
+seen_now : (there : Bool) (old new : tree.History) → tree.Extends old new → tree.IsQuiet old new → IgnoreSeen there old new → has_ignore_file (tree.now old) ≡ there
+seen_now there old new past quiet seen =
+    let same : seen.at ≡ old.last = omega (arith, seen.from, seen.to, quiet.none) in
+    ap has_ignore_file (sym (past.stay old.last (omega arith)) ∙ sym (ap new.at same)) ∙ seen.is
 
-pub meets_memory : (fault : Fault) (expects : Option Fault) → fault ≡ a_fault.OutOfMemory → Meets fault expects
-meets_memory fault expects is = subst (λ (f : Fault). Meets f expects) (sym is) tt
+module _ (call : Call) (copy : tree.Passes call.looked.tree.old call.looked.tree.new) (files : shelf.Passes call.looked.shelf.old call.looked.shelf.new) (own : IsOwn call.looked) where
+  abbrev still : shelf.IsQuiet call.looked.shelf.old call.looked.shelf.new
+  still = shelves.ours_quiet call.looked.shelf.old call.looked.shelf.new files own.shelf
 
--- the full listing was put
-pub printed : (files : shelf.Files) (moment : Moment) (rows : List listing_row.Row) (text : List ℕ) (old new : Option (List ℕ)) → IsListed files moment rows → text ≡ text_of plain_style rows → Grown old new text → IsPrinted files moment old new
-printed files moment rows text old new listing is grown = record { rows = rows; listing = listing; printed = subst (Grown old new) is grown }
+  abbrev quiet : tree.IsQuiet call.looked.tree.old call.looked.tree.new
+  quiet = ours_quiet call.looked.tree.old call.looked.tree.new copy own.tree
 
-pub begun : (files : shelf.Files) (moment : Moment) (rows : List listing_row.Row) (text : List ℕ) (old new : Option (List ℕ)) → IsListed files moment rows → text ≡ text_of plain_style rows → GrownByFront old new text → IsBegun files moment old new
-begun files moment rows text old new listing is grown = record { rows = rows; listing = listing; printed = subst (GrownByFront old new) is grown }
+  abbrev Expects : Option Fault → Type 0
+  Expects fault = IsExpected call.words (shelf.now call.looked.shelf.old).files (tree.now call.looked.tree.old) fault
 
-pub broken_off : (Failed : Type 0) (rows : List listing_row.Row) (text : List ℕ) (old new : Option (List ℕ)) → text ≡ text_of plain_style rows → Failed → GrownByFront old new text → IsBrokenOff Failed old new
-broken_off Failed rows text old new is failed grown = record { rows = rows; failed = failed; printed = subst (GrownByFront old new) is grown }
+  led_now : (P : plain.Flat → Type 0) → LedTo P call.looked.shelf → (table : Table) × (record_in (shelf.now call.looked.shelf.old).files (shelf.now call.looked.shelf.old).files ≡ Some (Ok table)) × P (flat_of table)
+  led_now P led =
+      let l = led own.shelf.told in
+      (l.1.table, recorded_now call.looked.shelf.old call.looked.shelf.new l.0 files.past still l.1, subst P (sym l.1.flat_is) l.2)
 
--- ---- the run
+  met_now : (fault : LoadFault) → LoadMet fault call.looked.shelf
+      → (tries : List Try) × Answers (Err fault) (map (λ tried. id_in (shelf.now call.looked.shelf.old).files) tries) (record_in (shelf.now call.looked.shelf.old).files (shelf.now call.looked.shelf.old).files)
+  met_now fault met = let m = met own.shelf.told in (m.0, quiet_loads call.looked.shelf.old call.looked.shelf.new m.0 (Err fault) files.past still m.1)
 
--- why a command met its fault, where it met one
-pub steady_meets : (words : List (List ℕ)) (files : shelf.Files) (moment : Moment) (built : Bool) (old new : shelf.History) (before after : tree.History) (s t o s' t' o' : ℕ) (fault : Fault) → IsSteady s s' → IsSteady t t' → IsSteady o o'
-    → CommandCause built old new before after (Rose s s') (Rose t t') (Rose o o') fault → Meets fault (expected words files moment) → IsAsExpected (Some fault) (expected words files moment)
-steady_meets words files moment built old new before after s t o s' t' o' a_fault.OutOfMemory p q r cause meets = inl refl
-steady_meets words files moment built old new before after s t o s' t' o' a_fault.NotBuilt p q r cause meets = inr (sym meets)
-steady_meets words files moment built old new before after s t o s' t' o' (a_fault.Docket fault) p q r cause meets = inr (sym meets)
-steady_meets words files moment built old new before after s t o s' t' o' (a_fault.Node fault) p q r cause meets = inr (sym meets)
-steady_meets words files moment built old new before after s t o s' t' o' (a_fault.DataGone ids) p q r cause meets = inr (sym meets)
-steady_meets words files moment built old new before after s t o s' t' o' a_fault.TreeFailed p q r cause meets = absurd (steady_not_rose t t' q cause.0)
-steady_meets words files moment built old new before after s t o s' t' o' a_fault.ShelfFailed p q r cause meets = absurd (steady_not_rose s s' p cause)
-steady_meets words files moment built old new before after s t o s' t' o' a_fault.OutFailed p q r cause meets = absurd (steady_not_rose o o' r cause.0)
+  all_same : (id : List ℕ) (tries : List Try) → AllByRecursion (λ other. other ≡ id) (map (λ tried. id) tries)
+  all_same id [] = tt
+  all_same id (one ∷ more) = (refl, all_same id more)
+
+  listing_expected : (fault : Fault) → ListingCause call.looked fault → Serves call.looked.tree → Serves call.looked.shelf → Expects (Some fault)
+  listing_expected a_fault.OutOfMemory cause p q = tt
+  listing_expected a_fault.NotBuilt cause p q =
+      elim cause [
+        | inl born ↦ let l = led_now IsBorn born in inr (l.0, l.1, inl l.2)
+        | inr both ↦
+            let l = led_now IsUnborn both.0 in
+            inr (l.0, l.1, inr (seen_now true call.looked.tree.old call.looked.tree.new copy.past quiet (both.1 own.tree.told)))
+      ]
+  listing_expected (a_fault.Docket fault) cause p q = (met_now (a_load.Docket fault) cause).1
+  listing_expected (a_fault.Node fault) cause p q = (met_now (a_load.Node fault) cause).1
+  listing_expected (a_fault.DataGone ids) cause p q =
+      let m = met_now (a_load.DataGone ids) cause in
+      (m.1.0, subst (AllByRecursion (λ id. id ≡ id_in (shelf.now call.looked.shelf.old).files)) (sym m.1.1) (all_same (id_in (shelf.now call.looked.shelf.old).files) m.0))
+  listing_expected a_fault.TreeFailed cause p q = absurd (steady_not_rose call.looked.tree.before call.looked.tree.after p cause.0)
+  listing_expected a_fault.ShelfFailed cause p q = absurd (steady_not_rose call.looked.shelf.before call.looked.shelf.after q cause)
+  listing_expected a_fault.OutFailed cause p q = absurd cause
+
+  before_expected : (fault : Fault) → MetBefore call fault → Serves call.looked.tree → Serves call.looked.shelf → Expects (Some fault)
+  before_expected fault (inl (other, is)) p q = subst (λ (f : Fault). Expects (Some f)) (sym is) (inl other)
+  before_expected fault (inr cause) p q = listing_expected fault cause p q
+
+  pub cause_expected : (fault : Fault) → CommandCause call fault → Serves call.looked.tree → Serves call.looked.shelf → Serves call.out → Expects (Some fault)
+  cause_expected fault (inl before) p q r = before_expected fault before p q
+  cause_expected fault (inr printing) p q r = absurd (steady_not_rose call.out.before call.out.after r printing.failed)
+
+  pub none_expected : (is_status call.words ≡ true) → IsListable call.looked → Expects None
+  none_expected built listable =
+      (built, led_now IsUnborn listable.loaded, seen_now false call.looked.tree.old call.looked.tree.new copy.past quiet (listable.plain_root own.tree.told))
+
+-- ---- printing
+
+pub wrong_words : {Q : Type 0} (words : List (List ℕ)) (answer : Bool) → answer ≡ is_status words → answer ≡ true → is_status words ≡ false → Q
+wrong_words words answer is built other = absurd (cc (is, built, other))
+
+pub printed_for : (call : Call) (rows : List Row) (text : List ℕ) → IsListedFor (IsUntouched call.looked) call.looked rows → text ≡ text_of plain_style rows → Grown call.out.old call.out.new text → IsPrintedFor (IsUntouched call.looked) call
+printed_for call rows text listing is grown = record { rows = rows; listing = listing; printed = subst (Grown call.out.old call.out.new) is grown }
+
+pub begun_for : (call : Call) (rows : List Row) (text : List ℕ) → IsListedFor (IsUntouched call.looked) call.looked rows → text ≡ text_of plain_style rows → GrownByFront call.out.old call.out.new text → IsBegunFor (IsUntouched call.looked) call
+begun_for call rows text listing is grown = record { rows = rows; listing = listing; printed = subst (GrownByFront call.out.old call.out.new) is grown }
+
+-- ---- what a fault leaves
+
+pub cause_left : (call : Call) (fault : Fault) → LeavesOut call fault → CommandCause call fault
+cause_left call fault (inl (before, same)) = inl before
+cause_left call fault (inr (printing, begun)) = inr printing
 
 -- what a fault leaves may also be left where there is no memory for its line
-pub left_any : (Failed : Type 0) (fault : Fault) (old new : Option (List ℕ)) → LeavesOut Failed fault old new → LeavesOut Failed a_fault.OutOfMemory old new
-left_any Failed a_fault.OutOfMemory old new left = left
-left_any Failed a_fault.OutFailed old new left = inr left
-left_any Failed a_fault.NotBuilt old new left = inl left
-left_any Failed (a_fault.Docket fault) old new left = inl left
-left_any Failed (a_fault.Node fault) old new left = inl left
-left_any Failed (a_fault.DataGone ids) old new left = inl left
-left_any Failed a_fault.TreeFailed old new left = inl left
-left_any Failed a_fault.ShelfFailed old new left = inl left
+pub left_any : (call : Call) (fault : Fault) → LeavesOut call fault → LeavesOut call a_fault.OutOfMemory
+left_any call fault (inl (before, same)) = inl (inr tt, same)
+left_any call fault (inr (printing, begun)) = inr (record { listable = printing.listable; failed = printing.failed; kind = tt }, begun)
 
--- what holds of the fault that was met, and of want of memory, holds of the one that is answered
-pub of_answered : (P : Fault → Type 0) (answered : Option Fault) (fault : Fault) → IsFaultOrMemory answered fault → P fault → P a_fault.OutOfMemory → IfSome answered P
-of_answered P answered fault (inl same) here memory = subst (λ (o : Option Fault). IfSome o P) (sym same) here
-of_answered P answered fault (inr none) here memory = subst (λ (o : Option Fault). IfSome o P) (sym none) memory
+pub front_left : (call : Call) (fault : Fault) → tree.Passes call.looked.tree.old call.looked.tree.new → shelf.Passes call.looked.shelf.old call.looked.shelf.new → IsOwn call.looked → LeavesOut call fault
+    → LeavesFront (shelf.now call.looked.shelf.old).files (tree.now call.looked.tree.old) call.out.old call.out.new
+front_left call fault copy files own (inl (before, same)) = inl same
+front_left call fault copy files own (inr (printing, begun)) =
+    inr (record { rows = begun.rows; listing = listed_own call.looked begun.rows copy files own begun.listing; printed = begun.printed })
 
--- the fault that was met is this one
-pub other_answered : (answered : Option Fault) (fault met : Fault) → IsFaultOrMemory answered fault → fault ≡ met → IsFaultOrMemory answered met
-other_answered answered fault met is same = subst (IsFaultOrMemory answered) same is
+-- ---- a run
 
--- a fault is answered
-pub is_answered : (P : Fault → Type 0) (Q : Type 0) (answered : Option Fault) (fault : Fault) → IsFaultOrMemory answered fault → IfSome answered P → MatchOption answered Q P
-is_answered P Q None fault (inl same) some = absurd (cc (same))
-is_answered P Q None fault (inr none) some = absurd (cc (none))
-is_answered P Q (Some f) fault is some = some
+answered_by : (P : Option Fault → Type 0) (answered : Option Fault) (fault : Fault) → IsFaultOrMemory answered fault → P (Some fault) → P (Some a_fault.OutOfMemory) → P answered
+answered_by P answered fault (inl same) here memory = subst P (sym same) here
+answered_by P answered fault (inr none) here memory = subst P (sym none) memory
 
 pub not_without : {Q : Type 0} (answered : Option Fault) (fault : Fault) → IsFaultOrMemory answered fault → answered ≡ None → Q
 not_without answered fault (inl same) none = absurd (cc (same, none))
 not_without answered fault (inr memory) none = absurd (cc (memory, none))
 
+is_built : (call : Call) (u : Unit) → Prints call (Ok u) → is_status call.words ≡ true
+is_built call u prints = elim (cases_Bool (is_status call.words)) [ inl built ↦ built | inr other ↦ let never = prints.words other in absurd (cc (never)) ]
+
+pub ran_ok : (call : Call) (u : Unit) → Prints call (Ok u) → Ran call None
+ran_ok call u prints = record {
+  still = λ none. prints.still;
+  listed = λ none own. record {
+    rows = prints.still.rows;
+    listing = listed_own call.looked prints.still.rows prints.tree prints.shelf own prints.still.listing;
+    printed = prints.still.printed;
+  };
+  cause = tt;
+  words = λ other. let never = prints.words other in absurd (cc (never));
+  listable = λ none. prints.listable;
+  complete = λ own p q r. none_expected call prints.tree prints.shelf own (is_built call u prints) prints.listable;
+  calm_tree = λ none. prints.calm_tree;
+  calm_shelf = λ none. prints.calm_shelf;
+  calm_out = λ none. prints.calm_out;
+  asked = λ built. record { tree = prints.tree; shelf = prints.shelf; once = prints.asked };
+  left = tt;
+  front = λ own. tt;
+}
+
+pub ran_err : (call : Call) (fault : Fault) (answered : Option Fault) → Prints call (Err fault) → IsFaultOrMemory answered fault → Ran call answered
+ran_err call fault answered prints is = record {
+  still = λ none. not_without answered fault is none;
+  listed = λ none. not_without answered fault is none;
+  cause = answered_by (λ o. IfSome o (CommandCause call)) answered fault is (cause_left call fault prints.left) (cause_left call a_fault.OutOfMemory (left_any call fault prints.left));
+  words = λ other. let met : fault ≡ a_fault.NotBuilt = cc (prints.words other) in subst (IsFaultOrMemory answered) met is;
+  listable = λ none. not_without answered fault is none;
+  complete = λ own p q r.
+      answered_by (IsExpected call.words (shelf.now call.looked.shelf.old).files (tree.now call.looked.tree.old)) answered fault is
+      (cause_expected call prints.tree prints.shelf own fault (cause_left call fault prints.left) p q r) tt;
+  calm_tree = λ none. not_without answered fault is none;
+  calm_shelf = λ none. not_without answered fault is none;
+  calm_out = λ none. not_without answered fault is none;
+  asked = λ built. record { tree = prints.tree; shelf = prints.shelf; once = prints.asked };
+  left = answered_by (λ o. IfSome o (LeavesOut call)) answered fault is prints.left (left_any call fault prints.left);
+  front = λ own.
+      answered_by (λ o. IfSome o (λ _. LeavesFront (shelf.now call.looked.shelf.old).files (tree.now call.looked.tree.old) call.out.old call.out.new)) answered fault is
+      (front_left call fault prints.tree prints.shelf own prints.left) (front_left call fault prints.tree prints.shelf own prints.left);
+}
+
 pub status_is : (answered : Option Fault) (fault : Fault) (status : ℕ) → IsFaultOrMemory answered fault → status ≡ 255 → MatchOption answered (status ≡ 0) (λ f. status ≡ 255)
 status_is None fault status (inl same) is = absurd (cc (same))
 status_is None fault status (inr none) is = absurd (cc (none))
 status_is (Some f) fault status some is = is
-
-pub as_expected : (answered : Option Fault) (fault : Fault) (expects : Option Fault) → IsFaultOrMemory answered fault → IsAsExpected (Some fault) expects → IsAsExpected answered expects
-as_expected answered fault expects (inl same) is = subst (λ (o : Option Fault). IsAsExpected o expects) (sym same) is
-as_expected answered fault expects (inr memory) is = inl memory

@@ -21,7 +21,7 @@ use Rattle.hg_base.specs.Reads.{ReadsBytes}
 use Rattle.hg_shelf.specs.Reads.{size_of}
 use Rattle.hg_shelf.proofs.Histories.{extends_trans}
 use Rattle.hg_cli.specs.Load.{content, data_in, data_name, docket_in, id_in, named_reading, needed_in, record_in}
-use Rattle.hg_cli.specs.Loaded.{Answers, Covers, DataFinds, DataFindsDuring, During, FileFinds, FileFindsDuring, FrontFinds, IsTry, IsUnread, Loads, NamedFinds, NodesFind, Try, bytes_of, files_at, found_by, id_by}
+use Rattle.hg_cli.specs.Loaded.{Answers, Covers, DataFinds, DataFindsDuring, During, FileFinds, FileFindsDuring, FrontFinds, IsTry, IsUnread, Loads, NamedFinds, NodesFind, Tries, Try, bytes_of, files_at, found_by, id_by}
 use Rattle.hg_cli.specs.declared.load_fault.LoadFault.{LoadFault}
 use Rattle.hg_cli.specs.declared.load_fault.LoadFault.TheVariants as a_fault
 
@@ -278,7 +278,10 @@ named_read old new bytes nodes d result sound is finds found = record {
 -- a load by one try
 one_try : (old new : History) (tried : Try) (result : Result Flat LoadFault) → IsTry old new tried → Answers result (id_by new tried ∷ []) (found_by new tried) → Loads old new (tried ∷ []) result
 one_try old new tried result within answer =
-    record { earlier = []; last = tried; whole = refl; few = omega arith; within = (within, tt); order = tt; gone = tt; answer = answer }
+    record {
+      tried = record { earlier = []; last = tried; whole = refl; few = omega arith; within = (within, tt); order = tt; gone = tt };
+      answer = answer;
+    }
 
 -- the docket was read, and then the rest
 pub loaded : (old mid new : History) (bytes : List ℕ) (result : Result Flat LoadFault) → Passes old mid → Passes mid new → bytes ≡ docket_in (now mid).files → NamedFinds mid new bytes result
@@ -321,12 +324,15 @@ same_ids : (old new : History) (tries : List Try) → Extends old new → IsQuie
 same_ids old new [] past quiet within = refl
 same_ids old new (one ∷ more) past quiet within = λ i. id_in (one_moment old new one.docket past quiet within.0.docket i) ∷ same_ids old new more past quiet within.1 i
 
+-- where the shelf made no step, the last try found the record as it stands there
+pub quiet_found : (old new : History) (tries : List Try) → Extends old new → IsQuiet old new → (t : Tries old new tries) → found_by new t.last ≡ record_in (now old).files (now old).files
+quiet_found old new tries past quiet t =
+    let within : IsTry old new t.last = last_of (IsTry old new) t.earlier t.last (subst (AllByRecursion (IsTry old new)) t.whole t.within) in
+    λ i. record_in (one_moment old new t.last.docket past quiet within.docket i) (one_moment old new t.last.file past quiet within.file i)
+
 -- where the shelf made no step, a load answers the reading of the record as it stands there, whatever the tries: each names the same identifier
 pub quiet_loads : (old new : History) (tries : List Try) (result : Result Flat LoadFault) → Extends old new → IsQuiet old new → Loads old new tries result
     → Answers result (map (λ tried. id_in (now old).files) tries) (record_in (now old).files (now old).files)
 quiet_loads old new tries result past quiet loads =
-    let within : IsTry old new loads.last = last_of (IsTry old new) loads.earlier loads.last (subst (AllByRecursion (IsTry old new)) loads.whole loads.within) in
-    let found : found_by new loads.last ≡ record_in (now old).files (now old).files =
-    λ i. record_in (one_moment old new loads.last.docket past quiet within.docket i) (one_moment old new loads.last.file past quiet within.file i) in
-    subst (λ (ids : List (List ℕ)). Answers result ids (record_in (now old).files (now old).files)) (same_ids old new tries past quiet loads.within)
-    (subst (Answers result (map (id_by new) tries)) found loads.answer)
+    subst (λ (ids : List (List ℕ)). Answers result ids (record_in (now old).files (now old).files)) (same_ids old new tries past quiet loads.tried.within)
+    (subst (Answers result (map (id_by new) tries)) (quiet_found old new tries past quiet loads.tried) loads.answer)

@@ -1,4 +1,6 @@
+pub mod Call
 pub mod Command
+pub mod Listed
 pub mod Load
 pub mod Loaded
 pub mod Place

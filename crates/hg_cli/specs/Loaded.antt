@@ -64,8 +64,8 @@ Answers (Err (a_fault.DataGone gone)) ids found = (found ≡ None) × (gone ≡ 
 Answers (Err a_fault.OutOfMemory) ids found = Unit {0}
 Answers (Err a_fault.Failed) ids found = Unit {0}
 
--- a load by these tries, at most five: each but the last found the data file gone, and what the last one found is the answer
-pub record Loads (old new : History) (tries : List Try) (result : Result Flat LoadFault) : Type 0 where
+-- the tries of a load, at most five: each but the last found the data file gone
+pub record Tries (old new : History) (tries : List Try) : Type 0 where
   pub earlier : List Try
   pub last : Try
   pub whole : tries ≡ earlier ++ last ∷ []
@@ -73,7 +73,11 @@ pub record Loads (old new : History) (tries : List Try) (result : Result Flat Lo
   pub within : AllByRecursion (IsTry old new) tries
   pub order : AreInOrder tries
   pub gone : AllByRecursion (λ tried. found_by new tried ≡ None) earlier
-  pub answer : Answers result (map (id_by new) tries) (found_by new last)
+
+-- a load by these tries, whose answer is what the last one found
+pub record Loads (old new : History) (tries : List Try) (result : Result Flat LoadFault) : Type 0 where
+  pub tried : Tries old new tries
+  pub answer : Answers result (map (id_by new) tries) (found_by new tried.last)
 
 -- ---- the steps of one try
 

@@ -5,6 +5,7 @@ pub mod Ascending
 pub mod Asks
 pub mod Fullness
 pub mod Holding
+pub mod Moved
 pub mod Parents
 pub mod Recording
 pub mod Rooms

@@ -1,0 +1,31 @@
+-- What happened in a call: each device before and after it.
+use Rattle.std.specs.Prelude.{ℕ, List, Option}
+use Rattle.hg_base.specs.Fault.{IsSteady, Rose}
+use Rattle.hg_shelf.specs.History as shelf
+use Rattle.hg_tree.specs.History as tree
+
+-- a device before and after a call: what it tells, and how often it failed
+pub record Watched {ℓ} (Told : Type ℓ) : Type ℓ where
+  pub old : Told
+  pub new : Told
+  pub before : ℕ
+  pub after : ℕ
+
+-- its count of failures rose
+abbrev pub Fails {ℓ} : {Told : Type ℓ} → Watched Told → Type 0
+Fails device = Rose device.before device.after
+
+-- it never failed
+abbrev pub Serves {ℓ} : {Told : Type ℓ} → Watched Told → Type 0
+Serves device = IsSteady device.before device.after
+
+-- what is looked at: the working copy, and the files below `.hg`
+pub record Looked : Type 0 where
+  pub tree : Watched tree.History
+  pub shelf : Watched shelf.History
+
+-- a command: its words, what is looked at, and standard output
+pub record Call : Type 0 where
+  pub words : List (List ℕ)
+  pub looked : Looked
+  pub out : Watched (Option (List ℕ))
