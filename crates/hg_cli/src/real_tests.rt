@@ -9,6 +9,7 @@ use std::io::{Error, ErrorKind, Read};
 use std::os::unix::fs::{PermissionsExt, symlink};
 use std::process::Abort;
 use std::test::Fail;
+use std::time::{Duration, SystemTime};
 use std::{fs, io};
 
 const FOLDER: &str = "real_tree_test";
@@ -78,6 +79,32 @@ fn look_at_files(at: &impl Abort, rt: &HostRuntime, root: &Root) -> Result<(), F
         );
     }
     let _ = listed(rt, &mut tree, None)?;
+    Ok(())
+}
+
+// A time is shown to the nanosecond, and a change of the mode alone leaves it.
+#[test]
+fn tells_times(rt: HostRuntime) -> Result<(), Fail> {
+    let root = Root { named: None };
+    let mut tree = RealTree::new(&rt, &root);
+    fs::write(&rt, "timed_test", b"one".as_slice())?;
+    let file = fs::OpenOptions::new()
+        .write(true)
+        .open(&rt, "timed_test")?;
+    for (seconds, nanos, mode, exec) in [
+        (1_234_567_890, 123_456_789, 0o644, false),
+        (1_234_567_890, 123_456_789, 0o744, true),
+        (2_147_483_648, 999_999_999, 0o744, true),
+        (2_147_483_648, 999_999_999, 0o600, false),
+        (0, 1, 0o600, false),
+    ] {
+        file.set_modified(SystemTime::UNIX_EPOCH + Duration::new(seconds, nanos))?;
+        fs::set_permissions(&rt, "timed_test", Permissions::from_mode(mode))?;
+        let stat = tree.stat(PathRef::read("timed_test")?).ok().ok_or("a failure")?;
+        let shown = stat.map(|stat| (stat.mtime.seconds, stat.mtime.nanos, stat.exec));
+        assert_eq!(rt; shown, Some((seconds as i64, nanos, exec)), "{seconds}.{nanos} {mode}");
+    }
+    fs::remove_file(&rt, "timed_test")?;
     Ok(())
 }
 
