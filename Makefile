@@ -1,4 +1,4 @@
-# make          builds the program: proves what it needs and leaves build/hgtrack
+# make          builds the program: proves what it needs, a line for each crate, and leaves build/hgtrack
 # make demo     runs `hgtrack status` on a sample working copy, which it lays out in a temporary folder
 # make test     proves every crate from nothing, and tests the program: what .ci/run runs
 # make bench    times the program against C loops (gcc)
@@ -12,14 +12,12 @@ SOURCES := crates.txt HANDLES $(shell find crates -name out -prune -o -name must
 
 all: build/hgtrack
 
-# (rt run proves the crates that changed, compiles and links the program, and runs it)
+# (a line for each crate that is proved; what the toolchain says is in build/log)
 build/hgtrack: $(SOURCES)
-	cd crates/hgtrack && rt run -- --version < /dev/null
-	mkdir -p build
-	cp crates/hgtrack/out/hgtrack build/hgtrack
+	@python3 .ci/build.py build/hgtrack
 
 demo: build/hgtrack
-	python3 demo/demo.py build/hgtrack
+	@python3 demo/demo.py build/hgtrack
 
 test:
 	bash .ci/run

@@ -1,8 +1,10 @@
 #!/usr/bin/env python3
-"""Times the built program against C loops that make the same system calls: python3 bench/bench.py [PROGRAM] [PART ..].
+"""Times the built program against C loops that make the same system calls, and against other programs:
+python3 bench/bench.py [PROGRAM] [PART ..] [rhg=PROGRAM] [before=PROGRAM].
 
-PROGRAM is build/hgtrack where it isn't named. The parts are listing, tracked, opening and placing; all where none is named. Every time is the
-least of some runs, taken in turn with what it is compared with. The status is 0 exactly where each figure is within its limit.
+PROGRAM is build/hgtrack where it isn't named. The parts are listing, tracked, peers, deep, opening and placing; all where none is named. `rhg` is
+Mercurial's program of that name, which is looked for in PATH otherwise, and `before` an earlier hgtrack, which is timed beside this one. Every time
+is the least of some runs, taken in turn with what it is compared with. The status is 0 exactly where each figure is within its limit.
 """
 
 import os
@@ -24,11 +26,29 @@ MANY, FEW = 100_000, 10_000
 IN_EACH = 20
 
 
+# What Mercurial's programs read in place of a user's own file.
+HGRC = """[ui]
+username = bench
+[format]
+use-dirstate-v2 = yes
+[storage]
+dirstate-v2.slow-path = allow
+[rhg]
+on-unsupported = abort
+"""
+# What the record of a repository needs besides for Mercurial's programs to read it.
+REQUIRES = "dirstate-v2 dotencode fncache generaldelta revlogv1 sparserevlog store".split()
+
+
 class Bench:
     """Compiles the loops, runs commands, and tells each figure beside its limit."""
 
-    def __init__(self, program, room):
-        self.room, self.failed = room, 0
+    def __init__(self, program, room, others):
+        self.room, self.failed, self.others = room, 0, others
+        with open(f"{room}/hgrc", "w", encoding="utf-8") as file:
+            file.write(HGRC)
+        own = {"HGRCPATH": f"{room}/hgrc", "HGPLAIN": "1", "RAYON_NUM_THREADS": "1", "GIT_CONFIG_GLOBAL": os.devnull, "GIT_CONFIG_SYSTEM": os.devnull}
+        self.env = {**os.environ, **own}
         self.program = f"{room}/hgtrack"
         shutil.copyfile(program, self.program)
         os.chmod(self.program, 0o755)
@@ -42,7 +62,7 @@ class Bench:
     def once(self, command, folder, given=None):
         """The wall time in seconds and the peak memory in MB of one run."""
         with open(given or os.devnull, "rb") as stdin:
-            ran = subprocess.run([self.measure, *command], cwd=folder, stdin=stdin, stdout=subprocess.PIPE, check=True)
+            ran = subprocess.run([self.measure, *command], cwd=folder, stdin=stdin, stdout=subprocess.PIPE, check=True, env=self.env)
         status, seconds, kilobytes = ran.stdout.split()
         if int(status):
             sys.exit(f"{' '.join(command)} ended with {int(status)} in {folder}")
@@ -133,18 +153,79 @@ def tracked(bench):
         put_record(root, *written([it.encode() for it in paths]))
         with open(names, "w", encoding="utf-8") as file:
             file.writelines(f"{it}\n" for it in sorted(paths))
-        figures[count] = bench.least(([bench.program, "status"], root), ([loop, names], root))
+        earlier = [([bench.others["before"], "status"], root)] if "before" in bench.others else []
+        figures[count] = bench.least(([bench.program, "status"], root), ([loop, names], root), *earlier)
         shutil.rmtree(root)
-    compare(bench, f"`status` of {MANY:,} tracked files in {MANY // IN_EACH:,} directories", figures, 1.5, 100)
+    compare(bench, f"`status` of {MANY:,} tracked files in {MANY // IN_EACH:,} directories", figures, 1.5, 30, 12)
+    for (before, _) in figures[MANY][2:]:
+        bench.tell(f"its time over that of the program before ({before:.3f} s)", figures[MANY][0][0] / before, 0.42)
 
 
-def compare(bench, what, figures, most, megabytes):
-    (seconds, memory), (loop, _) = figures[MANY]
+def compare(bench, what, figures, most, megabytes, growth=13):
+    (seconds, memory), (loop, _) = figures[MANY][:2]
     few = figures[FEW][0][0]
     print(f"| {what} | {seconds:.3f} s, the C loop {loop:.3f} s | | |")
     bench.tell("its time over the C loop's", seconds / loop, most)
-    bench.tell(f"its time over that of {FEW:,} files ({few:.4f} s)", seconds / few, 13)
+    bench.tell(f"its time over that of {FEW:,} files ({few:.4f} s)", seconds / few, growth)
     bench.tell("its peak memory", memory, megabytes, " MB")
+
+
+def peers(bench):
+    """A status of tracked files beside the programs that a user would take else, each where it is there."""
+    root, other = f"{bench.room}/peers", f"{bench.room}/peers-git"
+    paths = in_directories(MANY)
+    make_files(root, paths)
+    put_record(root, *written([it.encode() for it in paths]))
+    os.makedirs(f"{root}/.hg/store")
+    with open(f"{root}/.hg/requires", "w", encoding="utf-8") as file:
+        file.writelines(f"{it}\n" for it in REQUIRES)
+    found = {name: bench.others.get(name) or shutil.which(name) for name in ("rhg", "git", "hg")}
+    runs = {"hgtrack": ([bench.program, "status"], root)}
+    for name in ("rhg", "hg"):
+        if found[name]:
+            runs[name] = ([os.path.abspath(found[name]), "status"], root)
+    if found["git"]:
+        make_files(other, paths)
+        for words in (["init", "-q"], ["add", "-A"]):
+            subprocess.run([found["git"], *words], cwd=other, env=bench.env, check=True, stdin=subprocess.DEVNULL)
+        runs["git"] = ([found["git"], "-c", "core.preloadIndex=false", "status", "--porcelain"], other)
+    lines = {name: subprocess.run(words, cwd=at, env=bench.env, check=True, stdout=subprocess.PIPE).stdout for name, (words, at) in runs.items()}
+    figures = dict(zip(runs, bench.least(*runs.values())))
+    own = figures["hgtrack"][0]
+    print(f"| `status` of {MANY:,} tracked files, beside others in turn | {own:.3f} s | | |")
+    for name in ("rhg", "git", "hg"):
+        if name not in figures:
+            print(f"| {name} | it isn't installed, and wasn't named | | |")
+            continue
+        seconds, memory = figures[name]
+        if name != "git" and lines[name] != lines["hgtrack"]:
+            bench.failed += 1
+            print(f"| {name} | it prints other lines | | NOT HELD |")
+        print(f"| {name}{', one thread' if name == 'rhg' else ''} | {seconds:.3f} s, {memory:.1f} MB | | |")
+    if "rhg" in figures:
+        bench.tell("its time over rhg's", own / figures["rhg"][0], 2.1)
+    shutil.rmtree(root)
+    shutil.rmtree(other, ignore_errors=True)
+
+
+def deep(bench):
+    """A folder of many levels, with a tracked file in each."""
+    levels, root = 2040, f"{bench.room}/deep"
+    os.makedirs(root)
+    at = os.open(root, os.O_RDONLY)
+    for level in range(levels):
+        if level:
+            os.mkdir("d", dir_fd=at)
+            below = os.open("d", os.O_RDONLY, dir_fd=at)
+            os.close(at)
+            at = below
+        os.close(os.open("f", os.O_CREAT | os.O_WRONLY, 0o644, dir_fd=at))
+    os.close(at)
+    put_record(root, *written([b"d/" * level + b"f" for level in range(levels)]))
+    [(seconds, memory)] = bench.least(([bench.program, "status"], root))
+    bench.tell(f"`status` of {levels:,} folders, each in the one before, with a file in each", seconds, 0.3, " s")
+    bench.tell("its peak memory", memory, 30, " MB")
+    subprocess.run(["rm", "-rf", root], check=True)
 
 
 def opening(bench):
@@ -174,15 +255,16 @@ def placing(bench):
     bench.tell("placing 30,000 files one by one in memory", bench.least(([program], bench.room, given))[0][0], 2, " s")
 
 
-PARTS = {"listing": listing, "tracked": tracked, "opening": opening, "placing": placing}
+PARTS = {"listing": listing, "tracked": tracked, "peers": peers, "deep": deep, "opening": opening, "placing": placing}
 
 
 def main(words):
     sys.setrecursionlimit(10_000)
-    named = [it for it in words if it not in PARTS]
+    others = dict(it.split("=", 1) for it in words if "=" in it)
+    named = [it for it in words if it not in PARTS and "=" not in it]
     program = os.path.abspath(named[0]) if named else f"{TOP}/build/hgtrack"
     with tempfile.TemporaryDirectory(prefix="hgtrack-bench-") as room:
-        bench = Bench(program, room)
+        bench = Bench(program, room, {name: os.path.abspath(it) for name, it in others.items()})
         print("| what | figure | limit | |\n|---|---|---|---|")
         for name in [it for it in words if it in PARTS] or PARTS:
             PARTS[name](bench)

@@ -138,6 +138,13 @@ def run_deep(tests):
         deep.leave()
     with tests.working_copy() as root:
         deep = Deep(root)
+        for level in range(2000):
+            deep.enter("dd")
+        lost = TREE + because(".", "no way to the root or back")
+        tests.compare("2,000 folders below none with .hg", started_below(tests, deep), (255, b"", lost))
+        deep.leave()
+    with tests.working_copy() as root:
+        deep = Deep(root)
         for level in range(40):
             deep.enter("r" * 100)
         os.mkdir(".hg", dir_fd=deep.at)

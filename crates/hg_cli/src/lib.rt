@@ -4,11 +4,14 @@
 //! where there was one, and the status that the program ends with. One command exists: `status` (help topic `status`), where the
 //! dirstate has no parents (help topic `internals.dirstate-v2`). All that is promised of the program stands in the contract of `run`;
 //! that the text of which it speaks is one, in that of `one_text`.
-//! `RealTree` and `RealShelf` are the working copy and `.hg` in the current folder.
+//! `enter_root` changes to the root of the working copy that the current folder is in, and `RealTree` and `RealShelf` are the working copy and
+//! `.hg` below a root. The tree stands in the folder that it looks at, so the current folder is another one afterwards.
 //!
 //! ```text
-//! let mut tree = RealTree::new(&rt);
-//! let mut shelf = RealShelf::new(&rt);
+//! let found = enter_root(&rt)?;
+//! let root = Root::current(&rt);
+//! let mut tree = RealTree::new(&rt, &root);
+//! let mut shelf = RealShelf::new(&rt, &root);
 //! let outcome = run(alloc, &words, &mut tree, &mut shelf, &mut input, &mut out, &mut err);
 //! ExitCode::from(outcome.status)
 //! ```

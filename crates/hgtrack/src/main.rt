@@ -125,10 +125,19 @@ fn main(rt: HostRuntime) -> ExitCode {
     match enter_root(&rt) {
         Ok(true) => {}
         Ok(false) => say(alloc, &mut err, "no .hg here or above"),
-        Err(_) => say(alloc, &mut err, "the folder that has .hg can't be gone to"),
+        Err(_) => return ExitCode::from(unreached(alloc, &mut err)),
     }
     let root = Root::current(&rt);
     ExitCode::from(command(&rt, &root, &words, &mut out, &mut err))
+}
+
+// The root couldn't be gone to, and maybe not back from.
+fn unreached<E: Sink>(alloc: Global, err: &mut E) -> u8
+    ensures { result ≡ 255 }
+{
+    let outcome = failed(alloc, Fault::TreeFailed, err);
+    say(alloc, err, ".: no way to the root or back");
+    outcome.status
 }
 
 // Runs a command over the working copy with this root, and says why where a device failed.
