@@ -3,3 +3,4 @@ pub mod Cut
 pub mod Fault
 pub mod PathRefusal
 pub mod PathText
+pub mod Within
