@@ -1,2 +1,4 @@
 pub mod Listed
+pub mod Planted
 pub mod Rows
+pub mod Timed

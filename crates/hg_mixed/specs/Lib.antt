@@ -1,2 +1,6 @@
-pub mod Node
+pub mod Edits
+pub mod Held
 pub mod Lists
+pub mod Node
+pub mod Shown
+pub mod Times

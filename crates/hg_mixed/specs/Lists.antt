@@ -8,12 +8,12 @@ use Rattle.std.specs.Str.{bytes_eq}
 use Rattle.std.specs.BTreeMap.{BTreeMap, get_by_text}
 use Rattle.std.specs.String.{string_bytes, string_cmp}
 use Rattle.hg_base.specs.PathText.{parent_of}
-use Rattle.hg_entry.specs.Entry.{view, stamp_view}
+use Rattle.hg_entry.specs.Entry.{view}
 use Rattle.hg_mixed.specs.Node.{NodeData}
 use Rattle.hg_mixed.specs.declared.node.Node.{Node}
 
 abbrev pub data_of : Node → NodeData
-data_of node = record { entry = option_map view node.entry; source = node.source; cache = option_map stamp_view node.cache }
+data_of node = record { entry = option_map view node.entry; source = node.source }
 
 -- a directory as a text, where nothing is the root
 abbrev pub or_root : Option (List ℕ) → List ℕ

@@ -1,15 +1,16 @@
 -- The nodes of a table, each at its path.
-use Rattle.std.specs.Prelude.{ℕ, ◌≡◌, List, Option}
-use Rattle.std.specs.Option.{option_map}
+use Rattle.std.specs.Prelude.{ℕ, ◌≡◌, true, if◌then◌else◌, List, Option, Some, None, is_some, MatchOption}
+use Rattle.std.specs.Option.{option_and_then}
+use Rattle.hg_base.specs.PathText.{is_below, parent_of}
+
 use Rattle.std.specs.Map.{lookup, update}
 use Rattle.std.specs.Str.{bytes_eq}
-use Rattle.hg_entry.specs.Entry.{EntryData, StampData}
+use Rattle.hg_entry.specs.Entry.{EntryData}
 
--- what a node records: its entry, the copy source of that, and the time of a cached directory
+-- what a node records: its entry, and the copy source of that
 pub record NodeData : Type 0 where
   pub entry : Option EntryData
   pub source : Option (List ℕ)
-  pub cache : Option StampData
 
 -- the node at a path, where one stands there
 abbrev pub node_at : List (List ℕ × NodeData) → List ℕ → Option NodeData
@@ -22,3 +23,33 @@ IsPut path node old new = (at : List ℕ) → node_at new at ≡ update bytes_eq
 -- all paths have what they had
 abbrev pub AreSame : List (List ℕ × NodeData) → List (List ℕ × NodeData) → Type 0
 AreSame old new = (at : List ℕ) → node_at new at ≡ node_at old at
+
+abbrev pub entry_in : Option NodeData → Option EntryData
+entry_in node = option_and_then (λ n. n.entry) node
+
+abbrev pub source_in : Option NodeData → Option (List ℕ)
+source_in node = option_and_then (λ n. n.source) node
+
+-- a node without entry
+abbrev pub blank : NodeData
+blank = record { entry = None; source = None }
+
+abbrev pub or_blank : Option NodeData → NodeData
+or_blank None = blank
+or_blank (Some node) = node
+
+-- what stands at a path once a node is put there, and nodes at those directories above where there was none
+abbrev pub planted : List ℕ → NodeData → (List ℕ → Option NodeData) → List ℕ → Option NodeData
+planted path node nodes at =
+    if bytes_eq path at then Some node else (if is_below at path then Some (or_blank (nodes at)) else nodes at)
+
+-- above each directory above a path at which a node stands, nodes stand
+abbrev pub AreRootedAbove : List ℕ → (List ℕ → Option NodeData) → Type 0
+AreRootedAbove path nodes =
+    (dir at : List ℕ) → is_below at path ≡ true → is_below dir at ≡ true → is_some (nodes at) ≡ true → is_some (nodes dir) ≡ true
+
+-- the directory of a path, where nothing stands there; where it is none, nodes stand at all directories above
+abbrev pub IsMissing : List ℕ → (List ℕ → Option NodeData) → Option (List ℕ) → Type 0
+IsMissing path nodes missing =
+    MatchOption missing ((at : List ℕ) → is_below at path ≡ true → is_some (nodes at) ≡ true)
+    (λ dir. (parent_of path ≡ Some dir) × (nodes dir ≡ None))

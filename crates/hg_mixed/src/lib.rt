@@ -2,7 +2,11 @@
 #![tactic(auto)]
 
 mod lists;
+mod mixed;
 mod node;
 mod nodes;
+mod planting;
+mod same;
+mod times;
 
-pub use node::Node;
+pub use mixed::Mixed;

@@ -1,6 +1,6 @@
 //! One node of the table.
 
-use hg_base::{Path, Stamp};
+use hg_base::Path;
 use hg_entry::Entry;
 
 /// What is held of one path.
@@ -8,5 +8,4 @@ use hg_entry::Entry;
 pub struct Node {
     pub entry: Option<Entry>,
     pub source: Option<Path>,
-    pub cache: Option<Stamp>,
 }
