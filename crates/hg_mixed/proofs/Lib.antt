@@ -1,3 +1,4 @@
+pub mod KidsOf
 pub mod Listed
 pub mod Planted
 pub mod Rows

@@ -64,3 +64,8 @@ module _ {Y : Type 0} where
   pub record AreKept (old new : BTreeMap (String Y) (BTreeMap (String Y) Node)) : Type 0 where
     pub found : (at : List ℕ) → look new at ≡ look old at
     pub listed : AreListed new.entries
+
+-- the rows of a list, where there is one
+abbrev pub rows_left : {Y : Type 0} → Option (List (String Y × Node)) → List (List ℕ × NodeData)
+rows_left None = []
+rows_left (Some nodes) = rows_in nodes

@@ -1,6 +1,8 @@
 //! A dirstate's record as a table that can be changed.
 #![tactic(auto)]
 
+mod fault;
+mod kids;
 mod lists;
 mod mixed;
 mod node;
@@ -9,4 +11,5 @@ mod planting;
 mod same;
 mod times;
 
+pub use fault::SetFault;
 pub use mixed::Mixed;

@@ -1,10 +1,12 @@
 //! All nodes of a table.
 
 ghost use Rattle.std.specs.Prelude.{◌≡◌, ℕ, true, List, Some, None, is_some, option_map, OnOk, OnErr};
+ghost use Rattle.hg_mixed.specs.Kids.{AreKids};
 ghost use Rattle.hg_mixed.specs.Lists.{data_of, has_rows_in};
 ghost use Rattle.hg_mixed.specs.Node.{AreSame, IsPut, node_at};
 
 use crate::node::Node;
+use crate::kids::Kids;
 use crate::lists;
 use hg_base::{OutOfMemory, PathRef};
 use std::alloc::Global;
@@ -74,5 +76,17 @@ impl Nodes {
         ensures { result ≡ has_rows_in self.now dir.now }
     {
         lists::has_kids(&self.lists, dir)
+    }
+
+    /// The nodes that stand right in a directory, of which the text is empty for the root.
+    pub fn kids(&self, dir: &str) -> Kids<'_>
+        ensures { AreKids self.now dir.now result }
+    {
+        match self.lists.get(dir) {
+            None => Kids { rest: None },
+            Some(list) => Kids {
+                rest: Some(list.iter()),
+            },
+        }
     }
 }
