@@ -1,5 +1,7 @@
+pub mod Edited
 pub mod KidsOf
 pub mod Listed
 pub mod Planted
 pub mod Rows
+pub mod Searched
 pub mod Timed

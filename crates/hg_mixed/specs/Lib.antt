@@ -4,5 +4,6 @@ pub mod Held
 pub mod Kids
 pub mod Lists
 pub mod Node
+pub mod Search
 pub mod Shown
 pub mod Times

@@ -1,7 +1,7 @@
 -- The nodes of a table, each at its path.
 use Rattle.std.specs.Prelude.{ℕ, ◌≡◌, true, if◌then◌else◌, List, Option, Some, None, is_some, MatchOption}
 use Rattle.std.specs.Option.{option_and_then}
-use Rattle.hg_base.specs.PathText.{is_below, parent_of}
+use Rattle.hg_base.specs.PathText.{is_below, is_path, parent_of}
 
 use Rattle.std.specs.Map.{lookup, update}
 use Rattle.std.specs.Str.{bytes_eq}
@@ -53,3 +53,12 @@ abbrev pub IsMissing : List ℕ → (List ℕ → Option NodeData) → Option (L
 IsMissing path nodes missing =
     MatchOption missing ((at : List ℕ) → is_below at path ≡ true → is_some (nodes at) ≡ true)
     (λ dir. (parent_of path ≡ Some dir) × (nodes dir ≡ None))
+
+-- each node is at a path, and nodes stand at the directories above it
+pub record AreRooted (nodes : List ℕ → Option NodeData) : Type 0 where
+  pub paths : (at : List ℕ) → is_some (nodes at) ≡ true → is_path at ≡ true
+  pub rooted : (dir at : List ℕ) → is_below dir at ≡ true → is_some (nodes at) ≡ true → is_some (nodes dir) ≡ true
+
+-- a node with an entry, and with the copy source that was there
+abbrev pub with_entry : EntryData → Option NodeData → NodeData
+with_entry entry node = record { entry = Some entry; source = source_in node }

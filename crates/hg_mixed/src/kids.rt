@@ -9,6 +9,7 @@ use std::collections::btree_map::Iter;
 use std::marker::Model;
 
 /// What is left of a directory's nodes.
+#[derive(Drop)]
 pub struct Kids<'t> {
     pub(crate) rest: Option<Iter<'t, String, Node>>,
 }

@@ -1,6 +1,8 @@
 //! A dirstate's record as a table that can be changed.
 #![tactic(auto)]
 
+mod clash;
+mod edits;
 mod fault;
 mod kids;
 mod lists;
@@ -9,6 +11,7 @@ mod node;
 mod nodes;
 mod planting;
 mod same;
+mod setting;
 mod times;
 
 pub use fault::SetFault;
