@@ -11,8 +11,8 @@ use Rattle.hg_entry.specs.Entry.{EntryData, StampData}
 use Rattle.hg_entry.specs.Table.{Table}
 use Rattle.hg_mixed.specs.Edits.{IsFormed, IsSame, Marks, after_cache, after_copy, after_hash, after_ids, after_set}
 use Rattle.hg_mixed.specs.Held.{Held, table, table_of}
-use Rattle.hg_mixed.specs.Node.{AreRooted, NodeData, entry_in, node_at, or_blank, planted, source_in, with_entry}
-use Rattle.hg_mixed.specs.Times.{IsTimed, time_at}
+use Rattle.hg_mixed.specs.Node.{AreRooted, IsPut, NodeData, entry_in, node_at, or_blank, planted, source_in, with_entry}
+use Rattle.hg_mixed.specs.Times.{AreNone, IsTimed, time_at}
 
 -- ---- marks
 
@@ -235,3 +235,89 @@ module _ (dir : List ℕ) (time : Option StampData) (old was : Held) (same : was
       (marks (IsSame (table_of was.p1 was.p2 was.hash was.rows times) (table was)) was.changed (not b)
       (cache_decided dir time (table was) (table_of was.p1 was.p2 was.hash was.rows times)
       (record { p1 = refl; p2 = refl; hash = refl; entries = λ at. refl; sources = λ at. refl; nodes = λ at. refl; caches = timed }) b m))
+
+-- ---- no caches
+
+module _ (old was : Held) (same : was ≡ old) (times : List (List ℕ × StampData)) (none : (at : List ℕ) → time_at times at ≡ None) where
+  all_none : (b : Bool) → AreNone b was.times → MatchBool (not b) (IsSame (table_of was.p1 was.p2 was.hash was.rows times) (table was) → ⊥) (IsSame (table_of was.p1 was.p2 was.hash was.rows times) (table was))
+  all_none true were = record {
+    p1 = refl;
+    p2 = refl;
+    hash = refl;
+    entries = λ at. refl;
+    sources = λ at. refl;
+    nodes = λ at. refl;
+    caches = λ at. none at ∙ sym (were at);
+  }
+  all_none false were = λ stays. true≢false (sym were.1 ∙ ap is_some (sym (stays.caches were.0) ∙ none were.0))
+
+  pub no_cache_marks : (b : Bool) → AreNone b was.times → Marks (IsSame (table_of was.p1 was.p2 was.hash was.rows times) (table old)) old.changed (was.changed || not b)
+  no_cache_marks b were = subst (λ (h : Held). Marks (IsSame (table_of was.p1 was.p2 was.hash was.rows times) (table h)) h.changed (was.changed || not b)) same
+      (marks (IsSame (table_of was.p1 was.p2 was.hash was.rows times) (table was)) was.changed (not b) (all_none b were))
+
+-- ---- another copy source
+
+formed_copy : (path : List ℕ) (source : Option (List ℕ)) (old new : Table) → IsFormed old → is_some (old.entries path) ≡ true → IsSame new (after_copy path source old) → IsFormed new
+formed_copy path source old new formed some same = record {
+  paths = λ at is. formed.paths at (sym (same.nodes at) ∙ is);
+  rooted = λ dir at below is. same.nodes dir ∙ formed.rooted dir at below (sym (same.nodes at) ∙ is);
+  entries = λ at none. same.entries at ∙ formed.entries at (sym (same.nodes at) ∙ none);
+  sources = λ at none.
+      let was : old.entries at ≡ None = sym (same.entries at) ∙ none in
+      let other : bytes_eq path at ≡ false = false_from_ne_true (bytes_eq path at) (λ here. true≢false (sym some ∙ ap is_some (ap old.entries (same_bytes path at here) ∙ was))) in
+      same.sources at ∙ update_other old.sources path source at other ∙ formed.sources at was;
+  caches = λ at is.
+      let was = formed.caches at (sym (ap is_some (same.caches at)) ∙ is) in (same.nodes at ∙ was.0, same.entries at ∙ was.1);
+}
+
+entry_kept : (b : Bool) (source : Option (List ℕ)) (first o : Option NodeData) → (b ≡ true → first ≡ o) → entry_in (cond b (Some (record { entry = entry_in first; source = source })) o) ≡ entry_in o
+entry_kept true source first o is = ap entry_in (is refl)
+entry_kept false source first o is = refl
+
+source_put : (b : Bool) (source : Option (List ℕ)) (entry : Option EntryData) (o : Option NodeData) → source_in (cond b (Some (record { entry = entry; source = source })) o) ≡ cond b source (source_in o)
+source_put true source entry o = refl
+source_put false source entry o = refl
+
+node_kept : (b : Bool) (n : NodeData) (o : Option NodeData) → (b ≡ true → is_some o ≡ true) → is_some (cond b (Some n) o) ≡ is_some o
+node_kept true n o is = sym (is refl)
+node_kept false n o is = refl
+
+pub entry_node : (o : Option NodeData) → is_some (entry_in o) ≡ true → is_some o ≡ true
+entry_node None h = absurd (true≢false (sym h))
+entry_node (Some node) h = refl
+
+module _ (path : List ℕ) (source : Option (List ℕ)) (old was : Held) (same : was ≡ old) (rows : List (List ℕ × NodeData))
+    (put : IsPut path (Some (record { entry = entry_in (node_at was.rows path); source = source })) was.rows rows) (some : is_some (entry_in (node_at old.rows path)) ≡ true) where
+  some_was : is_some (entry_in (node_at was.rows path)) ≡ true
+  some_was = ap (λ (h : Held). is_some (entry_in (node_at h.rows path))) same ∙ some
+
+  copied : IsSame (table_of was.p1 was.p2 was.hash rows was.times) (after_copy path source (table was))
+  copied = record {
+    p1 = refl;
+    p2 = refl;
+    hash = refl;
+    entries = λ at. ap entry_in (put at) ∙ entry_kept (bytes_eq path at) source (node_at was.rows path) (node_at was.rows at) (λ h. ap (node_at was.rows) (same_bytes path at h));
+    sources = λ at. ap source_in (put at) ∙ source_put (bytes_eq path at) source (entry_in (node_at was.rows path)) (node_at was.rows at);
+    nodes = λ at.
+        ap is_some (put at)
+        ∙ node_kept (bytes_eq path at) (record { entry = entry_in (node_at was.rows path); source = source }) (node_at was.rows at)
+        (λ h. ap (λ (p : List ℕ). is_some (node_at was.rows p)) (sym (same_bytes path at h)) ∙ entry_node (node_at was.rows path) some_was);
+    caches = λ at. refl;
+  }
+
+  pub copy_table : (wanted : Option (List ℕ)) → source ≡ wanted → IsSame (table_of was.p1 was.p2 was.hash rows was.times) (after_copy path wanted (table old))
+  copy_table wanted is =
+      subst (λ (s : Option (List ℕ)). IsSame (table_of was.p1 was.p2 was.hash rows was.times) (after_copy path s (table old))) is
+      (subst (λ (h : Held). IsSame (table_of was.p1 was.p2 was.hash rows was.times) (after_copy path source (table h))) same copied)
+
+  pub copy_formed : IsFormed (table was) → IsFormed (table_of was.p1 was.p2 was.hash rows was.times)
+  copy_formed formed = formed_copy path source (table was) (table_of was.p1 was.p2 was.hash rows was.times) formed some_was copied
+
+  pub copy_marks : (b : Bool) → MatchBool b (source_in (node_at was.rows path) ≡ source) (source_in (node_at was.rows path) ≡ source → ⊥)
+      → Marks (IsSame (table_of was.p1 was.p2 was.hash rows was.times) (table old)) old.changed (was.changed || not b)
+  copy_marks b m = subst (λ (h : Held). Marks (IsSame (table_of was.p1 was.p2 was.hash rows was.times) (table h)) h.changed (was.changed || not b)) same
+      (marks (IsSame (table_of was.p1 was.p2 was.hash rows was.times) (table was)) was.changed (not b)
+      (decided (not b) (source_in (node_at was.rows path) ≡ source) (IsSame (table_of was.p1 was.p2 was.hash rows was.times) (table was))
+      (copy_stays path source (table was) (table_of was.p1 was.p2 was.hash rows was.times) copied)
+      (copy_was path source (table was) (table_of was.p1 was.p2 was.hash rows was.times) copied)
+      (negated b (source_in (node_at was.rows path) ≡ source) (source_in (node_at was.rows path) ≡ source → ⊥) m)))

@@ -59,18 +59,22 @@ pub record Marks (same : Type 0) (was now : Bool) : Type 0 where
   pub kept : same → now ≡ was
   pub marked : (same → ⊥) → now ≡ true
 
+-- no list of a directory above a path is lent any more, and the others are as before
+abbrev pub EndsAbove : List ℕ → Held → Held → Type 0
+EndsAbove path old new = (dir : Option (List ℕ)) → is_lent new dir ≡ (is_lent old dir && not (is_above dir path))
+
+abbrev pub AreLentAsBefore : Held → Held → Type 0
+AreLentAsBefore old new = (dir : Option (List ℕ)) → is_lent new dir ≡ is_lent old dir
+
 -- which lists are lent still after an edit at a path: where something differs, no list of a directory above it, and else all
 pub record Lends (path : List ℕ) (same : Type 0) (old new : Held) : Type 0 where
-  pub kept : same → (dir : Option (List ℕ)) → is_lent new dir ≡ is_lent old dir
-  pub ended : (same → ⊥) → (dir : Option (List ℕ)) → is_lent new dir ≡ (is_lent old dir && not (is_above dir path))
+  pub kept : same → AreLentAsBefore old new
+  pub ended : (same → ⊥) → EndsAbove path old new
 
 -- the same where all caches go: no list of a directory above a cached one
 pub record LendsUncached (old new : Held) : Type 0 where
   pub kept : (dir : Option (List ℕ)) → ((at : List ℕ) → is_some ((table old).caches at) ≡ true → is_above dir at ≡ false) → is_lent new dir ≡ is_lent old dir
   pub ended : (dir : Option (List ℕ)) (at : List ℕ) → is_some ((table old).caches at) ≡ true → is_above dir at ≡ true → is_lent new dir ≡ false
-
-abbrev pub AreLentAsBefore : Held → Held → Type 0
-AreLentAsBefore old new = (dir : Option (List ℕ)) → is_lent new dir ≡ is_lent old dir
 
 -- the texts that are lent are where they were
 pub record ArePlacedAsBefore (old new : Held) : Type 0 where

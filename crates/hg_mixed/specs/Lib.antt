@@ -1,4 +1,5 @@
 pub mod Clash
+pub mod Drop
 pub mod Edits
 pub mod Held
 pub mod Kids

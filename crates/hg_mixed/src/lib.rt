@@ -10,6 +10,7 @@ mod mixed;
 mod node;
 mod nodes;
 mod planting;
+mod pruning;
 mod same;
 mod setting;
 mod times;

@@ -59,6 +59,14 @@ pub fn write_entry(nodes: &mut Nodes, path: PathRef<'_>, entry: Option<Entry>)
     let _ = nodes.replace(path, Node { entry, source });
 }
 
+/// Drops the entry of a node, with its copy source.
+pub fn clear(nodes: &mut Nodes, path: PathRef<'_>)
+    requires { is_some (node_at nodes.old path.text.now) ≡ true }
+    ensures { IsPut path.entry.text.now (Some blank) nodes.old nodes.new }
+{
+    let _ = nodes.replace(path, blank());
+}
+
 /// Writes the copy source of a node.
 pub fn write_source(nodes: &mut Nodes, path: PathRef<'_>, source: Option<Path>)
     requires { is_some (node_at nodes.old path.text.now) ≡ true }
