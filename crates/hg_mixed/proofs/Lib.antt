@@ -1,3 +1,4 @@
+pub mod Dropped
 pub mod Edited
 pub mod KidsOf
 pub mod Listed

@@ -5,6 +5,7 @@ mod clash;
 mod edits;
 mod fault;
 mod kids;
+mod laws;
 mod lists;
 mod mixed;
 mod node;
@@ -16,4 +17,5 @@ mod setting;
 mod times;
 
 pub use fault::SetFault;
+pub use laws::one_drop;
 pub use mixed::Mixed;
