@@ -1,3 +1,4 @@
+pub mod ChildrenOf
 pub mod Dropped
 pub mod Edited
 pub mod KidsOf

@@ -1,3 +1,6 @@
+pub mod Child
+pub mod ChildOf
+pub mod Children
 pub mod Clash
 pub mod Drop
 pub mod Edits

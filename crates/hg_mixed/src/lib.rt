@@ -1,6 +1,8 @@
 //! A dirstate's record as a table that can be changed.
 #![tactic(auto)]
 
+mod child;
+mod children;
 mod clash;
 mod edits;
 mod fault;
@@ -16,6 +18,8 @@ mod same;
 mod setting;
 mod times;
 
+pub use child::Child;
+pub use children::Children;
 pub use fault::SetFault;
 pub use laws::one_drop;
 pub use mixed::Mixed;
