@@ -1,3 +1,4 @@
+pub mod Adding
 pub mod ChildrenOf
 pub mod Dropped
 pub mod Edited

@@ -8,6 +8,7 @@ pub mod Held
 pub mod Kids
 pub mod Lists
 pub mod Node
+pub mod Opened
 pub mod Search
 pub mod Shown
 pub mod Times

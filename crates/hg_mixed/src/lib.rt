@@ -12,6 +12,7 @@ mod lists;
 mod mixed;
 mod node;
 mod nodes;
+mod opening;
 mod planting;
 mod pruning;
 mod same;
