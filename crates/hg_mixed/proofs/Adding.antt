@@ -145,10 +145,10 @@ module _ (row : Row) (rows : List (List ℕ × NodeData)) (times : List (List �
     ];
     caches = λ at h. elim (cases_Bool (bytes_eq row.path at)) [
       | inl here ↦ (
-          ap is_some (at_path at here),
-          ap entry_in (at_path at here)
-          ∙ no_entry (sym (ap is_some (timed at ∙ cond-true (bytes_eq row.path at) (cache_of (fields_of row.rec)) (time_at times at) here)) ∙ h),
-        )
+        ap is_some (at_path at here),
+        ap entry_in (at_path at here)
+            ∙ no_entry (sym (ap is_some (timed at ∙ cond-true (bytes_eq row.path at) (cache_of (fields_of row.rec)) (time_at times at) here)) ∙ h),
+      )
       | inr other ↦
           let had = formed.caches at (sym (ap is_some (timed at ∙ cond-false (bytes_eq row.path at) (cache_of (fields_of row.rec)) (time_at times at) other)) ∙ h) in
           (ap is_some (at_other at other) ∙ had.0, ap entry_in (at_other at other) ∙ had.1)
@@ -219,7 +219,7 @@ pub opened_table : (docket : Contents) (all : List Row) (old : List (List ℕ ×
     → IsSame (table_of docket.p1 docket.p2 docket.hash new after) (reading.table_of docket all)
 opened_table docket all old before new after distinct none no_time adds =
     let node : (at : List ℕ) → node_at new at ≡ row_or (row_at all at) (λ row. Some (node_of row)) None = λ at.
-        adds.nodes at ∙ ap (row_or (last_at all at) (λ row. Some (node_of row))) (none at) ∙ ap (λ (o : Option Row). row_or o (λ row. Some (node_of row)) None) (first_last all distinct at) in
+    adds.nodes at ∙ ap (row_or (last_at all at) (λ row. Some (node_of row))) (none at) ∙ ap (λ (o : Option Row). row_or o (λ row. Some (node_of row)) None) (first_last all distinct at) in
     record {
       p1 = refl;
       p2 = refl;

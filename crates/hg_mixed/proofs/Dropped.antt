@@ -116,8 +116,8 @@ pub pruned_one : (path : List ℕ) (was a b : Table) → IsPruned path was a →
 pruned_one path was a b p q =
     let gone : (at : List ℕ) → p.gone at ≡ q.gone at = λ at. test_same (p.gone at) (q.gone at) (λ h. q.all_go at (p.goes at h)) (λ h. p.all_go at (q.goes at h)) in
     let stale : (at : List ℕ) → p.stale at ≡ q.stale at = λ dir. test_same (p.stale dir) (q.stale dir)
-        (λ h. let f = p.is_stale dir h in q.all_stale dir f.0 (sym (gone f.0) ∙ f.1) f.2)
-        (λ h. let f = q.is_stale dir h in p.all_stale dir f.0 (gone f.0 ∙ f.1) f.2) in
+    (λ h. let f = p.is_stale dir h in q.all_stale dir f.0 (sym (gone f.0) ∙ f.1) f.2)
+    (λ h. let f = q.is_stale dir h in p.all_stale dir f.0 (gone f.0 ∙ f.1) f.2) in
     record {
       p1 = p.p1 ∙ sym q.p1;
       p2 = p.p2 ∙ sym q.p2;

@@ -121,7 +121,7 @@ module _ (path : List ℕ) (entry : EntryData) (old new : Table) (good : is_path
         same.sources at ∙ formed.sources at (sym (update_other old.entries path (Some entry) at other) ∙ sym (same.entries at) ∙ none);
     caches = λ at some.
         let other : bytes_eq path at ≡ false = not_here at (λ here.
-            true≢false (sym some ∙ ap is_some (same.caches at ∙ cond-true (bytes_eq path at) None (old.caches at) here))) in
+        true≢false (sym some ∙ ap is_some (same.caches at ∙ cond-true (bytes_eq path at) None (old.caches at) here))) in
         let was = formed.caches at (sym (ap is_some (same.caches at ∙ update_other old.caches path None at other)) ∙ some) in (
           same.nodes at ∙ or_left (old.nodes at) (is_within at path) was.0,
           same.entries at ∙ update_other old.entries path (Some entry) at other ∙ was.1,

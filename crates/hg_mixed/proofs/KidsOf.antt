@@ -52,7 +52,7 @@ module _ {Y : Type 0} where
   found_later e nodes [] all found = tt
   found_later e nodes (x ∷ some) all found = (
     let other : is_at (text_cmp (string_bytes x.0)) e.0 ≡ false = ap is_eq (nat_list_cmp_total.antisymm (string_bytes x.0) (string_bytes e.0) ∙ ap ordering_reverse all.0) in
-    cond-false (is_at (text_cmp (string_bytes x.0)) e.0) (Some e.1) (lookup (is_at (text_cmp (string_bytes x.0))) nodes) other ∙ found.0,
+        cond-false (is_at (text_cmp (string_bytes x.0)) e.0) (Some e.1) (lookup (is_at (text_cmp (string_bytes x.0))) nodes) other ∙ found.0,
     found_later e nodes some all.1 found.1,
   )
 

@@ -116,7 +116,7 @@ module _ {Y : Type 0} where
         ∙ ap (λ (d : List ℕ). cond (bytes_eq path at) node (there old d at)) (same_bytes (dir_text path) (dir_text at) same)
     | inr other ↦
         let apart : bytes_eq path at ≡ false = false_from_ne_true (bytes_eq path at) (λ h.
-            both_ways (bytes_eq (dir_text path) (dir_text at)) other (ap (λ (p : List ℕ). bytes_eq (dir_text p) (dir_text at)) (same_bytes path at h) ∙ equal_bytes (dir_text at))) in
+        both_ways (bytes_eq (dir_text path) (dir_text at)) other (ap (λ (p : List ℕ). bytes_eq (dir_text p) (dir_text at)) (same_bytes path at h) ∙ equal_bytes (dir_text at))) in
         ap (option_and_then (λ l. get_by_text l at)) (updates (dir_text at) ∙ cond-false (bytes_eq (dir_text path) (dir_text at)) (Some list) (get_by_text old (dir_text at)) other)
         ∙ sym (cond-false (bytes_eq path at) node (look old at) apart)
   ]
@@ -161,7 +161,7 @@ module _ {Y : Type 0} where
         let found : is_at (text_cmp dir) list.0 ≡ true = is_eq-slice_cmp dir (string_bytes list.0) ∙ same in
         let here = has_here dir list.1.entries (subst (λ (d : List ℕ). IsListOf d (keys_of list.1.entries)) (sym (same_bytes dir (string_bytes list.0) same)) fit.placed.0) in
         let rest = has_none dir lists fit.placed.1 (apart_keys dir list.0 (keys_of lists) same
-            (IsDistinct-head (eq_by_cmp string_cmp) list.0 (keys_of lists) (IsDistinct-from_sorted string_cmp (list.0 ∷ keys_of lists) fit.ordered))) in
+        (IsDistinct-head (eq_by_cmp string_cmp) list.0 (keys_of lists) (IsDistinct-from_sorted string_cmp (list.0 ∷ keys_of lists) fit.ordered))) in
         list_any-append (λ row. bytes_eq (dir_text row.0) dir) (rows_in list.1.entries) (rows_of lists)
         ∙ ap (λ (b : Bool). has_rows_in (rows_in list.1.entries) dir || b) rest
         ∙ or_false (has_rows_in (rows_in list.1.entries) dir)

@@ -28,8 +28,8 @@ pub record IsChild (held : Held) (dir : Option (List ℕ)) (child : ChildData) :
   pub source : child.source ≡ (table held).sources child.path
   pub cache : child.cache ≡ (table held).caches child.path
   pub kids :
-    MatchBool child.has_kids ((kid : List ℕ) × ((table held).nodes kid ≡ true) × (parent_of kid ≡ Some child.path))
-    ((kid : List ℕ) → parent_of kid ≡ Some child.path → (table held).nodes kid ≡ false)
+      MatchBool child.has_kids ((kid : List ℕ) × ((table held).nodes kid ≡ true) × (parent_of kid ≡ Some child.path))
+      ((kid : List ℕ) → parent_of kid ≡ Some child.path → (table held).nodes kid ≡ false)
   pub text : child.text_at ≡ text_at held child.path
   pub source_text : child.source_at ≡ source_at held child.path
 

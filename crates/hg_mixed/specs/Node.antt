@@ -2,7 +2,6 @@
 use Rattle.std.specs.Prelude.{ℕ, ◌≡◌, true, if◌then◌else◌, List, Option, Some, None, is_some, MatchOption}
 use Rattle.std.specs.Option.{option_and_then}
 use Rattle.hg_base.specs.PathText.{is_below, is_path, parent_of}
-
 use Rattle.std.specs.Map.{lookup, update}
 use Rattle.std.specs.Str.{bytes_eq}
 use Rattle.hg_entry.specs.Entry.{EntryData}

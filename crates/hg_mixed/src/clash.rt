@@ -63,18 +63,20 @@ fn tracked_above<'t>(nodes: &Nodes, path: PathRef<'t>) -> Option<PathRef<'t>>
         None => None,
         Some(dir) => match tracked_above(nodes, dir) {
             Some(found) => Some(found),
-            None => { if is_tracked(nodes, dir) { Some(dir) } else { None } }
+            None => {
+                if is_tracked(nodes, dir) {
+                    Some(dir)
+                } else {
+                    None
+                }
+            }
         },
     }
 }
 
 // The least tracked path at a node or below it.
 #[cycle(searching)]
-fn tracked_within<'t>(
-    nodes: &'t Nodes,
-    path: PathRef<'t>,
-    node: &'t Node,
-) -> Option<PathRef<'t>>
+fn tracked_within<'t>(nodes: &'t Nodes, path: PathRef<'t>, node: &'t Node) -> Option<PathRef<'t>>
     requires rooted { AreRooted (node_at nodes.now) }
     requires there { node_at nodes.now path.text.now ≡ Some (data_of node.now) }
     ensures { IsLeast (search_for.tracked_within nodes.now path.entry.text.now) (option_map (λ p. p.text.now) result) }

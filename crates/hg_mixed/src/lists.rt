@@ -34,11 +34,7 @@ pub fn look<'t>(
 }
 
 // Puts a node into the list of its directory.
-fn put_in(
-    list: &mut BTreeMap<String, Node>,
-    path: String,
-    node: Node,
-) -> Result<(), OutOfMemory>
+fn put_in(list: &mut BTreeMap<String, Node>, path: String, node: Node) -> Result<(), OutOfMemory>
     ensures ok { OnOk result (IsChanged (string_bytes path) (Some node) list.old list.new) }
     ensures err { OnErr result (list.new.entries ≡ list.old.entries) }
 {

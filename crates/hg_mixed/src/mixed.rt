@@ -1,6 +1,6 @@
 //! The table, and what can be asked of it.
 
-ghost use Rattle.std.specs.Prelude.{◌≡◌, ℕ, List, Some, option_map};
+ghost use Rattle.std.specs.Prelude.{◌≡◌, is_some, option_map};
 ghost use Rattle.hg_docket.specs.Docket as docket;
 ghost use Rattle.hg_entry.specs.Entry.{stamp_view, view};
 ghost use Rattle.hg_mixed.specs.Edits.{IsFormed};
@@ -39,17 +39,17 @@ impl<'a> Model for Mixed<'a> {
     ghost use Rattle.hg_mixed.specs.Edits.{IsFormed};
 
     ghost view = { λ m. record {
-        docket = docket.view m.image.docket;
-        bytes = m.image.bytes.now;
-        p1 = m.p1.0;
-        p2 = m.p2.0;
-        hash = m.hash;
-        changed = m.changed;
-        rows = m.nodes;
-        times = m.times;
-        lent = [];
-        texts = [];
-        sources = [];
+      docket = docket.view m.image.docket;
+      bytes = m.image.bytes.now;
+      p1 = m.p1.0;
+      p2 = m.p2.0;
+      hash = m.hash;
+      changed = m.changed;
+      rows = m.nodes;
+      times = m.times;
+      lent = [];
+      texts = [];
+      sources = [];
     } };
 
     ghost invariant = { λ m. IsFormed (table_of m.p1.0 m.p2.0 m.hash m.nodes m.times) };
@@ -106,6 +106,7 @@ impl<'a> Mixed<'a> {
     /// The entry of a path and its copy source, where it has an entry.
     pub fn get(&self, path: PathRef<'_>) -> Option<Item<'_>>
         ensures item { option_map shown_item result ≡ shown_in (table self.now) path.entry.text.now }
+        ensures there { is_some result ≡ is_some ((table self.now).entries path.entry.text.now) }
         ensures formed { IsFormed (table self.now) }
     {
         let node = self.nodes.get(path)?;

@@ -5,9 +5,9 @@ ghost use Rattle.hg_mixed.specs.Kids.{AreKids};
 ghost use Rattle.hg_mixed.specs.Lists.{data_of, has_rows_in};
 ghost use Rattle.hg_mixed.specs.Node.{AreSame, IsPut, node_at};
 
-use crate::node::Node;
 use crate::kids::Kids;
 use crate::lists;
+use crate::node::Node;
 use hg_base::{OutOfMemory, PathRef};
 use std::alloc::Global;
 use std::collections::BTreeMap;

@@ -86,11 +86,7 @@ fn missing_parent<'a>(nodes: &Nodes, path: PathRef<'a>) -> Option<PathRef<'a>>
     ensures { IsMissing path.entry.text.now (node_at nodes.now) (option_map (λ d. d.text.now) result) }
 {
     match path.parent() {
-        Some(dir) => if has(nodes, dir) {
-            None
-        } else {
-            Some(dir)
-        },
+        Some(dir) => if has(nodes, dir) { None } else { Some(dir) },
         None => None,
     }
 }

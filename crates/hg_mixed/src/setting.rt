@@ -38,9 +38,9 @@ pub fn put_entry(
     ensures differs { IfOk
         result
         (λ differs. MatchBool
-            differs
-            (entry_in (node_at nodes.old path.entry.text.now) ≡ Some (view entry) → ⊥)
-            (entry_in (node_at nodes.old path.entry.text.now) ≡ Some (view entry))) }
+        differs
+        (entry_in (node_at nodes.old path.entry.text.now) ≡ Some (view entry) → ⊥)
+        (entry_in (node_at nodes.old path.entry.text.now) ≡ Some (view entry))) }
     ensures err { OnErr result (AreSame nodes.old nodes.new) }
 {
     match nodes.get(path) {

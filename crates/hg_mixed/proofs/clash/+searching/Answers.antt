@@ -15,14 +15,14 @@ tracked_below-returns-then-is_past t c =
 pub tracked_below-tracked_within-requires : goal.tracked_below-tracked_within-requires
 tracked_below-tracked_within-requires t c =
     let longer : length c.args.path.text.now < length c.in-Some.text.now = kid_longer c.args.nodes.now c.args.path.text.now c.args.path.is_path (c.in-Some.text.now, data_of c.in-Some.node.now) c.loop-text.kids c.next.new.self c.in-Some.ensures
-        (option_map (λ p. p.text.now) c.loop-text.least) c.loop-text.invariant in
+    (option_map (λ p. p.text.now) c.loop-text.least) c.loop-text.invariant in
     let short : length c.in-Some.text.now ≤ 65535 = kid_short c.args.nodes.now c.args.path.text.now c.args.path.is_path (c.in-Some.text.now, data_of c.in-Some.node.now) c.loop-text.kids c.next.new.self c.in-Some.ensures
-        (option_map (λ p. p.text.now) c.loop-text.least) c.loop-text.invariant c.requires in (
+    (option_map (λ p. p.text.now) c.loop-text.least) c.loop-text.invariant c.requires in (
       omega (arith, c.decreases, longer, short),
       (
         c.requires,
         kid_there c.args.nodes.now c.args.path.text.now c.args.path.is_path (c.in-Some.text.now, data_of c.in-Some.node.now) c.loop-text.kids c.next.new.self c.in-Some.ensures
-        (option_map (λ p. p.text.now) c.loop-text.least) c.loop-text.invariant,
+            (option_map (λ p. p.text.now) c.loop-text.least) c.loop-text.invariant,
       ),
     )
 

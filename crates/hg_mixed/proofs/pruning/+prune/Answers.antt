@@ -13,7 +13,7 @@ prune-requires t c =
     let shorter = parent_length c.in-Some.dir.text.now c.args.path.text.now (sym c.in-Some.ensures.parent) in (
       omega (arith, c.decreases, shorter),
       dir_formed c.args.path.text.now c.args.nodes.now c.args.times.now c.args.path.is_path c.requires (sym c.stays.ensures ∙ c.if-stays.false) c.remove.new.self c.remove-2.new.self
-      c.remove.ensures c.remove-2.ensures c.in-Some.dir.text.now (sym c.in-Some.ensures.parent) c.remove-in-Some.new.self c.remove-in-Some.ensures,
+          c.remove.ensures c.remove-2.ensures c.in-Some.dir.text.now (sym c.in-Some.ensures.parent) c.remove-in-Some.new.self c.remove-in-Some.ensures,
     )
 
 pub returns-in-None-clause-pruned : goal.returns-in-None-clause-pruned
