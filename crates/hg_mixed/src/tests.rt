@@ -75,25 +75,23 @@ fn copy(m: &mut Mixed<'_>, path: &str, source: &str) -> Result<(), Fail> {
     Ok(())
 }
 
-// All nodes below a directory, each before its children, with a mark where there is an entry and another where there is a cache.
-fn shown(
-    rt: &HostRuntime,
-    m: &Mixed<'_>,
-    dir: Option<PathRef<'_>>,
-    depth: u32,
-) -> Result<String, Fail> {
+// What stands at some paths: an entry, a cached directory, a node, or nothing.
+fn shown(rt: &HostRuntime, m: &Mixed<'_>, paths: &[&str]) -> Result<String, Fail> {
     let mut text = String::new(rt.alloc());
-    let mut kids = m.children(dir);
-    while let Some(kid) = kids.next() {
-        text.push_str(kid.path.as_str())?;
-        text.push_str(if kid.entry.is_some() { "!" } else { "" })?;
-        text.push_str(if kid.cache.is_some() { "*" } else { "" })?;
-        text.push_str(" ")?;
-        if kid.has_kids && depth > 0 {
-            text.push_str(shown(rt, m, Some(kid.path), depth - 1)?.as_str())?;
-        }
+    for path in paths {
+        text.push_str(mark(m, PathRef::read(*path)?))?;
     }
     Ok(text)
+}
+
+fn mark(m: &Mixed<'_>, path: PathRef<'_>) -> &'static str {
+    if m.get(path).is_some() {
+        return "!";
+    }
+    if m.cache(path).is_some() {
+        return "*";
+    }
+    if m.has_node(path) { "." } else { "-" }
 }
 
 // A file of a parent that isn't tracked any more.
@@ -112,7 +110,7 @@ const REMOVED: Entry = Entry {
 // What is left once the entry of a path is dropped.
 fn left(rt: &HostRuntime, m: &mut Mixed<'_>, path: &str) -> Result<String, Fail> {
     drop(m, path)?;
-    shown(rt, m, None, 9)
+    shown(rt, m, &["a", "a/b", "a/b/c", "a/b/d", "a/x"])
 }
 
 #[test]
@@ -124,14 +122,14 @@ fn drops_what_is_left_empty(rt: HostRuntime) -> Result<(), Fail> {
     set(&mut m, "a/x", ADDED)?;
     note(&mut m, "a")?;
     note(&mut m, "a/b")?;
-    assert_eq!(rt; left(&rt, &mut m, "a/b/c")?.as_str(), "a* a/b a/b/d! a/x! ");
-    assert_eq!(rt; left(&rt, &mut m, "a/b/d")?.as_str(), "a a/x! ");
-    assert_eq!(rt; left(&rt, &mut m, "a/x")?.as_str(), "");
+    assert_eq!(rt; left(&rt, &mut m, "a/b/c")?.as_str(), "*.-!!");
+    assert_eq!(rt; left(&rt, &mut m, "a/b/d")?.as_str(), ".---!");
+    assert_eq!(rt; left(&rt, &mut m, "a/x")?.as_str(), "-----");
     set(&mut m, "a", REMOVED)?;
     set(&mut m, "a/b", ADDED)?;
-    set(&mut m, "a/c", ADDED)?;
-    assert_eq!(rt; left(&rt, &mut m, "a/b")?.as_str(), "a! a/c! ");
-    assert_eq!(rt; left(&rt, &mut m, "a")?.as_str(), "a a/c! ");
+    set(&mut m, "a/x", ADDED)?;
+    assert_eq!(rt; left(&rt, &mut m, "a/b")?.as_str(), "!---!");
+    assert_eq!(rt; left(&rt, &mut m, "a")?.as_str(), ".---!");
     Ok(())
 }
 
@@ -191,7 +189,7 @@ fn edits_each_part(rt: HostRuntime) -> Result<(), Fail> {
     assert_eq!(rt; time(&m, "d")?, Some(NOON));
     m.drop_caches()?;
     assert_eq!(rt; time(&m, "d")?, None);
-    assert_eq!(rt; shown(&rt, &m, None, 9)?.as_str(), "d d/b! ");
+    assert_eq!(rt; shown(&rt, &m, &["d", "d/b"])?.as_str(), ".!");
     Ok(())
 }
 
@@ -250,7 +248,9 @@ fn opens_an_image(rt: HostRuntime) -> Result<(), Fail> {
         id: b"0",
     };
     let m = Mixed::open(rt.alloc(), Image::open(&docket, &bytes)?)?;
-    assert_eq!(rt; shown(&rt, &m, None, 9)?.as_str(), "d* d/e! ");
+    assert_eq!(rt; shown(&rt, &m, &["d", "d/e"])?.as_str(), "*!");
+    let child = m.children(None).next().ok_or("no child")?;
+    assert_eq!(rt; (child.path.as_str(), child.has_kids), ("d", true));
     assert!(rt; is_copied(&m, "d/e", "src")?);
     assert_eq!(rt; time(&m, "d")?, Some(NOON));
     assert!(rt; !m.is_lent(None));
