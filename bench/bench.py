@@ -2,7 +2,7 @@
 """Times the built program against C loops that make the same system calls, and against other programs:
 python3 bench/bench.py [PROGRAM] [PART ..] [rhg=PROGRAM] [before=PROGRAM].
 
-PROGRAM is build/hgtrack where it isn't named. The parts are listing, tracked, peers, deep, opening and placing; all where none is named. `rhg` is
+PROGRAM is build/hgtrack where it isn't named. The parts are listing, tracked, peers, deep, opening, placing and editing; all where none is named. `rhg` is
 Mercurial's program of that name, which is looked for in PATH otherwise, and `before` an earlier hgtrack, which is timed beside this one. Every time
 is the least of some runs, taken in turn with what it is compared with. The status is 0 exactly where each figure is within its limit.
 """
@@ -255,7 +255,26 @@ def placing(bench):
     bench.tell("placing 30,000 files one by one in memory", bench.least(([program], bench.room, given))[0][0], 2, " s")
 
 
-PARTS = {"listing": listing, "tracked": tracked, "peers": peers, "deep": deep, "opening": opening, "placing": placing}
+def editing(bench):
+    """Setting entries one by one in a table in memory, and dropping them all again; the runs of a program that reads the paths."""
+    program = bench.build("editing")
+    given = f"{bench.room}/editing.txt"
+    with open(given, "w", encoding="utf-8") as file:
+        file.writelines(f"{it}\n" for it in in_directories(MANY))
+    (sets, _), (both, _) = bench.least(([program], bench.room, given), ([program, "drop"], bench.room, given))
+    bench.tell(f"setting {MANY:,} new paths one by one in memory", sets, 1, " s")
+    bench.tell(f"dropping {MANY:,} paths one by one", both - sets, 1, " s")
+
+
+PARTS = {
+    "listing": listing,
+    "tracked": tracked,
+    "peers": peers,
+    "deep": deep,
+    "opening": opening,
+    "placing": placing,
+    "editing": editing,
+}
 
 
 def main(words):

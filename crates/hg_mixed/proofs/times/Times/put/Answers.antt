@@ -1,0 +1,15 @@
+use Rattle.std.proofs.Common.{Some, ◌∙◌, ap, List, ℕ}
+use Rattle.std.specs.BTreeMap.{get_by_text}
+use Rattle.std.specs.Map.{update}
+use Rattle.std.specs.Str.{bytes_eq}
+use Rattle.std.specs.String.{string_bytes}
+use Rattle.std.proofs.lemmas.Map.Text.{btree_map_updates_text}
+use Rattle.hg_mixed.proofs.Timed.{times_changed}
+use Rattle.hg_mixed.proofs.times.Times.put.Goals as goal
+
+pub returns-clause-ok : goal.returns-clause-ok
+returns-clause-ok c =
+    times_changed c.args.dir.now (Some c.args.time) c.self.inside.times c.insert.new.self c.args.self.now c.self.view_is
+    (λ at.
+    btree_map_updates_text (string_bytes c.in_ok-dir.dir) c.self.inside.times c.insert.new.self _ c.in_ok-insert.ensures.updates at
+    ∙ ap (λ (d : List ℕ). update bytes_eq (get_by_text c.self.inside.times) d (Some c.args.time) at) c.in_ok-dir.ensures.ok)

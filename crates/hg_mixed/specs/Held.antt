@@ -1,0 +1,57 @@
+-- What a table in memory holds, as contracts see it.
+use Rattle.std.specs.Prelude.{ℕ, ◌≡◌, Bool, List, Option, is_some}
+use Rattle.std.specs.Option.{option_and_then}
+use Rattle.std.specs.List.{list_any}
+use Rattle.std.specs.Map.{lookup}
+use Rattle.std.specs.Str.{bytes_eq}
+use Rattle.hg_base.specs.PathText.{is_same_dir}
+use Rattle.hg_docket.specs.Docket.{Contents}
+use Rattle.hg_entry.specs.Entry.{StampData}
+use Rattle.hg_entry.specs.Table.{Table}
+use Rattle.hg_mixed.specs.Node.{NodeData, node_at}
+use Rattle.hg_mixed.specs.Times.{time_at}
+
+-- the docket and the used bytes of the image that was opened; the parents and the hash; whether an edit has changed anything; the nodes
+-- and the times of cached directories, by path; the directories whose list of children is still lent from the image (none for the
+-- root), and the places in it of the texts that are still lent: of paths, and of copy sources by the path of their node
+pub record Held : Type 0 where
+  pub docket : Contents
+  pub bytes : List ℕ
+  pub p1 : List ℕ
+  pub p2 : List ℕ
+  pub hash : List ℕ
+  pub changed : Bool
+  pub rows : List (List ℕ × NodeData)
+  pub times : List (List ℕ × StampData)
+  pub lent : List (Option (List ℕ))
+  pub texts : List (List ℕ × ℕ)
+  pub sources : List (List ℕ × ℕ)
+
+-- the table of these parts
+abbrev pub table_of : List ℕ → List ℕ → List ℕ → List (List ℕ × NodeData) → List (List ℕ × StampData) → Table
+table_of p1 p2 hash rows times =
+    record {
+      p1 = p1;
+      p2 = p2;
+      hash = hash;
+      entries = λ path. option_and_then (λ node. node.entry) (node_at rows path);
+      sources = λ path. option_and_then (λ node. node.source) (node_at rows path);
+      nodes = λ path. is_some (node_at rows path);
+      caches = time_at times;
+    }
+
+-- all that is recorded
+abbrev pub table : Held → Table
+table held = table_of held.p1 held.p2 held.hash held.rows held.times
+
+-- the list of a directory's children is lent
+abbrev pub is_lent : Held → Option (List ℕ) → Bool
+is_lent held dir = list_any (is_same_dir dir) held.lent
+
+-- the place of a path's text in the image, where it is lent
+abbrev pub text_at : Held → List ℕ → Option ℕ
+text_at held path = lookup (bytes_eq path) held.texts
+
+-- the place of the text of its copy source
+abbrev pub source_at : Held → List ℕ → Option ℕ
+source_at held path = lookup (bytes_eq path) held.sources

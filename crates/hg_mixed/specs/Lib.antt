@@ -1,0 +1,14 @@
+pub mod Child
+pub mod ChildOf
+pub mod Children
+pub mod Clash
+pub mod Drop
+pub mod Edits
+pub mod Held
+pub mod Kids
+pub mod Lists
+pub mod Node
+pub mod Opened
+pub mod Search
+pub mod Shown
+pub mod Times

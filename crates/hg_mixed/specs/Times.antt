@@ -1,0 +1,23 @@
+-- The times of cached directories.
+use Rattle.std.specs.Prelude.{ℕ, ◌≡◌, Bool, true, List, map, Option, None, String, is_some, MatchBool}
+use Rattle.std.specs.Map.{lookup, update}
+use Rattle.std.specs.Str.{bytes_eq}
+use Rattle.std.specs.String.{string_bytes}
+use Rattle.hg_base.specs.declared.time.Stamp.{Stamp}
+use Rattle.hg_entry.specs.Entry.{StampData, stamp_view}
+
+-- the time of a directory, where it is cached
+abbrev pub time_at : List (List ℕ × StampData) → List ℕ → Option StampData
+time_at times dir = lookup (bytes_eq dir) times
+
+-- one directory has another time, or none, and all others have what they had
+abbrev pub IsTimed : List ℕ → Option StampData → List (List ℕ × StampData) → List (List ℕ × StampData) → Type 0
+IsTimed dir time old new = (at : List ℕ) → time_at new at ≡ update bytes_eq (time_at old) dir time at
+
+-- no directory is cached, or one is
+abbrev pub AreNone : Bool → List (List ℕ × StampData) → Type 0
+AreNone none times = MatchBool none ((at : List ℕ) → time_at times at ≡ None) ((at : List ℕ) × (is_some (time_at times at) ≡ true))
+
+-- each time at its directory
+abbrev pub times_of : {Y : Type 0} → List (String Y × Stamp) → List (List ℕ × StampData)
+times_of times = map (λ e. (string_bytes e.0, stamp_view e.1)) times

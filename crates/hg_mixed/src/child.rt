@@ -1,0 +1,22 @@
+//! One child of a directory.
+
+use hg_base::{PathRef, Stamp};
+use hg_entry::Entry;
+
+/// A node right in a directory. Places are byte places in the data file of the image that the table was opened over.
+#[derive(Clone, Copy, Debug)]
+pub struct Child<'t> {
+    /// The full path.
+    pub path: PathRef<'t>,
+    pub entry: Option<Entry>,
+    /// The copy source, where there is an entry and it has one.
+    pub source: Option<PathRef<'t>>,
+    /// When all children of the directory were seen, where it is cached.
+    pub cache: Option<Stamp>,
+    /// Whether a node stands right in it.
+    pub has_kids: bool,
+    /// Where the text of the full path lies in the image, if it is lent.
+    pub text_at: Option<u32>,
+    /// Where the text of the copy source does.
+    pub source_at: Option<u32>,
+}

@@ -1,0 +1,89 @@
+//! The children of a directory, one after the other.
+
+ghost use Rattle.std.specs.Prelude.{◌≡◌, option_map};
+ghost use Rattle.hg_mixed.specs.Child.{shown_child};
+ghost use Rattle.hg_mixed.specs.Children.{AreChildren};
+ghost use Rattle.hg_mixed.specs.Kids.{Takes};
+ghost use Rattle.hg_mixed.specs.Lists.{data_of, or_root};
+
+use crate::child::Child;
+use crate::kids::Kids;
+use crate::mixed::Mixed;
+use crate::node::Node;
+use crate::nodes::Nodes;
+use crate::times::Times;
+use hg_base::PathRef;
+use std::marker::Model;
+
+/// What is left of a directory's children.
+#[derive(Drop)]
+pub struct Children<'t> {
+    nodes: &'t Nodes,
+    times: &'t Times,
+    kids: Kids<'t>,
+}
+
+impl<'t> Model for Children<'t> {
+    ghost use Rattle.std.specs.Prelude.{List};
+    ghost use Rattle.hg_mixed.specs.Children.{ChildData};
+    ghost use Rattle.hg_mixed.specs.ChildOf.{AreAtPaths, children_of};
+
+    ghost Value = { List ChildData };
+
+    ghost view = { λ c. children_of c.nodes.now c.times.now c.kids };
+
+    ghost invariant = { λ c. AreAtPaths c.kids };
+}
+
+// The copy source of a node.
+fn source_of(node: &Node) -> Option<PathRef<'_>>
+    ensures { option_map (λ s. s.text.now) result ≡ (data_of node.now).source }
+{
+    match &node.source {
+        None => None,
+        Some(source) => Some(source.as_ref()),
+    }
+}
+
+impl<'t> Children<'t> {
+    /// The next child, if any is left.
+    pub fn next(&mut self) -> Option<Child<'t>>
+        ensures { Takes self.old self.new (option_map shown_child result) }
+    {
+        match self.kids.next() {
+            None => None,
+            Some((text, node)) => Some(Child {
+                path: PathRef { text },
+                entry: node.entry,
+                source: source_of(node),
+                cache: self.times.get(text),
+                has_kids: self.nodes.has_kids(text),
+                text_at: None,
+                source_at: None,
+            }),
+        }
+    }
+}
+
+// A directory as a text, empty for the root.
+fn text_of<'a>(dir: Option<PathRef<'a>>) -> &'a str
+    ensures { result.now ≡ or_root (option_map (λ d. d.text.now) dir.entry) }
+{
+    match dir {
+        None => "",
+        Some(dir) => dir.text,
+    }
+}
+
+impl Mixed<'_> {
+    /// The nodes right in a directory, ascending by name, where no directory is the root.
+    pub fn children(&self, dir: Option<PathRef<'_>>) -> Children<'_>
+        ensures { AreChildren self.now (option_map (λ d. d.text.now) dir.entry) result }
+    {
+        Children {
+            nodes: &self.nodes,
+            times: &self.times,
+            kids: self.nodes.kids(text_of(dir)),
+        }
+    }
+}

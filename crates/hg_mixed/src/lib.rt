@@ -1,0 +1,56 @@
+//! The record of a dirstate as a table that can be changed, entry by entry.
+//!
+//! `Mixed::open` takes what an image records: the parents, the hash of the ignore patterns, and by path the entries, their copy sources,
+//! the nodes and the times of cached directories. Each edit says what it makes of the whole table, so all that it doesn't name stays.
+//!
+//! | edit | what it makes of the table |
+//! |---|---|
+//! | `set` | the path has the entry; it and all directories above it are nodes; it is no cached directory |
+//! | `copy_from` | the path's entry has this copy source, or none |
+//! | `drop_entry` | the path has neither entry nor source; nodes left with neither entry nor children go, each with its parent's cache |
+//! | `note_dir`, `forget_dir` | the directory has this cache, or none |
+//! | `drop_caches` | no directory has a cache |
+//! | `set_ids`, `set_hash` | these are the parents, this is the hash |
+//!
+//! Of two tracked paths none stands below the other (Mercurial tracks files, and no file is a directory): `set` refuses an entry that would make
+//! an untracked path tracked beside one above or below it, and names the least such path. Each refused edit leaves all as it was.
+//!
+//! What a table still lends from its image is told by `is_lent`, `lent` and the places of a `Child`: the lists of children that no edit has touched,
+//! and the texts that have stayed. This body copies all when it opens, and lends nothing.
+//!
+//! ```text
+//! let mut table = Mixed::open(alloc, image)?;
+//! table.set(PathRef::read("src/main.c")?, entry)?;   // Err(SetFault::Clash { other }) where `src` is tracked
+//! let mut children = table.children(None);
+//! children.next();                                   // the child `src`, which has_kids
+//! ```
+//!
+//! `specs/Edits.antt` and `specs/Drop.antt` say what edits do, `specs/Held.antt` what contracts see of a table.
+#![tactic(auto)]
+
+mod child;
+mod children;
+mod clash;
+mod edits;
+mod fault;
+mod kids;
+mod laws;
+mod lists;
+mod mixed;
+mod node;
+mod nodes;
+mod opening;
+mod planting;
+mod pruning;
+mod same;
+mod setting;
+mod times;
+
+pub use child::Child;
+pub use children::Children;
+pub use fault::SetFault;
+pub use laws::one_drop;
+pub use mixed::Mixed;
+
+#[cfg(test)]
+mod tests;

@@ -1,0 +1,82 @@
+//! The entry of a path is set.
+
+ghost use Rattle.std.specs.Prelude.{◌≡◌, ℕ, List, Some, None, OnOk, OnErr, IfOk, IsTrue, MatchBool};
+ghost use Rattle.hg_entry.specs.Entry.{view};
+ghost use Rattle.hg_mixed.specs.Lists.{data_of};
+ghost use Rattle.hg_mixed.specs.Node.{AreRooted, AreSame, entry_in, node_at, planted, with_entry};
+
+use crate::node::Node;
+use crate::nodes::Nodes;
+use crate::planting::{plant, write_entry};
+use crate::same::same_entry;
+use hg_base::{OutOfMemory, PathRef};
+use hg_entry::Entry;
+use std::alloc::Global;
+
+// Whether a node has this entry.
+fn says(node: &Node, entry: &Entry) -> bool
+    ensures { MatchBool result ((data_of node.now).entry ≡ Some (view entry.now)) ((data_of node.now).entry ≡ Some (view entry.now) → ⊥) }
+{
+    match &node.entry {
+        None => false,
+        Some(was) => same_entry(was, entry),
+    }
+}
+
+/// Sets the entry of a path, with nodes at the directories above it, or leaves all as it was; answers whether it was another.
+pub fn put_entry(
+    alloc: Global,
+    nodes: &mut Nodes,
+    path: PathRef<'_>,
+    entry: Entry,
+) -> Result<bool, OutOfMemory>
+    requires { AreRooted (node_at nodes.old) }
+    ensures ok { OnOk
+        result
+        ((at : List ℕ)
+        → node_at nodes.new at ≡ planted path.entry.text.now (with_entry (view entry) (node_at nodes.old path.entry.text.now)) (node_at nodes.old) at) }
+    ensures differs { IfOk
+        result
+        (λ differs. MatchBool
+        differs
+        (entry_in (node_at nodes.old path.entry.text.now) ≡ Some (view entry) → ⊥)
+        (entry_in (node_at nodes.old path.entry.text.now) ≡ Some (view entry))) }
+    ensures err { OnErr result (AreSame nodes.old nodes.new) }
+{
+    match nodes.get(path) {
+        None => put_new(alloc, nodes, path, entry),
+        Some(node) => {
+            if says(node, &entry) {
+                return Ok(false);
+            }
+            write_entry(nodes, path, Some(entry));
+            Ok(true)
+        }
+    }
+}
+
+// The same where nothing stands.
+fn put_new(
+    alloc: Global,
+    nodes: &mut Nodes,
+    path: PathRef<'_>,
+    entry: Entry,
+) -> Result<bool, OutOfMemory>
+    requires rooted { AreRooted (node_at nodes.old) }
+    requires absent { node_at nodes.old path.text.now ≡ None }
+    ensures ok { OnOk
+        result
+        ((at : List ℕ)
+        → node_at nodes.new at ≡ planted path.entry.text.now (with_entry (view entry) None) (node_at nodes.old) at) }
+    ensures differs { IfOk result (λ differs. IsTrue differs) }
+    ensures err { OnErr result (AreSame nodes.old nodes.new) }
+{
+    let node = Node {
+        entry: Some(entry),
+        source: None,
+    };
+    match plant(alloc, nodes, path, node) {
+        Ok(()) => Ok(true),
+        Err(fault) => Err(fault),
+    }
+}

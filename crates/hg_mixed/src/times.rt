@@ -1,0 +1,73 @@
+//! The times of cached directories.
+
+ghost use Rattle.std.specs.Prelude.{◌≡◌, ℕ, List, Some, None, OnOk, OnErr, option_map};
+ghost use Rattle.hg_entry.specs.Entry.{stamp_view};
+ghost use Rattle.hg_mixed.specs.Times.{AreNone, IsTimed, time_at};
+
+use hg_base::{OutOfMemory, Stamp};
+use std::alloc::Global;
+use std::collections::BTreeMap;
+use std::marker::Model;
+
+/// When each cached directory was seen whole.
+#[derive(Drop)]
+pub struct Times {
+    times: BTreeMap<String, Stamp>,
+}
+
+impl Model for Times {
+    ghost use Rattle.std.specs.Prelude.{List, ℕ};
+    ghost use Rattle.hg_entry.specs.Entry.{StampData};
+    ghost use Rattle.hg_mixed.specs.Times.{times_of};
+
+    ghost Value = { List (List ℕ × StampData) };
+
+    ghost view = { λ t. times_of t.times.entries };
+}
+
+impl Times {
+    /// No directory is cached.
+    pub fn new(alloc: Global) -> Times
+        ensures { (at : List ℕ) → time_at result at ≡ None }
+    {
+        Times {
+            times: BTreeMap::new(alloc),
+        }
+    }
+
+    pub fn get(&self, dir: &str) -> Option<Stamp>
+        ensures { option_map stamp_view result ≡ time_at self.now dir.now }
+    {
+        self.times.get(dir).copied()
+    }
+
+    /// Puts the time of a directory, or leaves all as it was.
+    pub fn put(&mut self, alloc: Global, dir: &str, time: Stamp) -> Result<(), OutOfMemory>
+        ensures ok { OnOk result (IsTimed dir.now (Some (stamp_view time)) self.old self.new) }
+        ensures err { OnErr result ((at : List ℕ) → time_at self.new at ≡ time_at self.old at) }
+    {
+        let dir = String::from_str(alloc, dir)?;
+        self.times.insert(dir, time)?;
+        Ok(())
+    }
+
+    /// The directory isn't cached any more.
+    pub fn remove(&mut self, dir: &str)
+        ensures { IsTimed dir.now None self.old self.new }
+    {
+        let _ = self.times.remove(dir);
+    }
+
+    /// No directory is cached any more.
+    pub fn clear(&mut self)
+        ensures { (at : List ℕ) → time_at self.new at ≡ None }
+    {
+        self.times.clear();
+    }
+
+    pub fn is_empty(&self) -> bool
+        ensures { AreNone result self.now }
+    {
+        self.times.len() == 0
+    }
+}
