@@ -1,0 +1,4 @@
+pub mod Part
+pub mod Pattern
+pub mod Refusal
+pub mod Row

@@ -1,0 +1,144 @@
+-- How the characters of a text spell a glob: the parts of the text, and the glob that they make.
+use Rattle.std.specs.Prelude.{ℕ, ◌+◌, ◌-◌, zero, suc, if◌then◌else◌, Bool, true, false, ◌&&◌, List, [], ◌∷◌, ◌++◌, take, drop, Option, Some, None, option_map, ◌==◌, nat_lt, position}
+use Rattle.hg_glob.specs.Pattern.{Span, Pattern, Choices, empty, literal, one, listed, star, any, slashes, braces, last, choice}
+use Rattle.hg_glob.specs.declared.part.Part.{Part}
+use Rattle.hg_glob.specs.declared.part.Part.TheVariants as a_part
+
+-- the parts that stand at the front of a text, and how many characters behind the first one belong to them
+pub record Spelled : Type 0 where
+  pub parts : List Part
+  pub more : ℕ
+
+-- a part of one character
+abbrev pub single : Part → Spelled
+single part = record { parts = part ∷ []; more = 0 }
+
+-- the text begins with the character
+abbrev pub begins : ℕ → List ℕ → Bool
+begins c [] = false
+begins c (first ∷ rest) = first == c
+
+-- behind a backslash: the character is itself, and at the end the backslash is
+abbrev pub escaped : List ℕ → Spelled
+escaped [] = single (a_part.Literal 92)
+escaped (c ∷ rest) = record { parts = a_part.Literal c ∷ []; more = 1 }
+
+-- behind a star, two at a time: `**/`, `**`, `*`
+abbrev pub starred : List ℕ → Spelled
+starred rest =
+    if begins 42 rest
+    then (if begins 47 (drop 1 rest) then record { parts = a_part.Slashes ∷ []; more = 2 } else record { parts = a_part.Any ∷ []; more = 1 })
+    else single a_part.Star
+
+-- the members of a class: `x-y` is a range where three characters are there, from the left; another character is itself
+abbrev pub ranges : ℕ → List ℕ → List Part
+ranges at [] = []
+ranges at (x ∷ []) = a_part.Range at x x ∷ []
+ranges at (x ∷ y ∷ []) = a_part.Range at x x ∷ ranges (at + 1) (y ∷ [])
+ranges at (x ∷ y ∷ z ∷ rest) = if y == 45 then a_part.Range at x z ∷ ranges (at + 3) rest else a_part.Range at x x ∷ ranges (at + 1) (y ∷ z ∷ rest)
+
+-- how many characters a class has before the `]` that ends it; its first one is a member whatever it is
+abbrev pub members : List ℕ → Option ℕ
+members [] = None
+members (first ∷ rest) = option_map (λ n. n + 1) (position (λ c. c == 93) rest)
+
+-- a class whose members begin at that place, behind so many characters, or a bracket that is itself where no `]` ends it
+abbrev pub bracket : Bool → ℕ → ℕ → List ℕ → Option ℕ → Spelled
+bracket negated at skipped text None = single (a_part.Literal 91)
+bracket negated at skipped text (Some n) = record { parts = a_part.Class negated ∷ ranges at (take n text); more = skipped + n + 1 }
+
+-- behind a bracket at that place; `!` negates
+abbrev pub bracketed : ℕ → List ℕ → Spelled
+bracketed at rest =
+    if begins 33 rest
+    then bracket true (at + 2) 1 (drop 1 rest) (members (drop 1 rest))
+    else bracket false (at + 1) 0 rest (members rest)
+
+-- The parts at the front of a text, by its first character, which stands at that place in so many open braces.
+abbrev pub spelled : ℕ → ℕ → ℕ → List ℕ → Spelled
+spelled depth at c rest =
+    if c == 92
+    then escaped rest
+    else (
+    if c == 42
+    then starred rest
+    else (
+    if c == 63
+    then single a_part.One
+    else (
+    if c == 91
+    then bracketed at rest
+    else (
+    if c == 123
+    then single (a_part.Open at)
+    else (
+    if c == 44 && nat_lt 0 depth
+    then single a_part.Comma
+    else (if c == 125 && nat_lt 0 depth then single a_part.Close else single (a_part.Literal c))
+    )
+    )
+    )
+    )
+    )
+
+-- how many braces are open behind a part that begins with the character
+abbrev pub depth_after : ℕ → ℕ → ℕ
+depth_after depth c = if c == 123 then depth + 1 else (if c == 125 then depth - 1 else depth)
+
+-- the parts of a text that stands at that place in so many open braces, its first characters left out
+unfoldable pub parts_from : ℕ → ℕ → ℕ → List ℕ → List Part
+parts_from skipped depth at [] = []
+parts_from zero depth at (c ∷ rest) = (spelled depth at c rest).parts ++ parts_from (spelled depth at c rest).more (depth_after depth c) (at + 1) rest
+parts_from (suc skipped) depth at (c ∷ rest) = parts_from skipped depth (at + 1) rest
+
+-- the parts of a text
+abbrev pub parts_of : List ℕ → List Part
+parts_of text = parts_from 0 0 0 text
+
+-- a brace that is closed and not yet opened, as one reads from the end: the choices so far, and what stands behind it
+pub record Frame : Type 0 where
+  pub choices : Option Choices
+  pub behind : Pattern
+
+-- what the last parts of a text make: a glob up to the brace around it, the members of a class, the braces around it
+pub record Reading : Type 0 where
+  pub pattern : Pattern
+  pub spans : List Span
+  pub frames : List Frame
+
+-- one choice more in front of others
+abbrev pub with_choice : Pattern → Option Choices → Choices
+with_choice g None = last g
+with_choice g (Some choices) = choice g choices
+
+-- in front of what was read: a brace opens
+abbrev pub opened : Reading → List Frame → Reading
+opened r [] = r
+opened r (f ∷ frames) = record r { pattern = braces (with_choice r.pattern f.choices) f.behind; frames = frames }
+
+-- in front of what was read: a comma ends another choice
+abbrev pub parted : Reading → List Frame → Reading
+parted r [] = r
+parted r (f ∷ frames) = record r { pattern = empty; frames = record { choices = Some (with_choice r.pattern f.choices); behind = f.behind } ∷ frames }
+
+-- one part in front of what was read
+abbrev pub before : Part → Reading → Reading
+before (a_part.Literal c) r = record r { pattern = literal c r.pattern }
+before a_part.One r = record r { pattern = one r.pattern }
+before (a_part.Class negated) r = record r { pattern = listed negated r.spans r.pattern; spans = [] }
+before (a_part.Range at low high) r = record r { spans = record { low = low; high = high } ∷ r.spans }
+before a_part.Star r = record r { pattern = star r.pattern }
+before a_part.Any r = record r { pattern = any r.pattern }
+before a_part.Slashes r = record r { pattern = slashes r.pattern }
+before (a_part.Open at) r = opened r r.frames
+before a_part.Comma r = parted r r.frames
+before a_part.Close r = record r { pattern = empty; frames = record { choices = None; behind = r.pattern } ∷ r.frames }
+
+-- what parts make, read from their end
+abbrev pub reading : List Part → Reading
+reading [] = record { pattern = empty; spans = []; frames = [] }
+reading (part ∷ parts) = before part (reading parts)
+
+-- the glob that a text spells
+abbrev pub glob_of : List ℕ → Pattern
+glob_of text = (reading (parts_of text)).pattern

@@ -1,0 +1,45 @@
+-- Why a text is refused as a glob.
+use Rattle.std.specs.Prelude.{ℕ, ◌≡◌, ◌-◌, zero, suc, if◌then◌else◌, List, [], ◌∷◌, length, take, Option, Some, None, chars, encode_utf8_all, ◌==◌, nat_lt, Result, Ok, Err}
+use Rattle.hg_glob.specs.Part.{parts_of}
+use Rattle.hg_glob.specs.declared.part.Part.{Part}
+use Rattle.hg_glob.specs.declared.part.Part.TheVariants as a_part
+use Rattle.hg_glob.specs.declared.fault.GlobFault.{GlobFault}
+use Rattle.hg_glob.specs.declared.fault.GlobFault.TheVariants as a_fault
+
+-- how many `}` stand in the parts for a `{` in front of them
+abbrev pub closers : List Part → ℕ
+closers [] = 0
+closers (a_part.Open at ∷ parts) = closers parts - 1
+closers (a_part.Close ∷ parts) = suc (closers parts)
+closers (_ ∷ parts) = closers parts
+
+-- the place of the first `{` without its `}`
+abbrev pub unclosed : List Part → Option ℕ
+unclosed [] = None
+unclosed (a_part.Open at ∷ parts) = if closers parts == 0 then Some at else unclosed parts
+unclosed (_ ∷ parts) = unclosed parts
+
+-- the place of the first range whose end stands before its beginning
+abbrev pub reversed : List Part → Option ℕ
+reversed [] = None
+reversed (a_part.Range at low high ∷ parts) = if nat_lt high low then Some at else reversed parts
+reversed (_ ∷ parts) = reversed parts
+
+-- how many bytes stand before the place, which counts characters
+abbrev pub bytes_before : ℕ → List ℕ → ℕ
+bytes_before at text = length (encode_utf8_all (take at text))
+
+-- the fault at the least place
+abbrev pub first_fault : List ℕ → Option ℕ → Option ℕ → Option GlobFault
+first_fault text None None = None
+first_fault text (Some brace) None = Some (a_fault.Unbalanced (bytes_before brace text))
+first_fault text None (Some range) = Some (a_fault.Range (bytes_before range text))
+first_fault text (Some brace) (Some range) =
+    if nat_lt brace range then Some (a_fault.Unbalanced (bytes_before brace text)) else Some (a_fault.Range (bytes_before range text))
+
+-- why the bytes of a text are refused: their number, or else the fault at the least place
+abbrev pub refusal : List ℕ → Option GlobFault
+refusal text =
+    if nat_lt 4095 (length text)
+    then Some (a_fault.TooLong (length text))
+    else first_fault (chars text) (unclosed (parts_of (chars text))) (reversed (parts_of (chars text)))
