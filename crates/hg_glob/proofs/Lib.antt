@@ -1,2 +1,5 @@
+pub mod Ends
 pub mod Passes
+pub mod Rows
 pub mod Then
+pub mod Turns

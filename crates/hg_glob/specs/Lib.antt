@@ -1,3 +1,4 @@
+pub mod Line
 pub mod Part
 pub mod Pattern
 pub mod Refusal

@@ -10,6 +10,10 @@ use Rattle.hg_glob.specs.declared.mark.Going.{Going}
 abbrev pub no_mark : Mark
 no_mark = record { here = false; behind = false }
 
+-- something reaches the place
+abbrev pub is_marked : Mark → Bool
+is_marked mark = mark.here || mark.behind
+
 abbrev pub plain : Bool → Mark
 plain here = record { here = here; behind = false }
 

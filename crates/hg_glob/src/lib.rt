@@ -3,6 +3,7 @@
 
 mod fault;
 mod mark;
+mod matching;
 mod part;
 mod turn;
 

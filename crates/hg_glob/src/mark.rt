@@ -81,3 +81,14 @@ pub struct Going {
     pub hit: bool,
     pub braces: Braces,
 }
+
+impl Going {
+    pub fn new() -> Going
+        ensures { result.braces ≡ [] }
+    {
+        Going {
+            hit: false,
+            braces: Braces::new(),
+        }
+    }
+}
