@@ -1,5 +1,5 @@
 -- How the characters of a text spell a glob: the parts of the text, and the glob that they make.
-use Rattle.std.specs.Prelude.{ℕ, ◌+◌, ◌-◌, zero, suc, if◌then◌else◌, Bool, true, false, ◌&&◌, List, [], ◌∷◌, ◌++◌, take, drop, Option, Some, None, option_map, ◌==◌, nat_lt, position}
+use Rattle.std.specs.Prelude.{ℕ, ◌≡◌, Result, IfOk, ◌+◌, ◌-◌, zero, suc, if◌then◌else◌, Bool, true, false, ◌&&◌, List, [], ◌∷◌, ◌++◌, take, drop, Option, Some, None, option_map, ◌==◌, nat_lt, position}
 use Rattle.hg_glob.specs.Pattern.{Span, Pattern, Choices, empty, literal, one, listed, star, any, slashes, braces, last, choice}
 use Rattle.hg_glob.specs.declared.part.Part.{Part}
 use Rattle.hg_glob.specs.declared.part.Part.TheVariants as a_part
@@ -30,12 +30,27 @@ starred rest =
     then (if begins 47 (drop 1 rest) then record { parts = a_part.Slashes ∷ []; more = 2 } else record { parts = a_part.Any ∷ []; more = 1 })
     else single a_part.Star
 
--- the members of a class: `x-y` is a range where three characters are there, from the left; another character is itself
+-- the end of a range that begins with `low`, `-` and a character behind it; where it is none, `low`
+abbrev pub range_high : ℕ → List ℕ → ℕ
+range_high low [] = low
+range_high low (dash ∷ []) = low
+range_high low (dash ∷ high ∷ rest) = if dash == 45 then high else low
+
+-- how many characters of the rest belong to it
+abbrev pub range_more : List ℕ → ℕ
+range_more [] = 0
+range_more (dash ∷ []) = 0
+range_more (dash ∷ high ∷ rest) = if dash == 45 then 2 else 0
+
+-- the members of a class, its first characters left out: `x-y` is a range where three characters are there, from the left, and
+-- another character is itself
+unfoldable pub ranges_from : ℕ → ℕ → List ℕ → List Part
+ranges_from skipped at [] = []
+ranges_from zero at (low ∷ rest) = a_part.Range at low (range_high low rest) ∷ ranges_from (range_more rest) (at + 1) rest
+ranges_from (suc skipped) at (c ∷ rest) = ranges_from skipped (at + 1) rest
+
 abbrev pub ranges : ℕ → List ℕ → List Part
-ranges at [] = []
-ranges at (x ∷ []) = a_part.Range at x x ∷ []
-ranges at (x ∷ y ∷ []) = a_part.Range at x x ∷ ranges (at + 1) (y ∷ [])
-ranges at (x ∷ y ∷ z ∷ rest) = if y == 45 then a_part.Range at x z ∷ ranges (at + 3) rest else a_part.Range at x x ∷ ranges (at + 1) (y ∷ z ∷ rest)
+ranges at text = ranges_from 0 at text
 
 -- how many characters a class has before the `]` that ends it; its first one is a member whatever it is
 abbrev pub members : List ℕ → Option ℕ
@@ -142,3 +157,19 @@ reading (part ∷ parts) = before part (reading parts)
 -- the glob that a text spells
 abbrev pub glob_of : List ℕ → Pattern
 glob_of text = (reading (parts_of text)).pattern
+
+-- the parts were put behind others, and the answer is how many characters more belong to them
+abbrev pub Puts : {E : Type 0} → Spelled → List Part → List Part → Result ℕ E → Type 0
+Puts spelled old new result = IfOk result (λ more. (more ≡ spelled.more) × (new ≡ old ++ spelled.parts))
+
+-- the characters that the parts begin with
+abbrev pub head_of : List Part → List ℕ
+head_of [] = []
+head_of (a_part.Literal c ∷ parts) = c ∷ head_of parts
+head_of (_ ∷ parts) = []
+
+-- the characters that the parts end with, where those stand in front of them
+abbrev pub tail_from : List ℕ → List Part → List ℕ
+tail_from text [] = text
+tail_from text (a_part.Literal c ∷ parts) = tail_from (text ++ c ∷ []) parts
+tail_from text (_ ∷ parts) = tail_from [] parts

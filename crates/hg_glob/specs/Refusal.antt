@@ -19,11 +19,19 @@ unclosed [] = None
 unclosed (a_part.Open at ∷ parts) = if closers parts == 0 then Some at else unclosed parts
 unclosed (_ ∷ parts) = unclosed parts
 
--- the place of the first range whose end stands before its beginning
+-- the place of a range whose end stands before its beginning
+abbrev pub reversed_at : Part → Option ℕ
+reversed_at (a_part.Range at low high) = if nat_lt high low then Some at else None
+reversed_at _ = None
+
+abbrev pub or_else : Option ℕ → Option ℕ → Option ℕ
+or_else None other = other
+or_else (Some at) other = Some at
+
+-- the place of the first such range
 abbrev pub reversed : List Part → Option ℕ
 reversed [] = None
-reversed (a_part.Range at low high ∷ parts) = if nat_lt high low then Some at else reversed parts
-reversed (_ ∷ parts) = reversed parts
+reversed (part ∷ parts) = or_else (reversed_at part) (reversed parts)
 
 -- how many bytes stand before the place, which counts characters
 abbrev pub bytes_before : ℕ → List ℕ → ℕ
@@ -43,3 +51,8 @@ refusal text =
     if nat_lt 4095 (length text)
     then Some (a_fault.TooLong (length text))
     else first_fault (chars text) (unclosed (parts_of (chars text))) (reversed (parts_of (chars text)))
+
+-- what a reading answers that refuses with that fault or none; want of memory comes in place of either
+abbrev pub Refuses : Option GlobFault → Option GlobFault → Type 0
+Refuses fault (Some a_fault.OutOfMemory) = Unit {0}
+Refuses fault answer = answer ≡ fault
