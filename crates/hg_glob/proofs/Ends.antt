@@ -1,5 +1,5 @@
 -- A text read from its end.
-use Rattle.std.proofs.Common.{◌≡◌, ℕ, suc, ◌-◌, ◌≤◌, Bool, true, false, ◌&&◌, ◌↔◌, List, [], ◌∷◌, ◌++◌, reverse, length, get_or, take, chars, encode_utf8, encode_utf8_all, IsUtf8, Some, None, IsTrue, refl, sym, ap, subst, ◌∙◌, append_assoc, append-nil, arith}
+use Rattle.std.proofs.Common.{◌≡◌, ℕ, ◌-◌, Bool, true, false, ◌&&◌, List, [], ◌∷◌, ◌++◌, reverse, length, get_or, take, chars, encode_utf8, encode_utf8_all, IsUtf8, Some, None, refl, sym, ap, subst, ◌∙◌, append_assoc, append-nil, arith}
 use Rattle.std.specs.Bool.{Decides}
 use Rattle.std.specs.Char.{IsScalar}
 use lib.Utf8.{scalars}
@@ -16,7 +16,6 @@ use Rattle.hg_glob.specs.Row.{first, turned, is_marked, no_mark}
 use Rattle.hg_glob.specs.declared.part.Part.TheVariants as a_part
 use Rattle.hg_glob.specs.declared.part.Part.{Part}
 use Rattle.hg_glob.specs.declared.mark.Mark.{Mark}
-use Rattle.hg_glob.proofs.Then.{Then}
 use Rattle.hg_glob.proofs.Rows.{RowIs, Accepts, Follows, Ends}
 use Rattle.hg_glob.proofs.Turns.{turned_is, first_is, off_stays, are_off, onto, onto_reverse}
 
@@ -91,7 +90,7 @@ frames_len (a_part.Any ∷ parts) = frames_len parts
 frames_len (a_part.Slashes ∷ parts) = frames_len parts
 frames_len (a_part.Open at ∷ parts) = opened_len (reading parts) (reading parts).frames refl ∙ ap (λ n. n - 1) (frames_len parts)
 frames_len (a_part.Comma ∷ parts) = parted_len (reading parts) (reading parts).frames refl ∙ frames_len parts
-frames_len (a_part.Close ∷ parts) = ap suc (frames_len parts)
+frames_len (a_part.Close ∷ parts) = omega (arith, frames_len parts)
 
 no_frames : (frames : List Frame) → length frames ≡ 0 → frames ≡ []
 no_frames [] h = refl

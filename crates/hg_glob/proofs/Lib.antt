@@ -1,4 +1,7 @@
+pub mod Bounds
 pub mod Ends
+pub mod Faults
+pub mod Literal
 pub mod Passes
 pub mod Rows
 pub mod Spelled

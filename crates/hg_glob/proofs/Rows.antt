@@ -1,11 +1,11 @@
 -- What the marks of a row say: whether the text is accepted from each part on.
-use Rattle.std.proofs.Common.{◌≡◌, ℕ, zero, suc, Bool, true, false, not, cond, ◌&&◌, ◌||◌, ◌==◌, ◌⊎◌, inl, inr, List, [], ◌∷◌, ◌++◌, drop, Option, Some, None, IsTrue, refl, sym, ap, subst, ◌∙◌, nat_le}
+use Rattle.std.proofs.Common.{◌≡◌, ℕ, Bool, true, false, not, cond, ◌&&◌, ◌||◌, ◌==◌, ◌⊎◌, inl, inr, List, [], ◌∷◌, Option, Some, None, IsTrue, refl, sym, ap, ◌∙◌, nat_le}
 use Rattle.std.specs.Bool.{Decides}
 use Rattle.std.proofs.lemmas.Bool.{false≢true}
 use Rattle.std.proofs.lemmas.Bool.Decides.{Decides-eqb, Decides-and, Decides-or, Decides-like}
-use Rattle.hg_glob.specs.Pattern.{Pattern, Choices, Span, empty, literal, one, listed, star, any, slashes, braces, last, choice, in_class, in_spans, InGlob, InChoices}
+use Rattle.hg_glob.specs.Pattern.{Pattern, Choices, Span, in_class, in_spans}
 use Rattle.hg_glob.specs.Part.{Frame, Reading, before, reading, with_choice, opened, parted}
-use Rattle.hg_glob.specs.Row.{first, step, turned, plain, is_end, no_mark, Stepped, Turned, open_step, comma_step, is_between}
+use Rattle.hg_glob.specs.Row.{step, Stepped, open_step, comma_step}
 use Rattle.hg_glob.specs.declared.part.Part.{Part}
 use Rattle.hg_glob.specs.declared.part.Part.TheVariants as a_part
 use Rattle.hg_glob.specs.declared.mark.Mark.{Mark}

@@ -1,21 +1,20 @@
 -- A row from the row before, as the texts that it speaks of; a row without marks stays without.
-use Rattle.std.proofs.Common.{◌≡◌, ℕ, zero, suc, Bool, true, false, not, cond, ◌&&◌, ◌||◌, ◌==◌, ◌⊎◌, inl, inr, List, [], ◌∷◌, ◌++◌, drop, reverse, Option, Some, None, IsTrue, refl, sym, ap, subst, ◌∙◌, append_assoc, append-nil}
+use Rattle.std.proofs.Common.{◌≡◌, ℕ, Bool, true, false, not, cond, ◌&&◌, ◌||◌, ◌==◌, List, [], ◌∷◌, ◌++◌, drop, reverse, Option, Some, None, refl, sym, ap, ◌∙◌}
 use Rattle.std.specs.Bool.{Decides}
 use Rattle.std.specs.List.{list_any}
 use Rattle.std.proofs.lemmas.Bool.{false≢true}
 use Rattle.std.proofs.lemmas.List.{reverse-append}
 use Rattle.std.proofs.lemmas.Bool.Decides.{Decides-like, not_from_Decides}
-use Rattle.hg_glob.specs.Pattern.{empty}
 use Rattle.hg_glob.specs.Part.{before, reading}
-use Rattle.hg_glob.specs.Row.{first, step, turned, plain, is_end, no_mark, Stepped, Turned, put, open_step, comma_step, is_char, is_inside, is_marked}
+use Rattle.hg_glob.specs.Row.{first, step, turned, plain, is_end, no_mark, Turned, put, open_step, comma_step, is_char, is_inside, is_marked}
 use Rattle.std.specs.Prelude.{is_some}
 use Rattle.hg_glob.specs.declared.part.Part.{Part}
 use Rattle.hg_glob.specs.declared.part.Part.TheVariants as a_part
 use Rattle.hg_glob.specs.declared.mark.Mark.{Mark}
 use Rattle.hg_glob.specs.declared.mark.Brace.{Brace}
 use Rattle.hg_glob.specs.declared.mark.Going.{Going}
-use Rattle.hg_glob.proofs.Then.{Then, empty_then, then_empty}
-use Rattle.hg_glob.proofs.Rows.{Ends, Follows, Accepts, BracesAre, HitIs, BehindIs, RowIs, grown, IfThere, BelowIs, StepIs, step_is}
+use Rattle.hg_glob.proofs.Then.{empty_then, then_empty}
+use Rattle.hg_glob.proofs.Rows.{Ends, Accepts, BracesAre, HitIs, BehindIs, RowIs, grown, IfThere, step_is}
 
 pub record TurnedIs (inner : Bool) (c : Option ℕ) (parts : List Part) (d : Turned) (t : List ℕ) : Type 0 where
   pub row : RowIs inner parts d.marks t

@@ -1,3 +1,4 @@
+pub mod Kept
 pub mod Line
 pub mod Part
 pub mod Pattern

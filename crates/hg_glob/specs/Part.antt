@@ -162,14 +162,25 @@ glob_of text = (reading (parts_of text)).pattern
 abbrev pub Puts : {E : Type 0} → Spelled → List Part → List Part → Result ℕ E → Type 0
 Puts spelled old new result = IfOk result (λ more. (more ≡ spelled.more) × (new ≡ old ++ spelled.parts))
 
+-- the character that a part is
+abbrev pub literal_of : Part → Option ℕ
+literal_of (a_part.Literal c) = Some c
+literal_of _ = None
+
+abbrev pub begun : Option ℕ → List ℕ → List ℕ
+begun None rest = []
+begun (Some c) rest = c ∷ rest
+
 -- the characters that the parts begin with
 abbrev pub head_of : List Part → List ℕ
 head_of [] = []
-head_of (a_part.Literal c ∷ parts) = c ∷ head_of parts
-head_of (_ ∷ parts) = []
+head_of (part ∷ parts) = begun (literal_of part) (head_of parts)
 
--- the characters that the parts end with, where those stand in front of them
+abbrev pub ended : List ℕ → Option ℕ → List ℕ
+ended text None = []
+ended text (Some c) = text ++ c ∷ []
+
+-- the characters that the parts end with, where those of the text stand in front of them
 abbrev pub tail_from : List ℕ → List Part → List ℕ
 tail_from text [] = text
-tail_from text (a_part.Literal c ∷ parts) = tail_from (text ++ c ∷ []) parts
-tail_from text (_ ∷ parts) = tail_from [] parts
+tail_from text (part ∷ parts) = tail_from (ended text (literal_of part)) parts

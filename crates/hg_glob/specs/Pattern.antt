@@ -1,5 +1,5 @@
 -- What a glob is, and the texts that stand in it (hgignore's globs; texts are lists of characters, Unicode scalar values).
-use Rattle.std.specs.Prelude.{ℕ, ◌≡◌, ◌⊎◌, if◌then◌else◌, Bool, true, false, not, ◌&&◌, ◌||◌, List, [], ◌∷◌, ◌++◌, ◌==◌, nat_le, IsTrue}
+use Rattle.std.specs.Prelude.{ℕ, ◌≡◌, ◌⊎◌, if◌then◌else◌, Bool, false, not, ◌&&◌, ◌||◌, List, [], ◌∷◌, ◌++◌, ◌==◌, nat_le, IsTrue}
 
 -- the characters from `low` to `high`
 pub record Span : Type 0 where

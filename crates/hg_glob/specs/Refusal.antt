@@ -1,23 +1,31 @@
 -- Why a text is refused as a glob.
-use Rattle.std.specs.Prelude.{ℕ, ◌≡◌, ◌-◌, zero, suc, if◌then◌else◌, List, [], ◌∷◌, length, take, Option, Some, None, chars, encode_utf8_all, ◌==◌, nat_lt, Result, Ok, Err}
+use Rattle.std.specs.Prelude.{ℕ, ◌≡◌, ◌+◌, ◌-◌, if◌then◌else◌, List, [], ◌∷◌, length, take, Option, Some, None, chars, encode_utf8_all, ◌==◌, nat_lt}
 use Rattle.hg_glob.specs.Part.{parts_of}
 use Rattle.hg_glob.specs.declared.part.Part.{Part}
 use Rattle.hg_glob.specs.declared.part.Part.TheVariants as a_part
 use Rattle.hg_glob.specs.declared.fault.GlobFault.{GlobFault}
 use Rattle.hg_glob.specs.declared.fault.GlobFault.TheVariants as a_fault
 
+-- how many `}` stand for a `{` in front of the part, where so many stand for one behind it
+abbrev pub closers_at : Part → ℕ → ℕ
+closers_at (a_part.Open at) behind = behind - 1
+closers_at a_part.Close behind = behind + 1
+closers_at _ behind = behind
+
 -- how many `}` stand in the parts for a `{` in front of them
 abbrev pub closers : List Part → ℕ
 closers [] = 0
-closers (a_part.Open at ∷ parts) = closers parts - 1
-closers (a_part.Close ∷ parts) = suc (closers parts)
-closers (_ ∷ parts) = closers parts
+closers (part ∷ parts) = closers_at part (closers parts)
+
+-- the place of the part where it is a `{` and no `}` stands for it, and else the one behind it
+abbrev pub unclosed_at : Part → ℕ → Option ℕ → Option ℕ
+unclosed_at (a_part.Open at) closers behind = if closers == 0 then Some at else behind
+unclosed_at _ closers behind = behind
 
 -- the place of the first `{` without its `}`
 abbrev pub unclosed : List Part → Option ℕ
 unclosed [] = None
-unclosed (a_part.Open at ∷ parts) = if closers parts == 0 then Some at else unclosed parts
-unclosed (_ ∷ parts) = unclosed parts
+unclosed (part ∷ parts) = unclosed_at part (closers parts) (unclosed parts)
 
 -- the place of a range whose end stands before its beginning
 abbrev pub reversed_at : Part → Option ℕ

@@ -179,7 +179,8 @@ fn depth_after(depth: u32, c: char) -> u32
 /// The parts of a text.
 pub fn spell(alloc: Global, text: &[char]) -> Result<Vec<Part>, OutOfMemory>
     requires { length text.now ≤ 4095 }
-    ensures { IfOk result (λ parts. parts.items ≡ parts_of text.now) }
+    ensures parts { IfOk result (λ parts. parts.items ≡ parts_of text.now) }
+    ensures few { IfOk result (λ parts. length parts.items ≤ length text.now) }
 {
     let mut parts = Vec::new(alloc);
     let mut depth = 0;

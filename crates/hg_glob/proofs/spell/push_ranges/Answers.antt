@@ -1,4 +1,4 @@
-use Rattle.std.proofs.Common.{arith, length-drop, ℕ}
+use Rattle.std.proofs.Common.{arith}
 use Rattle.hg_glob.proofs.Spelled.{ranges_more, ranges_done}
 use Rattle.hg_glob.proofs.spell.push_ranges.Goals as goal
 

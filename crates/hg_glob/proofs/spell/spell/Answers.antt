@@ -1,4 +1,5 @@
-use Rattle.std.proofs.Common.{arith}
+use Rattle.std.proofs.Common.{arith, ap, length}
+use Rattle.hg_glob.proofs.Bounds.{parts_few}
 use Rattle.hg_glob.proofs.Spelled.{parts_more, parts_done}
 use Rattle.hg_glob.proofs.spell.spell.Goals as goal
 
@@ -11,4 +12,6 @@ loop-c-preserved c = record {
 }
 
 pub returns : goal.returns
-returns c = parts_done _ _ c.loop-c.depth c.loop-c.at c.loop-c.left.now c.loop-c.invariant.parts c.in_default.ensures.cases
+returns c =
+    let all = parts_done _ _ c.loop-c.depth c.loop-c.at c.loop-c.left.now c.loop-c.invariant.parts c.in_default.ensures.cases in
+    record { parts = all; few = omega (arith, ap length all, parts_few 0 0 0 c.args.text.now) }

@@ -1,4 +1,4 @@
-use Rattle.std.proofs.Common.{◌≡◌, ◌-◌, refl, arith}
+use Rattle.std.proofs.Common.{◌-◌, refl, arith}
 use Rattle.hg_glob.specs.declared.part.Part.TheVariants as a_part
 use Rattle.hg_glob.proofs.Passes.{few_so_far, so_far_first, so_far_more, so_far_done}
 use Rattle.hg_glob.proofs.turn.turn.Goals as goal

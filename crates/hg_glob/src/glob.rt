@@ -1,0 +1,130 @@
+//! Globs: read from a text, and asked for a text.
+
+ghost use Rattle.std.specs.Prelude.{◌≡◌, ◌+◌, ◌≤◌, ◌↔◌, ◌++◌, [], List, ℕ, length, IsTrue, IfOk, chars, encode_utf8_all, string_bytes};
+ghost use Rattle.std.specs.Result.{result_err};
+ghost use Rattle.hg_glob.specs.Part.{parts_of, glob_of, head_of, tail_from, literal_of, ended};
+ghost use Rattle.hg_glob.specs.Pattern.{InGlob};
+ghost use Rattle.hg_glob.specs.Refusal.{refusal, Refuses};
+
+use crate::fault::GlobFault;
+use crate::part::Part;
+use crate::refusal::fault_of;
+use crate::spell::spell;
+use hg_base::OutOfMemory;
+use std::alloc::Global;
+use std::marker::Model;
+
+/// A glob; contracts see its text.
+#[derive(Debug, Drop)]
+pub struct Glob {
+    text: String,
+    parts: Vec<Part>,
+    /// The literal text that the glob begins with.
+    head: String,
+    /// The literal text that it ends with.
+    tail: String,
+}
+
+impl Model for Glob {
+    ghost use Rattle.std.specs.Prelude.{List, ℕ};
+    ghost use Rattle.std.specs.String.{string_bytes};
+    ghost use Rattle.hg_glob.specs.Kept.{IsKept};
+
+    ghost Value = { List ℕ };
+
+    ghost view = { λ g. string_bytes g.text };
+
+    ghost invariant = { λ g. IsKept (string_bytes g.text) g.parts.items (string_bytes g.head) (string_bytes g.tail) };
+}
+
+fn literal_of(part: Part) -> Option<char>
+    ensures { result ≡ literal_of part }
+{
+    match part {
+        Part::Literal(c) => Some(c),
+        _ => None,
+    }
+}
+
+/// The literal text that the parts begin with.
+fn head_of(alloc: Global, parts: &[Part]) -> Result<String, OutOfMemory>
+    ensures { IfOk result (λ head. string_bytes head ≡ encode_utf8_all (head_of parts.now)) }
+{
+    let mut head = String::new(alloc);
+    for part in parts {
+        match literal_of(*part) {
+            None => return Ok(head),
+            Some(c) => head.push(c)?,
+        }
+    }
+    Ok(head)
+}
+
+/// One part more: a character goes on, any other part begins anew.
+fn put_tail(tail: &mut String, part: Part) -> Result<(), OutOfMemory>
+    ensures { (text : List ℕ) → string_bytes tail.old ≡ encode_utf8_all text → IfOk result (λ _. string_bytes tail.new ≡ encode_utf8_all (ended text (literal_of part))) }
+{
+    match literal_of(part) {
+        None => tail.clear(),
+        Some(c) => tail.push(c)?,
+    }
+    Ok(())
+}
+
+/// The literal text that the parts end with.
+fn tail_of(alloc: Global, parts: &[Part]) -> Result<String, OutOfMemory>
+    ensures { IfOk result (λ tail. string_bytes tail ≡ encode_utf8_all (tail_from [] parts.now)) }
+{
+    let mut tail = String::new(alloc);
+    for part in parts {
+        put_tail(&mut tail, *part)?;
+    }
+    Ok(tail)
+}
+
+/// The characters of a text that isn't too long.
+fn characters(alloc: Global, text: &str) -> Result<Vec<char>, OutOfMemory>
+    requires { length text.now ≤ 4095 }
+    ensures text { IfOk result (λ characters. characters.items ≡ chars text.now) }
+    ensures few { IfOk result (λ characters. length characters.items ≤ 4095) }
+{
+    Ok(text.chars().collect(alloc)?)
+}
+
+impl Glob {
+    /// The glob that a text spells, or why it is none: over 4,095 bytes, or else the first brace without its end or the first
+    /// reversed range, whichever stands first (Mercurial's `hg help patterns`, "glob").
+    pub fn read(alloc: Global, text: &str) -> Result<Glob, GlobFault>
+        ensures text { IfOk result (λ glob. glob ≡ text.now) }
+        ensures refused { Refuses (refusal text.now) (result_err result) }
+    {
+        if text.len() > 4095 {
+            return Err(GlobFault::TooLong {
+                len: text.len() as u64,
+            });
+        }
+        let characters = characters(alloc, text)?;
+        let parts = spell(alloc, characters.as_slice())?;
+        match fault_of(characters.as_slice(), parts.as_slice()) {
+            Some(fault) => Err(fault),
+            None => Ok(Glob::of(alloc, text, parts)?),
+        }
+    }
+
+    /// The glob of a text and its parts.
+    fn of(alloc: Global, text: &str, parts: Vec<Part>) -> Result<Glob, OutOfMemory>
+        requires few { length text.now ≤ 4095 }
+        requires parts { parts.items ≡ parts_of (chars text.now) }
+        ensures { IfOk result (λ glob. glob ≡ text.now) }
+    {
+        let head = head_of(alloc, parts.as_slice())?;
+        let tail = tail_of(alloc, parts.as_slice())?;
+        let text = String::from_str(alloc, text)?;
+        Ok(Glob {
+            text,
+            parts,
+            head,
+            tail,
+        })
+    }
+}
