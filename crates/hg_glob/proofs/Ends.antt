@@ -1,11 +1,11 @@
 -- A text read from its end.
-use Rattle.std.proofs.Common.{◌≡◌, ℕ, ◌-◌, Bool, true, false, ◌&&◌, List, [], ◌∷◌, ◌++◌, reverse, length, get_or, take, chars, encode_utf8, encode_utf8_all, IsUtf8, Some, None, refl, sym, ap, subst, ◌∙◌, append_assoc, append-nil, arith}
+use Rattle.std.proofs.Common.{◌≡◌, ℕ, ◌-◌, Bool, true, false, not, ◌==◌, ◌&&◌, List, [], ◌∷◌, ◌++◌, reverse, length, get_or, take, chars, encode_utf8, encode_utf8_all, IsUtf8, Some, None, refl, sym, ap, subst, ◌∙◌, append_assoc, append-nil, arith, eq-eqb}
 use Rattle.std.specs.Bool.{Decides}
 use Rattle.std.specs.Char.{IsScalar}
 use lib.Utf8.{scalars}
 use Rattle.std.specs.List.{list_any}
 use Rattle.std.proofs.lemmas.Bool.{false≢true}
-use Rattle.std.proofs.lemmas.Bool.Decides.{Decides-like, Decides-at}
+use Rattle.std.proofs.lemmas.Bool.Decides.{not_from_Decides}
 use Rattle.std.proofs.lemmas.List.{reverse-append}
 use Rattle.std.proofs.Math.Seq.{take-append_seam}
 use Rattle.std.proofs.lemmas.Str.{chars-encodes, chars-append, IsUtf8-take, IsCharBoundary-at_seam, chars-nil}
@@ -27,32 +27,60 @@ parted_len : (r : Reading) (frames : List Frame) → r.frames ≡ frames → len
 parted_len r [] h = ap length h
 parted_len r (f ∷ frames) h = refl
 
+-- no match begins behind a slash of the text
+abbrev pub NoneBegins : Bool → List Part → List ℕ → Type 0
+NoneBegins inner parts t = (x y : List ℕ) → t ≡ x ++ 47 ∷ y → Accepts inner (reading parts) y → ⊥
+
 -- the marks are those over the end that was read, and in front of it the rest of the text is left
-pub record ReadBack (inner : Bool) (parts : List Part) (text : List ℕ) (marks : List Mark) (rest : List ℕ) (read : List ℕ) : Type 0 where
+pub record ReadBack (inner rooted : Bool) (parts : List Part) (text : List ℕ) (marks : List Mark) (rest : List ℕ) (read : List ℕ) : Type 0 where
   pub row : RowIs inner parts marks (reverse read)
+  pub unbegun : rooted ≡ false → NoneBegins inner parts (reverse read)
   pub text_is : rest ++ encode_utf8_all (reverse read) ≡ text
   pub scalars_are : scalars (reverse read) ≡ true
 
 reverse_more : (read : List ℕ) (c : ℕ) → reverse (read ++ c ∷ []) ≡ c ∷ reverse read
 reverse_more read c = reverse-append read (c ∷ [])
 
-pub back_first : (inner : Bool) (parts : List Part) (text : List ℕ) (old marks : List Mark) (rest : List ℕ) → marks ≡ (turned inner None parts old).marks → rest ≡ text → ReadBack inner parts text marks rest []
-back_first inner parts text old marks rest marks_are whole = record {
+none_in_nothing : (inner : Bool) (parts : List Part) → NoneBegins inner parts []
+none_in_nothing inner parts [] y e h = cc e
+none_in_nothing inner parts (d ∷ x) y e h = cc e
+
+none_more : (inner : Bool) (parts : List Part) (c : ℕ) (t : List ℕ) → NoneBegins inner parts t → (c ≡ 47 → Accepts inner (reading parts) t → ⊥) → NoneBegins inner parts (c ∷ t)
+none_more inner parts c t unbegun here [] y e h =
+    let same : y ≡ t = cc e in
+    let slash : c ≡ 47 = cc e in
+    here slash (subst (Accepts inner (reading parts)) same h)
+none_more inner parts c t unbegun here (d ∷ x) y e h = unbegun x y (cc e) h
+
+pub back_first : (inner rooted : Bool) (parts : List Part) (text : List ℕ) (old marks : List Mark) (rest : List ℕ) → marks ≡ (turned inner None parts old).marks → rest ≡ text → ReadBack inner rooted parts text marks rest []
+back_first inner rooted parts text old marks rest marks_are whole = record {
   row = subst (λ ms. RowIs inner parts ms []) (sym marks_are) (turned_is inner None [] parts old tt).row;
+  unbegun = λ _. none_in_nothing inner parts;
   text_is = append-nil rest ∙ whole;
   scalars_are = refl;
 }
 
-both_true : (a b : Bool) → a ≡ true → b ≡ true → (a && b) ≡ true
+pub both_true : (a b : Bool) → a ≡ true → b ≡ true → (a && b) ≡ true
 both_true a b p q = ap (λ v. v && b) p ∙ q
 
-pub back_more : (inner : Bool) (parts : List Part) (text : List ℕ) (old marks : List Mark) (before rest : List ℕ) (read : List ℕ) (c : ℕ) → ReadBack inner parts text old before read → before ≡ rest ++ encode_utf8 c → IsScalar c
-    → marks ≡ (turned inner (Some c) parts old).marks → ReadBack inner parts text marks rest (read ++ c ∷ [])
-back_more inner parts text old marks before rest read c h split scalar marks_are =
+not_begun : (slash rooted here : Bool) → (slash && not rooted && here) ≡ false → rooted ≡ false → slash ≡ true → here ≡ false
+not_begun true true here h free slash = absurd (false≢true (sym free))
+not_begun true false here h free slash = h
+not_begun false rooted here h free slash = absurd (false≢true slash)
+
+pub back_text : (text before rest : List ℕ) (t : List ℕ) (c : ℕ) → before ++ encode_utf8_all t ≡ text → before ≡ rest ++ encode_utf8 c → rest ++ encode_utf8_all (c ∷ t) ≡ text
+back_text text before rest t c whole split = sym (append_assoc rest (encode_utf8 c) (encode_utf8_all t)) ∙ ap (λ v. v ++ encode_utf8_all t) (sym split) ∙ whole
+
+pub back_more : (inner rooted : Bool) (parts : List Part) (text : List ℕ) (old marks : List Mark) (before rest : List ℕ) (read : List ℕ) (c : ℕ) → ReadBack inner rooted parts text old before read → before ≡ rest ++ encode_utf8 c → IsScalar c
+    → (c == 47 && not rooted && (first old).here) ≡ false → marks ≡ (turned inner (Some c) parts old).marks → ReadBack inner rooted parts text marks rest (read ++ c ∷ [])
+back_more inner rooted parts text old marks before rest read c h split scalar unbegun marks_are =
     let turn = turned_is inner (Some c) (reverse read) parts old h.row in
+    let here = first_is inner parts old (reverse read) h.row in
     record {
       row = subst (λ ms. RowIs inner parts ms (reverse (read ++ c ∷ []))) (sym marks_are) (subst (λ t. RowIs inner parts (turned inner (Some c) parts old).marks t) (sym (reverse_more read c)) turn.row);
-      text_is = ap (λ t. rest ++ encode_utf8_all t) (reverse_more read c) ∙ sym (append_assoc rest (encode_utf8 c) (encode_utf8_all (reverse read))) ∙ ap (λ t. t ++ encode_utf8_all (reverse read)) (sym split) ∙ h.text_is;
+      unbegun = λ free. subst (NoneBegins inner parts) (sym (reverse_more read c))
+          (none_more inner parts c (reverse read) (h.unbegun free) (λ slash. not_from_Decides (first old).here here (not_begun (c == 47) rooted (first old).here unbegun free (eq-eqb c 47 slash))));
+      text_is = ap (λ t. rest ++ encode_utf8_all t) (reverse_more read c) ∙ back_text text before rest (reverse read) c h.text_is split;
       scalars_are = ap scalars (reverse_more read c) ∙ both_true _ (scalars (reverse read)) scalar h.scalars_are;
     }
 
@@ -69,10 +97,9 @@ none_left [] h = refl
 none_left (b ∷ rest) h = absurd (omega arith)
 
 -- all was read
-pub back_all : (inner : Bool) (parts : List Part) (text : List ℕ) (marks : List Mark) (rest read : List ℕ) → IsUtf8 text → ReadBack inner parts text marks rest read → length rest ≡ 0 → Decides (first marks).here (Accepts inner (reading parts) (chars text))
-back_all inner parts text marks rest read utf8 h none =
-    let all : chars text ≡ reverse read = back_chars text rest (reverse read) utf8 h.text_is h.scalars_are ∙ ap (λ v. chars v ++ reverse read) (none_left rest none) ∙ ap (λ v. v ++ reverse read) chars-nil in
-    subst (λ t. Decides (first marks).here (Accepts inner (reading parts) t)) (sym all) (first_is inner parts marks (reverse read) h.row)
+pub back_all : (inner rooted : Bool) (parts : List Part) (text : List ℕ) (marks : List Mark) (rest read : List ℕ) → ReadBack inner rooted parts text marks rest read → IsUtf8 text → length rest ≡ 0 → chars text ≡ reverse read
+back_all inner rooted parts text marks rest read h utf8 none =
+    back_chars text rest (reverse read) utf8 h.text_is h.scalars_are ∙ ap (λ v. chars v ++ reverse read) (none_left rest none) ∙ ap (λ v. v ++ reverse read) chars-nil
 
 pub first_at : (marks : List Mark) → get_or marks 0 no_mark ≡ first marks
 first_at [] = refl
@@ -99,27 +126,3 @@ no_frames (f ∷ frames) h = absurd (omega arith)
 pub frames_none : (parts : List Part) → closers parts ≡ 0 → (reading parts).frames ≡ []
 frames_none parts h = no_frames (reading parts).frames (frames_len parts ∙ h)
 
-ends_nothing : (t : List ℕ) → Ends false t → t ≡ []
-ends_nothing [] h = refl
-ends_nothing (c ∷ t) h = absurd (false≢true h)
-
--- a whole text is accepted where it is in the glob
-pub whole_in : (parts : List Part) (t : List ℕ) → closers parts ≡ 0 → Accepts false (reading parts) t → InGlob (reading parts).pattern t
-whole_in parts t none h =
-    let (front, rest, e, i, k) = h in
-    let k' : Ends false rest = subst (λ fs. Follows false fs rest) (frames_none parts none) k in
-    subst (InGlob (reading parts).pattern) (sym (e ∙ ap (λ v. front ++ v) (ends_nothing rest k') ∙ append-nil front)) i
-
-pub in_whole : (parts : List Part) (t : List ℕ) → closers parts ≡ 0 → InGlob (reading parts).pattern t → Accepts false (reading parts) t
-in_whole parts t none i = (t, [], sym (append-nil t), i, subst (λ fs. Follows false fs []) (sym (frames_none parts none)) tt)
-
--- all was read: the first mark answers
-pub whole_read : (parts : List Part) (text : List ℕ) (marks : List Mark) (rest read : List ℕ) → closers parts ≡ 0 → IsUtf8 text → ReadBack false parts text marks rest read → length rest ≡ 0 → Decides (get_or marks 0 no_mark).here (InGlob (reading parts).pattern (chars text))
-whole_read parts text marks rest read none utf8 h done =
-    Decides-at (get_or marks 0 no_mark).here (first marks).here (ap (λ (m : Mark). m.here) (first_at marks)) (Decides-like (first marks).here (whole_in parts (chars text) none) (in_whole parts (chars text) none) (back_all false parts text marks rest read utf8 h done))
-
--- no mark is left: the text isn't in the glob
-pub off_read : (parts : List Part) (text : List ℕ) (marks : List Mark) (rest read : List ℕ) → closers parts ≡ 0 → IsUtf8 text → ReadBack false parts text marks rest read → list_any is_marked marks ≡ false → InGlob (reading parts).pattern (chars text) → ⊥
-off_read parts text marks rest read none utf8 h off i =
-    let all : chars text ≡ onto (reverse (chars rest)) (reverse read) = back_chars text rest (reverse read) utf8 h.text_is h.scalars_are ∙ sym (onto_reverse (chars rest) (reverse read)) in
-    off_stays parts (reverse (chars rest)) (reverse read) marks h.row (are_off marks off) (subst (Accepts false (reading parts)) all (in_whole parts (chars text) none i))

@@ -1,6 +1,7 @@
 pub mod Bounds
 pub mod Ends
 pub mod Faults
+pub mod Lines
 pub mod Literal
 pub mod Passes
 pub mod Rows

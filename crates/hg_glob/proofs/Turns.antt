@@ -1,5 +1,5 @@
 -- A row from the row before, as the texts that it speaks of; a row without marks stays without.
-use Rattle.std.proofs.Common.{◌≡◌, ℕ, Bool, true, false, not, cond, ◌&&◌, ◌||◌, ◌==◌, List, [], ◌∷◌, ◌++◌, drop, reverse, Option, Some, None, refl, sym, ap, ◌∙◌}
+use Rattle.std.proofs.Common.{◌≡◌, ℕ, Bool, true, false, not, cond, ◌&&◌, ◌||◌, ◌==◌, List, [], ◌∷◌, ◌++◌, drop, reverse, Option, Some, None, refl, sym, ap, subst, ◌∙◌}
 use Rattle.std.specs.Bool.{Decides}
 use Rattle.std.specs.List.{list_any}
 use Rattle.std.proofs.lemmas.Bool.{false≢true}
@@ -182,3 +182,6 @@ pub off_stays : (parts : List Part) (xs t : List ℕ) (marks : List Mark) → Ro
 off_stays parts [] t marks row off h = not_from_Decides (first marks).here (first_is false parts marks t row) (first_off marks off).here h
 off_stays parts (x ∷ xs) t marks row off h =
     off_stays parts xs (x ∷ t) (turned false (Some x) parts marks).marks (turned_is false (Some x) t parts marks row).row (turned_off false (Some x) parts marks refl off).0 h
+
+pub off_in_front : (parts : List Part) (xs t : List ℕ) (marks : List Mark) → RowIs false parts marks t → AreOff marks → Accepts false (reading parts) (xs ++ t) → ⊥
+off_in_front parts xs t marks row off h = off_stays parts (reverse xs) t marks row off (subst (Accepts false (reading parts)) (sym (onto_reverse xs t)) h)

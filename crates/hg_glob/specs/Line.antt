@@ -7,14 +7,11 @@ abbrev pub IsFront : Bool → List ℕ → Type 0
 IsFront true a = a ≡ []
 IsFront false a = (a ≡ []) ⊎ ((dir : List ℕ) × (a ≡ dir ++ 47 ∷ []))
 
--- what stands behind it: nothing, or what is in the directory that it matched
-abbrev pub IsBack : List ℕ → Type 0
-IsBack c = (c ≡ []) ⊎ ((below : List ℕ) × (c ≡ 47 ∷ below))
+-- what stands behind it: nothing, or, where `inner` is set, what is below the directory that it matched
+abbrev pub IsBack : Bool → List ℕ → Type 0
+IsBack false c = c ≡ []
+IsBack true c = (c ≡ []) ⊎ ((below : List ℕ) × (c ≡ 47 ∷ below))
 
--- the path itself: directories, and then a text in the glob
-abbrev pub StandsAtEnd : Bool → Pattern → List ℕ → Type 0
-StandsAtEnd rooted g path = (a : List ℕ) × (b : List ℕ) × (path ≡ a ++ b) × IsFront rooted a × InGlob g b
-
--- the path, or one of its directories: directories, a text in the glob, and what is below it
-abbrev pub Stands : Bool → Pattern → List ℕ → Type 0
-Stands rooted g path = (a : List ℕ) × (b : List ℕ) × (c : List ℕ) × (path ≡ a ++ (b ++ c)) × IsFront rooted a × InGlob g b × IsBack c
+-- the path is directories, a text in the glob, and what is below it
+abbrev pub Stands : Bool → Bool → Pattern → List ℕ → Type 0
+Stands inner rooted g path = (a : List ℕ) × (b : List ℕ) × (c : List ℕ) × (path ≡ a ++ (b ++ c)) × IsFront rooted a × InGlob g b × IsBack inner c

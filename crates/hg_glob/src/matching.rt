@@ -1,11 +1,11 @@
-//! Whether a text is in a glob, by the marks over its ends, the shortest first.
+//! Whether a glob stands in a path, by the marks over the path's ends, the shortest first.
 
-ghost use Rattle.std.specs.Prelude.{◌≡◌, ◌+◌, ◌≤◌, ◌↔◌, length, IsTrue, chars};
+ghost use Rattle.std.specs.Prelude.{◌≡◌, ◌+◌, ◌<◌, ◌≤◌, ◌==◌, ◌&&◌, not, ◌↔◌, length, IsTrue, chars};
 ghost use Rattle.std.specs.List.{list_any};
-ghost use Rattle.hg_glob.specs.Row.{is_marked};
+ghost use Rattle.hg_glob.specs.Row.{is_marked, first};
 ghost use Rattle.hg_glob.specs.Part.{reading};
 ghost use Rattle.hg_glob.specs.Refusal.{closers};
-ghost use Rattle.hg_glob.specs.Pattern.{InGlob};
+ghost use Rattle.hg_glob.specs.Line.{Stands};
 
 use crate::mark::{Going, Mark};
 use crate::part::Part;
@@ -24,18 +24,37 @@ fn is_on(marks: &[Mark]) -> bool
     marks.iter().any(|mark| is_marked(*mark))
 }
 
-/// Whether the whole text is in the glob of the parts. The marks are room for the work, one more than parts.
-pub fn accepts(parts: &[Part], text: &str, marks: &mut [Mark]) -> bool
+/// Whether a match may begin behind the character, and one does.
+fn begins_behind(c: char, rooted: bool, marks: &[Mark]) -> bool
+    requires { 0 < length marks.now }
+    ensures { result ≡ (c == 47 && not rooted && (first marks.now).here) }
+{
+    c == '/' && !rooted && marks[0].here
+}
+
+/// Whether no match can come any more.
+fn is_over(inner: bool, marks: &[Mark]) -> bool
+    ensures { result ≡ (not inner && not (list_any is_marked marks.now)) }
+{
+    !inner && !is_on(marks)
+}
+
+/// Whether the path is directories, a text in the glob of the parts, and what is below it: no directories in front where the
+/// glob is rooted, and nothing below but where `inner` is set. The marks are room for the work, one more than parts.
+pub fn stands(parts: &[Part], inner: bool, rooted: bool, path: &str, marks: &mut [Mark]) -> bool
     requires marks { length marks.old ≡ length parts.now + 1 }
     requires few { length parts.now ≤ 4095 }
     requires closed { closers parts.now ≡ 0 }
-    ensures { IsTrue result ↔ InGlob (reading parts.now).pattern (chars text.now) }
+    ensures { IsTrue result ↔ Stands inner rooted (reading parts.now).pattern (chars path.now) }
 {
     let mut going = Going::new();
-    turn(parts, false, None, marks, &mut going);
-    for c in text.chars().rev() {
-        turn(parts, false, Some(c), marks, &mut going);
-        if !is_on(marks) {
+    turn(parts, inner, None, marks, &mut going);
+    for c in path.chars().rev() {
+        if begins_behind(c, rooted, marks) {
+            return true;
+        }
+        turn(parts, inner, Some(c), marks, &mut going);
+        if is_over(inner, marks) {
             return false;
         }
     }

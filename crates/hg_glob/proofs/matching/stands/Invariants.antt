@@ -1,0 +1,7 @@
+use Rattle.std.specs.Str.Iter.{chars_rest}
+use Rattle.std.specs.Iterator.Adapters.{rev_source}
+use Rattle.hg_glob.proofs.Ends.{ReadBack}
+use Rattle.hg_glob.proofs.matching.stands.Given as goal
+
+abbrev pub invariant-loop-c : goal.invariant-loop-c
+invariant-loop-c l = ReadBack l.inner l.rooted l.parts l.path l.marks (chars_rest (rev_source l.c-iterator)) l.yielded
