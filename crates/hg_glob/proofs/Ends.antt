@@ -1,23 +1,20 @@
 -- A text read from its end.
 use Rattle.std.proofs.Common.{◌≡◌, ℕ, ◌-◌, Bool, true, false, not, ◌==◌, ◌&&◌, List, [], ◌∷◌, ◌++◌, reverse, length, get_or, take, chars, encode_utf8, encode_utf8_all, IsUtf8, Some, None, refl, sym, ap, subst, ◌∙◌, append_assoc, append-nil, arith, eq-eqb}
-use Rattle.std.specs.Bool.{Decides}
 use Rattle.std.specs.Char.{IsScalar}
 use lib.Utf8.{scalars}
-use Rattle.std.specs.List.{list_any}
 use Rattle.std.proofs.lemmas.Bool.{false≢true}
 use Rattle.std.proofs.lemmas.Bool.Decides.{not_from_Decides}
 use Rattle.std.proofs.lemmas.List.{reverse-append}
 use Rattle.std.proofs.Math.Seq.{take-append_seam}
 use Rattle.std.proofs.lemmas.Str.{chars-encodes, chars-append, IsUtf8-take, IsCharBoundary-at_seam, chars-nil}
-use Rattle.hg_glob.specs.Pattern.{InGlob}
 use Rattle.hg_glob.specs.Part.{Reading, Frame, reading, opened, parted}
 use Rattle.hg_glob.specs.Refusal.{closers}
-use Rattle.hg_glob.specs.Row.{first, turned, is_marked, no_mark}
+use Rattle.hg_glob.specs.Row.{first, turned, no_mark}
 use Rattle.hg_glob.specs.declared.part.Part.TheVariants as a_part
 use Rattle.hg_glob.specs.declared.part.Part.{Part}
 use Rattle.hg_glob.specs.declared.mark.Mark.{Mark}
-use Rattle.hg_glob.proofs.Rows.{RowIs, Accepts, Follows, Ends}
-use Rattle.hg_glob.proofs.Turns.{turned_is, first_is, off_stays, are_off, onto, onto_reverse}
+use Rattle.hg_glob.proofs.Rows.{RowIs, Accepts}
+use Rattle.hg_glob.proofs.Turns.{turned_is, first_is}
 
 opened_len : (r : Reading) (frames : List Frame) → r.frames ≡ frames → length (opened r frames).frames ≡ length frames - 1
 opened_len r [] h = ap length h

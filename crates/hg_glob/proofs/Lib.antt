@@ -1,4 +1,5 @@
 pub mod Bounds
+pub mod Edges
 pub mod Ends
 pub mod Faults
 pub mod Lines

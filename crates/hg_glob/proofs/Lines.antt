@@ -1,11 +1,11 @@
 -- Where a glob stands in a path, by the ends of the path that it accepts.
-use Rattle.std.proofs.Common.{◌≡◌, ℕ, Bool, true, false, not, ◌&&◌, ◌==◌, ◌⊎◌, inl, inr, List, [], ◌∷◌, ◌++◌, reverse, length, get_or, chars, encode_utf8, encode_utf8_all, IsUtf8, IsTrue, refl, sym, ap, subst, ◌∙◌, append_assoc, append-nil, arith, eqb-true, eq-eqb}
+use Rattle.std.proofs.Common.{◌≡◌, ℕ, Bool, true, false, not, ◌&&◌, ◌==◌, ◌⊎◌, inl, inr, List, [], ◌∷◌, ◌++◌, reverse, length, get_or, chars, encode_utf8, IsUtf8, refl, sym, ap, subst, ◌∙◌, append_assoc, eqb-true}
 use Rattle.std.specs.Bool.{Decides}
 use Rattle.std.specs.Char.{IsScalar}
 use Rattle.std.specs.List.{list_any}
 use lib.Utf8.{scalars}
 use Rattle.std.proofs.lemmas.Bool.{false≢true}
-use Rattle.hg_glob.specs.Pattern.{Pattern, InGlob}
+use Rattle.hg_glob.specs.Pattern.{InGlob}
 use Rattle.hg_glob.specs.Part.{reading}
 use Rattle.hg_glob.specs.Line.{IsFront, IsBack, Stands}
 use Rattle.hg_glob.specs.Refusal.{closers}

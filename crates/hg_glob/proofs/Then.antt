@@ -1,7 +1,8 @@
 -- A glob and then something: how it is accepted at no text, and at a text by its first character.
 use Rattle.std.proofs.Common.{◌≡◌, ℕ, Bool, true, false, ◌||◌, ◌==◌, ◌⊎◌, inl, inr, List, [], ◌∷◌, ◌++◌, IsTrue, refl, sym, ap, subst, ◌∙◌, append_assoc}
 use Rattle.std.proofs.lemmas.Bool.{false≢true}
-use Rattle.hg_glob.specs.Pattern.{Pattern, Choices, Span, empty, literal, one, listed, star, any, slashes, braces, last, choice, in_class, has_slash, InGlob, InChoices}
+use Rattle.hg_base.specs.PathText.{has_slash}
+use Rattle.hg_glob.specs.Pattern.{Pattern, Choices, Span, empty, literal, one, listed, star, any, slashes, braces, last, choice, in_class, InGlob, InChoices}
 
 -- a front in the glob, and behind it what is to follow
 abbrev pub Then : Pattern → (List ℕ → Type 0) → List ℕ → Type 0
@@ -62,7 +63,7 @@ listed_none negated spans g K (front, rest, e, (x, r, f, member, i), k) =
     let h : [] ≡ x ∷ (r ++ rest) = e ∙ ap (λ v. v ++ rest) f in
     cc h
 
-or_false : (a b : Bool) → (a || b) ≡ false → (a ≡ false) × (b ≡ false)
+pub or_false : (a b : Bool) → (a || b) ≡ false → (a ≡ false) × (b ≡ false)
 or_false false b h = (refl, h)
 or_false true b h = absurd (false≢true (sym h))
 

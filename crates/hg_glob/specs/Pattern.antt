@@ -1,5 +1,6 @@
 -- What a glob is, and the texts that stand in it (hgignore's globs; texts are lists of characters, Unicode scalar values).
-use Rattle.std.specs.Prelude.{ℕ, ◌≡◌, ◌⊎◌, if◌then◌else◌, Bool, false, not, ◌&&◌, ◌||◌, List, [], ◌∷◌, ◌++◌, ◌==◌, nat_le, IsTrue}
+use Rattle.std.specs.Prelude.{ℕ, ◌≡◌, ◌⊎◌, if◌then◌else◌, Bool, false, not, ◌&&◌, ◌||◌, List, [], ◌∷◌, ◌++◌, nat_le, IsTrue}
+use Rattle.hg_base.specs.PathText.{has_slash}
 
 -- the characters from `low` to `high`
 pub record Span : Type 0 where
@@ -30,11 +31,6 @@ in_spans c (s ∷ spans) = (nat_le s.low c && nat_le c s.high) || in_spans c spa
 -- a class takes what it lists, a negated one what it doesn't
 abbrev pub in_class : Bool → List Span → ℕ → Bool
 in_class negated spans c = if negated then not (in_spans c spans) else in_spans c spans
-
--- a slash stands in the text
-abbrev pub has_slash : List ℕ → Bool
-has_slash [] = false
-has_slash (c ∷ text) = c == 47 || has_slash text
 
 -- The text stands in the glob, by the glob's first part:
 -- a character is itself; `?` is any character; a class is one of its characters; `*` is any text without a slash; `**` is any

@@ -1,6 +1,7 @@
 //! Globs.
 #![tactic(auto)]
 
+mod edge;
 mod fault;
 mod glob;
 mod mark;

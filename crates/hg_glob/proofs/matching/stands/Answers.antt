@@ -1,4 +1,4 @@
-use Rattle.std.proofs.Common.{◌≡◌, false, refl, sym, ◌∙◌, rules, ap}
+use Rattle.std.proofs.Common.{refl, sym, ◌∙◌, rules, ap}
 use Rattle.std.specs.Char.{IsScalar}
 use Rattle.std.specs.Str.Iter.{chars_rest}
 use Rattle.std.specs.Iterator.Adapters.{rev_source}
