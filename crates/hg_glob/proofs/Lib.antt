@@ -1,3 +1,4 @@
+pub mod Bounding
 pub mod Bounds
 pub mod Edges
 pub mod Ends

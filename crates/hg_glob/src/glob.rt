@@ -1,12 +1,15 @@
 //! Globs: read from a text, and asked for a text.
 
-ghost use Rattle.std.specs.Prelude.{◌≡◌, ◌+◌, ◌≤◌, ◌↔◌, ◌++◌, [], List, ℕ, length, IsTrue, IfOk, chars, encode_utf8_all, string_bytes};
+ghost use Rattle.std.specs.Prelude.{true, false, ◌≡◌, ◌+◌, ◌≤◌, ◌↔◌, ◌++◌, [], List, ℕ, length, IsTrue, IfOk, chars, encode_utf8_all, string_bytes};
 ghost use Rattle.std.specs.Result.{result_err};
 ghost use Rattle.hg_glob.specs.Part.{parts_of, glob_of, head_of, tail_from, literal_of, ended};
+ghost use Rattle.hg_glob.specs.Line.{Stands};
 ghost use Rattle.hg_glob.specs.Pattern.{InGlob};
 ghost use Rattle.hg_glob.specs.Refusal.{refusal, Refuses};
 
+use crate::edge::{may_begin, may_end};
 use crate::fault::GlobFault;
+use crate::matching::stands_marked;
 use crate::part::Part;
 use crate::refusal::fault_of;
 use crate::spell::spell;
@@ -109,6 +112,41 @@ impl Glob {
             Some(fault) => Err(fault),
             None => Ok(Glob::of(alloc, text, parts)?),
         }
+    }
+
+    /// Whether the whole text is in the glob. It takes no memory.
+    pub fn matches(&self, text: &str) -> bool
+        ensures { IsTrue result ↔ InGlob (glob_of (chars self.now)) (chars text.now) }
+    {
+        self.stands(false, true, text)
+    }
+
+    /// Whether the path is some of its directories and then a text in the glob; where `rooted` is set, no directories stand in
+    /// front. It takes no memory.
+    pub fn matches_end(&self, path: &str, rooted: bool) -> bool
+        ensures { IsTrue result ↔ Stands false rooted (glob_of (chars self.now)) (chars path.now) }
+    {
+        self.stands(false, rooted, path)
+    }
+
+    /// Whether `matches_end` holds of the path or of a directory above it. It takes no memory.
+    pub fn matches_part(&self, path: &str, rooted: bool) -> bool
+        ensures { IsTrue result ↔ Stands true rooted (glob_of (chars self.now)) (chars path.now) }
+    {
+        self.stands(true, rooted, path)
+    }
+
+    /// What the three ask; the beginning and the end of the glob are looked for before any marks.
+    fn stands(&self, inner: bool, rooted: bool, path: &str) -> bool
+        ensures { IsTrue result ↔ Stands inner rooted (glob_of (chars self.now)) (chars path.now) }
+    {
+        if !may_end(inner, path, self.tail.as_str()) {
+            return false;
+        }
+        if !may_begin(rooted, path, self.head.as_str()) {
+            return false;
+        }
+        stands_marked(self.parts.as_slice(), inner, rooted, path)
     }
 
     /// The glob of a text and its parts.

@@ -41,7 +41,7 @@ fn is_over(inner: bool, marks: &[Mark]) -> bool
 
 /// Whether the path is directories, a text in the glob of the parts, and what is below it: no directories in front where the
 /// glob is rooted, and nothing below but where `inner` is set. The marks are room for the work, one more than parts.
-pub fn stands(parts: &[Part], inner: bool, rooted: bool, path: &str, marks: &mut [Mark]) -> bool
+fn stands(parts: &[Part], inner: bool, rooted: bool, path: &str, marks: &mut [Mark]) -> bool
     requires marks { length marks.old ≡ length parts.now + 1 }
     requires few { length parts.now ≤ 4095 }
     requires closed { closers parts.now ≡ 0 }
@@ -59,4 +59,21 @@ pub fn stands(parts: &[Part], inner: bool, rooted: bool, path: &str, marks: &mut
         }
     }
     marks[0].here
+}
+
+/// The same, with room of its own. Apart from its caller, which mostly needs no marks.
+#[inline(never)]
+pub fn stands_marked(parts: &[Part], inner: bool, rooted: bool, path: &str) -> bool
+    requires few { length parts.now ≤ 4095 }
+    requires closed { closers parts.now ≡ 0 }
+    ensures { IsTrue result ↔ Stands inner rooted (reading parts.now).pattern (chars path.now) }
+{
+    let none = Mark {
+        here: false,
+        behind: false,
+    };
+    let mut marks = [none; 4096];
+    let room: &mut [Mark] = &mut marks;
+    let (row, _) = room.split_at_mut(parts.len() + 1);
+    stands(parts, inner, rooted, path, row)
 }
