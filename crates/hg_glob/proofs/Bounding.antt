@@ -169,8 +169,8 @@ pub stands_begin : (inner rooted : Bool) (parts : List Part) (path head : List �
 stands_begin inner rooted parts path head may none utf8 head_is test (a, b, c, e, in_front, i, back) =
     let (more, split) = head_in parts b (taken parts b none i) in
     let whole : path ≡ encode_utf8_all a ++ (head ++ encode_utf8_all (more ++ c)) =
-        sym (encodes-chars path utf8) ∙ ap encode_utf8_all (e ∙ ap (λ v. a ++ (v ++ c)) split ∙ ap (λ v. a ++ v) (append_assoc (head_of parts) more c)) ∙ encodes-append a (head_of parts ++ (more ++ c))
-        ∙ ap (λ v. encode_utf8_all a ++ v) (encodes-append (head_of parts) (more ++ c)) ∙ ap (λ v. encode_utf8_all a ++ (v ++ encode_utf8_all (more ++ c))) (sym head_is) in
+    sym (encodes-chars path utf8) ∙ ap encode_utf8_all (e ∙ ap (λ v. a ++ (v ++ c)) split ∙ ap (λ v. a ++ v) (append_assoc (head_of parts) more c)) ∙ encodes-append a (head_of parts ++ (more ++ c))
+    ∙ ap (λ v. encode_utf8_all a ++ v) (encodes-append (head_of parts) (more ++ c)) ∙ ap (λ v. encode_utf8_all a ++ (v ++ encode_utf8_all (more ++ c))) (sym head_is) in
     test (encode_utf8_all a) (encode_utf8_all (more ++ c)) whole (front_bytes rooted a in_front)
 
 -- and its end
@@ -180,8 +180,8 @@ stands_end inner rooted parts path tail may none utf8 tail_is test (a, b, c, e, 
     let w : List ℕ = tail_from [] parts in
     let (front, split) = tail_in parts b (taken parts b none i) in
     let whole : path ≡ (encode_utf8_all (a ++ front) ++ tail) ++ encode_utf8_all c =
-        sym (encodes-chars path utf8) ∙ ap encode_utf8_all (e ∙ ap (λ v. a ++ (v ++ c)) split ∙ sym (append_assoc a (front ++ w) c) ∙ ap (λ v. v ++ c) (sym (append_assoc a front w))) ∙ encodes-append ((a ++ front) ++ w) c
-        ∙ ap (λ v. v ++ encode_utf8_all c) (encodes-append (a ++ front) w) ∙ ap (λ v. (encode_utf8_all (a ++ front) ++ v) ++ encode_utf8_all c) (sym tail_is) in
+    sym (encodes-chars path utf8) ∙ ap encode_utf8_all (e ∙ ap (λ v. a ++ (v ++ c)) split ∙ sym (append_assoc a (front ++ w) c) ∙ ap (λ v. v ++ c) (sym (append_assoc a front w))) ∙ encodes-append ((a ++ front) ++ w) c
+    ∙ ap (λ v. v ++ encode_utf8_all c) (encodes-append (a ++ front) w) ∙ ap (λ v. (encode_utf8_all (a ++ front) ++ v) ++ encode_utf8_all c) (sym tail_is) in
     test (encode_utf8_all (a ++ front)) (encode_utf8_all c) whole (back_bytes inner c back)
 
 -- what a glob keeps: its parts make the glob that its text spells, there is room for them, and each `}` stands behind its `{`

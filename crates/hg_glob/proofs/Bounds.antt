@@ -64,8 +64,8 @@ starred_within : (rest : List ℕ) → IsWithin rest (starred rest)
 starred_within rest =
     if_cases (IsWithin rest) (begins 42 rest) _ _
     (λ one. if_cases (IsWithin rest) (begins 47 (drop 1 rest)) _ _
-        (λ two. record { few = omega arith; there = omega (arith, begins_some 47 (drop 1 rest) two, length-drop 1 rest) })
-        (λ _. record { few = omega arith; there = begins_some 42 rest one }))
+    (λ two. record { few = omega arith; there = omega (arith, begins_some 47 (drop 1 rest) two, length-drop 1 rest) })
+    (λ _. record { few = omega arith; there = begins_some 42 rest one }))
     (λ _. single_within rest a_part.Star)
 
 -- a class ends within the text

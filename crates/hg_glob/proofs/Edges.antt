@@ -34,7 +34,7 @@ slash_inside (f ∷ front) rest [] end e quiet =
     absurd (false≢true (sym (or_false (f == 47) (has_slash front) quiet).0 ∙ ap (λ v. v == 47) slash))
 slash_inside (f ∷ front) rest (d ∷ dir) end e quiet =
     elim (slash_inside front rest dir end (cc e) (or_false (f == 47) (has_slash front) quiet).1) [
-      inl p ↦ inl (let same : d ≡ f = cc e in cc (same, p.0), p.1)
+      | inl p ↦ inl (let same : d ≡ f = cc e in cc (same, p.0), p.1)
       | inr q ↦ inr q
     ]
 
@@ -66,7 +66,7 @@ begins_behind : (head rest left b x y : List ℕ) → starts_with nat_eq left he
 begins_behind head rest left b x y other cut quiet e (inl nothing) = absurd (begins_here head rest b left other e nothing)
 begins_behind head rest left b x y other cut quiet e (inr (dir, slash)) =
     elim (slash_inside x y dir (head ++ rest) (sym cut ∙ cut_front dir (head ++ rest) left b e slash) quiet) [
-      inl p ↦ ([], sym p.1, inl refl)
+      | inl p ↦ ([], sym p.1, inl refl)
       | inr q ↦ (q.0 ++ 47 ∷ [], q.1 ∙ sym (append_assoc q.0 (47 ∷ []) (head ++ rest)), inr (q.0, refl))
     ]
 
@@ -112,7 +112,7 @@ ends_before : (front tail d left x y : List ℕ) → ends_with nat_eq left tail 
 ends_before front tail d left x y other cut quiet e (inl nothing) = absurd (ends_here front tail d left other e nothing)
 ends_before front tail d left x y other cut quiet e (inr (below, slash)) =
     elim (slash_last (front ++ tail) below x y (sym (e ∙ ap (λ v. (front ++ tail) ++ v) slash) ∙ cut) quiet) [
-      inl q ↦ ([], q ∙ sym (append-nil (front ++ tail)), inl refl)
+      | inl q ↦ ([], q ∙ sym (append-nil (front ++ tail)), inl refl)
       | inr q ↦ (47 ∷ q.0, q.1, inr (q.0, refl))
     ]
 

@@ -122,4 +122,3 @@ no_frames (f ∷ frames) h = absurd (omega arith)
 
 pub frames_none : (parts : List Part) → closers parts ≡ 0 → (reading parts).frames ≡ []
 frames_none parts h = no_frames (reading parts).frames (frames_len parts ∙ h)
-

@@ -113,9 +113,8 @@ pub line_read : (inner rooted : Bool) (parts : List Part) (text : List ℕ) (mar
 line_read inner rooted parts text marks rest read none utf8 h done =
     let all = back_all inner rooted parts text marks rest read h utf8 done in
     let here = first_is inner parts marks (reverse read) h.row in
-    let at = ap (λ (m : Mark). m.here) (first_at marks) in
-    (
+    let at = ap (λ (m : Mark). m.here) (first_at marks) in (
       λ e. stands_from inner rooted parts (chars text) [] (chars text) none refl (front_nothing rooted) (subst (Accepts inner (reading parts)) (sym all) (here.0 (sym at ∙ e))),
       λ (a, b, c, e, in_front, i, back). at ∙ here.1 (subst (Accepts inner (reading parts)) all
-          (whole_from inner rooted parts (chars text) a (b ++ c) (λ free. subst (NoneBegins inner parts) (sym all) (h.unbegun free)) e in_front (accepts_behind inner parts b c none i back)))
+          (whole_from inner rooted parts (chars text) a (b ++ c) (λ free. subst (NoneBegins inner parts) (sym all) (h.unbegun free)) e in_front (accepts_behind inner parts b c none i back))),
     )

@@ -77,7 +77,7 @@ pub so_far_first : (inner : Bool) (c : Option ℕ) (parts : List Part) (old : Li
     → SoFar inner c parts old (length parts) (set old (length parts) end) (record { hit = false; braces = braces }) (get_or old (length parts) no_mark) now
 so_far_first inner c parts old end braces now few now_is end_is none =
     let e : turned inner c (drop (length parts) parts) (drop (length parts) old) ≡ record { marks = plain (is_end inner c) ∷ []; going = record { hit = false; braces = [] } } =
-        ap (λ ps. turned inner c ps (drop (length parts) old)) (drop_all (length parts) parts (omega arith)) ∙ turned_nil inner c (drop (length parts) old) in
+    ap (λ ps. turned inner c ps (drop (length parts) old)) (drop_all (length parts) parts (omega arith)) ∙ turned_nil inner c (drop (length parts) old) in
     record {
       place = omega arith;
       marks_are = set_last old (length parts) end few ∙ ap (λ (m : Mark). take (length parts) old ++ m ∷ []) (end_is ∙ ap plain now_is) ∙ ap (λ (t : Turned). take (length parts) old ++ t.marks) (sym e);
@@ -99,11 +99,11 @@ so_far_more inner c parts old k j marks going next now part other mark on h at f
     let parts_are : drop j parts ≡ part ∷ drop (suc j) parts = drop-cons parts j other inside ∙ ap (λ p. p ∷ drop (suc j) parts) (sym part_is) in
     let old_are : drop j old ≡ get_or old j no_mark ∷ drop (suc j) old = drop-cons old j no_mark (omega arith) in
     let whole : turned inner c (drop j parts) (drop j old) ≡ put T (step c part (get_or old j no_mark) (first (drop (suc j) old)) (first T.marks).here T.going) =
-        ap (λ ps. turned inner c ps (drop j old)) parts_are ∙ ap (turned inner c (part ∷ drop (suc j) parts)) old_are ∙ turned_more inner c part (drop (suc j) parts) (get_or old j no_mark) (drop (suc j) old) in
+    ap (λ ps. turned inner c ps (drop j old)) parts_are ∙ ap (turned inner c (part ∷ drop (suc j) parts)) old_are ∙ turned_more inner c part (drop (suc j) parts) (get_or old j no_mark) (drop (suc j) old) in
     let stepped_is : step c part (get_or marks j no_mark) next now going ≡ step c part (get_or old j no_mark) (first (drop (suc j) old)) (first T.marks).here T.going =
-        ap (λ was. step c part was next now going) here ∙ ap (λ n. step c part (get_or old j no_mark) n now going) hk.next_is
-        ∙ ap (λ n. step c part (get_or old j no_mark) (first (drop (suc j) old)) n going) hk.now_is
-        ∙ ap (step c part (get_or old j no_mark) (first (drop (suc j) old)) (first T.marks).here) hk.going_is in
+    ap (λ was. step c part was next now going) here ∙ ap (λ n. step c part (get_or old j no_mark) n now going) hk.next_is
+    ∙ ap (λ n. step c part (get_or old j no_mark) (first (drop (suc j) old)) n going) hk.now_is
+    ∙ ap (step c part (get_or old j no_mark) (first (drop (suc j) old)) (first T.marks).here) hk.going_is in
     let marked : mark ≡ (step c part (get_or old j no_mark) (first (drop (suc j) old)) (first T.marks).here T.going).mark = mark_is ∙ ap (λ (s : Stepped). s.mark) stepped_is in
     record {
       place = omega arith;

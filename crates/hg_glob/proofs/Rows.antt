@@ -143,7 +143,7 @@ class_is inner None t negated r was next now going h = record {
 class_is inner (Some c) t negated r was next now going h =
     let K : List ℕ → Type 0 = Follows inner r.frames in
     let member : Decides (cond negated (not going.hit) going.hit) (IsTrue (in_class negated r.spans c)) =
-        decides_same (cond negated (not going.hit) going.hit) (in_class negated r.spans c) (member_same negated going.hit (in_spans c r.spans) h.hit_is) in
+    decides_same (cond negated (not going.hit) going.hit) (in_class negated r.spans c) (member_same negated going.hit (in_spans c r.spans) h.hit_is) in
     record {
       here = Decides-like (cond negated (not going.hit) going.hit && next.here) (head_listed negated r.spans c r.pattern K t) (listed_head negated r.spans c r.pattern K t)
           (Decides-and (cond negated (not going.hit) going.hit) next.here member h.next_is);
@@ -220,8 +220,8 @@ slashes_is inner None t r was next now going h =
 slashes_is inner (Some c) t r was next now going h =
     let K : List ℕ → Type 0 = Follows inner r.frames in
     let past : Decides ((c == 47 && next.here) || was.behind) (Past (Then r.pattern K) (c ∷ t)) =
-        Decides-like ((c == 47 && next.here) || was.behind) (head_past (Then r.pattern K) c t) (past_head (Then r.pattern K) c t)
-        (Decides-or (c == 47 && next.here) was.behind (Decides-and (c == 47) next.here (Decides-eqb c 47) h.next_is) h.was_behind) in
+    Decides-like ((c == 47 && next.here) || was.behind) (head_past (Then r.pattern K) c t) (past_head (Then r.pattern K) c t)
+    (Decides-or (c == 47 && next.here) was.behind (Decides-and (c == 47) next.here (Decides-eqb c 47) h.next_is) h.was_behind) in
     record {
       here = Decides-like (now || ((c == 47 && next.here) || was.behind)) (then_slashes r.pattern K (c ∷ t)) (slashes_then r.pattern K (c ∷ t))
           (Decides-or now ((c == 47 && next.here) || was.behind) h.now_is past);

@@ -55,10 +55,10 @@ pub ranges_more : (done new goal : List Part) (place low high more : ℕ) (left 
     → high ≡ range_high low rest → more ≡ range_more rest → behind ≡ drop more rest → new ++ ranges_from 0 (place + (1 + more)) behind ≡ goal
 ranges_more done new goal place low high more left rest behind so_far left_is new_is high_is more_is behind_is =
     let tail : ranges_from 0 (place + (1 + more)) behind ≡ ranges_from 0 (place + (1 + range_more rest)) (drop (range_more rest) rest) =
-        ap (ranges_from 0 (place + (1 + more))) behind_is ∙ ap (λ n. ranges_from 0 (place + (1 + n)) (drop n rest)) more_is in
+    ap (ranges_from 0 (place + (1 + more))) behind_is ∙ ap (λ n. ranges_from 0 (place + (1 + n)) (drop n rest)) more_is in
     let step : ranges_from 0 place left ≡ a_part.Range place low high ∷ ranges_from 0 (place + (1 + more)) behind =
-        ap (ranges_from 0 place) left_is ∙ ranges_step place low rest ∙ ap (λ h. a_part.Range place low h ∷ ranges_from 0 (place + (1 + range_more rest)) (drop (range_more rest) rest)) (sym high_is)
-        ∙ ap (λ ps. a_part.Range place low high ∷ ps) (sym tail) in
+    ap (ranges_from 0 place) left_is ∙ ranges_step place low rest ∙ ap (λ h. a_part.Range place low h ∷ ranges_from 0 (place + (1 + range_more rest)) (drop (range_more rest) rest)) (sym high_is)
+    ∙ ap (λ ps. a_part.Range place low high ∷ ps) (sym tail) in
     ap (λ ps. ps ++ ranges_from 0 (place + (1 + more)) behind) new_is ∙ append_assoc done (a_part.Range place low high ∷ []) (ranges_from 0 (place + (1 + more)) behind) ∙ ap (λ ps. done ++ ps) (sym step) ∙ so_far
 
 pub ranges_done : (done goal : List Part) (place : ℕ) (left : List ℕ) → done ++ ranges_from 0 place left ≡ goal → length left ≡ 0 → done ≡ goal
@@ -69,9 +69,9 @@ pub parts_more : (done new goal : List Part) (depth on at c more : ℕ) (left re
 parts_more done new goal depth on at c more left rest behind so_far left_is new_is on_is more_is behind_is =
     let n : ℕ = (spelled depth at c rest).more in
     let tail : parts_from 0 on (at + (1 + more)) behind ≡ parts_from 0 (depth_after depth c) (at + (1 + n)) (drop n rest) =
-        ap (parts_from 0 on (at + (1 + more))) behind_is ∙ ap (λ k. parts_from 0 on (at + (1 + k)) (drop k rest)) more_is ∙ ap (λ d. parts_from 0 d (at + (1 + n)) (drop n rest)) on_is in
+    ap (parts_from 0 on (at + (1 + more))) behind_is ∙ ap (λ k. parts_from 0 on (at + (1 + k)) (drop k rest)) more_is ∙ ap (λ d. parts_from 0 d (at + (1 + n)) (drop n rest)) on_is in
     let step : parts_from 0 depth at left ≡ (spelled depth at c rest).parts ++ parts_from 0 on (at + (1 + more)) behind =
-        ap (parts_from 0 depth at) left_is ∙ parts_step depth at c rest ∙ ap (λ ps. (spelled depth at c rest).parts ++ ps) (sym tail) in
+    ap (parts_from 0 depth at) left_is ∙ parts_step depth at c rest ∙ ap (λ ps. (spelled depth at c rest).parts ++ ps) (sym tail) in
     ap (λ ps. ps ++ parts_from 0 on (at + (1 + more)) behind) new_is ∙ append_assoc done (spelled depth at c rest).parts (parts_from 0 on (at + (1 + more)) behind) ∙ ap (λ ps. done ++ ps) (sym step) ∙ so_far
 
 pub parts_done : (done goal : List Part) (depth at : ℕ) (left : List ℕ) → done ++ parts_from 0 depth at left ≡ goal → length left ≡ 0 → done ≡ goal

@@ -163,4 +163,3 @@ choice_chosen g choices K t (front, rest, e, inr i, k) = inr (front, rest, e, i,
 pub chosen_choice : (g : Pattern) (choices : Choices) (K : List ℕ → Type 0) (t : List ℕ) → Then g K t ⊎ Chosen choices K t → Chosen (choice g choices) K t
 chosen_choice g choices K t (inl (front, rest, e, i, k)) = (front, rest, e, inl i, k)
 chosen_choice g choices K t (inr (front, rest, e, i, k)) = (front, rest, e, inr i, k)
-

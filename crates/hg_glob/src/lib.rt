@@ -13,3 +13,6 @@ mod turn;
 
 pub use fault::GlobFault;
 pub use glob::Glob;
+
+#[cfg(test)]
+mod tests;

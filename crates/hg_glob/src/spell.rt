@@ -106,7 +106,13 @@ fn members(text: &[char]) -> Option<usize>
 }
 
 /// A class, or a bracket that is itself.
-fn push_bracket(parts: &mut Vec<Part>, negated: bool, at: u32, skipped: usize, text: &[char]) -> Result<usize, OutOfMemory>
+fn push_bracket(
+    parts: &mut Vec<Part>,
+    negated: bool,
+    at: u32,
+    skipped: usize,
+    text: &[char],
+) -> Result<usize, OutOfMemory>
     requires room { at + length text.now < 2 ^ 32 }
     requires few { skipped ≤ 1 }
     ensures { Puts (bracket negated at skipped text.now (members text.now)) parts.old.items parts.new.items result }
@@ -135,7 +141,13 @@ fn push_bracketed(parts: &mut Vec<Part>, at: u32, rest: &[char]) -> Result<usize
 
 /// The part that begins with the character `c`, at that place in so many open braces. It answers how many characters of the
 /// rest belong to it.
-fn push_spelled(parts: &mut Vec<Part>, depth: u32, at: u32, c: char, rest: &[char]) -> Result<usize, OutOfMemory>
+fn push_spelled(
+    parts: &mut Vec<Part>,
+    depth: u32,
+    at: u32,
+    c: char,
+    rest: &[char],
+) -> Result<usize, OutOfMemory>
     requires { at + length rest.now + 2 < 2 ^ 32 }
     ensures { Puts (spelled depth at c rest.now) parts.old.items parts.new.items result }
 {

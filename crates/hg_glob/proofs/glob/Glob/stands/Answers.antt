@@ -9,14 +9,14 @@ pub returns-then-not-may_end : goal.returns-then-not-may_end
 returns-then-not-may_end c = (
   λ e. absurd (false≢true e),
   λ s. absurd (none_ends c.args.inner c.args.rooted c.args.self.now _ c.self.inside.parts.items c.args.path.now _ c.as_str.result.now c.may_end.result c.self.view_is c.self.invariant.parts_are c.utf8.path c.self.invariant.tail_is c.as_str.ensures.value
-      c.may_end.ensures c.if-not-may_end.true s)
+      c.may_end.ensures c.if-not-may_end.true s),
 )
 
 pub returns-then-not-may_begin : goal.returns-then-not-may_begin
 returns-then-not-may_begin c = (
   λ e. absurd (false≢true e),
   λ s. absurd (none_begins c.args.inner c.args.rooted c.args.self.now _ c.self.inside.parts.items c.args.path.now _ c.as_str-2.result.now c.may_begin.result c.self.view_is c.self.invariant.parts_are c.utf8.path c.self.invariant.head_is c.as_str-2.ensures.value
-      c.may_begin.ensures c.if-not-may_begin.true s)
+      c.may_begin.ensures c.if-not-may_begin.true s),
 )
 
 pub stands_marked-requires-clause-few : goal.stands_marked-requires-clause-few
