@@ -10,3 +10,4 @@ pub mod Rows
 pub mod Spelled
 pub mod Then
 pub mod Turns
+pub mod Worked

@@ -1,19 +1,18 @@
 -- Where a glob stands in a path, by the ends of the path that it accepts.
-use Rattle.std.proofs.Common.{◌≡◌, ℕ, Bool, true, false, not, ◌&&◌, ◌==◌, ◌⊎◌, inl, inr, List, [], ◌∷◌, ◌++◌, reverse, length, get_or, chars, encode_utf8, IsUtf8, refl, sym, ap, subst, ◌∙◌, append_assoc, eqb-true}
+use Rattle.std.proofs.Common.{◌≡◌, ℕ, Bool, true, false, not, ◌&&◌, ◌==◌, ◌⊎◌, inl, inr, List, [], ◌∷◌, ◌++◌, reverse, length, get_or, chars, encode_utf8, IsUtf8, refl, sym, ap, subst, ◌∙◌, append_assoc, eqb-true, leb-true, nat_le}
 use Rattle.std.specs.Bool.{Decides}
 use Rattle.std.specs.Char.{IsScalar}
-use Rattle.std.specs.List.{list_any}
 use lib.Utf8.{scalars}
 use Rattle.std.proofs.lemmas.Bool.{false≢true}
 use Rattle.hg_glob.specs.Pattern.{InGlob}
 use Rattle.hg_glob.specs.Part.{reading}
 use Rattle.hg_glob.specs.Line.{IsFront, IsBack, Stands}
 use Rattle.hg_glob.specs.Refusal.{closers}
-use Rattle.hg_glob.specs.Row.{first, is_marked, no_mark}
+use Rattle.hg_glob.specs.Row.{first, no_mark, OffBelow}
 use Rattle.hg_glob.specs.declared.part.Part.{Part}
 use Rattle.hg_glob.specs.declared.mark.Mark.{Mark}
 use Rattle.hg_glob.proofs.Rows.{Accepts, Follows, Ends}
-use Rattle.hg_glob.proofs.Turns.{first_is, are_off, off_in_front}
+use Rattle.hg_glob.proofs.Turns.{first_is, AreOff, are_off, off_in_front}
 use Rattle.hg_glob.proofs.Ends.{ReadBack, NoneBegins, back_chars, back_text, back_all, first_at, frames_none, both_true}
 
 ends_back : (inner : Bool) (t : List ℕ) → Ends inner t → IsBack inner t
@@ -86,21 +85,16 @@ over_from false parts pre t path a end marks unbegun whole off e (inl nothing) h
 over_from false parts pre t path a end marks unbegun whole off e (inr (dir, slash)) h =
     over_at parts pre t end marks path (unbegun refl) whole off dir (e ∙ ap (λ v. v ++ end) slash ∙ append_assoc dir (47 ∷ []) end) h
 
-is_over_parts : (inner off : Bool) → (not inner && not off) ≡ true → (inner ≡ false) × (off ≡ false)
-is_over_parts true off h = absurd (false≢true h)
-is_over_parts false true h = absurd (false≢true h)
-is_over_parts false false h = (refl, refl)
-
-over_whole : (rooted : Bool) (parts : List Part) (text : List ℕ) (marks : List Mark) (rest read : List ℕ) → closers parts ≡ 0 → IsUtf8 text → ReadBack false rooted parts text marks rest read → list_any is_marked marks ≡ false
+over_whole : (rooted : Bool) (parts : List Part) (text : List ℕ) (marks : List Mark) (rest read : List ℕ) → closers parts ≡ 0 → IsUtf8 text → ReadBack false rooted parts text marks rest read → AreOff marks
     → Stands false rooted (reading parts).pattern (chars text) → ⊥
 over_whole rooted parts text marks rest read none utf8 h off (a, b, c, e, in_front, i, back) =
     over_from rooted parts (chars rest) (reverse read) (chars text) a (b ++ c) marks h.unbegun (back_chars text rest (reverse read) utf8 h.text_is h.scalars_are)
-    (λ xs. off_in_front parts xs (reverse read) marks h.row (are_off marks off)) e in_front (accepts_behind false parts b c none i back)
+    (λ xs. off_in_front parts xs (reverse read) marks h.row off) e in_front (accepts_behind false parts b c none i back)
 
-pub line_over : (inner rooted : Bool) (parts : List Part) (text : List ℕ) (marks : List Mark) (rest read : List ℕ) → closers parts ≡ 0 → IsUtf8 text → ReadBack inner rooted parts text marks rest read → (not inner && not (list_any is_marked marks)) ≡ true
-    → Stands inner rooted (reading parts).pattern (chars text) → ⊥
-line_over true rooted parts text marks rest read none utf8 h over s = absurd (false≢true over)
-line_over false rooted parts text marks rest read none utf8 h over s = over_whole rooted parts text marks rest read none utf8 h (is_over_parts false (list_any is_marked marks) over).1 s
+pub line_over : (inner rooted : Bool) (parts : List Part) (text : List ℕ) (marks : List Mark) (rest read : List ℕ) (low : ℕ) → closers parts ≡ 0 → IsUtf8 text → ReadBack inner rooted parts text marks rest read → OffBelow low marks
+    → (not inner && nat_le (length marks) low) ≡ true → Stands inner rooted (reading parts).pattern (chars text) → ⊥
+line_over true rooted parts text marks rest read low none utf8 h below over s = absurd (false≢true over)
+line_over false rooted parts text marks rest read low none utf8 h below over s = over_whole rooted parts text marks rest read none utf8 h (are_off low marks below (leb-true (length marks) low over)) s
 
 -- all was read: the first mark answers for the whole path, and no match began before
 whole_from : (inner rooted : Bool) (parts : List Part) (path a end : List ℕ) → (rooted ≡ false → NoneBegins inner parts path) → path ≡ a ++ end → IsFront rooted a → Accepts inner (reading parts) end → Accepts inner (reading parts) path

@@ -1,7 +1,10 @@
 -- A pass over the parts from the last to the first, in place.
-use Rattle.std.proofs.Common.{◌≡◌, ℕ, zero, suc, false, ◌+◌, ◌<◌, ◌≤◌, Bool, List, [], ◌∷◌, ◌++◌, length, get_or, take, drop, set, Option, refl, sym, ap, subst, ◌∙◌, arith, drop-cons, length-drop}
+use Rattle.std.proofs.Common.{◌≡◌, ℕ, zero, suc, true, false, cond, ◌+◌, ◌<◌, ◌≤◌, Bool, ◌&&◌, ◌||◌, ◌⊎◌, inl, inr, nat_lt, nat_le, List, [], ◌∷◌, ◌++◌, length, get_or, take, drop, set, Option, refl, sym, ap, subst, ◌∙◌, arith, drop-cons, length-drop, get_or-set_same, get_or-set_other, ltb-true, lt-ltb}
+use Rattle.std.proofs.lemmas.Bool.{false≢true, ltb-false, leb-false}
+use Rattle.std.proofs.lemmas.List.{set-get_or}
+use Rattle.hg_glob.proofs.Turns.{AreShut, step_off, step_shut, or_first, or_second}
 use Rattle.std.proofs.lemmas.List.{drop_all}
-use Rattle.hg_glob.specs.Row.{first, step, turned, plain, is_end, no_mark, Stepped, Turned, put, open_step, comma_step}
+use Rattle.hg_glob.specs.Row.{first, step, turned, plain, is_end, no_mark, is_marked, IsOff, OffBelow, Stepped, Turned, put, open_step, comma_step}
 use Rattle.hg_glob.specs.declared.part.Part.{Part}
 use Rattle.hg_glob.specs.declared.part.Part.TheVariants as a_part
 use Rattle.hg_glob.specs.declared.mark.Mark.{Mark}
@@ -118,3 +121,131 @@ pub so_far_done : (inner : Bool) (c : Option ℕ) (parts : List Part) (old : Lis
 so_far_done inner c parts old k marks going next now h at =
     let h0 : SoFar inner c parts old 0 marks going next now = subst (λ n. SoFar inner c parts old n marks going next now) at h in
     h0.marks_are
+
+below_of : (a b : ℕ) (r : Bool) → nat_lt a b ≡ r → (a < b) ⊎ (b ≤ a)
+below_of a b true h = inl (ltb-true a b h)
+below_of a b false h = inr (ltb-false a b h)
+
+below_cases : (a b : ℕ) → (a < b) ⊎ (b ≤ a)
+below_cases a b = below_of a b (nat_lt a b) refl
+
+le_cases : (a b : ℕ) → a ≤ b → (b ≡ a) ⊎ (a < b)
+le_cases a b h = elim (below_cases a b) [ inl less ↦ inr less | inr more ↦ inl (omega arith) ]
+
+and_there : (a b : Bool) → a ≡ true → (a && b) ≡ false → b ≡ false
+and_there true b t h = h
+and_there false b t h = absurd (false≢true t)
+
+shut_none : (braces : List Brace) → nat_lt 0 (length braces) ≡ false → AreShut braces
+shut_none [] h = tt
+shut_none (b ∷ braces) h = absurd (false≢true (sym h ∙ lt-ltb 0 (length (b ∷ braces)) (omega arith)))
+
+-- the pass has come down to place k, and from there on nothing is marked in front of `on`
+pub record Passing (inner : Bool) (c : Option ℕ) (parts : List Part) (old : List Mark) (k : ℕ) (marks : List Mark) (going : Going) (next : Mark) (now : Bool) (on : ℕ) (lit : Bool) : Type 0 where
+  pub so_far : SoFar inner c parts old k marks going next now
+  pub below : (i : ℕ) → k ≤ i → i < on → IsOff (get_or marks i no_mark)
+  pub shut : lit ≡ false → AreShut going.braces
+
+unmarked : (m : Mark) → is_marked m ≡ false → IsOff m
+unmarked m h = record { here = or_first m.here m.behind h; behind = or_second m.here m.behind h }
+
+-- nothing is marked at the place itself, or `on` is the place
+at_place : (m there : Mark) (i j on : ℕ) (b : Bool) → is_marked m ≡ b → there ≡ m → i ≡ j → i < cond b j on → IsOff there
+at_place m there i j on true marked same at below = absurd (omega arith)
+at_place m there i j on false marked same at below = subst IsOff (sym same) (unmarked m marked)
+
+past_place : (i j on : ℕ) (b : Bool) → j < i → i < cond b j on → i < on
+past_place i j on true past below = absurd (omega arith)
+past_place i j on false past below = below
+
+pub passing_first : (inner : Bool) (c : Option ℕ) (parts : List Part) (old : List Mark) (end : Mark) (braces : List Brace) (now : Bool) (on : ℕ) → length old ≡ length parts + 1 → now ≡ is_end inner c → end ≡ plain now → braces ≡ []
+    → on ≡ cond (is_marked end) (length parts) (length parts + 1)
+    → Passing inner c parts old (length parts) (set old (length parts) end) (record { hit = false; braces = braces }) (get_or old (length parts) no_mark) now on false
+passing_first inner c parts old end braces now on few now_is end_is none on_is = record {
+  so_far = so_far_first inner c parts old end braces now few now_is end_is none;
+  below = λ i from to.
+      let to' : i < cond (is_marked end) (length parts) (length parts + 1) = subst (λ n. i < n) on_is to in
+      elim (le_cases (length parts) i from) [
+        | inl at ↦ at_place end (get_or (set old (length parts) end) i no_mark) i (length parts) (length parts + 1) (is_marked end) refl
+            (ap (λ n. get_or (set old (length parts) end) n no_mark) at ∙ get_or-set_same old (length parts) end no_mark (omega arith)) at to'
+        | inr past ↦ let in_front = past_place i (length parts) (length parts + 1) (is_marked end) past to' in absurd (omega arith)
+      ];
+  shut = λ _. subst AreShut (sym none) tt;
+}
+
+shut_after : (lit now : Bool) (c : Option ℕ) (part : Part) (was next : Mark) (going on : Going) → on ≡ (step c part was next now going).going → (lit ≡ false → AreShut going.braces) → ((lit || now) && nat_lt 0 (length on.braces)) ≡ false → AreShut on.braces
+shut_after true now c part was next going on on_is shut off = shut_none on.braces off
+shut_after false true c part was next going on on_is shut off = shut_none on.braces off
+shut_after false false c part was next going on on_is shut off = subst (λ (g : Going). AreShut g.braces) (sym on_is) (step_shut c part was next false going refl (shut refl))
+
+pub passing_more : (inner : Bool) (c : Option ℕ) (parts : List Part) (old : List Mark) (k j : ℕ) (marks : List Mark) (going : Going) (next : Mark) (now : Bool) (on : ℕ) (lit : Bool) (part other : Part) (mark : Mark) (on_going : Going) (on' : ℕ) (lit' : Bool)
+    → Passing inner c parts old k marks going next now on lit → k ≡ suc j → length old ≡ length parts + 1 → length marks ≡ length old → part ≡ get_or parts j other
+    → mark ≡ (step c part (get_or marks j no_mark) next now going).mark → on_going ≡ (step c part (get_or marks j no_mark) next now going).going
+    → on' ≡ cond (is_marked mark) j on → lit' ≡ ((lit || now) && nat_lt 0 (length on_going.braces))
+    → Passing inner c parts old j (set marks j mark) on_going (get_or marks j no_mark) mark.here on' lit'
+passing_more inner c parts old k j marks going next now on lit part other mark on_going on' lit' h at few same part_is mark_is going_is on_is lit_is = record {
+  so_far = so_far_more inner c parts old k j marks going next now part other mark on_going h.so_far at few part_is mark_is going_is;
+  below = λ i from to.
+      let to' : i < cond (is_marked mark) j on = subst (λ n. i < n) on_is to in
+      elim (le_cases j i from) [
+        | inl here ↦ at_place mark (get_or (set marks j mark) i no_mark) i j on (is_marked mark) refl
+            (ap (λ n. get_or (set marks j mark) n no_mark) here ∙ get_or-set_same marks j mark no_mark (omega (arith, h.so_far.place))) here to'
+        | inr past ↦ subst IsOff (sym (get_or-set_other marks j i mark no_mark (omega arith))) (h.below i (omega arith) (past_place i j on (is_marked mark) past to'))
+      ];
+  shut = λ off. shut_after lit now c part (get_or marks j no_mark) next going on_going going_is h.shut (sym lit_is ∙ off);
+}
+
+off_is : (m : Mark) → IsOff m → m ≡ no_mark
+off_is m h = λ i. record { here = h.here i; behind = h.behind i }
+
+get_front : (k j : ℕ) (old tail : List Mark) → j < k → k ≤ length old → get_or (take k old ++ tail) j no_mark ≡ get_or old j no_mark
+get_front k j [] tail h few = absurd (omega arith)
+get_front zero j (o ∷ old) tail h few = absurd (omega arith)
+get_front (suc k) zero (o ∷ old) tail h few = refl
+get_front (suc k) (suc j) (o ∷ old) tail h few = get_front k j old tail (omega arith) (omega arith)
+
+-- the pass may stop where nothing is carried along, and nothing was marked in front
+stops : (inner : Bool) (c : Option ℕ) (parts : List Part) (old : List Mark) (k : ℕ) (marks : List Mark) (going : Going) (next : Mark) (now : Bool) → SoFar inner c parts old k marks going next now → length old ≡ length parts + 1
+    → ((j : ℕ) → j ≤ k → IsOff (get_or old j no_mark)) → now ≡ false → AreShut going.braces → marks ≡ (turned inner c parts old).marks
+stops inner c parts old zero marks going next now h few off dark shut = so_far_done inner c parts old 0 marks going next now h refl
+stops inner c parts old (suc j) marks going next now h few off dark shut =
+    let other : Part = a_part.Comma in
+    let part : Part = get_or parts j other in
+    let was : Mark = get_or marks j no_mark in
+    let s : Stepped = step c part was next now going in
+    let was_is : was ≡ get_or old j no_mark = ap (λ ms. get_or ms j no_mark) h.marks_are ∙ get_front (suc j) j old _ (omega arith) (omega (arith, h.place)) in
+    let was_off : IsOff was = subst IsOff (sym was_is) (off j (omega arith)) in
+    let next_off : IsOff next = subst IsOff (first_drop (suc j) old ∙ sym h.next_is) (off (suc j) (omega arith)) in
+    let stepped = step_off c part was next now going was_off next_off dark shut in
+    let more = so_far_more inner c parts old (suc j) j marks going next now part other s.mark s.going h refl few refl refl refl in
+    let same : set marks j s.mark ≡ marks = ap (λ m. set marks j m) (off_is s.mark stepped.0 ∙ sym (off_is was was_off)) ∙ set-get_or marks j no_mark in
+    sym same ∙ stops inner c parts old j (set marks j s.mark) s.going was s.mark.here more few (λ i below. off i (omega arith)) stepped.0.here stepped.1
+
+stopped : (k low : ℕ) (now lit : Bool) → (nat_lt 0 k && (nat_le low k || now || lit)) ≡ false → (k ≡ 0) ⊎ ((k < low) × (now ≡ false) × (lit ≡ false))
+stopped zero low now lit h = inl refl
+stopped (suc k) low now lit h =
+    let out = or_first (nat_le low (suc k) || now) lit (and_there (nat_lt 0 (suc k)) _ (lt-ltb 0 (suc k) (omega arith)) h) in
+    inr (leb-false low (suc k) (or_first (nat_le low (suc k)) now out), or_second (nat_le low (suc k)) now out, or_second (nat_le low (suc k) || now) lit (and_there (nat_lt 0 (suc k)) _ (lt-ltb 0 (suc k) (omega arith)) h))
+
+pub passing_marks : (inner : Bool) (c : Option ℕ) (parts : List Part) (old : List Mark) (low k : ℕ) (marks : List Mark) (going : Going) (next : Mark) (now : Bool) (on : ℕ) (lit : Bool) → Passing inner c parts old k marks going next now on lit → length old ≡ length parts + 1
+    → OffBelow low old → (nat_lt 0 k && (nat_le low k || now || lit)) ≡ false → marks ≡ (turned inner c parts old).marks
+passing_marks inner c parts old low k marks going next now on lit h few below out =
+    elim (stopped k low now lit out) [
+      | inl at ↦ so_far_done inner c parts old k marks going next now h.so_far at
+      | inr q ↦ stops inner c parts old k marks going next now h.so_far few (λ j up. below j (omega (arith, q.0))) q.1 (h.shut q.2)
+    ]
+
+pub passing_low : (inner : Bool) (c : Option ℕ) (parts : List Part) (old : List Mark) (low k : ℕ) (marks : List Mark) (going : Going) (next : Mark) (now : Bool) (on : ℕ) (lit : Bool) → Passing inner c parts old k marks going next now on lit → length old ≡ length parts + 1
+    → OffBelow low old → (nat_lt 0 k && (nat_le low k || now || lit)) ≡ false → OffBelow on marks
+passing_low inner c parts old low k marks going next now on lit h few below out =
+    λ j to. elim (below_cases j k) [
+      | inl in_front ↦ elim (stopped k low now lit out) [
+        | inl at ↦ absurd (omega arith)
+        | inr q ↦ subst IsOff (sym (ap (λ ms. get_or ms j no_mark) h.so_far.marks_are ∙ get_front k j old _ in_front (omega (arith, h.so_far.place)))) (below j (omega (arith, q.0)))
+      ]
+      | inr behind ↦ h.below j behind to
+    ]
+
+pub on_there : (k : ℕ) (b : Bool) → (nat_lt 0 k && b) ≡ true → 0 < k
+on_there zero b h = absurd (false≢true h)
+on_there (suc k) b h = omega arith

@@ -1,12 +1,11 @@
 -- A row from the row before, as the texts that it speaks of; a row without marks stays without.
-use Rattle.std.proofs.Common.{◌≡◌, ℕ, Bool, true, false, not, cond, ◌&&◌, ◌||◌, ◌==◌, List, [], ◌∷◌, ◌++◌, drop, reverse, Option, Some, None, refl, sym, ap, subst, ◌∙◌}
+use Rattle.std.proofs.Common.{◌≡◌, ℕ, zero, suc, ◌≤◌, length, arith, Bool, true, false, not, cond, ◌&&◌, ◌||◌, ◌==◌, List, [], ◌∷◌, ◌++◌, drop, reverse, Option, Some, None, refl, sym, ap, subst, ◌∙◌}
 use Rattle.std.specs.Bool.{Decides}
-use Rattle.std.specs.List.{list_any}
 use Rattle.std.proofs.lemmas.Bool.{false≢true}
 use Rattle.std.proofs.lemmas.List.{reverse-append}
 use Rattle.std.proofs.lemmas.Bool.Decides.{Decides-like, not_from_Decides}
 use Rattle.hg_glob.specs.Part.{before, reading}
-use Rattle.hg_glob.specs.Row.{first, step, turned, plain, is_end, no_mark, Turned, put, open_step, comma_step, is_char, is_inside, is_marked}
+use Rattle.hg_glob.specs.Row.{first, step, turned, plain, is_end, no_mark, Turned, put, open_step, comma_step, is_char, is_inside, IsOff, OffBelow}
 use Rattle.std.specs.Prelude.{is_some}
 use Rattle.hg_glob.specs.declared.part.Part.{Part}
 use Rattle.hg_glob.specs.declared.part.Part.TheVariants as a_part
@@ -84,10 +83,6 @@ turned_is inner c t (p ∷ parts) (m ∷ old) h =
     (first_there inner c p parts m old t h) (behind_there inner c p parts m old t h) (next_there inner c parts old t (rest_there inner c p parts m old t h))
 
 -- without marks
-pub record IsOff (m : Mark) : Type 0 where
-  pub here : m.here ≡ false
-  pub behind : m.behind ≡ false
-
 abbrev pub AreOff : List Mark → Type 0
 AreOff [] = Unit {0}
 AreOff (m ∷ marks) = IsOff m × AreOff marks
@@ -96,11 +91,11 @@ abbrev pub AreShut : List Brace → Type 0
 AreShut [] = Unit {0}
 AreShut (b ∷ bs) = (b.after ≡ false) × (b.found ≡ false) × AreShut bs
 
-or_first : (a b : Bool) → (a || b) ≡ false → a ≡ false
+pub or_first : (a b : Bool) → (a || b) ≡ false → a ≡ false
 or_first false b h = refl
 or_first true b h = absurd (false≢true (sym h))
 
-or_second : (a b : Bool) → (a || b) ≡ false → b ≡ false
+pub or_second : (a b : Bool) → (a || b) ≡ false → b ≡ false
 or_second false b h = h
 or_second true b h = absurd (false≢true (sym h))
 
@@ -111,11 +106,13 @@ and_no : (a b : Bool) → b ≡ false → (a && b) ≡ false
 and_no false b q = refl
 and_no true b q = q
 
-pub are_off : (marks : List Mark) → list_any is_marked marks ≡ false → AreOff marks
-are_off [] h = tt
-are_off (m ∷ marks) h =
-    let one = or_first (m.here || m.behind) (list_any is_marked marks) h in
-    (record { here = or_first m.here m.behind one; behind = or_second m.here m.behind one }, are_off marks (or_second (m.here || m.behind) (list_any is_marked marks) h))
+off_in_front_of : (low : ℕ) (m : Mark) (marks : List Mark) → OffBelow (suc low) (m ∷ marks) → OffBelow low marks
+off_in_front_of low m marks h j below = h (suc j) (omega arith)
+
+pub are_off : (low : ℕ) (marks : List Mark) → OffBelow low marks → length marks ≤ low → AreOff marks
+are_off low [] h few = tt
+are_off zero (m ∷ marks) h few = absurd (omega arith)
+are_off (suc low) (m ∷ marks) h few = (h zero (omega arith), are_off low marks (off_in_front_of low m marks h) (omega arith))
 
 first_off : (marks : List Mark) → AreOff marks → IsOff (first marks)
 first_off [] h = record { here = refl; behind = refl }
@@ -137,7 +134,7 @@ comma_off now hit [] off shut = (plain_off now off, tt)
 comma_off now hit (b ∷ bs) off shut = (plain_off b.after shut.0, (shut.0, or_no b.found now shut.1 off, shut.2))
 
 -- a part that nothing reaches gives no mark
-step_off : (c : Option ℕ) (p : Part) (was next : Mark) (now : Bool) (going : Going) → IsOff was → IsOff next → now ≡ false → AreShut going.braces → IsOff (step c p was next now going).mark × AreShut (step c p was next now going).going.braces
+pub step_off : (c : Option ℕ) (p : Part) (was next : Mark) (now : Bool) (going : Going) → IsOff was → IsOff next → now ≡ false → AreShut going.braces → IsOff (step c p was next now going).mark × AreShut (step c p was next now going).going.braces
 step_off c (a_part.Literal x) was next now going was_off next_off now_off shut = (plain_off (is_char x c && next.here) (and_no (is_char x c) next.here next_off.here), shut)
 step_off c a_part.One was next now going was_off next_off now_off shut = (plain_off (is_some c && next.here) (and_no (is_some c) next.here next_off.here), shut)
 step_off c (a_part.Class negated) was next now going was_off next_off now_off shut =
@@ -185,3 +182,16 @@ off_stays parts (x ∷ xs) t marks row off h =
 
 pub off_in_front : (parts : List Part) (xs t : List ℕ) (marks : List Mark) → RowIs false parts marks t → AreOff marks → Accepts false (reading parts) (xs ++ t) → ⊥
 off_in_front parts xs t marks row off h = off_stays parts (reverse xs) t marks row off (subst (Accepts false (reading parts)) (sym (onto_reverse xs t)) h)
+
+-- what is carried along stays without marks, where the part behind is without
+pub step_shut : (c : Option ℕ) (p : Part) (was next : Mark) (now : Bool) (going : Going) → now ≡ false → AreShut going.braces → AreShut (step c p was next now going).going.braces
+step_shut c (a_part.Open at) was next now going off shut = (open_off now going.hit going.braces off shut).1
+step_shut c a_part.Comma was next now going off shut = (comma_off now going.hit going.braces off shut).1
+step_shut c a_part.Close was next now going off shut = (off, refl, shut)
+step_shut c (a_part.Literal x) was next now going off shut = shut
+step_shut c a_part.One was next now going off shut = shut
+step_shut c (a_part.Class negated) was next now going off shut = shut
+step_shut c (a_part.Range at low high) was next now going off shut = shut
+step_shut c a_part.Star was next now going off shut = shut
+step_shut c a_part.Any was next now going off shut = shut
+step_shut c a_part.Slashes was next now going off shut = shut

@@ -49,6 +49,7 @@ ranges_from skipped at [] = []
 ranges_from zero at (low ∷ rest) = a_part.Range at low (range_high low rest) ∷ ranges_from (range_more rest) (at + 1) rest
 ranges_from (suc skipped) at (c ∷ rest) = ranges_from skipped (at + 1) rest
 
+-- the members of a class, the first at that place
 abbrev pub ranges : ℕ → List ℕ → List Part
 ranges at text = ranges_from 0 at text
 
@@ -69,7 +70,7 @@ bracketed at rest =
     then bracket true (at + 2) 1 (drop 1 rest) (members (drop 1 rest))
     else bracket false (at + 1) 0 rest (members rest)
 
--- The parts at the front of a text, by its first character, which stands at that place in so many open braces.
+-- the parts at the front of a text, by its first character, which stands at that place in so many open braces
 abbrev pub spelled : ℕ → ℕ → ℕ → List ℕ → Spelled
 spelled depth at c rest =
     if c == 92
@@ -167,6 +168,7 @@ abbrev pub literal_of : Part → Option ℕ
 literal_of (a_part.Literal c) = Some c
 literal_of _ = None
 
+-- a character in front of others; what is no character ends them
 abbrev pub begun : Option ℕ → List ℕ → List ℕ
 begun None rest = []
 begun (Some c) rest = c ∷ rest
@@ -176,6 +178,7 @@ abbrev pub head_of : List Part → List ℕ
 head_of [] = []
 head_of (part ∷ parts) = begun (literal_of part) (head_of parts)
 
+-- a character behind others; what is no character leaves none
 abbrev pub ended : List ℕ → Option ℕ → List ℕ
 ended text None = []
 ended text (Some c) = text ++ c ∷ []

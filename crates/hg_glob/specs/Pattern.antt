@@ -32,9 +32,9 @@ in_spans c (s ∷ spans) = (nat_le s.low c && nat_le c s.high) || in_spans c spa
 abbrev pub in_class : Bool → List Span → ℕ → Bool
 in_class negated spans c = if negated then not (in_spans c spans) else in_spans c spans
 
--- The text stands in the glob, by the glob's first part:
--- a character is itself; `?` is any character; a class is one of its characters; `*` is any text without a slash; `**` is any
--- text; `**/` is nothing, or any text that ends in a slash; braces are one of their choices.
+-- the text is in the glob, by the glob's first part: a character is itself; `?` is any character; a class is one of its
+-- characters; `*` is any text without a slash; `**` is any text; `**/` is nothing, or any text that ends in a slash; braces are
+-- one of their choices
 abbrev mutual
   pub InGlob : Pattern → List ℕ → Type 0
   InGlob empty text = text ≡ []

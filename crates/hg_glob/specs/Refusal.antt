@@ -32,6 +32,7 @@ abbrev pub reversed_at : Part → Option ℕ
 reversed_at (a_part.Range at low high) = if nat_lt high low then Some at else None
 reversed_at _ = None
 
+-- the first place, or the other where there is none
 abbrev pub or_else : Option ℕ → Option ℕ → Option ℕ
 or_else None other = other
 or_else (Some at) other = Some at

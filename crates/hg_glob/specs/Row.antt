@@ -1,5 +1,5 @@
 -- How the marks over a text follow from those over the text without its first character; for the private functions alone.
-use Rattle.std.specs.Prelude.{ℕ, if◌then◌else◌, Bool, true, false, not, ◌&&◌, ◌||◌, List, [], ◌∷◌, drop, Option, Some, None, ◌==◌, nat_le, is_some}
+use Rattle.std.specs.Prelude.{◌≡◌, ◌<◌, slice_index_or, ℕ, if◌then◌else◌, Bool, true, false, not, ◌&&◌, ◌||◌, List, [], ◌∷◌, drop, Option, Some, None, ◌==◌, nat_le, is_some}
 use Rattle.hg_glob.specs.declared.part.Part.{Part}
 use Rattle.hg_glob.specs.declared.part.Part.TheVariants as a_part
 use Rattle.hg_glob.specs.declared.mark.Mark.{Mark}
@@ -10,10 +10,20 @@ use Rattle.hg_glob.specs.declared.mark.Going.{Going}
 abbrev pub no_mark : Mark
 no_mark = record { here = false; behind = false }
 
+-- nothing reaches the place
+pub record IsOff (mark : Mark) : Type 0 where
+  pub here : mark.here ≡ false
+  pub behind : mark.behind ≡ false
+
+-- nothing reaches a place in front of that one
+abbrev pub OffBelow : ℕ → List Mark → Type 0
+OffBelow low marks = (j : ℕ) → j < low → IsOff (slice_index_or marks j no_mark)
+
 -- something reaches the place
 abbrev pub is_marked : Mark → Bool
 is_marked mark = mark.here || mark.behind
 
+-- the mark of a part that is no `**/`
 abbrev pub plain : Bool → Mark
 plain here = record { here = here; behind = false }
 
@@ -47,6 +57,7 @@ pub record Stepped : Type 0 where
   pub mark : Mark
   pub going : Going
 
+-- the same of such a part
 abbrev pub stepped : Bool → Going → Stepped
 stepped here going = record { mark = plain here; going = going }
 
@@ -81,6 +92,7 @@ pub record Turned : Type 0 where
   pub marks : List Mark
   pub going : Going
 
+-- a mark in front of a row
 abbrev pub put : Turned → Stepped → Turned
 put below one = record { marks = one.mark ∷ below.marks; going = one.going }
 

@@ -1,6 +1,6 @@
 //! The marks of a match: which parts accept a text from there on, and what a pass over them carries along.
 
-ghost use Rattle.std.specs.Prelude.{◌≡◌, ◌<◌, [], ◌∷◌, length, MatchOption};
+ghost use Rattle.std.specs.Prelude.{◌≡◌, ◌<◌, [], ◌∷◌, length, nat_lt, not, MatchOption};
 
 use std::marker::Model;
 
@@ -54,6 +54,12 @@ impl Braces {
         ensures { self.new ≡ [] }
     {
         self.count = 0;
+    }
+
+    pub fn is_empty(&self) -> bool
+        ensures { result ≡ not (nat_lt 0 (length self.now)) }
+    {
+        self.count == 0
     }
 
     pub fn push(&mut self, brace: Brace)

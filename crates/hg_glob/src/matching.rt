@@ -1,8 +1,7 @@
 //! Whether a glob stands in a path, by the marks over the path's ends, the shortest first.
 
-ghost use Rattle.std.specs.Prelude.{◌≡◌, ◌+◌, ◌<◌, ◌≤◌, ◌==◌, ◌&&◌, not, ◌↔◌, length, IsTrue, chars};
-ghost use Rattle.std.specs.List.{list_any};
-ghost use Rattle.hg_glob.specs.Row.{is_marked, first};
+ghost use Rattle.std.specs.Prelude.{◌≡◌, ◌+◌, ◌<◌, nat_le, ◌≤◌, ◌==◌, ◌&&◌, not, ◌↔◌, length, IsTrue, chars};
+ghost use Rattle.hg_glob.specs.Row.{first};
 ghost use Rattle.hg_glob.specs.Part.{reading};
 ghost use Rattle.hg_glob.specs.Refusal.{closers};
 ghost use Rattle.hg_glob.specs.Line.{Stands};
@@ -10,19 +9,6 @@ ghost use Rattle.hg_glob.specs.Line.{Stands};
 use crate::mark::{Going, Mark};
 use crate::part::Part;
 use crate::turn::turn;
-
-fn is_marked(mark: Mark) -> bool
-    ensures { result ≡ is_marked mark }
-{
-    mark.here || mark.behind
-}
-
-/// Whether a mark is left: without one no longer text is accepted either.
-fn is_on(marks: &[Mark]) -> bool
-    ensures { result ≡ list_any is_marked marks.now }
-{
-    marks.iter().any(|mark| is_marked(*mark))
-}
 
 /// Whether a match may begin behind the character, and one does.
 fn begins_behind(c: char, rooted: bool, marks: &[Mark]) -> bool
@@ -32,11 +18,11 @@ fn begins_behind(c: char, rooted: bool, marks: &[Mark]) -> bool
     c == '/' && !rooted && marks[0].here
 }
 
-/// Whether no match can come any more.
-fn is_over(inner: bool, marks: &[Mark]) -> bool
-    ensures { result ≡ (not inner && not (list_any is_marked marks.now)) }
+/// Whether no match can come any more: nothing is marked in front of `low`, and there are so many marks.
+fn is_over(inner: bool, low: usize, count: usize) -> bool
+    ensures { result ≡ (not inner && nat_le count low) }
 {
-    !inner && !is_on(marks)
+    !inner && count <= low
 }
 
 /// Whether the path is directories, a text in the glob of the parts, and what is below it: no directories in front where the
@@ -48,13 +34,13 @@ fn stands(parts: &[Part], inner: bool, rooted: bool, path: &str, marks: &mut [Ma
     ensures { IsTrue result ↔ Stands inner rooted (reading parts.now).pattern (chars path.now) }
 {
     let mut going = Going::new();
-    turn(parts, inner, None, marks, &mut going);
+    let mut low = turn(parts, inner, None, 0, marks, &mut going);
     for c in path.chars().rev() {
         if begins_behind(c, rooted, marks) {
             return true;
         }
-        turn(parts, inner, Some(c), marks, &mut going);
-        if is_over(inner, marks) {
+        low = turn(parts, inner, Some(c), low, marks, &mut going);
+        if is_over(inner, low, marks.len()) {
             return false;
         }
     }

@@ -1,9 +1,9 @@
 //! One pass over the parts of a glob, from the last to the first: the marks over a text with one character more in front.
 
-ghost use Rattle.std.specs.Prelude.{◌≡◌, ◌+◌, ◌<◌, ◌≤◌, ◌||◌, if◌then◌else◌, length, is_some};
-ghost use Rattle.hg_glob.specs.Row.{is_char, is_inside, is_between, is_end, step, stepped, open_step, comma_step, turned, plain};
+ghost use Rattle.std.specs.Prelude.{◌≡◌, ◌+◌, ◌<◌, ◌≤◌, ◌||◌, ◌&&◌, nat_lt, nat_le, if◌then◌else◌, length, is_some};
+ghost use Rattle.hg_glob.specs.Row.{is_char, is_inside, is_between, is_end, step, stepped, open_step, comma_step, turned, plain, OffBelow, is_marked};
 
-use crate::mark::{Brace, Going, Mark};
+use crate::mark::{Brace, Braces, Going, Mark};
 use crate::part::Part;
 
 /// No part behind is reached by a slash.
@@ -120,25 +120,62 @@ fn step(part: Part, c: Option<char>, was: Mark, next: Mark, now: bool, going: &m
     }
 }
 
+/// Whether the pass goes on to the part in front of place `k`. In front of `low` nothing was marked, so a mark comes there only
+/// from the part behind it, or from braces that are lit.
+fn goes_on(k: usize, low: usize, now: bool, lit: bool) -> bool
+    ensures { result ≡ (nat_lt 0 k && (nat_le low k || now || lit)) }
+{
+    k > 0 && (low <= k || now || lit)
+}
+
+/// The first place that something reaches, where the place `k` is in front of the others.
+fn first_on(mark: Mark, k: usize, on: usize) -> usize
+    ensures { result ≡ (if is_marked mark then k else on) }
+{
+    if mark.here || mark.behind { k } else { on }
+}
+
+/// Whether something may be known of the braces around.
+fn is_lit(lit: bool, now: bool, braces: &Braces) -> bool
+    ensures { result ≡ ((lit || now) && nat_lt 0 (length braces.now)) }
+{
+    (lit || now) && !braces.is_empty()
+}
+
 /// The marks over a text from those over the text without its first character `c`, in place. Over no text there is no
-/// character, and the marks before don't count.
-pub fn turn(parts: &[Part], inner: bool, c: Option<char>, marks: &mut [Mark], going: &mut Going)
+/// character, and the marks before don't count. Nothing was marked in front of `low`, and nothing is in front of the answer.
+pub fn turn(
+    parts: &[Part],
+    inner: bool,
+    c: Option<char>,
+    low: usize,
+    marks: &mut [Mark],
+    going: &mut Going,
+) -> usize
     requires marks { length marks.old ≡ length parts.now + 1 }
     requires few { length parts.now ≤ 4095 }
-    ensures { marks.new ≡ (turned inner c parts.now marks.old).marks }
+    requires low { OffBelow low marks.old }
+    ensures marks { marks.new ≡ (turned inner c parts.now marks.old).marks }
+    ensures low { OffBelow result marks.new }
 {
     going.hit = false;
     going.braces.clear();
     let mut k = parts.len();
     let mut next = marks[k];
     let mut now = is_end(inner, c);
-    marks[k] = plain(now);
-    while k > 0 {
+    let end = plain(now);
+    marks[k] = end;
+    let mut on = first_on(end, k, k + 1);
+    let mut lit = false;
+    'pass: while goes_on(k, low, now, lit) {
         k -= 1;
         let was = marks[k];
         let mark = step(parts[k], c, was, next, now, going);
         marks[k] = mark;
+        on = first_on(mark, k, on);
+        lit = is_lit(lit, now, &going.braces);
         next = was;
         now = mark.here;
     }
+    on
 }
