@@ -1,0 +1,13 @@
+pub mod Bounding
+pub mod Bounds
+pub mod Edges
+pub mod Ends
+pub mod Faults
+pub mod Lines
+pub mod Literal
+pub mod Passes
+pub mod Rows
+pub mod Spelled
+pub mod Then
+pub mod Turns
+pub mod Worked

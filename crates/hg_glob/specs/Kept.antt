@@ -1,0 +1,11 @@
+-- What a glob keeps.
+use Rattle.std.specs.Prelude.{ℕ, ◌≡◌, ◌≤◌, List, [], length, chars, encode_utf8_all}
+use Rattle.hg_glob.specs.Part.{parts_of, head_of, tail_from}
+use Rattle.hg_glob.specs.declared.part.Part.{Part}
+
+-- its text, the parts of it, and the bytes that they begin and end with
+pub record IsKept (text : List ℕ) (parts : List Part) (head tail : List ℕ) : Type 0 where
+  pub few : length text ≤ 4095
+  pub parts_are : parts ≡ parts_of (chars text)
+  pub head_is : head ≡ encode_utf8_all (head_of parts)
+  pub tail_is : tail ≡ encode_utf8_all (tail_from [] parts)

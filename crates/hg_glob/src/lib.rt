@@ -1,0 +1,49 @@
+//! Globs as an ignore text has them (Mercurial's `hg help patterns` and `hg help hgignore`), in this project's profile, over Unicode characters.
+//!
+//! | part | stands for |
+//! |---|---|
+//! | `*` | any text without a slash |
+//! | `**/` | nothing, or any text that ends in a slash |
+//! | `**` elsewhere | any text |
+//! | `?` | any one character, a slash too |
+//! | `[..]`, `[!..]` | one character that is listed, or isn't; `x-y` is a range; the first character is a member whatever it is |
+//! | `[` without its `]` | itself |
+//! | `{a,b}` | one of the choices, which may be empty and have braces of their own |
+//! | `,` or `}` outside braces | itself |
+//! | `\x` | x; a `\` at the end is itself |
+//!
+//! Stars are read from the left, two at a time: `***/` is `**`, `*`, `/`. A class goes to its `]` before braces are looked at.
+//!
+//! ```text
+//! let glob = Glob::read(alloc, "*.{c,h}")?;
+//! glob.matches("a.c");              // true
+//! glob.matches("src/a.c");          // false: the star doesn't cross the slash
+//! glob.matches_end("src/a.c", false);      // true: directories may stand in front
+//! glob.matches_part("src/a.c/x", false);   // true: a directory above the path matches
+//! Glob::read(alloc, "{a");          // Err(GlobFault::Unbalanced { at: 0 })
+//! ```
+//!
+//! `Glob` is the one type; contracts see its text. What a glob is and which texts stand in it is said in `specs/Pattern.antt`, how a
+//! text spells one in `specs/Part.antt`, why a text is none in `specs/Refusal.antt`, and where a glob line stands in a path in
+//! `specs/Line.antt`.
+//!
+//! A text is read from its end, with one mark for each part: whether the end that was read is accepted from that part on. A character
+//! more in front gives the next row of marks in one pass over the parts, in place; the mark of the first part answers for every
+//! beginning of a match, so one reading answers for a whole path.
+#![tactic(auto)]
+
+mod edge;
+mod fault;
+mod glob;
+mod mark;
+mod matching;
+mod part;
+mod refusal;
+mod spell;
+mod turn;
+
+pub use fault::GlobFault;
+pub use glob::Glob;
+
+#[cfg(test)]
+mod tests;
