@@ -1,5 +1,5 @@
 -- What a listing and a command answer, from what their parts answer.
-use Rattle.std.proofs.Common.{ℕ, ◌≡◌, Bool, true, false, List, [], ◌∷◌, map, Option, Some, None, Result, Ok, Err, IsTrue, IfErr, IfOk, IfSome, OnOk, codes, option_map, refl, sym, ap, ◌∙◌, subst, inl, inr, ◌⊎◌, arith}
+use Rattle.std.proofs.Common.{ℕ, ◌≡◌, Bool, true, false, List, [], ◌∷◌, map, Option, Some, None, Ok, Err, IsTrue, IfSome, codes, option_map, refl, sym, ap, ◌∙◌, subst, inl, inr, arith}
 use Rattle.std.specs.List.{AllByRecursion}
 use Rattle.std.specs.Option.{MatchOption}
 use Rattle.std.proofs.lemmas.Bool.{cases_Bool}
@@ -17,8 +17,6 @@ use Rattle.hg_flat.specs.Asked.{AsksFor, AsksNothing, IsVisibleDir}
 use Rattle.hg_flat.proofs.Asks.{asks_then, asks_weaker}
 use Rattle.hg_flat.proofs.Fullness.{full_of}
 use Rattle.hg_flat.proofs.Moved.{full_moved}
-use Rattle.hg_image.specs.Reading.{RecordFault}
-use Rattle.hg_image.specs.Reading as a_record_fault
 use Rattle.hg_report.specs.Cause.{of_status}
 use Rattle.hg_report.specs.Status.{text_of}
 use Rattle.hg_stream.specs.Stream.{Grown, GrownByFront}
@@ -34,12 +32,12 @@ use Rattle.hg_tree.specs.declared.thing.Placed.{Placed}
 use Rattle.hg_tree.specs.declared.thing.Thing.{Thing}
 use Rattle.hg_tree.specs.declared.thing.Thing.TheVariants as a_thing
 use Rattle.hg_tree.specs.Still.{Untouched}
-use Rattle.hg_tree.proofs.Histories.{extends_trans, now_same, quiet_first}
+use Rattle.hg_tree.proofs.Histories.{now_same, quiet_first}
 use Rattle.hg_tree.proofs.Spans.{passes_trans}
 use Rattle.hg_tree.proofs.Stillness.{alike_between, ours_quiet, quiet_untouched, untouched_second}
 use Rattle.hg_cli.specs.Call.{Call, Fails, Looked, Serves, Watched}
-use Rattle.hg_cli.specs.Command.{CommandCause, IsBegun, IsBegunFor, IsExpected, IsFaultOrMemory, IsPrinted, IsPrintedFor, LeavesFront, LeavesOut, MetBefore, MetPrinting, Prints, Ran, is_status, plain_style}
-use Rattle.hg_cli.specs.Listed.{IgnoreCause, IgnoreSeen, IsListable, IsListed, IsListedFor, IsOwn, IsRecorded, IsUntouched, LedTo, ListingCause, LoadCause, LoadMet, LooksFor, has_ignore_file, is_file_kind, shows_file}
+use Rattle.hg_cli.specs.Command.{CommandCause, IsBegunFor, IsExpected, IsFaultOrMemory, IsPrintedFor, LeavesFront, LeavesOut, MetBefore, Prints, Ran, is_status, plain_style}
+use Rattle.hg_cli.specs.Listed.{IgnoreCause, IgnoreSeen, IsListable, IsListed, IsListedFor, IsOwn, IsRecorded, IsUntouched, LedTo, ListingCause, LoadCause, LoadMet, has_ignore_file, is_file_kind, shows_file}
 use Rattle.hg_cli.specs.Load.{id_in, of_load, record_in}
 use Rattle.hg_cli.specs.Loaded.{Answers, Loads, Try}
 use Rattle.hg_cli.specs.declared.load_fault.LoadFault.{LoadFault}

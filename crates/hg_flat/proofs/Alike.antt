@@ -1,5 +1,5 @@
 -- What a listing says of a path is the same at two moments at which the path is alike.
-use Rattle.std.proofs.Common.{ℕ, ◌≡◌, Bool, true, false, List, Option, Some, None, option_map, refl, sym, ap, ◌∙◌}
+use Rattle.std.proofs.Common.{ℕ, ◌≡◌, Bool, false, List, Option, Some, None, option_map, refl, sym, ap, ◌∙◌}
 use Rattle.hg_base.specs.PathText.{joined}
 use Rattle.hg_base.specs.declared.stat.Kind.{Kind}
 use Rattle.hg_tree.specs.declared.thing.Placed.{Placed}
@@ -9,7 +9,6 @@ use Rattle.hg_tree.specs.Moment.{Moment, is_dir, is_dir_thing, kind_of}
 use Rattle.hg_tree.specs.Still.{AreAlike, hg_in, kind_at}
 use Rattle.hg_tree.proofs.Stillness.{same_kind}
 use Rattle.hg_compare.specs.Tracked.{is_file_or_link, is_file_or_link_thing}
-use Rattle.hg_flat.specs.Full.{is_repository}
 use Rattle.hg_flat.specs.Kept.{Kept}
 use Rattle.hg_flat.specs.Listing.{IsUnknownAmong, IsUnknownFrom, IsUnknownIn, IsUntracked, IsVisibleFrom, is_dir_kind, is_file_or_link_kind, added_letter}
 

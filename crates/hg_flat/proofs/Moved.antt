@@ -1,11 +1,10 @@
 -- The full listing of paths that are alike at two moments is the same at both.
-use Rattle.std.proofs.Common.{ℕ, ◌≡◌, Bool, true, false, not, ◌&&◌, ◌||◌, cond, List, Option, Some, None, refl, sym, ap, ◌∙◌}
-use Rattle.std.specs.List.{Contains}
+use Rattle.std.proofs.Common.{ℕ, ◌≡◌, Bool, false, not, ◌&&◌, ◌||◌, cond, List, Option, Some, None, refl, sym, ◌∙◌}
 use Rattle.hg_base.specs.declared.stat.Kind.{Kind}
 use Rattle.hg_base.specs.declared.stat.Kind.TheVariants as a_kind
 use Rattle.hg_base.specs.declared.time.Time.{Time}
 use Rattle.hg_entry.specs.Table.{Flat, Marks}
-use Rattle.hg_tree.specs.Honest.{Face, face, face_of, face_with}
+use Rattle.hg_tree.specs.Honest.{face_of, face_with}
 use Rattle.hg_tree.specs.Moment.{Moment}
 use Rattle.hg_tree.specs.Still.{AreAlike, hg_in, is_exec, is_exec_thing}
 use Rattle.hg_tree.specs.declared.thing.Placed.{Placed}

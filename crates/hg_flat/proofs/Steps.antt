@@ -19,7 +19,7 @@ use Rattle.hg_tree.proofs.Stillness.{alike_between, untouched_first, untouched_s
 use Rattle.hg_compare.specs.Tracked.{is_file_or_link, is_file_or_link_thing}
 use Rattle.hg_compare.specs.declared.letter.Letter.{Letter}
 use Rattle.hg_flat.specs.Kept.{Kept}
-use Rattle.hg_flat.specs.Listing.{AddsTracked, HoldsFor, IsTrackedRow, IsUnknownAmong, IsUnknownFrom, IsUnknownIn, Lists, added_letter, holds_repository, unknown_row}
+use Rattle.hg_flat.specs.Listing.{AddsTracked, HoldsFor, IsTrackedRow, IsUnknownAmong, IsUnknownFrom, IsUnknownIn, Lists, added_letter, unknown_row}
 use Rattle.hg_flat.specs.declared.row.Row.{Row}
 use Rattle.hg_flat.specs.declared.kept.FlatRow.{FlatRow}
 use Rattle.hg_flat.proofs.Alike.{alike_back, among_moved, from_moved, in_moved, letter_alike}

@@ -1,15 +1,14 @@
 -- Which rows the files and links without an entry below a directory have, from those at its names.
-use Rattle.std.proofs.Common.{ℕ, ◌≡◌, ◌+◌, ◌<◌, true, false, cond, List, [], ◌∷◌, ◌++◌, length, take, get_or, Option, Some, None, is_some, refl, sym, ap, ◌∙◌, subst, inl, inr, ◌⊎◌, arith}
+use Rattle.std.proofs.Common.{ℕ, ◌≡◌, ◌+◌, ◌<◌, true, false, List, [], ◌∷◌, ◌++◌, length, take, get_or, Option, Some, None, is_some, refl, sym, ap, ◌∙◌, subst, inl, inr, ◌⊎◌, arith}
 use Rattle.std.specs.List.{Contains}
 use Rattle.std.specs.Str.{bytes_eq}
 use Rattle.std.proofs.lemmas.List.{append-nil, append_assoc}
 use Rattle.std.proofs.lemmas.List.Elements.{Contains-append_cases, Contains-append_left, Contains-append_right, Contains-push, Contains-push_cases}
 use Rattle.std.proofs.lemmas.List.Folds.{list_any_more}
 use Rattle.std.proofs.lemmas.Slice.Eq.{bytes_eq-Decides}
-use Rattle.std.proofs.lemmas.Bool.{and_parts, or_cases, or_left, or_right}
+use Rattle.std.proofs.lemmas.Bool.{or_cases, or_left, or_right}
 use Rattle.hg_base.specs.PathText.{has_slash, is_below, joined}
 use Rattle.hg_base.proofs.Below.{below_compared, below_itself, below_joined, below_name, below_not_back, below_of_joined, below_trans}
-use Rattle.hg_base.proofs.Paths.{component_plain}
 use Rattle.hg_tree.specs.Moment.{Moment, AreNames, IsFormed, has_dir, is_among, is_dir}
 use Rattle.hg_tree.specs.declared.thing.Placed.{Placed}
 use Rattle.hg_tree.specs.declared.thing.Thing.TheVariants as a_thing
@@ -19,7 +18,6 @@ use Rattle.hg_tree.specs.Moment.{is_dir_thing}
 use Rattle.hg_flat.specs.Full.{is_repository}
 use Rattle.hg_flat.specs.Kept.{Kept}
 use Rattle.hg_flat.specs.Listing.{AreUnknown, IsUnknownAmong, IsUnknownFrom, IsUnknownIn, IsVisibleFrom, Lists, holds_repository, is_from, is_inside, unknown_row}
-use Rattle.hg_flat.specs.declared.kept.FlatRow.{FlatRow}
 use Rattle.hg_flat.specs.declared.row.Row.{Row}
 use Rattle.hg_flat.proofs.Among.{reached, Reached}
 

@@ -2,7 +2,6 @@
 use Rattle.std.proofs.Common.{refl, sym, ◌∙◌, false}
 use Rattle.std.proofs.lemmas.Result.{err_from_is_err_and}
 use Rattle.hg_tree.specs.History.{IsOurs, now}
-use Rattle.hg_tree.proofs.Histories.{extends_same}
 use Rattle.hg_tree.proofs.Spans.{passes_same, passes_trans}
 use Rattle.hg_flat.specs.Asked.{IsVisibleDir}
 use Rattle.hg_flat.proofs.Asks.{asks_none}

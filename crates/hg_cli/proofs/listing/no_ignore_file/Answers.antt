@@ -1,4 +1,4 @@
-use Rattle.std.proofs.Common.{true, false}
+use Rattle.std.proofs.Common.{false}
 use Rattle.hg_tree.specs.History.{now}
 use Rattle.hg_tree.proofs.Histories.{extends_same}
 use Rattle.hg_cli.proofs.Commands.{ignore_at, ignore_shown}

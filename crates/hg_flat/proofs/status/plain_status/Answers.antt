@@ -1,4 +1,4 @@
-use Rattle.std.proofs.Common.{◌∙◌, List, None}
+use Rattle.std.proofs.Common.{◌∙◌, None}
 use Rattle.std.specs.Ordering.{eq_by_cmp}
 use Rattle.std.proofs.lemmas.List.Filters.{dedup_is}
 use Rattle.hg_tree.specs.History.{IsOurs, now}
@@ -7,7 +7,6 @@ use Rattle.hg_tree.proofs.Spans.{passes_trans}
 use Rattle.hg_tree.proofs.Stillness.{ours_quiet, quiet_untouched}
 use Rattle.hg_flat.specs.Asked.{IsVisibleDir}
 use Rattle.hg_flat.specs.Full.{default_wanted, nothing_ignored, null_rows}
-use Rattle.hg_flat.specs.Listing.{IsUnknownIn}
 use Rattle.hg_flat.specs.Order.{whole_order}
 use Rattle.hg_flat.specs.Shown.{flat_in, kept_of}
 use Rattle.hg_flat.proofs.Asks.{asks_none, status_asks}
