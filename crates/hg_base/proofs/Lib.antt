@@ -6,3 +6,4 @@ pub mod Cuts
 pub mod Faults
 pub mod Joined
 pub mod Paths
+pub mod Within

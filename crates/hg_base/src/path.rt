@@ -136,7 +136,7 @@ fn joined_text(alloc: Global, dir: Option<PathRef<'_>>, name: &str) -> Result<St
     match dir {
         None => Ok(String::from_str(alloc, name)?),
         Some(dir) => {
-            // (Its room is taken at once.)
+            // (the room is taken once: a listing makes a path of each name)
             let room = dir.text.len().saturating_add(name.len()).saturating_add(1);
             let mut text = String::with_capacity(alloc, room)?;
             text.push_str(dir.text)?;

@@ -1,20 +1,19 @@
 -- What a load answers, by the moments of the shelf during the call.
-use Rattle.std.specs.Prelude.{ℕ, ◌≡◌, ◌⊎◌, ◌<◌, ◌≤◌, List, [], ◌∷◌, take, length, min, Option, Some, None, Result, Ok, Err, Vec}
+use Rattle.std.specs.Prelude.{ℕ, ◌≡◌, ◌⊎◌, ◌<◌, ◌≤◌, List, [], ◌∷◌, ◌++◌, map, take, length, min, Option, Some, None, Result, Ok, Err, Vec}
+use Rattle.std.specs.List.{AllByRecursion}
 use Rattle.std.specs.declared.alloc.Global.{Global}
-use Rattle.hg_docket.specs.Docket.{Contents}
+use Rattle.hg_docket.specs.Docket.{Contents, docket_of}
+use Rattle.hg_entry.specs.Table.{Table, flat_of}
 use Rattle.hg_flat.specs.Recorded.{Records}
-use Rattle.hg_flat.specs.Shown.{kept_of}
+use Rattle.hg_flat.specs.Shown.{flat_in, kept_of}
 use Rattle.hg_flat.specs.declared.flat.Flat.{Flat}
-use Rattle.hg_image.specs.Rows.{Row}
-use Rattle.hg_report.specs.declared.fault.Fault.{Fault}
-use Rattle.hg_report.specs.declared.fault.Fault.TheVariants as a_fault
+use Rattle.hg_image.specs.Reading.{RecordFault, data_reading}
+use Rattle.hg_image.specs.Reading as a_record_fault
+use Rattle.hg_image.specs.declared.fault.NodeFault.{NodeFault}
 use Rattle.hg_shelf.specs.History.{Files, History}
-use Rattle.hg_cli.specs.Load.{data_in, data_name, data_result, docket_result, load_result, nodes_result}
-
--- the bytes of an answer
-abbrev pub bytes_of : Result (Vec ℕ Global) Fault → Result (List ℕ) Fault
-bytes_of (Ok vec) = Ok vec.items
-bytes_of (Err fault) = Err fault
+use Rattle.hg_cli.specs.Load.{data_in, data_name, id_in, named_reading, record_in}
+use Rattle.hg_cli.specs.declared.load_fault.LoadFault.{LoadFault}
+use Rattle.hg_cli.specs.declared.load_fault.LoadFault.TheVariants as a_fault
 
 -- a moment of a call
 pub record During (old new : History) (k : ℕ) : Type 0 where
@@ -25,92 +24,115 @@ pub record During (old new : History) (k : ℕ) : Type 0 where
 abbrev pub files_at : History → ℕ → Files
 files_at h k = (h.at k).files
 
--- a fault is the one that was found; want of memory and a failing shelf say nothing of the files
-abbrev pub FaultFound : Fault → Result (List Row) Fault → Type 0
-FaultFound a_fault.OutOfMemory found = Unit {0}
-FaultFound a_fault.ShelfFailed found = Unit {0}
-FaultFound a_fault.NotBuilt found = found ≡ Err a_fault.NotBuilt
-FaultFound (a_fault.Docket fault) found = found ≡ Err (a_fault.Docket fault)
-FaultFound (a_fault.Node fault) found = found ≡ Err (a_fault.Node fault)
-FaultFound (a_fault.DataGone ids) found = found ≡ Err (a_fault.DataGone ids)
-FaultFound a_fault.TreeFailed found = ⊥
-FaultFound a_fault.OutFailed found = ⊥
+-- one try of a load: the moments as of which it read the docket and the data file
+pub record Try : Type 0 where
+  pub docket : ℕ
+  pub file : ℕ
 
--- a fault that a load may answer
-abbrev pub IsLoadFault : Fault → Type 0
-IsLoadFault a_fault.OutOfMemory = Unit {0}
-IsLoadFault a_fault.ShelfFailed = Unit {0}
-IsLoadFault a_fault.NotBuilt = Unit {0}
-IsLoadFault (a_fault.Docket fault) = Unit {0}
-IsLoadFault (a_fault.Node fault) = Unit {0}
-IsLoadFault (a_fault.DataGone ids) = Unit {0}
-IsLoadFault a_fault.TreeFailed = ⊥
-IsLoadFault a_fault.OutFailed = ⊥
+-- both are moments of the call, the docket's at or before the data file's
+pub record IsTry (old new : History) (tried : Try) : Type 0 where
+  pub docket : During old new tried.docket
+  pub file : During old new tried.file
+  pub order : tried.docket ≤ tried.file
 
--- the flat map of a load without fault is that of the rows that were found
-abbrev pub Finds : Result Flat Fault → Result (List Row) Fault → Type 0
-Finds (Ok flat) found = (rows : List Row) × (found ≡ Ok rows) × Records rows (kept_of flat)
-Finds (Err fault) found = FaultFound fault found
+-- each try comes after the one before it
+abbrev pub AreInOrder : List Try → Type 0
+AreInOrder [] = Unit {0}
+AreInOrder (one ∷ []) = Unit {0}
+AreInOrder (one ∷ next ∷ more) = (one.file ≤ next.docket) × AreInOrder (next ∷ more)
 
--- a load answers what the docket and the data file were at moments of the call, the docket's at or before the data file's
-pub record FindsDuring (old new : History) (result : Result Flat Fault) : Type 0 where
-  pub first : ℕ
-  pub second : ℕ
-  pub docket : During old new first
-  pub file : During old new second
-  pub order : first ≤ second
-  pub finds : Finds result (load_result (files_at new first) (files_at new second))
+-- what a try found: the reading of the record, or none where the data file was gone
+abbrev pub found_by : History → Try → Option (Result Table RecordFault)
+found_by h tried = record_in (files_at h tried.docket) (files_at h tried.file)
 
--- the same where the docket's bytes are known
-pub record NamedFinds (old new : History) (bytes : List ℕ) (result : Result Flat Fault) : Type 0 where
+-- the identifier that the docket of a try names
+abbrev pub id_by : History → Try → List ℕ
+id_by h tried = id_in (files_at h tried.docket)
+
+-- a flat map is that of a table, and keeps its entries and sources
+pub record IsFlatOf (table : Table) (loaded : Flat) : Type 0 where
+  pub flat : flat_in loaded ≡ flat_of table
+  pub records : Records table (kept_of loaded)
+
+-- what a load answers where its last try found this, and the dockets of its tries name these identifiers; want of memory and a
+-- failing shelf say nothing of the files
+abbrev pub Answers : Result Flat LoadFault → List (List ℕ) → Option (Result Table RecordFault) → Type 0
+Answers (Ok flat) ids found = (table : Table) × (found ≡ Some (Ok table)) × IsFlatOf table flat
+Answers (Err (a_fault.Docket fault)) ids found = found ≡ Some (Err (a_record_fault.Docket fault))
+Answers (Err (a_fault.Node fault)) ids found = found ≡ Some (Err (a_record_fault.Node fault))
+Answers (Err (a_fault.DataGone gone)) ids found = (found ≡ None) × (gone ≡ ids)
+Answers (Err a_fault.OutOfMemory) ids found = Unit {0}
+Answers (Err a_fault.Failed) ids found = Unit {0}
+
+-- a load by these tries, at most five: each but the last found the data file gone, and what the last one found is the answer
+pub record Loads (old new : History) (tries : List Try) (result : Result Flat LoadFault) : Type 0 where
+  pub earlier : List Try
+  pub last : Try
+  pub whole : tries ≡ earlier ++ last ∷ []
+  pub few : length tries ≤ 5
+  pub within : AllByRecursion (IsTry old new) tries
+  pub order : AreInOrder tries
+  pub gone : AllByRecursion (λ tried. found_by new tried ≡ None) earlier
+  pub answer : Answers result (map (id_by new) tries) (found_by new last)
+
+-- ---- the steps of one try
+
+-- where the docket's bytes are known
+pub record NamedFinds (old new : History) (bytes : List ℕ) (result : Result Flat LoadFault) : Type 0 where
   pub at : ℕ
   pub file : During old new at
-  pub finds : Finds result (docket_result bytes (files_at new at))
+  pub answer : Answers result ((docket_of bytes).id ∷ []) (named_reading bytes (files_at new at))
+
+-- what the nodes of a data file lead to
+abbrev pub NodesFind : Result Flat LoadFault → Result Table NodeFault → Type 0
+NodesFind (Ok flat) found = (table : Table) × (found ≡ Ok table) × IsFlatOf table flat
+NodesFind (Err (a_fault.Node fault)) found = found ≡ Err fault
+NodesFind (Err a_fault.OutOfMemory) found = Unit {0}
+NodesFind (Err (a_fault.Docket fault)) found = ⊥
+NodesFind (Err (a_fault.DataGone ids)) found = ⊥
+NodesFind (Err a_fault.Failed) found = ⊥
+
+-- the bytes of an answer
+abbrev pub bytes_of : Result (Vec ℕ Global) LoadFault → Result (List ℕ) LoadFault
+bytes_of (Ok vec) = Ok vec.items
+bytes_of (Err fault) = Err fault
+
+-- a fault by which no bytes of a data file were read: want of memory and a failing shelf say nothing, and a file that is gone was absent
+abbrev pub IsUnread : List ℕ → LoadFault → Option (List ℕ) → Type 0
+IsUnread id a_fault.OutOfMemory file = Unit {0}
+IsUnread id a_fault.Failed file = Unit {0}
+IsUnread id (a_fault.DataGone ids) file = (ids ≡ id ∷ []) × (file ≡ None)
+IsUnread id (a_fault.Docket fault) file = ⊥
+IsUnread id (a_fault.Node fault) file = ⊥
 
 -- the bytes of a data file that were read lead to what the whole file does
-abbrev pub DataFinds : Contents → Result (List ℕ) Fault → Option (List ℕ) → Type 0
-DataFinds docket (Ok nodes) file = nodes_result docket nodes ≡ data_result docket file
-DataFinds docket (Err fault) file = FaultFound fault (data_result docket file)
+abbrev pub DataFinds : Contents → Result (List ℕ) LoadFault → Option (List ℕ) → Type 0
+DataFinds docket (Ok nodes) None = ⊥
+DataFinds docket (Ok nodes) (Some bytes) = data_reading docket nodes ≡ data_reading docket bytes
+DataFinds docket (Err fault) file = IsUnread docket.id fault file
 
-pub record DataFindsDuring (old new : History) (docket : Contents) (result : Result (List ℕ) Fault) : Type 0 where
+pub record DataFindsDuring (old new : History) (docket : Contents) (result : Result (List ℕ) LoadFault) : Type 0 where
   pub at : ℕ
   pub file : During old new at
   pub finds : DataFinds docket result (data_in docket (files_at new at))
 
 -- so many bytes were read from the front of a data file, or it was absent
-abbrev pub FrontFinds : List ℕ → ℕ → Result (List ℕ) Fault → Option (List ℕ) → Type 0
+abbrev pub FrontFinds : List ℕ → ℕ → Result (List ℕ) LoadFault → Option (List ℕ) → Type 0
 FrontFinds id want (Ok nodes) None = ⊥
 FrontFinds id want (Ok nodes) (Some bytes) = nodes ≡ take (min want (length bytes)) bytes
-FrontFinds id want (Err a_fault.OutOfMemory) file = Unit {0}
-FrontFinds id want (Err a_fault.ShelfFailed) file = Unit {0}
-FrontFinds id want (Err (a_fault.DataGone ids)) file = (ids ≡ id ∷ []) × (file ≡ None)
-FrontFinds id want (Err a_fault.NotBuilt) file = ⊥
-FrontFinds id want (Err (a_fault.Docket fault)) file = ⊥
-FrontFinds id want (Err (a_fault.Node fault)) file = ⊥
-FrontFinds id want (Err a_fault.TreeFailed) file = ⊥
-FrontFinds id want (Err a_fault.OutFailed) file = ⊥
+FrontFinds id want (Err fault) file = IsUnread id fault file
 
 -- so many bytes of a file were read as are used, or the file has fewer
 abbrev pub Covers : ℕ → List ℕ → List ℕ → Type 0
 Covers used nodes bytes = (nodes ≡ take used bytes) ⊎ ((length nodes ≡ length bytes) × (length bytes < used))
 
-abbrev pub FileCovered : ℕ → List ℕ → Option (List ℕ) → Type 0
-FileCovered used nodes None = ⊥
-FileCovered used nodes (Some bytes) = Covers used nodes bytes
-
 -- a data file was read, or was absent
-abbrev pub FileFinds : List ℕ → ℕ → Result (List ℕ) Fault → Option (List ℕ) → Type 0
-FileFinds id used (Ok nodes) file = FileCovered used nodes file
-FileFinds id used (Err a_fault.OutOfMemory) file = Unit {0}
-FileFinds id used (Err a_fault.ShelfFailed) file = Unit {0}
-FileFinds id used (Err (a_fault.DataGone ids)) file = (ids ≡ id ∷ []) × (file ≡ None)
-FileFinds id used (Err a_fault.NotBuilt) file = ⊥
-FileFinds id used (Err (a_fault.Docket fault)) file = ⊥
-FileFinds id used (Err (a_fault.Node fault)) file = ⊥
-FileFinds id used (Err a_fault.TreeFailed) file = ⊥
-FileFinds id used (Err a_fault.OutFailed) file = ⊥
+abbrev pub FileFinds : List ℕ → ℕ → Result (List ℕ) LoadFault → Option (List ℕ) → Type 0
+FileFinds id used (Ok nodes) None = ⊥
+FileFinds id used (Ok nodes) (Some bytes) = Covers used nodes bytes
+FileFinds id used (Err fault) file = IsUnread id fault file
 
-pub record FileFindsDuring (old new : History) (id : List ℕ) (used : ℕ) (result : Result (List ℕ) Fault) : Type 0 where
+pub record FileFindsDuring (old new : History) (id : List ℕ) (used : ℕ) (result : Result (List ℕ) LoadFault) : Type 0 where
   pub at : ℕ
   pub file : During old new at
   pub finds : FileFinds id used result (files_at new at (data_name id))

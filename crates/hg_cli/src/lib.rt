@@ -24,6 +24,7 @@ mod entries;
 mod failure;
 mod listing;
 mod load;
+mod load_fault;
 mod look;
 mod place;
 mod printed;

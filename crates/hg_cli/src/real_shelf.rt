@@ -1,7 +1,7 @@
 //! The files below `.hg` in the file system.
 
 ghost use Rattle.std.specs.Prelude.{◌≡◌, ◌≤◌, IfOk, Ok, length};
-ghost use Rattle.hg_shelf.specs.Reads.{IsWithin};
+ghost use Rattle.hg_base.specs.Reads.{IsWithin};
 
 use crate::disk::{counted, is_absence};
 use crate::failure::{FirstFailure, Reason};

@@ -3,7 +3,7 @@
 ghost use Rattle.std.specs.Prelude.{◌≡◌, ◌++◌, codes};
 
 use crate::ident::Ident;
-use crate::writing::put;
+use hg_base::put;
 use std::marker::Model;
 
 /// The bytes before the identifier.

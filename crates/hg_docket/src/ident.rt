@@ -7,7 +7,7 @@ ghost use Rattle.hg_docket.specs.Name.{is_name_byte, is_name};
 
 use crate::name::is_name_byte;
 use crate::number;
-use crate::writing::put;
+use hg_base::put;
 use std::marker::Model;
 
 /// The identifier of a data file: at most 255 bytes, each an ASCII letter, a digit, `-` or `_`. Contracts see its bytes.

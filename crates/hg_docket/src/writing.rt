@@ -1,11 +1,11 @@
 //! The docket as it is written.
 
-ghost use Rattle.std.specs.Prelude.{◌≡◌, ◌+◌, ◌≤◌, ◌++◌, take, length, List, ℕ, IsTrue, OnOk, OnErr};
+ghost use Rattle.std.specs.Prelude.{◌≡◌, ◌≤◌, ◌++◌, take, length, List, ℕ, IsTrue, OnOk, OnErr};
 ghost use Rattle.hg_docket.specs.Docket.{view};
 ghost use Rattle.hg_docket.specs.Written.{is_writable, head_of, bytes_of, IsSized, ReadsAs};
 
 use crate::docket::{Docket, MARKER};
-use hg_base::OutOfMemory;
+use hg_base::{OutOfMemory, put};
 
 impl Docket<'_> {
     /// Appends the docket's bytes. Out of memory, nothing is appended.
@@ -46,15 +46,4 @@ impl Docket<'_> {
         let at = put(bytes, at, &self.hash);
         put(bytes, at, &self.used.to_be_bytes())
     }
-}
-
-/// Writes the text at a place, and answers where it ends.
-pub fn put(bytes: &mut [u8], at: usize, text: &[u8]) -> usize
-    requires { at + length text.now ≤ length bytes.old }
-    ensures end { result ≡ at + length text.now }
-    ensures front { take result bytes.new ≡ take at bytes.old ++ text.now }
-{
-    let end = at + text.len();
-    bytes[at..end].copy_from_slice(text);
-    end
 }

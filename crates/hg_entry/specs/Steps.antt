@@ -31,6 +31,6 @@ is_file a_kind.File = true
 is_file a_kind.Link = true
 is_file kind = false
 
--- the file was seen to be that of the parent: size, mode and time are those seen, and no change is expected
+-- the file was seen to be that of the parent: size, mode and time are those seen, and no change is expected; a link has both mode bits
 abbrev pub seen_clean : EntryData → Stat → StampData → EntryData
-seen_clean e s time = record e { exec = s.exec; link = is_link s.kind; size = Some (s.size % 2 ^ 31); stamp = Some time; modified = false }
+seen_clean e s time = record e { exec = s.exec || is_link s.kind; link = is_link s.kind; size = Some (s.size % 2 ^ 31); stamp = Some time; modified = false }

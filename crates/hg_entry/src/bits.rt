@@ -1,6 +1,7 @@
-//! The flags of a node by their names in internals.dirstate-v2, each as the number of its bit, and the test of one.
+//! The flags of a node by their names in internals.dirstate-v2, each as the number of its bit, and the tests of them.
 
 ghost use Rattle.std.specs.Prelude.{◌≡◌, ◌<◌};
+ghost use Rattle.hg_entry.specs.Entry as entry;
 ghost use Rattle.hg_entry.specs.Flags as named;
 
 pub const WDIR_TRACKED: u32 = 0;
@@ -33,4 +34,11 @@ pub fn has(flags: u16, bit: u32) -> bool
     ensures { result ≡ named.has flags bit }
 {
     (flags >> bit) % 2 == 1
+}
+
+/// Whether one of the three flags is set that make an entry: tracked, in the first parent, marked for the second.
+pub fn has_entry(flags: u16) -> bool
+    ensures { result ≡ entry.has_entry flags }
+{
+    has(flags, WDIR_TRACKED) || has(flags, P1_TRACKED) || has(flags, P2_INFO)
 }

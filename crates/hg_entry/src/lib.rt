@@ -15,7 +15,7 @@
 //! ```
 #![tactic(auto)]
 
-mod bits;
+pub mod bits;
 mod entry;
 mod reading;
 mod steps;

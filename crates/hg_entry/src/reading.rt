@@ -2,11 +2,11 @@
 
 ghost use Rattle.std.specs.Prelude.{◌≡◌, not, ◌&&◌, ◌||◌, if◌then◌else◌, IsTrue, ◌/◌, ◌%◌, ◌^◌};
 ghost use Rattle.std.specs.Option.{option_map};
-ghost use Rattle.hg_entry.specs.Entry.{view, stamp_view, has_entry, is_timely, time_of, entry_of, cache_of};
+ghost use Rattle.hg_entry.specs.Entry.{view, stamp_view, is_timely, time_of, entry_of, cache_of};
 ghost use Rattle.hg_entry.specs.Flags.{has, has_mtime};
 
 use crate::bits as bit;
-use crate::bits::has;
+use crate::bits::{has, has_entry};
 use crate::entry::{Entry, Fields};
 use hg_base::Stamp;
 
@@ -30,7 +30,7 @@ impl Entry {
             size: known_size(f, known),
             stamp: clean_time(f, modified),
             modified,
-            fallback: (f.flags / 32 % 16) as u8,
+            fallback: ((f.flags >> bit::HAS_FALLBACK_EXEC) % 16) as u8,
         })
     }
 }
@@ -53,13 +53,6 @@ pub fn dir_stamp(f: Fields) -> Option<Stamp>
         return None;
     }
     Some(recorded_time(f))
-}
-
-// Whether one of the three flags is set that make an entry.
-fn has_entry(flags: u16) -> bool
-    ensures { result ≡ has_entry flags }
-{
-    has(flags, bit::WDIR_TRACKED) || has(flags, bit::P1_TRACKED) || has(flags, bit::P2_INFO)
 }
 
 fn both(a: bool, b: bool) -> bool

@@ -64,13 +64,16 @@ impl Entry {
         true
     }
 
-    /// The file was seen to be that of the parent: its size, mode and time are recorded, and no change is expected.
+    /// The file was seen to be that of the parent: its size, mode and time are recorded, and no change is expected. Of a link both mode
+    /// bits are recorded, as Mercurial does: a link's own mode is 0777, and its programs compare the executable bit of that with the
+    /// record.
     pub fn note_clean(&mut self, s: &Stat, t: Stamp)
         requires { IsTrue (is_file s.now.kind) }
         ensures { view self.new ≡ seen_clean (view self.old) s.now (stamp_view t) }
     {
-        self.exec = s.exec;
-        self.link = is_link(s.kind);
+        let link = is_link(s.kind);
+        self.exec = one_of(s.exec, link);
+        self.link = link;
         self.size = Some((s.size % 0x8000_0000) as u32);
         self.modified = false;
         self.stamp = Some(t);

@@ -194,6 +194,26 @@ fn steps(rt: HostRuntime) {
     );
     entry.set_tracked();
     assert_eq!(rt; entry, plain());
+    // A link has both mode bits, of which the system's stat shows none.
+    entry.note_clean(
+        &Stat {
+            kind: Kind::Link,
+            exec: false,
+            size: 7,
+            mtime: seen.mtime,
+        },
+        stamp,
+    );
+    assert_eq!(rt;
+        entry.write(),
+        Fields {
+            flags: 0x0c1b,
+            size: 7,
+            seconds: 5,
+            nanos: 9
+        }
+    );
+    entry = plain();
     assert!(rt; entry.drop_second());
     assert_eq!(rt; entry, plain());
 }

@@ -39,7 +39,7 @@ impl Entry {
             + flag(self.p2, bit::P2_INFO)
             + flag(self.exec, bit::MODE_EXEC_PERM)
             + flag(self.link, bit::MODE_IS_SYMLINK)
-            + self.fallback as u16 * 32
+            + self.fallback as u16 * (1 << bit::HAS_FALLBACK_EXEC)
             + flag(self.modified, bit::EXPECTED_STATE_IS_MODIFIED)
             + flag(self.size.is_some(), bit::HAS_MODE_AND_SIZE)
             + flag(self.stamp.is_some(), bit::HAS_MTIME)

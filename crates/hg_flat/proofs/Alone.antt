@@ -13,7 +13,7 @@ use Rattle.hg_flat.specs.declared.row.Row.{Row}
 row_order_total : IsTotalOrder row_order
 row_order_total = then_total (on_total (λ (row : Row). group_of row.letter) nat_cmp_total) (on_total (λ (row : Row). row.path) nat_list_cmp_total)
 
-never_itself : (row : Row) → row_order row row ≡ Less → ⊥
+pub never_itself : (row : Row) → row_order row row ≡ Less → ⊥
 never_itself row less = absurd (cc (less, tied_itself row_order_total row))
 
 never_both : (a b : Row) → row_order a b ≡ Less → row_order b a ≡ Less → ⊥
@@ -30,7 +30,7 @@ first row rows = Contains-append_left (row ∷ []) rows row (Contains-push [] ro
 single : (row other : Row) → Contains (row ∷ []) other → row ≡ other
 single row other has = ⊎_elim (λ nowhere. absurd (none other nowhere)) (λ is. is) (Contains-push_cases [] row other has)
 
-first_or_later : (row : Row) (rows : List Row) (other : Row) → Contains (row ∷ rows) other → (row ≡ other) ⊎ Contains rows other
+pub first_or_later : (row : Row) (rows : List Row) (other : Row) → Contains (row ∷ rows) other → (row ≡ other) ⊎ Contains rows other
 first_or_later row rows other has = ⊎_elim (λ at. inl (single row other at)) (λ later. inr later) (Contains-append_cases (row ∷ []) rows other has)
 
 less_than : (a : Row) (rows : List Row) (b : Row) → AllByRecursion (λ row. row_order a row ≡ Less) rows → Contains rows b → row_order a b ≡ Less

@@ -1,6 +1,9 @@
 -- The order of the rows of a listing, where the source follows from the path.
-use Rattle.std.proofs.Common.{ℕ, ◌≡◌, ◌==◌, true, cond, List, [], ◌∷◌, Option, Some, None, refl, sym, ap, ◌∙◌, subst}
-use Rattle.std.specs.List.{AllByRecursion, Contains, dedup}
+use Rattle.std.proofs.Common.{ℕ, ◌≡◌, ◌==◌, true, false, cond, List, [], ◌∷◌, map, inl, inr, ◌⊎◌, Option, Some, None, refl, sym, ap, ◌∙◌, subst}
+use Rattle.std.specs.List.{AllByRecursion, Contains, IsDistinct, dedup}
+use Rattle.std.specs.Str.{bytes_eq}
+use Rattle.std.proofs.lemmas.Bool.{cases_Bool}
+use Rattle.std.proofs.lemmas.Slice.Eq.{bytes_eq-Decides}
 use Rattle.std.specs.List.Sorted.{IsPermutation, IsSorted, IsStrictlySortedBy}
 use Rattle.std.specs.Option.{option_cmp}
 use Rattle.std.specs.Ordering.{eq_by_cmp, is_eq, nat_cmp, ordering_then}
@@ -16,6 +19,7 @@ use Rattle.hg_compare.specs.declared.letter.Letter.{Letter}
 use Rattle.hg_compare.specs.declared.letter.Letter.TheVariants as a_letter
 use Rattle.hg_flat.specs.Order.{group_of, row_order, whole_order, whole_order_total}
 use Rattle.hg_flat.specs.declared.row.Row.{Row}
+use Rattle.hg_flat.proofs.Alone.{never_itself}
 
 -- ---- rows that are alike are the same
 
@@ -102,3 +106,24 @@ ascending source b c d moved sorted is sourced =
     strictly source d
     (all_of (λ row. row.source ≡ source row.path) d (λ row has. sourced row (kept_of b c d row moved is has)))
     (subst (IsStrictlySortedBy whole_order) (sym is) (IsStrictlySortedBy-dedup whole_order_total (λ x y. refl) c sorted))
+
+-- where a path has one row at most, rows that ascend are of paths of which no two are the same
+none_of : (a : Row) (rows : List Row) → AllByRecursion (λ row. row_order a row ≡ Less) rows → ((row : Row) → Contains rows row → a.path ≡ row.path → a ≡ row) → AllByRecursion (λ path. bytes_eq a.path path ≡ false) (map (λ row. row.path) rows)
+none_of a [] less one = tt
+none_of a (b ∷ rows) less one = (
+  elim (cases_Bool (bytes_eq a.path b.path)) [
+    | inl same ↦
+        let is : a ≡ b = one b (Contains-append_left (b ∷ []) rows b (Contains-push [] b)) ((bytes_eq-Decides a.path b.path).0 same) in
+        absurd (never_itself a (subst (λ (r : Row). row_order a r ≡ Less) (sym is) less.0))
+    | inr apart ↦ apart
+  ],
+  none_of a rows less.1 (λ row has. one row (Contains-append_right (b ∷ []) rows row has)),
+)
+
+pub distinct_paths : (rows : List Row) → IsStrictlySortedBy row_order rows → ((x y : Row) → Contains rows x → Contains rows y → x.path ≡ y.path → x ≡ y) → IsDistinct bytes_eq (map (λ row. row.path) rows)
+unfolding IsDistinct IsStrictlySortedBy
+distinct_paths [] up one = tt
+distinct_paths (a ∷ rows) up one = (
+  none_of a rows up.0 (λ row has. one a row (Contains-append_left (a ∷ []) rows a (Contains-push [] a)) (Contains-append_right (a ∷ []) rows row has)),
+  distinct_paths rows up.1 (λ x y left right. one x y (Contains-append_right (a ∷ []) rows x left) (Contains-append_right (a ∷ []) rows y right)),
+)

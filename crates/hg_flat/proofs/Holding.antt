@@ -16,7 +16,7 @@ use Rattle.std.proofs.lemmas.Map.Made.{IsDistinct-from_count, is_member-Decides,
 use Rattle.std.proofs.lemmas.Slice.Eq.{bytes_eq-Decides}
 use Rattle.hg_flat.specs.Kept.{AreAscending, AreNamed, HaveOwnPaths, row_at}
 use Rattle.hg_flat.specs.declared.kept.FlatRow.{FlatRow}
-use Rattle.hg_flat.proofs.Fullness.{Holds}
+use Rattle.hg_flat.proofs.Fullness.{Holds, each_of}
 
 -- ---- what is found at a path
 
@@ -40,13 +40,8 @@ either row rows r has =
       | inr later ↦ inr later
     ]
 
-each_of : (P : List ℕ → Type 0) (rows : List FlatRow) → AllByRecursion P (map (λ row. row.path) rows) → (r : FlatRow) → Contains rows r → P r.path
-each_of P [] all r (k, below, is) = absurd (omega (arith, below))
-each_of P (row ∷ rows) all r has =
-    elim (either row rows r has) [ inl same ↦ subst (λ (q : FlatRow). P q.path) same all.0 | inr later ↦ each_of P rows all.1 r later ]
-
 -- a row is found at its path
-found_at : (rows : List FlatRow) → HaveOwnPaths rows → (r : FlatRow) → Contains rows r → row_at rows r.path ≡ Some r
+pub found_at : (rows : List FlatRow) → HaveOwnPaths rows → (r : FlatRow) → Contains rows r → row_at rows r.path ≡ Some r
 unfolding IsDistinct
 found_at [] own r (k, below, is) = absurd (omega (arith, below))
 found_at (row ∷ rows) own r has =

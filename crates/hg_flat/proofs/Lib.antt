@@ -1,9 +1,12 @@
+pub mod Alike
 pub mod Alone
 pub mod Among
 pub mod Ascending
+pub mod Asks
 pub mod Fullness
 pub mod Holding
+pub mod Parents
 pub mod Recording
-pub mod Quiet
 pub mod Rooms
+pub mod Steps
 pub mod Unknowns

@@ -1,11 +1,13 @@
 -- The full listing of a status: every path with its letter, by looking at every tracked path and at everything that stands in the
 -- working copy (help topic `status`). No recorded times, no directories passed over.
-use Rattle.std.specs.Prelude.{ℕ, ◌≡◌, ◌⊎◌, Bool, true, false, List, Option, Some, None, IsTrue, is_some, codes}
-use Rattle.std.specs.List.{Contains}
+use Rattle.std.specs.Prelude.{ℕ, ◌≡◌, ◌⊎◌, Bool, true, false, List, map, Option, Some, None, IsTrue, is_some}
+use Rattle.std.specs.List.{Contains, IsDistinct}
+use Rattle.std.specs.Str.{bytes_eq}
 use Rattle.std.specs.List.Sorted.{IsStrictlySortedBy}
-use Rattle.hg_base.specs.PathText.{is_below, joined}
+use Rattle.hg_base.specs.PathText.{is_below}
 use Rattle.hg_entry.specs.Table.{Flat, Marks}
 use Rattle.hg_tree.specs.Moment.{Moment, is_dir}
+use Rattle.hg_tree.specs.Still.{hg_in}
 use Rattle.hg_compare.specs.Tracked.{ParentRow, tracked_letter, is_file_or_link}
 use Rattle.hg_compare.specs.declared.letter.Letter.{Letter}
 use Rattle.hg_compare.specs.declared.letter.Letter.TheVariants as a_letter
@@ -15,7 +17,7 @@ use Rattle.hg_flat.specs.declared.row.Wanted.{Wanted}
 
 -- the directory is a repository of its own: a directory `.hg` stands in it
 abbrev pub is_repository : Moment → List ℕ → Bool
-is_repository moment dir = is_dir (moment.things (joined (Some dir) (codes ".hg")))
+is_repository moment dir = is_dir (moment.things (hg_in dir))
 
 -- no proper ancestor below the root is a repository of its own
 abbrev pub IsVisible : Moment → List ℕ → Type 0
@@ -68,6 +70,14 @@ IsTold flat moment rows Ignored wanted row =
 pub record IsFull (flat : Flat) (moment : Moment) (rows : List ℕ → Option ParentRow) (Ignored : List ℕ → Type 0) (wanted : Wanted) (listing : List Row) : Type 0 where
   pub sound : (row : Row) → Contains listing row → IsTold flat moment rows Ignored wanted row
   pub all : (row : Row) → IsTold flat moment rows Ignored wanted row → Contains listing row
+  pub ascending : IsStrictlySortedBy row_order listing
+
+-- the full listing, as far as it speaks of paths that meet S: each such path has exactly its rows. Whatever the others are, no two rows
+-- are of one path, and they are in order
+pub record IsFullFor (S : List ℕ → Type 0) (flat : Flat) (moment : Moment) (rows : List ℕ → Option ParentRow) (Ignored : List ℕ → Type 0) (wanted : Wanted) (listing : List Row) : Type 0 where
+  pub sound : (row : Row) → Contains listing row → S row.path → IsTold flat moment rows Ignored wanted row
+  pub all : (row : Row) → S row.path → IsTold flat moment rows Ignored wanted row → Contains listing row
+  pub once : IsDistinct bytes_eq (map (λ row. row.path) listing)
   pub ascending : IsStrictlySortedBy row_order listing
 
 -- two full listings of the same that ignore the same paths are equal, so that one may speak of the full listing

@@ -37,8 +37,8 @@ source_of None = None
 source_of (Some row) = row.source
 
 -- the flat map that rows stand for, under these parents
-abbrev pub flat_of : List ℕ → List ℕ → Kept → plain.Flat
-flat_of p1 p2 kept =
+abbrev pub flat_from : List ℕ → List ℕ → Kept → plain.Flat
+flat_from p1 p2 kept =
     record { p1 = p1; p2 = p2; marks = λ path. option_map (λ row. marks_of (view row.entry)) (kept path); sources = λ path. source_of (kept path) }
 
 -- each row stands at its own path

@@ -1,6 +1,6 @@
 -- The rows of a plain status while it is made: those of tracked paths, and those of what else stands below a directory.
 use Rattle.std.specs.Prelude.{ℕ, ◌≡◌, Bool, true, false, ◌||◌, if◌then◌else◌, List, ◌++◌, Option, Some, None, IsTrue}
-use Rattle.std.specs.List.{Contains}
+use Rattle.std.specs.List.{AllZip, Contains}
 use Rattle.std.specs.Str.{bytes_eq}
 use Rattle.hg_base.specs.PathText.{is_below, joined}
 use Rattle.hg_base.specs.declared.stat.Stat.{Stat}
@@ -8,6 +8,7 @@ use Rattle.hg_base.specs.declared.stat.Kind.{Kind}
 use Rattle.hg_base.specs.declared.stat.Kind.TheVariants as a_kind
 use Rattle.hg_tree.specs.Moment.{Moment, is_among}
 use Rattle.hg_compare.specs.Tracked.{is_file_or_link}
+use Rattle.hg_compare.specs.declared.letter.Letter.{Letter}
 use Rattle.hg_compare.specs.declared.letter.Letter.TheVariants as a_letter
 use Rattle.hg_flat.specs.Full.{is_repository}
 use Rattle.hg_flat.specs.Kept.{Kept}
@@ -26,10 +27,23 @@ is_dir_kind a_kind.Link = false
 is_dir_kind a_kind.Dir = true
 is_dir_kind a_kind.Other = false
 
--- the row of a tracked path that is in neither parent
+-- the letter of a tracked path that is in neither parent
+abbrev pub added_letter : Moment → List ℕ → Letter
+added_letter moment path = if is_file_or_link (moment.things path) then a_letter.A else a_letter.Gone
+
+-- the row of such a path
 abbrev pub added_row : Moment → FlatRow → Row
-added_row moment row =
-    record { letter = if is_file_or_link (moment.things row.path) then a_letter.A else a_letter.Gone; path = row.path; source = row.source }
+added_row moment row = record { letter = added_letter moment row.path; path = row.path; source = row.source }
+
+-- the row of a path with an entry; where the path meets S its letter is that of the moment
+pub record IsTrackedRow (S : List ℕ → Type 0) (moment : Moment) (kept : FlatRow) (row : Row) : Type 0 where
+  pub path : row.path ≡ kept.path
+  pub source : row.source ≡ kept.source
+  pub letter : S kept.path → row.letter ≡ added_letter moment kept.path
+
+-- a row for each of these entries, in their order, was put behind the rows so far
+abbrev pub AddsTracked : (List ℕ → Type 0) → Moment → List FlatRow → List Row → List Row → Type 0
+AddsTracked S moment all old new = (more : List Row) × (new ≡ old ++ more) × AllZip (IsTrackedRow S moment) all more
 
 -- the row of a path without an entry
 abbrev pub unknown_row : List ℕ → Row
@@ -49,11 +63,6 @@ shows_dir (Some stat) = is_dir_kind stat.kind
 abbrev pub holds_repository : Moment → Option (List ℕ) → Bool
 holds_repository moment None = false
 holds_repository moment (Some dir) = is_repository moment dir
-
--- these rows are those of the paths that meet P, and no others
-pub record IsListing (P : List ℕ → Type 0) (rows : List Row) : Type 0 where
-  pub sound : (row : Row) → Contains rows row → (path : List ℕ) × P path × (row ≡ unknown_row path)
-  pub all : (path : List ℕ) → P path → Contains rows (unknown_row path)
 
 -- a path stands in a directory at any depth, where no directory is the root
 abbrev pub is_inside : Option (List ℕ) → List ℕ → Bool
@@ -90,6 +99,16 @@ abbrev pub IsUnknownAmong : Kept → Moment → Option (List ℕ) → List (List
 IsUnknownAmong kept moment dir names path =
     (name : List ℕ) × IsTrue (is_among name names) × IsUnknownFrom kept moment (joined dir name) path
 
--- some rows were put behind those so far: the ones of the paths that meet P
-abbrev pub Lists : (List ℕ → Type 0) → List Row → List Row → Type 0
-Lists P old new = (more : List Row) × (new ≡ old ++ more) × IsListing P more
+-- rows of paths without an entry; of the paths that meet S, just those that meet P
+pub record AreUnknown (kept : Kept) (S P : List ℕ → Type 0) (rows : List Row) : Type 0 where
+  pub each : (row : Row) → Contains rows row → (row ≡ unknown_row row.path) × (kept row.path ≡ None)
+  pub sound : (row : Row) → Contains rows row → S row.path → P row.path
+  pub all : (path : List ℕ) → S path → P path → Contains rows (unknown_row path)
+
+-- such rows were put behind the rows so far
+abbrev pub Lists : Kept → (List ℕ → Type 0) → (List ℕ → Type 0) → List Row → List Row → Type 0
+Lists kept S P old new = (more : List Row) × (new ≡ old ++ more) × AreUnknown kept S P more
+
+-- whether the directory is a repository of its own is as it was at the moment, for each path in it that meets S
+abbrev pub HoldsFor : (List ℕ → Type 0) → Moment → Option (List ℕ) → Bool → Type 0
+HoldsFor S moment dir holds = (path : List ℕ) → S path → IsTrue (is_inside dir path) → holds ≡ holds_repository moment dir

@@ -1,43 +1,81 @@
 //! What a dirstate says of its paths.
 
-ghost use Rattle.std.specs.Prelude.{◌≡◌, ℕ, List, option_map};
+ghost use Rattle.std.specs.Prelude.{◌≡◌, ◌||◌, ℕ, List, not, option_map};
+ghost use Rattle.std.specs.List.{list_all};
+ghost use Rattle.std.specs.Str.{bytes_eq};
 ghost use Rattle.std.proofs.Props.{props};
-ghost use Rattle.hg_flat.specs.Kept.{AreAscending, HaveOwnPaths};
+ghost use Rattle.hg_flat.specs.Kept.{AreAscending, HaveOwnPaths, null_parent};
 
 use crate::kept::{FlatRow, item_of};
-use hg_base::{OutOfMemory, PathRef};
+use hg_base::{Id20, OutOfMemory, PathRef};
 use hg_entry::Item;
 use std::alloc::Global;
 
-/// The paths with an entry, in order.
+// Whether a parent is none.
+fn is_null(parent: Id20) -> bool
+    ensures { result ≡ bytes_eq parent.0 null_parent }
+{
+    parent == Id20([0; 20])
+}
+
+// Whether no entry of these rows is of a parent.
+fn are_added(rows: &[FlatRow]) -> bool
+    ensures { result ≡ list_all (λ row. not (row.entry.p1 || row.entry.p2)) rows.now }
+{
+    rows.iter().all(|row| !(row.entry.p1 || row.entry.p2))
+}
+
+/// The parents, and the paths with an entry, in order.
 #[derive(Drop)]
 pub struct Flat {
+    pub(crate) p1: Id20,
+    pub(crate) p2: Id20,
     pub(crate) rows: Vec<FlatRow>,
     ghost ascending: { AreAscending rows.items } by { Prim.hlevel props },
     ghost own: { HaveOwnPaths rows.items } by { Prim.hlevel props },
 }
 
 impl Flat {
-    ghost use Rattle.std.specs.Prelude.{◌≡◌, ℕ, List, None, IfOk, is_some, option_map};
+    ghost use Rattle.std.specs.Prelude.{◌≡◌, ℕ, List, None, IfOk, true, false, is_some, option_map};
     ghost use Rattle.hg_flat.specs.Kept.{HaveOwnPaths, row_at, shown_item, shown_row};
-    ghost use Rattle.hg_flat.specs.Shown.{kept_of};
+    ghost use Rattle.hg_flat.specs.Shown.{flat_in, kept_of};
+    ghost use Rattle.hg_flat.specs.Unborn.{IsBorn, IsUnborn};
 
-    /// No paths.
+    /// Null parents and no paths.
     pub fn new(alloc: Global) -> Flat
-        ensures { (path : List ℕ) → kept_of result path ≡ None }
+        ensures unborn { IsUnborn (flat_in result) }
+        ensures none { (path : List ℕ) → kept_of result path ≡ None }
     {
         Flat {
+            p1: Id20([0; 20]),
+            p2: Id20([0; 20]),
             rows: Vec::new(alloc),
         }
     }
 
-    // These rows, of which no two are of one path.
-    pub(crate) fn of(mut rows: Vec<FlatRow>) -> Result<Flat, OutOfMemory>
+    // These parents and rows, of which no two are of one path.
+    pub(crate) fn of(p1: Id20, p2: Id20, mut rows: Vec<FlatRow>) -> Result<Flat, OutOfMemory>
         requires { HaveOwnPaths rows.items }
-        ensures { IfOk result (λ flat. (path : List ℕ) → kept_of flat path ≡ row_at rows.items path) }
+        ensures kept { IfOk result (λ flat. (path : List ℕ) → kept_of flat path ≡ row_at rows.items path) }
+        ensures first { IfOk result (λ flat. flat.p1 ≡ p1) }
+        ensures second { IfOk result (λ flat. flat.p2 ≡ p2) }
     {
         rows.sort_by(|a, b| a.path.cmp(&b.path))?;
-        Ok(Flat { rows })
+        Ok(Flat { p1, p2, rows })
+    }
+
+    /// Whether nothing was committed yet: neither parent is a commit, and no entry is of a parent.
+    pub fn is_unborn(&self) -> bool
+        ensures unborn { result ≡ true → IsUnborn (flat_in self.now) }
+        ensures born { result ≡ false → IsBorn (flat_in self.now) }
+    {
+        if !is_null(self.p1) {
+            return false;
+        }
+        if !is_null(self.p2) {
+            return false;
+        }
+        are_added(&self.rows)
     }
 
     // The row of a path, where it has an entry.

@@ -2,11 +2,13 @@
 
 ghost use Rattle.std.specs.Prelude.{◌≡◌, ◌++◌, ◌∷◌, [], OnOk, IfErr, IfOk, IsTrue, if◌then◌else◌, is_some, option_map};
 ghost use Rattle.hg_compare.specs.declared.letter.Letter.TheVariants as a_letter;
-ghost use Rattle.hg_tree.specs.History.{IsQuiet, Passes, now};
+ghost use Rattle.hg_tree.specs.History.{Passes, now};
+ghost use Rattle.hg_tree.specs.Still.{Untouched};
 ghost use Rattle.hg_tree.specs.Moment.{stat_at};
 ghost use Rattle.hg_flat.specs.Cause.{HasStatusCause};
 ghost use Rattle.hg_flat.specs.declared.fault.StatusFault.TheVariants as a_fault;
-ghost use Rattle.hg_flat.specs.Listing.{added_row, shows_file_or_link, unknown_row};
+ghost use Rattle.hg_flat.specs.Asked.{AsksNothing};
+ghost use Rattle.hg_flat.specs.Listing.{AddsTracked, shows_file_or_link, unknown_row};
 ghost use Rattle.hg_flat.specs.Shown.{kept_of};
 
 use crate::fault::StatusFault;
@@ -55,8 +57,15 @@ pub(crate) fn add_tracked<T: Tree>(
     rows: &mut Vec<Row>,
 ) -> Result<(), StatusFault>
     ensures passes { Passes (T.history tree.old) (T.history tree.new) }
-    ensures row { IsQuiet (T.history tree.old) (T.history tree.new)
-        → OnOk result (rows.new.items ≡ rows.old.items ++ (added_row (now (T.history tree.old)) kept.now) ∷ []) }
+    ensures row { OnOk
+        result
+        (AddsTracked
+        (Untouched (T.history tree.new) (T.history tree.old).last)
+        (now (T.history tree.old))
+        (kept.now ∷ [])
+        rows.old.items
+        rows.new.items) }
+    ensures asked { IsTrue (T.history tree.old).told → AsksNothing (T.history tree.old) (T.history tree.new) }
     ensures cause { HasStatusCause (T.faults tree.old) (T.faults tree.new) result }
 {
     let letter = added_letter(tree.stat(kept.path.as_ref())?);

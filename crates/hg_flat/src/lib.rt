@@ -6,8 +6,8 @@
 //! `Flat::read`; `plain_status` gives the rows, and its contract says that they are the full listing.
 //!
 //! ```text
-//! if is_added(&image) {
-//!     let flat = Flat::read(alloc, &image)?;
+//! let flat = Flat::read(alloc, &image)?;
+//! if flat.is_unborn() {
 //!     let rows = plain_status(alloc, &flat, &mut tree)?;
 //!     rows.at(0);  // letter `A`, path `src/main.c`, no source
 //! }
@@ -30,6 +30,5 @@ pub use flat::Flat;
 pub use full::one_listing;
 pub use hg_compare::Letter;
 pub use kept::FlatRow;
-pub use reading::is_added;
 pub use row::{Row, Rows, Wanted};
 pub use status::plain_status;

@@ -3,9 +3,11 @@
 ghost use Rattle.std.specs.Prelude.{◌≡◌, IsTrue, IfOk, OnOk, Some, option_map, codes};
 ghost use Rattle.hg_base.specs.PathText.{is_path, joined};
 ghost use Rattle.hg_tree.specs.History.{IsQuiet, Passes, now};
+ghost use Rattle.hg_tree.specs.Still.{Untouched};
 ghost use Rattle.hg_tree.specs.Moment.{AreFit, AreNames, has_dir, is_among, is_dir, stat_at};
 ghost use Rattle.hg_flat.specs.Cause.{HasStatusCause};
-ghost use Rattle.hg_flat.specs.Listing.{IsUnknownAmong, IsUnknownFrom, IsUnknownIn, Lists, holds_repository, shows_dir};
+ghost use Rattle.hg_flat.specs.Asked.{AsksFor, AsksNothing, IsDirAmong, IsDirFrom, IsDirIn};
+ghost use Rattle.hg_flat.specs.Listing.{HoldsFor, IsUnknownAmong, IsUnknownFrom, IsUnknownIn, Lists, holds_repository, shows_dir};
 ghost use Rattle.hg_flat.specs.Shown.{kept_of};
 
 use crate::fault::StatusFault;
@@ -35,7 +37,11 @@ fn has_name(names: &[Name], wanted: &str) -> bool
 fn holds_hg<T: Tree>(alloc: Global, tree: &mut T, dir: PathRef<'_>) -> Result<bool, StatusFault>
     requires { IsTrue (is_path (joined (Some dir.text.now) (codes ".hg"))) }
     ensures passes { Passes (T.history tree.old) (T.history tree.new) }
-    ensures found { IsQuiet (T.history tree.old) (T.history tree.new)
+    ensures found { IfOk
+        result
+        (HoldsFor (Untouched (T.history tree.new) (T.history tree.old).last) (now (T.history tree.old)) (Some dir.entry.text.now)) }
+    ensures asked { IsTrue (T.history tree.old).told → AsksNothing (T.history tree.old) (T.history tree.new) }
+    ensures quiet { IsQuiet (T.history tree.old) (T.history tree.new)
         → IfOk result (λ holds. holds ≡ holds_repository (now (T.history tree.old)) (Some dir.entry.text.now)) }
     ensures cause { HasStatusCause (T.faults tree.old) (T.faults tree.new) result }
 {
@@ -52,7 +58,15 @@ fn is_nested<T: Tree>(
 ) -> Result<bool, StatusFault>
     requires { AreFit (option_map (λ d. d.text.now) dir) names.now }
     ensures passes { Passes (T.history tree.old) (T.history tree.new) }
-    ensures found { IsQuiet (T.history tree.old) (T.history tree.new)
+    ensures found { AreNames (now (T.history tree.old)) (option_map (λ d. d.text.now) dir.entry) names.now
+        → IfOk
+        result
+        (HoldsFor
+        (Untouched (T.history tree.new) (T.history tree.old).last)
+        (now (T.history tree.old))
+        (option_map (λ d. d.text.now) dir.entry)) }
+    ensures asked { IsTrue (T.history tree.old).told → AsksNothing (T.history tree.old) (T.history tree.new) }
+    ensures quiet { IsQuiet (T.history tree.old) (T.history tree.new)
         → AreNames (now (T.history tree.old)) (option_map (λ d. d.text.now) dir.entry) names.now
         → IfOk result (λ holds. holds ≡ holds_repository (now (T.history tree.old)) (option_map (λ d. d.text.now) dir.entry)) }
     ensures cause { HasStatusCause (T.faults tree.old) (T.faults tree.new) result }
@@ -76,8 +90,16 @@ fn look<T: Tree>(
     rows: &mut Vec<Row>,
 ) -> Result<(), StatusFault>
     ensures passes { Passes (T.history tree.old) (T.history tree.new) }
-    ensures listed { IsQuiet (T.history tree.old) (T.history tree.new)
-        → OnOk result (Lists (IsUnknownFrom (kept_of flat.now) (now (T.history tree.old)) path) rows.old.items rows.new.items) }
+    ensures listed { OnOk
+        result
+        (Lists
+        (kept_of flat.now)
+        (Untouched (T.history tree.new) (T.history tree.old).last)
+        (IsUnknownFrom (kept_of flat.now) (now (T.history tree.old)) path)
+        rows.old.items
+        rows.new.items) }
+    ensures asked { IsTrue (T.history tree.old).told
+        → AsksFor (IsDirFrom (T.history tree.old) (T.history tree.new) path) (T.history tree.old) (T.history tree.new) }
     ensures cause { HasStatusCause (T.faults tree.old) (T.faults tree.new) result }
 {
     let Some(stat) = tree.stat(path.as_ref())? else {
@@ -101,13 +123,19 @@ fn look_each<T: Tree>(
 ) -> Result<(), StatusFault>
     requires { AreFit (option_map (λ d. d.text.now) dir) names.now }
     ensures passes { Passes (T.history tree.old) (T.history tree.new) }
-    ensures listed { IsQuiet (T.history tree.old) (T.history tree.new)
-        → OnOk
+    ensures listed { OnOk
         result
         (Lists
+        (kept_of flat.now)
+        (Untouched (T.history tree.new) (T.history tree.old).last)
         (IsUnknownAmong (kept_of flat.now) (now (T.history tree.old)) (option_map (λ d. d.text.now) dir.entry) names.now)
         rows.old.items
         rows.new.items) }
+    ensures asked { IsTrue (T.history tree.old).told
+        → AsksFor
+        (IsDirAmong (T.history tree.old) (T.history tree.new) (option_map (λ d. d.text.now) dir.entry) names.now)
+        (T.history tree.old)
+        (T.history tree.new) }
     ensures cause { HasStatusCause (T.faults tree.old) (T.faults tree.new) result }
 {
     for name in names {
@@ -128,13 +156,19 @@ pub(crate) fn visit<T: Tree>(
     rows: &mut Vec<Row>,
 ) -> Result<(), StatusFault>
     ensures passes { Passes (T.history tree.old) (T.history tree.new) }
-    ensures listed { IsQuiet (T.history tree.old) (T.history tree.new)
-        → OnOk
+    ensures listed { OnOk
         result
         (Lists
+        (kept_of flat.now)
+        (Untouched (T.history tree.new) (T.history tree.old).last)
         (IsUnknownIn (kept_of flat.now) (now (T.history tree.old)) (option_map (λ d. d.text.now) dir.entry))
         rows.old.items
         rows.new.items) }
+    ensures asked { IsTrue (T.history tree.old).told
+        → AsksFor
+        (IsDirIn (T.history tree.old) (T.history tree.new) (option_map (λ d. d.text.now) dir.entry))
+        (T.history tree.old)
+        (T.history tree.new) }
     ensures cause { HasStatusCause (T.faults tree.old) (T.faults tree.new) result }
 {
     let Some(names) = tree.list(alloc, dir)? else {

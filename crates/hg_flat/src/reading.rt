@@ -2,11 +2,12 @@
 
 ghost use Rattle.std.specs.Prelude.{◌≡◌, ◌∷◌, [], IfOk, OnOk, option_map};
 ghost use Rattle.hg_entry.specs.Entry as record_of;
-ghost use Rattle.hg_image.specs.Node.{fields_of};
-ghost use Rattle.hg_image.specs.View.{row, rows, rows_below, rows_in};
+ghost use Rattle.hg_entry.specs.Table.{flat_of};
+ghost use Rattle.hg_image.specs.Reading.{table_in};
+ghost use Rattle.hg_image.specs.View.{row, rows_below, rows_in};
 ghost use Rattle.hg_flat.specs.Kept.{shown_row};
-ghost use Rattle.hg_flat.specs.Recorded.{Adds, Records, are_added, is_added_entry};
-ghost use Rattle.hg_flat.specs.Shown.{kept_of};
+ghost use Rattle.hg_flat.specs.Recorded.{Adds, Records};
+ghost use Rattle.hg_flat.specs.Shown.{flat_in, kept_of};
 
 use crate::flat::Flat;
 use crate::kept::FlatRow;
@@ -73,54 +74,18 @@ fn add_list(alloc: Global, found: &mut Vec<FlatRow>, list: List<'_>) -> Result<(
 }
 
 impl Flat {
-    /// What a data file records of each path.
+    /// What a record says of each path: the parents of its docket, and each node with an entry.
     pub fn read(alloc: Global, image: &Image<'_>) -> Result<Flat, OutOfMemory>
-        ensures { IfOk result (λ flat. Records (rows image.now) (kept_of flat)) }
+        // Of each path with an entry the entry and its source are those of the table.
+        ensures records { IfOk result (λ flat. Records (table_in image.now) (kept_of flat)) }
+        // So are the parents, and by path the marks and the sources.
+        ensures flat { IfOk result (λ flat. flat_in flat ≡ flat_of (table_in image.now)) }
     {
         let docket = image.docket();
         // The docket's count may be wrong: no more room is taken at once than for nodes that stand side by side in the used bytes.
         let room = docket.entries.min(docket.used / 44);
         let mut found = Vec::with_capacity(alloc, room as usize)?;
         add_list(alloc, &mut found, image.root())?;
-        Flat::of(found)
+        Flat::of(docket.p1, docket.p2, found)
     }
-}
-
-fn is_added_node(entry: Option<Entry>) -> bool
-    ensures { result ≡ is_added_entry (option_map record_of.view entry) }
-{
-    match entry {
-        None => true,
-        Some(entry) => !(entry.p1 || entry.p2),
-    }
-}
-
-#[cycle(adding)]
-fn is_added_below(node: NodeRef<'_>) -> bool
-    ensures { result ≡ are_added (rows_below node.entry) }
-{
-    is_added_list(node.children())
-}
-
-#[cycle(adding)]
-fn is_added_list(list: List<'_>) -> bool
-    ensures { result ≡ are_added (rows_in list.entry) }
-{
-    for i in 0..list.len() {
-        let node = list.get(i);
-        if !is_added_node(node.entry()) {
-            return false;
-        }
-        if !is_added_below(node) {
-            return false;
-        }
-    }
-    true
-}
-
-/// Whether no entry of a data file is of a parent.
-pub fn is_added(image: &Image<'_>) -> bool
-    ensures { result ≡ are_added (rows image.now) }
-{
-    is_added_list(image.root())
 }

@@ -5,6 +5,7 @@ pub mod Names
 pub mod Parted
 pub mod RowsOf
 pub mod Sound
+pub mod Sourced
 pub mod Tallies
 pub mod Texts
 pub mod Walk

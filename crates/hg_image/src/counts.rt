@@ -8,7 +8,7 @@ ghost use Rattle.hg_image.specs.Tally as tallies;
 ghost use Rattle.hg_image.specs.Tally.{tally_of, tally_within};
 
 use crate::opened::{Image, List, NodeRef};
-use crate::parts::{has, has_entry};
+use hg_entry::bits as bit;
 
 /// How many nodes there are, and how many of them have an entry, are tracked and have a copy source.
 #[derive(Clone, Copy)]
@@ -73,8 +73,8 @@ fn one_node(node: NodeRef<'_>) -> Tally
 {
     Tally {
         nodes: 1,
-        entries: one_if(has_entry(node.rec.flags)),
-        tracked: one_if(has(node.rec.flags, 0)),
+        entries: one_if(bit::has_entry(node.rec.flags)),
+        tracked: one_if(bit::has(node.rec.flags, bit::WDIR_TRACKED)),
         copies: one_if(node.source().is_some()),
     }
 }

@@ -1,8 +1,9 @@
 //! Opening a data file.
 
 ghost use Rattle.std.specs.Prelude.{◌≡◌, IfOk, None, take};
-ghost use Rattle.std.specs.Result.{result_err};
+ghost use Rattle.std.specs.Result.{result_err, result_map_both};
 ghost use Rattle.hg_docket.specs.Docket.{view};
+ghost use Rattle.hg_image.specs.Reading.{data_reading, table_in};
 ghost use Rattle.hg_image.specs.Rows.{rows_of, AreDistinct};
 ghost use Rattle.hg_image.specs.View.{rows, rows_in};
 ghost use Rattle.hg_image.specs.Walk as walk;
@@ -22,6 +23,8 @@ impl<'a> Image<'a> {
         ensures docket { IfOk result (λ i. i.docket ≡ docket.now) }
         ensures bytes { IfOk result (λ i. i.bytes.now ≡ take docket.now.used bytes.entry.now) }
         ensures rows { IfOk result (λ i. rows i ≡ rows_of (view docket.now) bytes.entry.now) }
+        // It is the reading of the data file: the first fault, or the table of all that is recorded.
+        ensures read { result_map_both table_in (λ fault. fault) result ≡ data_reading (view docket.now) bytes.entry.now }
     {
         let have = bytes.len() as u64;
         if have < docket.used as u64 {

@@ -6,8 +6,9 @@ ghost use Rattle.hg_image.specs.Node.{name_of, fields_of};
 ghost use Rattle.hg_image.specs.View.{row, rows_in, rows_below};
 
 use crate::opened::{List, NodeRef};
-use crate::parts::{has_entry, sound_text};
+use crate::parts::sound_text;
 use hg_base::{PathRef, Stamp};
+use hg_entry::bits::has_entry;
 use hg_entry::{Entry, Fields, dir_stamp};
 use hg_node::Rec;
 

@@ -11,6 +11,7 @@ ghost use Rattle.hg_entry.specs.Entry as entry;
 use crate::fault::NodeFault;
 use crate::parts::read_text;
 use hg_base::{PathFault, PathRef, child_name};
+use hg_entry::bits as bit;
 use hg_node::Rec;
 use std::cmp::Ordering;
 
@@ -117,7 +118,7 @@ fn is_path(text: &str) -> bool
 fn is_timely(rec: Rec) -> bool
     ensures { result ≡ entry.is_timely (fields_of rec) }
 {
-    if rec.flags / 2048 % 2 != 1 {
+    if !bit::has(rec.flags, bit::HAS_MTIME) {
         return true;
     }
     rec.seconds < 1 << 31 && rec.nanos < 1_000_000_000

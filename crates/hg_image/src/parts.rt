@@ -1,10 +1,8 @@
-//! Parts of the data file: a record, a text, a flag.
+//! Parts of the data file: a record, a text.
 
 ghost use Rattle.std.specs.Prelude.{◌≡◌, ◌+◌, ◌≤◌, ◌<◌, ◌^◌, length, take, drop, IsTrue, if◌then◌else◌, Some, None, option_map};
 ghost use Rattle.std.specs.Str.{IsUtf8};
 ghost use Rattle.std.specs.Str as text;
-ghost use Rattle.hg_entry.specs.Entry as entry;
-ghost use Rattle.hg_entry.specs.Flags as flag;
 ghost use Rattle.hg_image.specs.Node.{record_at, part_at, is_text};
 
 use hg_node::{Rec, within};
@@ -63,19 +61,4 @@ pub fn sound_text(bytes: &[u8], start: u32, len: u16) -> &str
 {
     let text = part(bytes, start, len);
     unsafe { std::str::from_utf8_unchecked(text) }
-}
-
-/// Whether one of the flags is set that make an entry: tracked, in the first parent, marked for the second.
-pub fn has_entry(flags: u16) -> bool
-    ensures { result ≡ entry.has_entry flags }
-{
-    has(flags, 0) || has(flags, 1) || has(flags, 2)
-}
-
-/// Whether the bit of this number is set.
-pub fn has(flags: u16, bit: u32) -> bool
-    requires { bit < 16 }
-    ensures { result ≡ flag.has flags bit }
-{
-    (flags >> bit) % 2 == 1
 }

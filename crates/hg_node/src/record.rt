@@ -4,6 +4,8 @@ ghost use Rattle.std.specs.Prelude.{◌≡◌, ◌+◌, ◌≤◌, ◌++◌, tak
 ghost use Rattle.std.specs.Int.{w16, w32};
 ghost use Rattle.hg_node.specs.Node.{number_at, rec_of, bytes_of, texts_of, facts_of, AreTextsSized, AreFactsSized};
 
+use hg_base::put;
+
 /// A node as it lies in the data file (internals.dirstate-v2, "The data file format"), with the place where it stands.
 #[derive(Clone, Copy, Debug, PartialEq, Eq)]
 pub struct Rec {
@@ -137,15 +139,4 @@ fn u32_at(bytes: &[u8], at: usize) -> u32
     ensures { result ≡ number_at w32 at bytes.now }
 {
     u32::from_be_bytes([bytes[at], bytes[at + 1], bytes[at + 2], bytes[at + 3]])
-}
-
-// Writes the text at a place, and answers where it ends.
-fn put(bytes: &mut [u8], at: usize, text: &[u8]) -> usize
-    requires { at + length text.now ≤ length bytes.old }
-    ensures end { result ≡ at + length text.now }
-    ensures front { take result bytes.new ≡ take at bytes.old ++ text.now }
-{
-    let end = at + text.len();
-    bytes[at..end].copy_from_slice(text);
-    end
 }

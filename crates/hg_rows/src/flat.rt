@@ -3,7 +3,7 @@ use crate::setting::{EMPTY, Setting, What, tree_of};
 use crate::trees::three;
 use hg_base::PathRef;
 use hg_docket::Docket;
-use hg_flat::{Flat, is_added, plain_status};
+use hg_flat::{Flat, plain_status};
 use hg_image::Image;
 use hg_report::{Style, status_text};
 use std::test::Fail;
@@ -33,10 +33,10 @@ fn lists_over_the_flat_map(rt: HostRuntime) -> Result<(), Fail> {
     }
     let docket = Docket::read(&docket).ok().ok_or("a sound docket")?;
     let image = Image::open(&docket, &data)?;
-    if !is_added(&image) {
-        return Err("an entry of a parent".into());
-    }
     let flat = Flat::read(rt.alloc(), &image)?;
+    if !flat.is_unborn() {
+        return Err("a commit".into());
+    }
     for (path, wanted) in PATHS {
         let item = flat.get(PathRef::read(path)?);
         let shown = item.map(|item| (item.entry.w, item.entry.p1, item.entry.p2));

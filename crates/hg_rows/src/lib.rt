@@ -26,6 +26,8 @@ mod docket_faults;
 #[cfg(test)]
 mod flat;
 #[cfg(test)]
+mod great_count;
+#[cfg(test)]
 mod identifiers;
 #[cfg(test)]
 mod listings;

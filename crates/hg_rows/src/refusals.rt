@@ -113,9 +113,9 @@ const GONE: &[(&str, DocketOf, &str)] = &[
         "abort: dirstate data gone: Az-_9\n",
     ),
     (
-        "a parent before a data file",
+        "a parent, and the data file is gone",
         DocketOf { p1: 1, ..ONE },
-        NOT_BUILT,
+        "abort: dirstate data gone: 0000000000000000\n",
     ),
     (
         "no byte is used",

@@ -60,3 +60,8 @@ pub record Passes (old new : History) : Type 0 where
 pub record IsQuiet (old new : History) : Type 0 where
   pub told : IsTrue old.told
   pub none : new.last ≡ old.last
+
+-- every step between two states of a shelf that tells its moments was the caller's own
+pub record IsOurs (old new : History) : Type 0 where
+  pub told : IsTrue old.told
+  pub ours : By us new old.last new.last

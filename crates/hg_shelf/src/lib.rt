@@ -19,7 +19,7 @@ mod outside;
 mod shelf;
 
 pub use memory::MemShelf;
-pub use outside::Outside;
+pub use outside::{Change, Outside};
 pub use shelf::Shelf;
 
 #[cfg(test)]

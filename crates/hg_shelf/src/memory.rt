@@ -1,14 +1,15 @@
 // A shelf in memory: the files as they are now, beside the changes that made them.
 ghost use Rattle.std.specs.Prelude.{◌≡◌, ℕ, ◌-◌, List, [], ◌∷◌, ◌++◌, length, take, drop, min, IfOk, OnOk, OnErr, is_err};
 ghost use Rattle.std.specs.BTreeMap.{get_by_text};
-ghost use Rattle.hg_base.specs.Calls.{fails_at, is_due, answered, failed};
+ghost use Rattle.hg_base.specs.Calls.{fails_at, is_due};
 ghost use Rattle.hg_base.specs.Fault.{HasCause};
+ghost use Rattle.hg_base.specs.Reads.{ReadsBytes, IsWithin};
 ghost use Rattle.hg_shelf.specs.History.{now};
-ghost use Rattle.hg_shelf.specs.Memory.{history_of, with_file, fresh};
-ghost use Rattle.hg_shelf.specs.Reads.{size_of, ReadsBytes, IsWithin};
+ghost use Rattle.hg_shelf.specs.Memory.{after_call, after_due, after_failure, by_others, fresh, history_of, with_file};
+ghost use Rattle.hg_shelf.specs.Reads.{size_of};
 ghost use Rattle.hg_shelf.specs.declared.outside.Outside.TheVariants as a_change;
 
-use crate::outside::Outside;
+use crate::outside::{Change, Outside};
 use crate::shelf::Shelf;
 use hg_base::{Blob, Calls, Failed, Got, OutOfMemory, Text};
 use std::alloc::Global;
@@ -20,7 +21,7 @@ use std::marker::Model;
 pub struct MemShelf {
     alloc: Global,
     files: BTreeMap<String, Blob>,
-    changes: Vec<Outside>,
+    changes: Vec<Change>,
     calls: Calls,
 }
 
@@ -51,12 +52,16 @@ impl MemShelf {
 
     /// Another puts a file, in place of one of that name.
     pub fn place(&mut self, name: &str, bytes: &[u8]) -> Result<(), OutOfMemory>
-        ensures ok { OnOk result (self.new ≡ record self.old { changes = self.old.changes ++ (a_change.Place name.now bytes.now) ∷ [] }) }
+        ensures ok { OnOk result (self.new ≡ record self.old { changes = self.old.changes ++ by_others (a_change.Place name.now bytes.now) ∷ [] }) }
         ensures err { OnErr result (self.new ≡ self.old) }
     {
-        let change = Outside::Place {
-            name: Text::of(self.alloc, name)?,
-            bytes: Blob::of(self.alloc, bytes)?,
+        let change = Change {
+            by_us: false,
+            under_lock: false,
+            what: Outside::Place {
+                name: Text::of(self.alloc, name)?,
+                bytes: Blob::of(self.alloc, bytes)?,
+            },
         };
         self.changes.reserve(1)?;
         put(self.alloc, &mut self.files, name, bytes)?;
@@ -80,11 +85,11 @@ impl Shelf for MemShelf {
 
     // A call fails exactly where it was told to, and only counts.
     fn size(&mut self, name: &str) -> Result<Option<u64>, Failed>
-        ensures found { IfOk result (λ size. size ≡ size_of ((now (history_of self.old)).files name.now)) }
+        ensures found { IfOk result (λ size. size ≡ size_of ((now (history_of (after_due self.old))).files name.now)) }
         ensures cause { HasCause self.old.calls.faults self.new.calls.faults result (λ e. Unit {0}) }
         ensures due { is_err result ≡ is_due self.old.calls }
-        ensures answered { OnOk result (self.new ≡ record self.old { calls = answered self.old.calls }) }
-        ensures failed { OnErr result (self.new ≡ record self.old { calls = failed self.old.calls }) }
+        ensures answered { OnOk result (self.new ≡ after_call self.old) }
+        ensures failed { OnErr result (self.new ≡ after_failure self.old) }
     {
         self.calls.begin()?;
         Ok(
@@ -95,12 +100,12 @@ impl Shelf for MemShelf {
     }
 
     fn read_at(&mut self, name: &str, place: u64, buf: &mut [u8]) -> Result<Got, Failed>
-        ensures found { IfOk result (λ got. ReadsBytes ((now (history_of self.old)).files name.now) place buf.old buf.new got) }
+        ensures found { IfOk result (λ got. ReadsBytes ((now (history_of (after_due self.old))).files name.now) place buf.old buf.new got) }
         ensures fit { IfOk result (λ got. IsWithin (length buf.old) got) }
         ensures cause { HasCause self.old.calls.faults self.new.calls.faults result (λ e. Unit {0}) }
         ensures due { is_err result ≡ is_due self.old.calls }
-        ensures answered { OnOk result (self.new ≡ record self.old { calls = answered self.old.calls }) }
-        ensures failed { OnErr result (self.new ≡ record self.old { calls = failed self.old.calls }) }
+        ensures answered { OnOk result (self.new ≡ after_call self.old) }
+        ensures failed { OnErr result (self.new ≡ after_failure self.old) }
     {
         self.calls.begin()?;
         match self.files.get(name) {

@@ -1,8 +1,9 @@
 // The trait of what holds the files below `.hg`.
 ghost use Rattle.std.specs.Prelude.{◌≡◌, ℕ, length, IfOk, IsTrue};
 ghost use Rattle.hg_base.specs.Fault.{HasCause};
+ghost use Rattle.hg_base.specs.Reads.{ReadsBytes, IsWithin};
 ghost use Rattle.hg_shelf.specs.History.{History, Passes, now};
-ghost use Rattle.hg_shelf.specs.Reads.{size_of, ReadsBytes, IsWithin};
+ghost use Rattle.hg_shelf.specs.Reads.{size_of};
 
 use hg_base::{Failed, Got};
 

@@ -11,7 +11,8 @@ use Rattle.hg_tree.specs.declared.thing.Thing.TheVariants as a_thing
 use Rattle.hg_tree.specs.declared.thing.Placed.{Placed}
 use Rattle.hg_tree.specs.Moment.{Moment, stat_at, stat_of}
 use Rattle.hg_tree.specs.History.{History}
-use Rattle.hg_tree.specs.Honest.{IsBefore, IsAtMost, Face, face, face_of, face_with, has_name, Shows, IsHonest, LawOfFaces, HonestPast}
+use Rattle.hg_base.specs.Times.{IsBefore, IsAtMost}
+use Rattle.hg_tree.specs.Honest.{Face, face, face_of, face_with, has_name, Shows, IsHonest, LawOfFaces, HonestPast}
 use Rattle.hg_tree.proofs.Stable.{stable_face}
 
 -- a time before another, and that one not after a third

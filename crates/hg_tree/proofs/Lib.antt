@@ -9,4 +9,5 @@ pub mod Planting
 pub mod Shown
 pub mod Spans
 pub mod Stable
+pub mod Stillness
 pub mod Times

@@ -2,7 +2,7 @@
 use Rattle.std.proofs.Common.{ℕ, ◌≡◌, true, List, Option, Some, length, sym, ◌∙◌, ap, subst, arith}
 use Rattle.std.proofs.lemmas.List.{take_all}
 use Rattle.hg_base.specs.declared.time.Time.{Time}
-use Rattle.hg_tree.specs.declared.asked.Outside.{Outside}
+use Rattle.hg_tree.specs.declared.asked.Change.{Change}
 use Rattle.hg_tree.specs.Moment.{Moment, Things, AreFit, Lists, empty_at, is_listed}
 use Rattle.hg_tree.specs.Change.{replayed}
 use Rattle.hg_tree.specs.Children.{AreChildren}
@@ -13,13 +13,13 @@ use Rattle.hg_tree.proofs.Children.{children_fit, children_names}
 
 -- the last moment is what all changes make
 pub now_is : (memory : Memory) → now (history_of memory) ≡ replayed memory.changes (empty_at memory.start)
-now_is memory = ap (λ (l : List Outside). replayed l (empty_at memory.start)) (take_all (length memory.changes) memory.changes (omega arith))
+now_is memory = ap (λ (l : List Change). replayed l (empty_at memory.start)) (take_all (length memory.changes) memory.changes (omega arith))
 
 -- what is kept of the fields is kept of what contracts see
-pub kept_seen : (memory : Memory) (start : Time) (changes : List Outside) (shown : Things) → memory.start ≡ start → memory.changes ≡ changes → IsKept start changes shown
+pub kept_seen : (memory : Memory) (start : Time) (changes : List Change) (shown : Things) → memory.start ≡ start → memory.changes ≡ changes → IsKept start changes shown
     → IsKept memory.start memory.changes shown
 kept_seen memory start changes shown same_start same_changes kept =
-    subst (λ (s : Time). IsKept s memory.changes shown) (sym same_start) (subst (λ (l : List Outside). IsKept start l shown) (sym same_changes) kept)
+    subst (λ (s : Time). IsKept s memory.changes shown) (sym same_start) (subst (λ (l : List Change). IsKept start l shown) (sym same_changes) kept)
 
 module _ (memory : Memory) (shown : Things) (kept : IsKept memory.start memory.changes shown) where
   pub seen_formed : AreFormed (history_of memory)

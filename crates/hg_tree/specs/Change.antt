@@ -1,11 +1,12 @@
--- What a change from outside makes of a working copy.
-use Rattle.std.specs.Prelude.{ℕ, ◌||◌, if◌then◌else◌, List, [], ◌∷◌, Some, None}
+-- What a change makes of a working copy.
+use Rattle.std.specs.Prelude.{ℕ, false, ◌||◌, if◌then◌else◌, List, [], ◌∷◌, Some, None}
 use Rattle.std.specs.Str.{bytes_eq}
 use Rattle.hg_base.specs.PathText.{is_below}
 use Rattle.hg_base.specs.declared.time.Time.{Time}
 use Rattle.hg_tree.specs.declared.thing.Thing.{Thing}
 use Rattle.hg_tree.specs.declared.thing.Thing.TheVariants as a_thing
 use Rattle.hg_tree.specs.declared.thing.Placed.{Placed}
+use Rattle.hg_tree.specs.declared.asked.Change.{Change}
 use Rattle.hg_tree.specs.declared.asked.Outside.{Outside}
 use Rattle.hg_tree.specs.declared.asked.Outside.TheVariants as a_change
 use Rattle.hg_tree.specs.Moment.{Moment, Things, is_dir, is_dir_thing}
@@ -46,7 +47,11 @@ abbrev pub after : Outside → Moment → Moment
 after (a_change.Place path thing time) moment = record moment { things = after_place path thing time moment.things }
 after (a_change.Take path) moment = record moment { things = after_take path moment.things }
 
+-- a change that others made
+abbrev pub by_others : Outside → Change
+by_others what = record { by_us = false; what = what }
+
 -- the moment that changes make, the first of them first
-abbrev pub replayed : List Outside → Moment → Moment
+abbrev pub replayed : List Change → Moment → Moment
 replayed [] moment = moment
-replayed (change ∷ more) moment = replayed more (after change moment)
+replayed (change ∷ more) moment = replayed more (after change.what moment)

@@ -1,7 +1,8 @@
 -- Honest times: a time that is shown again, and was in the past when it was shown first, is of the same thing.
-use Rattle.std.specs.Prelude.{ℕ, ◌≡◌, ◌≢◌, ◌+◌, ◌<◌, ◌≤◌, ◌<ℤ◌, ◌⊎◌, Bool, ◌&&◌, List, [], Option, Some, None, is_some}
+use Rattle.std.specs.Prelude.{ℕ, ◌≡◌, ◌≢◌, ◌+◌, ◌<◌, ◌≤◌, ◌⊎◌, Bool, ◌&&◌, List, [], Option, Some, None, is_some}
 use Rattle.hg_base.specs.PathText.{is_component, joined}
 use Rattle.hg_base.specs.declared.time.Time.{Time}
+use Rattle.hg_base.specs.Times.{IsAtMost, IsBefore}
 use Rattle.hg_base.specs.declared.stat.Kind.{Kind}
 use Rattle.hg_base.specs.declared.stat.Kind.TheVariants as a_kind
 use Rattle.hg_tree.specs.declared.thing.Thing.{Thing}
@@ -9,12 +10,6 @@ use Rattle.hg_tree.specs.declared.thing.Thing.TheVariants as a_thing
 use Rattle.hg_tree.specs.declared.thing.Placed.{Placed}
 use Rattle.hg_tree.specs.Moment.{Moment, is_dir}
 use Rattle.hg_tree.specs.History.{History, Extends}
-
-abbrev pub IsBefore : Time → Time → Type 0
-IsBefore a b = (a.seconds <ℤ b.seconds) ⊎ ((a.seconds ≡ b.seconds) × (a.nanos < b.nanos))
-
-abbrev pub IsAtMost : Time → Time → Type 0
-IsAtMost a b = (a.seconds <ℤ b.seconds) ⊎ ((a.seconds ≡ b.seconds) × (a.nanos ≤ b.nanos))
 
 -- what a path shows but for the executable bit, which every stat shows anyway: the kind of what stands there, the bytes of a file or
 -- of a link's target, the time, and of a directory the names in it

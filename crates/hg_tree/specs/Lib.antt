@@ -5,3 +5,4 @@ pub mod Honest
 pub mod Memory
 pub mod Moment
 pub mod Parents
+pub mod Still

@@ -10,7 +10,7 @@ pub enum Asked {
     List { dir: Option<Path> },
 }
 
-/// A change that is made from outside: a thing is placed, or what stands at a path is taken away.
+/// A change of a working copy: a thing is placed, or what stands at a path is taken away.
 #[derive(Debug, Drop)]
 pub enum Outside {
     Place {
@@ -21,4 +21,11 @@ pub enum Outside {
     Take {
         path: Path,
     },
+}
+
+/// A change that was made, and whether the caller of the tree made it or another.
+#[derive(Debug, Drop)]
+pub struct Change {
+    pub by_us: bool,
+    pub what: Outside,
 }

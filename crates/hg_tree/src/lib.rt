@@ -15,7 +15,8 @@
 //! tree.list(alloc, None)?;            // Some([src])
 //! ```
 //!
-//! What the words of the contracts mean stands in `specs/`: `Moment.antt` for one moment, `History.antt` for many.
+//! What the words of the contracts mean stands in `specs/`: `Moment.antt` for one moment, `History.antt` for many, `Still.antt` for what
+//! stays as it is while others change something else. Lemmas for the crates above are in `proofs/`: `Histories`, `Spans`, `Stillness`.
 #![tactic(auto)]
 
 mod asked;
@@ -28,7 +29,7 @@ mod name;
 mod thing;
 mod things;
 
-pub use asked::{Asked, Outside};
+pub use asked::{Asked, Change, Outside};
 pub use device::Tree;
 pub use fault::TreeFault;
 pub use honest::{faces_stay, honest_past};

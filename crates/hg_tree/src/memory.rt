@@ -1,16 +1,17 @@
 //! A working copy in memory, for tests.
 
-ghost use Rattle.std.specs.Prelude.{◌≡◌, ◌++◌, ◌∷◌, [], false, option_map, IsTrue, OnOk, OnErr, IfOk, IfErr, IfSome, is_ok, is_err};
-ghost use Rattle.hg_base.specs.Calls.{unmade, fails_at, is_due, answered, failed};
-ghost use Rattle.hg_base.specs.Fault.{HasCause};
+ghost use Rattle.std.specs.Prelude.{◌≡◌, ◌≤◌, ◌⊎◌, true, if◌then◌else◌, ◌++◌, ◌∷◌, [], false, option_map, IsTrue, OnOk, OnErr, IfOk, IfErr, IfSome, is_ok, is_err};
+ghost use Rattle.hg_base.specs.Calls.{unmade, fails_at, is_due};
+ghost use Rattle.hg_base.specs.Fault.{HasCause, Rose};
 ghost use Rattle.hg_tree.specs.declared.asked.Outside.TheVariants as a_change;
 ghost use Rattle.hg_tree.specs.declared.asked.Asked.TheVariants as an_ask;
 ghost use Rattle.hg_tree.specs.declared.fault.TreeFault.TheVariants as a_fault;
 ghost use Rattle.hg_tree.specs.Moment.{AreFit, IsPlain, Lists, is_short_thing, stat_at};
 ghost use Rattle.hg_tree.specs.History.{AreFormed, Asks, Passes, now};
-ghost use Rattle.hg_tree.specs.Memory.{history_of};
+ghost use Rattle.hg_tree.specs.Change.{by_others};
+ghost use Rattle.hg_tree.specs.Memory.{LeavesListed, after_call, after_due, after_failure, history_of, noting};
 
-use crate::asked::{Asked, Outside};
+use crate::asked::{Asked, Change, Outside};
 use crate::device::Tree;
 use crate::fault::TreeFault;
 use crate::listing::{is_listed, names_in};
@@ -29,7 +30,7 @@ use std::marker::Model;
 pub struct MemTree {
     alloc: Global,
     start: Time,
-    changes: Vec<Outside>,
+    changes: Vec<Change>,
     asked: Vec<Asked>,
     calls: Calls,
     things: BTreeMap<String, Placed>,
@@ -72,7 +73,7 @@ impl MemTree {
         requires { IsTrue (is_short_thing thing) }
         ensures ok { OnOk
             result
-            (self.new ≡ record self.old { changes = self.old.changes ++ (a_change.Place path.entry.text.now thing mtime) ∷ [] }) }
+            (self.new ≡ record self.old { changes = self.old.changes ++ by_others (a_change.Place path.entry.text.now thing mtime) ∷ [] }) }
         ensures err { OnErr result (self.new ≡ self.old) }
     {
         let copy = thing.copy(self.alloc)?;
@@ -85,10 +86,13 @@ impl MemTree {
             Placed { thing: copy, mtime },
         )?;
         self.changes
-            .push(Outside::Place {
-                path: path_copy,
-                thing,
-                mtime,
+            .push(Change {
+                by_us: false,
+                what: Outside::Place {
+                    path: path_copy,
+                    thing,
+                    mtime,
+                },
             })
             .unwrap();
         Ok(())
@@ -98,14 +102,17 @@ impl MemTree {
     pub fn take(&mut self, path: PathRef<'_>) -> Result<(), OutOfMemory>
         ensures ok { OnOk
             result
-            (self.new ≡ record self.old { changes = self.old.changes ++ (a_change.Take path.entry.text.now) ∷ [] }) }
+            (self.new ≡ record self.old { changes = self.old.changes ++ by_others (a_change.Take path.entry.text.now) ∷ [] }) }
         ensures err { OnErr result (self.new ≡ self.old) }
     {
         let path_copy = Path::of(self.alloc, path)?;
         self.changes.reserve(1)?;
         remove(&mut self.things, path.text);
         self.changes
-            .push(Outside::Take { path: path_copy })
+            .push(Change {
+                by_us: false,
+                what: Outside::Take { path: path_copy },
+            })
             .unwrap();
         Ok(())
     }
@@ -138,14 +145,40 @@ impl MemTree {
 
     // Notes that a directory is listed.
     fn note(&mut self, dir: Option<PathRef<'_>>) -> Result<(), OutOfMemory>
-        ensures ok { OnOk
-            result
-            (self.new ≡ record self.old { asked = self.old.asked ++ (an_ask.List (option_map (λ d. d.text.now) dir.entry)) ∷ [] }) }
+        ensures ok { OnOk result (self.new ≡ noting (an_ask.List (option_map (λ d. d.text.now) dir.entry)) self.old) }
         ensures err { OnErr result (self.new ≡ self.old) }
     {
         let dir = copy_of(self.alloc, dir)?;
         self.asked.push(Asked::List { dir })?;
         Ok(())
+    }
+
+    // Counts a listing and notes it, also one that fails.
+    fn begin_listing(&mut self, dir: Option<PathRef<'_>>) -> Result<(), TreeFault>
+        ensures state { LeavesListed (option_map (λ d. d.text.now) dir.entry) result self.old self.new }
+        ensures ended { IfErr result (λ e. e ≡ a_fault.Failed ⊎ is_due self.old.calls ≡ true) }
+        ensures cause { HasCause self.old.calls.faults self.new.calls.faults result (λ e. e ≡ a_fault.Failed) }
+    {
+        match self.note(dir) {
+            Ok(()) => Ok(self.calls.begin()?),
+            Err(_) => Err(self.unnoted()),
+        }
+    }
+
+    // A call for whose note there is no memory is counted as one that failed.
+    fn unnoted(&mut self) -> TreeFault
+        ensures state { self.new ≡ after_failure self.old }
+        ensures kind { result ≡ (if is_due self.old.calls then a_fault.OutOfMemory else a_fault.Failed) }
+        ensures later { self.old.calls.faults ≤ self.new.calls.faults }
+        ensures rose { Rose self.old.calls.faults self.new.calls.faults }
+    {
+        match self.calls.begin() {
+            Ok(()) => {
+                self.calls.fail();
+                TreeFault::Failed
+            }
+            Err(_) => TreeFault::OutOfMemory,
+        }
     }
 
     fn names(
@@ -186,19 +219,19 @@ impl Tree for MemTree {
 
     // A call fails exactly where it was told to, and only counts.
     fn stat(&mut self, path: PathRef<'_>) -> Result<Option<Stat>, Failed>
-        ensures found { IfOk result (λ found. found ≡ stat_at (now (history_of self.old)) path.entry.text.now) }
+        ensures found { IfOk result (λ found. found ≡ stat_at (now (history_of (after_due self.old))) path.entry.text.now) }
         ensures fit { IfOk result (λ found. IfSome found IsPlain) }
         ensures formed { OnOk result (AreFormed (history_of self.new)) }
         ensures cause { HasCause self.old.calls.faults self.new.calls.faults result (λ e. Unit {0}) }
         ensures due { is_err result ≡ is_due self.old.calls }
-        ensures answered { OnOk result (self.new ≡ record self.old { calls = answered self.old.calls }) }
-        ensures failed { OnErr result (self.new ≡ record self.old { calls = failed self.old.calls }) }
+        ensures answered { OnOk result (self.new ≡ after_call self.old) }
+        ensures failed { OnErr result (self.new ≡ after_failure self.old) }
     {
         self.calls.begin()?;
         Ok(self.look(path.text))
     }
 
-    // A call that was told to fail fails, and else only one that finds no memory. Each is counted.
+    // A listing is counted and noted, and changes nothing else.
     fn list(
         &mut self,
         alloc: Global,
@@ -212,17 +245,13 @@ impl Tree for MemTree {
             (history_of self.new) }
         ensures found { IfOk
             result
-            (λ found. Lists (option_map (λ d. d.text.now) dir.entry) (option_map (λ v. v.items) found) (now (history_of self.new))) }
+            (λ found. Lists (option_map (λ d. d.text.now) dir.entry) (option_map (λ v. v.items) found) (now (history_of (after_due self.old)))) }
         ensures fit { IfOk result (λ found. IfSome found (λ names. AreFit (option_map (λ d. d.text.now) dir.entry) names.items)) }
         ensures formed { OnOk result (AreFormed (history_of self.new)) }
         ensures cause { HasCause self.old.calls.faults self.new.calls.faults result (λ e. e ≡ a_fault.Failed) }
-        ensures due { OnOk result (is_due self.old.calls ≡ false) }
-        ensures answered { OnOk result (self.new.calls ≡ answered self.old.calls) }
-        ensures failed { IfErr result (λ e. e ≡ a_fault.Failed → self.new.calls ≡ failed self.old.calls) }
+        ensures state { LeavesListed (option_map (λ d. d.text.now) dir.entry) result self.old self.new }
     {
-        let begun = self.calls.begin();
-        self.note(dir)?;
-        begun?;
+        self.begin_listing(dir)?;
         let names = self.names(alloc, dir)?;
         Ok(names)
     }

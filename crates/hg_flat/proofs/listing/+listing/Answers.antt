@@ -1,91 +1,156 @@
--- A listing of what stands at a path, at the names of a directory and in a directory: `Quiet` has each step.
-use Rattle.std.proofs.Common.{◌∙◌, ap, option_map}
+-- A listing of what stands at a path, at the names of a directory and in a directory: `Steps` has each step, `Asks` what the tree is asked.
+use Rattle.std.proofs.Common.{◌∙◌, ◌+◌, [], ap, refl, sym, option_map}
 use Rattle.std.proofs.lemmas.Result.{on_ok_weaker}
 use Rattle.hg_tree.specs.History.{now}
-use Rattle.hg_tree.proofs.Histories.{extends_trans, quiet_first, quiet_second}
-use Rattle.hg_tree.proofs.Spans.{passes_trans}
+use Rattle.hg_tree.specs.Still.{Untouched}
+use Rattle.hg_tree.proofs.Spans.{passes_same, passes_trans}
+use Rattle.hg_flat.specs.Asked.{IsDirAmong, IsDirFrom}
 use Rattle.hg_flat.specs.Shown.{kept_of}
-use Rattle.hg_flat.proofs.Quiet.{each_more, look_dir, look_file, look_none, look_other, seen, visit_nested, visit_none, visit_rest}
+use Rattle.hg_flat.proofs.Asks.{asks_none, asks_nothing, asks_one, dir_asks, dir_asks_on, each_asks, each_more_asks, look_asks, visit_asks}
+use Rattle.hg_flat.proofs.Unknowns.{among_none}
+use Rattle.hg_flat.proofs.Steps.{dir_is, each_more, look_dir, look_file, look_none, look_other, seen, these_names, visit_nested, visit_none, visit_rest}
 use Rattle.hg_flat.proofs.listing.+listing.Goals as goal
 
 pub look-returns-in_default-clause-listed : goal.look-returns-in_default-clause-listed
-look-returns-in_default-clause-listed g t c = λ quiet.
-    look_none (kept_of c.args.flat.now) (now (g.T.Tree.history c.args.tree.now)) c.args.path c.in_ok-stat.field-0 c.args.rows.now.items
-    (seen (g.T.Tree.history c.args.tree.now) (g.T.Tree.history c.stat.new.self) c.args.path c.as_ref.result.text.now c.in_ok-stat.field-0
-    c.stat.ensures.passes.past quiet (c.in_ok-stat.ensures.formed quiet.told) c.as_ref.ensures (c.in_ok-stat.ensures.found quiet.told))
-    c.in_default.is
+look-returns-in_default-clause-listed g t c =
+    look_none (kept_of c.args.flat.now) (g.T.Tree.history c.args.tree.now) (g.T.Tree.history c.stat.new.self) c.stat.ensures.passes.past c.args.path c.in_ok-stat.field-0
+    (λ told. seen (g.T.Tree.history c.stat.new.self) c.args.path c.as_ref.result.text.now c.in_ok-stat.field-0 (c.in_ok-stat.ensures.formed told) c.as_ref.ensures (c.in_ok-stat.ensures.found told))
+    c.args.rows.now.items c.in_default.is
 
 pub look-returns-in-File-clause-listed : goal.look-returns-in-File-clause-listed
-look-returns-in-File-clause-listed g t c = λ quiet.
+look-returns-in-File-clause-listed g t c =
     on_ok_weaker c.add_unknown.result
-    (look_file (kept_of c.args.flat.now) (now (g.T.Tree.history c.args.tree.now)) c.args.path c.in_ok-stat.field-0 c.in-Some.stat c.args.rows.now.items c.add_unknown.new.rows.items
-    (seen (g.T.Tree.history c.args.tree.now) (g.T.Tree.history c.stat.new.self) c.args.path c.as_ref.result.text.now c.in_ok-stat.field-0
-    c.stat.ensures.passes.past quiet (c.in_ok-stat.ensures.formed quiet.told) c.as_ref.ensures (c.in_ok-stat.ensures.found quiet.told))
-    c.in-Some.is c.in-File.is)
+    (look_file (kept_of c.args.flat.now) (g.T.Tree.history c.args.tree.now) (g.T.Tree.history c.stat.new.self) c.stat.ensures.passes.past c.args.path c.in_ok-stat.field-0
+    (λ told. seen (g.T.Tree.history c.stat.new.self) c.args.path c.as_ref.result.text.now c.in_ok-stat.field-0 (c.in_ok-stat.ensures.formed told) c.as_ref.ensures (c.in_ok-stat.ensures.found told))
+    c.in-Some.stat c.args.rows.now.items c.add_unknown.new.rows.items c.in-Some.is c.in-File.is)
     c.add_unknown.ensures.row
 
 pub look-returns-in-Dir-clause-listed : goal.look-returns-in-Dir-clause-listed
-look-returns-in-Dir-clause-listed g t c = λ quiet.
-    let old = g.T.Tree.history c.args.tree.now in
-    let mid = g.T.Tree.history c.stat.new.self in
-    let new = g.T.Tree.history c.visit.new.tree in
-    let first = quiet_first old mid new c.stat.ensures.passes.past c.visit.ensures.passes.past quiet in
+look-returns-in-Dir-clause-listed g t c =
     on_ok_weaker c.visit.result
-    (look_dir (kept_of c.args.flat.now) old mid new c.args.path c.as_ref-in-Dir.result.text.now c.in_ok-stat.field-0 c.in-Some.stat c.args.rows.now.items c.visit.new.rows.items
-    c.stat.ensures.passes.past c.visit.ensures.passes.past quiet
-    (seen old mid c.args.path c.as_ref.result.text.now c.in_ok-stat.field-0
-    c.stat.ensures.passes.past first (c.in_ok-stat.ensures.formed first.told) c.as_ref.ensures (c.in_ok-stat.ensures.found first.told))
-    c.in-Some.is c.in-Dir.is c.as_ref-in-Dir.ensures)
-    (c.visit.ensures.listed (quiet_second old mid new c.stat.ensures.passes.past c.visit.ensures.passes.past quiet))
+    (look_dir (kept_of c.args.flat.now) (g.T.Tree.history c.args.tree.now) (g.T.Tree.history c.stat.new.self) (g.T.Tree.history c.visit.new.tree) c.stat.ensures.passes.past c.visit.ensures.passes.past
+    c.args.path c.as_ref-in-Dir.result.text.now c.in_ok-stat.field-0
+    (λ told. seen (g.T.Tree.history c.stat.new.self) c.args.path c.as_ref.result.text.now c.in_ok-stat.field-0 (c.in_ok-stat.ensures.formed told) c.as_ref.ensures (c.in_ok-stat.ensures.found told))
+    c.in-Some.stat c.args.rows.now.items c.visit.new.rows.items c.in-Some.is c.in-Dir.is c.as_ref-in-Dir.ensures)
+    c.visit.ensures.listed
 
 pub look-returns-in-Other-clause-listed : goal.look-returns-in-Other-clause-listed
-look-returns-in-Other-clause-listed g t c = λ quiet.
-    look_other (kept_of c.args.flat.now) (now (g.T.Tree.history c.args.tree.now)) c.args.path c.in_ok-stat.field-0 c.in-Some.stat c.args.rows.now.items
-    (seen (g.T.Tree.history c.args.tree.now) (g.T.Tree.history c.stat.new.self) c.args.path c.as_ref.result.text.now c.in_ok-stat.field-0
-    c.stat.ensures.passes.past quiet (c.in_ok-stat.ensures.formed quiet.told) c.as_ref.ensures (c.in_ok-stat.ensures.found quiet.told))
-    c.in-Some.is c.in-Other.is
+look-returns-in-Other-clause-listed g t c =
+    look_other (kept_of c.args.flat.now) (g.T.Tree.history c.args.tree.now) (g.T.Tree.history c.stat.new.self) c.stat.ensures.passes.past c.args.path c.in_ok-stat.field-0
+    (λ told. seen (g.T.Tree.history c.stat.new.self) c.args.path c.as_ref.result.text.now c.in_ok-stat.field-0 (c.in_ok-stat.ensures.formed told) c.as_ref.ensures (c.in_ok-stat.ensures.found told))
+    c.in-Some.stat c.args.rows.now.items c.in-Some.is c.in-Other.is
 
 pub look_each-loop-name-preserved : goal.look_each-loop-name-preserved
 look_each-loop-name-preserved g t c = record {
   passes = passes_trans _ _ _ c.loop-name.invariant.passes c.look.ensures.passes;
-  listed = λ quiet.
-      each_more (kept_of c.args.flat.now) (g.T.Tree.history c.args.tree.now) (g.T.Tree.history c.loop-name.tree) (g.T.Tree.history c.look.new.tree) (option_map (λ d. d.text.now) c.args.dir)
-      c.args.names.now c.loop-name.name-index c.name-item.result c.as_str.result.now c.in_ok-path.path c.args.rows.now.items c.loop-name.rows.items c.look.new.rows.items
-      c.loop-name.invariant.passes.past c.look.ensures.passes.past quiet c.loop-name-test.true c.name-item.is c.as_str.ensures.text c.in_ok-path.ensures c.loop-name.invariant.listed
-      (c.in_ok-look.ensures.listed (quiet_second _ _ _ c.loop-name.invariant.passes.past c.look.ensures.passes.past quiet));
+  listed =
+      each_more (kept_of c.args.flat.now) (g.T.Tree.history c.args.tree.now) (g.T.Tree.history c.loop-name.tree) (g.T.Tree.history c.look.new.tree) c.loop-name.invariant.passes.past c.look.ensures.passes.past
+      (option_map (λ d. d.text.now) c.args.dir) c.args.names.now c.loop-name.name-index c.name-item.result c.as_str.result.now c.in_ok-path.path c.args.rows.now.items c.loop-name.rows.items c.look.new.rows.items
+      c.loop-name-test.true c.name-item.is c.as_str.ensures.text c.in_ok-path.ensures c.loop-name.invariant.listed c.in_ok-look.ensures.listed;
+  asked = λ told.
+      each_more_asks (g.T.Tree.history c.args.tree.now) (g.T.Tree.history c.loop-name.tree) (g.T.Tree.history c.look.new.tree) c.loop-name.invariant.passes.past c.look.ensures.passes.past
+      (option_map (λ d. d.text.now) c.args.dir) c.args.names.now c.loop-name.name-index c.name-item.result c.as_str.result.now c.in_ok-path.path c.requires
+      c.loop-name-test.true c.name-item.is c.as_str.ensures.text c.in_ok-path.ensures (c.loop-name.invariant.asked told) (c.look.ensures.asked (c.loop-name.invariant.passes.past.told ∙ told));
   still = c.in_ok-look.ensures.cause.quiet ∙ c.loop-name.invariant.still;
 }
 
 pub visit-returns-in_default-clause-listed : goal.visit-returns-in_default-clause-listed
-visit-returns-in_default-clause-listed g t c = λ quiet.
-    visit_none (kept_of c.args.flat.now) (g.T.Tree.history c.args.tree.now) (g.T.Tree.history c.list.new.self) (option_map (λ d. d.text.now) c.args.dir)
-    (option_map (λ v. v.items) c.in_ok-names.field-0) c.args.rows.now.items
-    c.list.ensures.passes.past quiet (c.in_ok-names.ensures.formed quiet.told) (ap (option_map (λ v. v.items)) c.in_default.is) (c.in_ok-names.ensures.found quiet.told)
+visit-returns-in_default-clause-listed g t c =
+    visit_none (kept_of c.args.flat.now) (g.T.Tree.history c.args.tree.now) (g.T.Tree.history c.list.new.self) c.list.ensures.passes.past (option_map (λ d. d.text.now) c.args.dir)
+    (option_map (λ v. v.items) c.in_ok-names.field-0) (λ told. record { formed = c.in_ok-names.ensures.formed told; listed = c.in_ok-names.ensures.found told })
+    c.args.rows.now.items (ap (option_map (λ v. v.items)) c.in_default.is)
 
 pub visit-returns-then-branch-clause-listed : goal.visit-returns-then-branch-clause-listed
-visit-returns-then-branch-clause-listed g t c = λ quiet.
-    let old = g.T.Tree.history c.args.tree.now in
-    let mid = g.T.Tree.history c.list.new.self in
-    let new = g.T.Tree.history c.is_nested.new.tree in
-    let later = quiet_second old mid new c.list.ensures.passes.past c.is_nested.ensures.passes.past quiet in
-    visit_nested (kept_of c.args.flat.now) old mid new (option_map (λ d. d.text.now) c.args.dir) (option_map (λ v. v.items) c.in_ok-names.field-0) c.in-Some.names.items
-    c.deref.result.now c.in_ok-is_nested.field-0 c.args.rows.now.items
-    c.list.ensures.passes.past c.is_nested.ensures.passes.past quiet (c.in_ok-names.ensures.formed quiet.told) (ap (option_map (λ v. v.items)) c.in-Some.is) c.deref.ensures.value (c.in_ok-names.ensures.found quiet.told)
-    (c.in_ok-is_nested.ensures.found later) c.if-branch.true
+visit-returns-then-branch-clause-listed g t c =
+    visit_nested (kept_of c.args.flat.now) (g.T.Tree.history c.args.tree.now) (g.T.Tree.history c.list.new.self) (g.T.Tree.history c.is_nested.new.tree) c.list.ensures.passes.past c.is_nested.ensures.passes.past
+    (option_map (λ d. d.text.now) c.args.dir) (option_map (λ v. v.items) c.in_ok-names.field-0) (λ told. record { formed = c.in_ok-names.ensures.formed told; listed = c.in_ok-names.ensures.found told })
+    c.in-Some.names.items c.deref.result.now c.in_ok-is_nested.field-0 c.args.rows.now.items (ap (option_map (λ v. v.items)) c.in-Some.is) c.deref.ensures.value
+    c.in_ok-is_nested.ensures.found c.if-branch.true
 
 pub visit-returns-clause-listed : goal.visit-returns-clause-listed
-visit-returns-clause-listed g t c = λ quiet.
-    let old = g.T.Tree.history c.args.tree.now in
-    let mid = g.T.Tree.history c.list.new.self in
-    let later = g.T.Tree.history c.is_nested.new.tree in
-    let new = g.T.Tree.history c.look_each.new.tree in
-    let first = c.list.ensures.passes.past in
-    let second = c.is_nested.ensures.passes.past in
-    let third = c.look_each.ensures.passes.past in
-    let behind = quiet_second old mid new first (extends_trans mid later new second third) quiet in
+visit-returns-clause-listed g t c =
     on_ok_weaker c.look_each.result
-    (visit_rest (kept_of c.args.flat.now) old mid later new (option_map (λ d. d.text.now) c.args.dir) (option_map (λ v. v.items) c.in_ok-names.field-0) c.in-Some.names.items
-    c.deref.result.now c.deref-2.result.now c.in_ok-is_nested.field-0 c.args.rows.now.items c.look_each.new.rows.items
-    first second third quiet (c.in_ok-names.ensures.formed quiet.told) (ap (option_map (λ v. v.items)) c.in-Some.is) c.deref.ensures.value c.deref-2.ensures.value (c.in_ok-names.ensures.found quiet.told)
-    (c.in_ok-is_nested.ensures.found (quiet_first mid later new second third behind)) c.if-branch.false)
-    (c.look_each.ensures.listed (quiet_second mid later new second third behind))
+    (visit_rest (kept_of c.args.flat.now) (g.T.Tree.history c.args.tree.now) (g.T.Tree.history c.list.new.self) (g.T.Tree.history c.is_nested.new.tree) (g.T.Tree.history c.look_each.new.tree)
+    c.list.ensures.passes.past c.is_nested.ensures.passes.past c.look_each.ensures.passes.past
+    (option_map (λ d. d.text.now) c.args.dir) (option_map (λ v. v.items) c.in_ok-names.field-0) (λ told. record { formed = c.in_ok-names.ensures.formed told; listed = c.in_ok-names.ensures.found told })
+    c.in-Some.names.items c.deref.result.now c.deref-2.result.now c.in_ok-is_nested.field-0 c.args.rows.now.items c.look_each.new.rows.items (ap (option_map (λ v. v.items)) c.in-Some.is) c.deref.ensures.value c.deref-2.ensures.value
+    c.in_ok-is_nested.ensures.found c.if-branch.false)
+    c.look_each.ensures.listed
+
+-- ---- what the tree is asked
+
+pub look-returns-in_err-stat-clause-asked : goal.look-returns-in_err-stat-clause-asked
+look-returns-in_err-stat-clause-asked g t c = λ told.
+    asks_none (IsDirFrom (g.T.Tree.history c.args.tree.now) (g.T.Tree.history c.stat.new.self) c.args.path) (g.T.Tree.history c.args.tree.now) (g.T.Tree.history c.stat.new.self)
+    (asks_nothing _ (g.T.Tree.history c.args.tree.now) (g.T.Tree.history c.stat.new.self) (c.stat.ensures.asked told))
+
+pub look-returns-in_default-clause-asked : goal.look-returns-in_default-clause-asked
+look-returns-in_default-clause-asked g t c = λ told.
+    asks_none (IsDirFrom (g.T.Tree.history c.args.tree.now) (g.T.Tree.history c.stat.new.self) c.args.path) (g.T.Tree.history c.args.tree.now) (g.T.Tree.history c.stat.new.self)
+    (asks_nothing _ (g.T.Tree.history c.args.tree.now) (g.T.Tree.history c.stat.new.self) (c.stat.ensures.asked told))
+
+pub look-returns-in-File-clause-asked : goal.look-returns-in-File-clause-asked
+look-returns-in-File-clause-asked g t c = λ told.
+    asks_none (IsDirFrom (g.T.Tree.history c.args.tree.now) (g.T.Tree.history c.stat.new.self) c.args.path) (g.T.Tree.history c.args.tree.now) (g.T.Tree.history c.stat.new.self)
+    (asks_nothing _ (g.T.Tree.history c.args.tree.now) (g.T.Tree.history c.stat.new.self) (c.stat.ensures.asked told))
+
+pub look-returns-in-Other-clause-asked : goal.look-returns-in-Other-clause-asked
+look-returns-in-Other-clause-asked g t c = λ told.
+    asks_none (IsDirFrom (g.T.Tree.history c.args.tree.now) (g.T.Tree.history c.stat.new.self) c.args.path) (g.T.Tree.history c.args.tree.now) (g.T.Tree.history c.stat.new.self)
+    (asks_nothing _ (g.T.Tree.history c.args.tree.now) (g.T.Tree.history c.stat.new.self) (c.stat.ensures.asked told))
+
+pub look-returns-in-Dir-clause-asked : goal.look-returns-in-Dir-clause-asked
+look-returns-in-Dir-clause-asked g t c = λ told.
+    look_asks (g.T.Tree.history c.args.tree.now) (g.T.Tree.history c.stat.new.self) (g.T.Tree.history c.visit.new.tree) c.stat.ensures.passes.past c.visit.ensures.passes.past
+    c.args.path c.as_ref-in-Dir.result.text.now c.as_ref-in-Dir.ensures
+    (λ told.
+    dir_is ((now (g.T.Tree.history c.stat.new.self)).things c.args.path) c.in-Some.stat
+    (sym c.in-Some.is ∙ (seen (g.T.Tree.history c.stat.new.self) c.args.path c.as_ref.result.text.now c.in_ok-stat.field-0 (c.in_ok-stat.ensures.formed told) c.as_ref.ensures (c.in_ok-stat.ensures.found told)).is)
+    c.in-Dir.is)
+    (asks_nothing _ (g.T.Tree.history c.args.tree.now) (g.T.Tree.history c.stat.new.self) (c.stat.ensures.asked told)) (c.visit.ensures.asked (c.stat.ensures.passes.past.told ∙ told))
+
+pub look_each-loop-name-init : goal.look_each-loop-name-init
+look_each-loop-name-init g t c = record {
+  passes = passes_same _;
+  listed = among_none (kept_of c.args.flat.now) (Untouched (g.T.Tree.history c.args.tree.now) (g.T.Tree.history c.args.tree.now).last) (now (g.T.Tree.history c.args.tree.now)) (option_map (λ d. d.text.now) c.args.dir) c.args.rows.now.items;
+  asked = λ told.
+      asks_none (IsDirAmong (g.T.Tree.history c.args.tree.now) (g.T.Tree.history c.args.tree.now) (option_map (λ d. d.text.now) c.args.dir) []) (g.T.Tree.history c.args.tree.now) (g.T.Tree.history c.args.tree.now) refl;
+  still = refl;
+}
+
+pub look_each-returns-in_err-path-clause-asked : goal.look_each-returns-in_err-path-clause-asked
+look_each-returns-in_err-path-clause-asked g t c = λ told.
+    each_asks (g.T.Tree.history c.args.tree.now) (g.T.Tree.history c.loop-name.tree) (option_map (λ d. d.text.now) c.args.dir) c.args.names.now c.loop-name.name-index (c.loop-name.invariant.asked told)
+
+pub look_each-returns-in_err-look-clause-asked : goal.look_each-returns-in_err-look-clause-asked
+look_each-returns-in_err-look-clause-asked g t c = λ told.
+    each_asks (g.T.Tree.history c.args.tree.now) (g.T.Tree.history c.look.new.tree) (option_map (λ d. d.text.now) c.args.dir) c.args.names.now (c.loop-name.name-index + 1)
+    (each_more_asks (g.T.Tree.history c.args.tree.now) (g.T.Tree.history c.loop-name.tree) (g.T.Tree.history c.look.new.tree) c.loop-name.invariant.passes.past c.look.ensures.passes.past
+    (option_map (λ d. d.text.now) c.args.dir) c.args.names.now c.loop-name.name-index c.name-item.result c.as_str.result.now c.in_ok-path.path c.requires
+    c.loop-name-test.true c.name-item.is c.as_str.ensures.text c.in_ok-path.ensures (c.loop-name.invariant.asked told) (c.look.ensures.asked (c.loop-name.invariant.passes.past.told ∙ told)))
+
+pub visit-returns-in_err-names-clause-asked : goal.visit-returns-in_err-names-clause-asked
+visit-returns-in_err-names-clause-asked g t c = λ told. dir_asks (g.T.Tree.history c.args.tree.now) (g.T.Tree.history c.list.new.self) (option_map (λ d. d.text.now) c.args.dir) (asks_one _ (option_map (λ d. d.text.now) c.args.dir) (g.T.Tree.history c.args.tree.now) (g.T.Tree.history c.list.new.self) (c.list.ensures.asked told))
+
+pub visit-returns-in_default-clause-asked : goal.visit-returns-in_default-clause-asked
+visit-returns-in_default-clause-asked g t c = λ told. dir_asks (g.T.Tree.history c.args.tree.now) (g.T.Tree.history c.list.new.self) (option_map (λ d. d.text.now) c.args.dir) (asks_one _ (option_map (λ d. d.text.now) c.args.dir) (g.T.Tree.history c.args.tree.now) (g.T.Tree.history c.list.new.self) (c.list.ensures.asked told))
+
+pub visit-returns-in_err-is_nested-clause-asked : goal.visit-returns-in_err-is_nested-clause-asked
+visit-returns-in_err-is_nested-clause-asked g t c = λ told.
+    dir_asks_on (g.T.Tree.history c.args.tree.now) (g.T.Tree.history c.list.new.self) (g.T.Tree.history c.is_nested.new.tree) (option_map (λ d. d.text.now) c.args.dir) (asks_one _ (option_map (λ d. d.text.now) c.args.dir) (g.T.Tree.history c.args.tree.now) (g.T.Tree.history c.list.new.self) (c.list.ensures.asked told)) (c.is_nested.ensures.asked (c.list.ensures.passes.past.told ∙ told))
+
+pub visit-returns-then-branch-clause-asked : goal.visit-returns-then-branch-clause-asked
+visit-returns-then-branch-clause-asked g t c = λ told.
+    dir_asks_on (g.T.Tree.history c.args.tree.now) (g.T.Tree.history c.list.new.self) (g.T.Tree.history c.is_nested.new.tree) (option_map (λ d. d.text.now) c.args.dir) (asks_one _ (option_map (λ d. d.text.now) c.args.dir) (g.T.Tree.history c.args.tree.now) (g.T.Tree.history c.list.new.self) (c.list.ensures.asked told)) (c.is_nested.ensures.asked (c.list.ensures.passes.past.told ∙ told))
+
+pub visit-returns-clause-asked : goal.visit-returns-clause-asked
+visit-returns-clause-asked g t c = λ told.
+    visit_asks (g.T.Tree.history c.args.tree.now) (g.T.Tree.history c.list.new.self) (g.T.Tree.history c.is_nested.new.tree) (g.T.Tree.history c.look_each.new.tree)
+    c.list.ensures.passes.past c.is_nested.ensures.passes.past c.look_each.ensures.passes.past
+    (option_map (λ d. d.text.now) c.args.dir) c.in-Some.names.items c.deref-2.result.now c.in_ok-is_nested.field-0 (rw c.in-Some.is at c.in_ok-names.ensures.fit) c.deref-2.ensures.value
+    (λ quiet.
+    c.in_ok-is_nested.ensures.quiet quiet
+    (these_names (option_map (λ d. d.text.now) c.args.dir) (option_map (λ v. v.items) c.in_ok-names.field-0) c.in-Some.names.items c.deref.result.now (now (g.T.Tree.history c.list.new.self))
+    (ap (option_map (λ v. v.items)) c.in-Some.is) c.deref.ensures.value (c.in_ok-names.ensures.found told))) c.if-branch.false
+    (asks_one _ (option_map (λ d. d.text.now) c.args.dir) (g.T.Tree.history c.args.tree.now) (g.T.Tree.history c.list.new.self) (c.list.ensures.asked told)) (c.is_nested.ensures.asked (c.list.ensures.passes.past.told ∙ told))
+    (c.look_each.ensures.asked (c.is_nested.ensures.passes.past.told ∙ c.list.ensures.passes.past.told ∙ told))

@@ -1,5 +1,7 @@
-use Rattle.std.proofs.Common.{◌≡◌, ◌+◌, ◌-◌, ◌*◌, length, take, option_map}
-use Rattle.hg_tree.specs.History.{IsQuiet, Passes, now}
+use Rattle.std.proofs.Common.{◌≡◌, ◌+◌, ◌-◌, ◌*◌, IsTrue, length, take, option_map}
+use Rattle.hg_tree.specs.History.{Passes, now}
+use Rattle.hg_tree.specs.Still.{Untouched}
+use Rattle.hg_flat.specs.Asked.{AsksFor, IsDirAmong}
 use Rattle.hg_flat.specs.Listing.{IsUnknownAmong, Lists}
 use Rattle.hg_flat.specs.Shown.{kept_of}
 use Rattle.hg_flat.proofs.Rooms.{room}
@@ -19,7 +21,10 @@ decreases-visit g l = 3 * room (option_map (λ d. d.text.now) l.dir) + 2
 abbrev pub invariant-look_each-loop-name : goal.invariant-look_each-loop-name
 invariant-look_each-loop-name g l = record {
   passes : Passes (g.T.Tree.history l.initial.tree) (g.T.Tree.history l.tree);
-  listed : IsQuiet (g.T.Tree.history l.initial.tree) (g.T.Tree.history l.tree)
-      → Lists (IsUnknownAmong (kept_of l.flat) (now (g.T.Tree.history l.initial.tree)) (option_map (λ d. d.text.now) l.dir) (take l.name-index l.names)) l.initial.rows.items l.rows.items;
+  listed : Lists (kept_of l.flat) (Untouched (g.T.Tree.history l.tree) (g.T.Tree.history l.initial.tree).last)
+      (IsUnknownAmong (kept_of l.flat) (now (g.T.Tree.history l.initial.tree)) (option_map (λ d. d.text.now) l.dir) (take l.name-index l.names)) l.initial.rows.items l.rows.items;
+  asked : IsTrue (g.T.Tree.history l.initial.tree).told
+      → AsksFor (IsDirAmong (g.T.Tree.history l.initial.tree) (g.T.Tree.history l.tree) (option_map (λ d. d.text.now) l.dir) (take l.name-index l.names))
+      (g.T.Tree.history l.initial.tree) (g.T.Tree.history l.tree);
   still : g.T.Tree.faults l.tree ≡ g.T.Tree.faults l.initial.tree;
 }

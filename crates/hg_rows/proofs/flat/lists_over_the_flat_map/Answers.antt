@@ -1,9 +1,6 @@
-use Rattle.std.proofs.Common.{◌∙◌, sym}
-use Rattle.hg_flat.specs.Shown.{kept_of}
-use Rattle.hg_image.specs.View.{rows}
-use Rattle.hg_cli.proofs.Loads.{kept_are_added}
+use Rattle.std.proofs.Common.{refl}
+use Rattle.hg_flat.proofs.Parents.{unborn_added}
 use Rattle.hg_rows.proofs.flat.lists_over_the_flat_map.Goals as goal
 
 pub plain_status-requires : goal.plain_status-requires
-plain_status-requires g c =
-    kept_are_added (rows c.in_ok-image.image) (kept_of c.in_ok-flat.flat) c.in_ok-flat.ensures (sym c.is_added.ensures ∙ c.if-not-is_added.false)
+plain_status-requires g c = unborn_added c.in_ok-flat.flat (c.is_unborn.ensures.unborn c.if-not-is_unborn.false)

@@ -14,5 +14,5 @@ invariant_of-result c = record {
   own = own_moved c.args.rows.items c.sort_by.new.self.items c.sort_by.ensures.permutation c.requires;
 }
 
-pub returns : goal.returns
-returns c = moved_same c.args.rows.items c.sort_by.new.self.items c.sort_by.ensures.permutation c.requires
+pub returns-clause-kept : goal.returns-clause-kept
+returns-clause-kept c = moved_same c.args.rows.items c.sort_by.new.self.items c.sort_by.ensures.permutation c.requires

@@ -2,10 +2,10 @@
 use Rattle.std.proofs.Common.{sym, ◌∙◌, ap, subst, List, [], ◌∷◌, ◌++◌, ℕ}
 use Rattle.std.specs.BTreeMap.{get_by_text}
 use Rattle.std.specs.Result.{is_ok}
-use Rattle.hg_tree.specs.declared.asked.Outside.{Outside}
+use Rattle.hg_tree.specs.declared.asked.Change.{Change}
 use Rattle.hg_tree.specs.declared.asked.Outside.TheVariants as a_change
 use Rattle.hg_tree.specs.declared.thing.Thing.{Thing}
-use Rattle.hg_tree.specs.Change.{after_place}
+use Rattle.hg_tree.specs.Change.{after_place, by_others}
 use Rattle.hg_tree.specs.Memory.{IsKept}
 use Rattle.hg_tree.proofs.After.{formed_shown, kept_placed, kept_still, pushed_is}
 use Rattle.hg_tree.proofs.memory.MemTree.place.Goals as goal
@@ -21,8 +21,8 @@ invariant_of-self-in_err-settle c =
 
 pub invariant_of-self-2 : goal.invariant_of-self-2
 invariant_of-self-2 c =
-    let log = pushed_is c.self.inside.changes.items c.reserve.new.self.items c.push.new.self.items (is_ok c.push.result) (a_change.Place c.in_ok-path_copy.path_copy c.args.thing c.args.mtime) c.push.ensures.items (ap is_ok c.unwrap.ensures) c.reserve.ensures.items in
-    subst (λ (l : List Outside). IsKept c.self.inside.start l (get_by_text c.settle.new.things))
-    (sym (log ∙ ap (λ (p : List ℕ). c.self.inside.changes.items ++ a_change.Place p c.args.thing c.args.mtime ∷ []) c.in_ok-path_copy.ensures))
+    let log = pushed_is c.self.inside.changes.items c.reserve.new.self.items c.push.new.self.items (is_ok c.push.result) (by_others (a_change.Place c.in_ok-path_copy.path_copy c.args.thing c.args.mtime)) c.push.ensures.items (ap is_ok c.unwrap.ensures) c.reserve.ensures.items in
+    subst (λ (l : List Change). IsKept c.self.inside.start l (get_by_text c.settle.new.things))
+    (sym (log ∙ ap (λ (p : List ℕ). c.self.inside.changes.items ++ by_others (a_change.Place p c.args.thing c.args.mtime) ∷ []) c.in_ok-path_copy.ensures))
     (kept_placed c.self.inside.start c.self.inside.changes.items (get_by_text c.self.inside.things) c.self.invariant c.args.path.text.now c.args.thing c.args.mtime (get_by_text c.settle.new.things) c.args.path.is_path c.requires
     (λ at. c.in_ok-settle.ensures.ok at ∙ ap (λ (t : Thing). after_place c.args.path.text.now t c.args.mtime (get_by_text c.self.inside.things) at) c.in_ok-copy.ensures))

@@ -2,15 +2,16 @@
 use Rattle.std.proofs.Common.{sym, ◌∙◌, ap, subst, List, [], ◌∷◌, ◌++◌, ℕ}
 use Rattle.std.specs.BTreeMap.{get_by_text}
 use Rattle.std.specs.Result.{is_ok}
-use Rattle.hg_tree.specs.declared.asked.Outside.{Outside}
+use Rattle.hg_tree.specs.declared.asked.Change.{Change}
 use Rattle.hg_tree.specs.declared.asked.Outside.TheVariants as a_change
+use Rattle.hg_tree.specs.Change.{by_others}
 use Rattle.hg_tree.specs.Memory.{IsKept}
 use Rattle.hg_tree.proofs.After.{kept_taken, pushed_is}
 use Rattle.hg_tree.proofs.memory.MemTree.take.Goals as goal
 
 pub invariant_of-self-2 : goal.invariant_of-self-2
 invariant_of-self-2 c =
-    let log = pushed_is c.self.inside.changes.items c.reserve.new.self.items c.push.new.self.items (is_ok c.push.result) (a_change.Take c.in_ok-path_copy.path_copy) c.push.ensures.items (ap is_ok c.unwrap.ensures) c.reserve.ensures.items in
-    subst (λ (l : List Outside). IsKept c.self.inside.start l (get_by_text c.remove.new.things))
-    (sym (log ∙ ap (λ (p : List ℕ). c.self.inside.changes.items ++ a_change.Take p ∷ []) c.in_ok-path_copy.ensures))
+    let log = pushed_is c.self.inside.changes.items c.reserve.new.self.items c.push.new.self.items (is_ok c.push.result) (by_others (a_change.Take c.in_ok-path_copy.path_copy)) c.push.ensures.items (ap is_ok c.unwrap.ensures) c.reserve.ensures.items in
+    subst (λ (l : List Change). IsKept c.self.inside.start l (get_by_text c.remove.new.things))
+    (sym (log ∙ ap (λ (p : List ℕ). c.self.inside.changes.items ++ by_others (a_change.Take p) ∷ []) c.in_ok-path_copy.ensures))
     (kept_taken c.self.inside.start c.self.inside.changes.items (get_by_text c.self.inside.things) c.self.invariant c.args.path.text.now (get_by_text c.remove.new.things) c.remove.ensures)

@@ -1,0 +1,322 @@
+-- What a listing asks the tree: each directory once, and where nothing changes only those that are visible.
+use Rattle.std.proofs.Common.{ℕ, zero, suc, ◌≡◌, ◌+◌, ◌<◌, Bool, true, false, List, [], ◌∷◌, ◌++◌, length, map, take, drop, get_or, Option, Some, None, IsTrue, refl, sym, ap, ◌∙◌, subst, inl, inr, ◌⊎◌, arith}
+use Rattle.std.specs.List.{All, AllByRecursion, Contains, IsDistinct, list_any}
+use Rattle.std.specs.Str.{bytes_eq}
+use Rattle.std.proofs.lemmas.Bool.{and_parts, cases_Bool, or_cases, or_left, or_right}
+use Rattle.std.proofs.lemmas.List.{append-nil, append_assoc, map-append, take-append-drop}
+use Rattle.std.proofs.lemmas.List.Elements.{Contains-append_cases, Contains-append_left, Contains-append_right, Contains-push, Contains-push_cases}
+use Rattle.std.proofs.lemmas.List.Folds.{list_any-append, list_any_more}
+use Rattle.std.proofs.lemmas.Slice.Eq.{bytes_eq-Decides}
+use Rattle.hg_base.specs.PathText.{has_slash, is_below, is_same_dir, joined}
+use Rattle.hg_base.proofs.Below.{below_compared, below_itself, below_joined, below_name, below_not_back, below_of_joined}
+use Rattle.hg_base.proofs.Components.{joined_same}
+use Rattle.hg_base.proofs.Paths.{component_plain}
+use Rattle.hg_tree.specs.History.{Asks, Extends, History, IsOurs, IsQuiet, Passes, now}
+use Rattle.hg_tree.specs.Moment.{AreFit, Moment, is_among, is_dir}
+use Rattle.hg_tree.specs.declared.asked.Asked.{Asked}
+use Rattle.hg_tree.specs.declared.asked.Asked.TheVariants as an_ask
+use Rattle.hg_tree.proofs.Histories.{extends_trans, now_same, quiet_first, quiet_second}
+use Rattle.hg_tree.proofs.Stillness.{ours_quiet}
+use Rattle.hg_flat.specs.Asked.{AsksFor, AsksNothing, IsDirAmong, IsDirBelow, IsDirFrom, IsDirIn, IsVisibleDir}
+use Rattle.hg_flat.specs.Listing.{IsVisibleFrom, holds_repository, is_from, is_inside}
+use Rattle.hg_flat.proofs.Among.{fit_of}
+use Rattle.hg_flat.proofs.Unknowns.{back, from_below, from_cases, from_same, inside_joined, same_of, visible_up}
+
+-- ---- asks behind one another
+
+pub asks_nothing : (answered : Bool) (old new : History) → Asks answered [] old new → AsksNothing old new
+asks_nothing answered old new (inl is) = is ∙ append-nil old.asked
+asks_nothing answered old new (inr both) = both.1
+
+pub asks_none : (W : Option (List ℕ) → Type 0) (old new : History) → AsksNothing old new → AsksFor W old new
+unfolding IsDistinct
+asks_none W old new none = record {
+  dirs = [];
+  asked = none ∙ sym (append-nil old.asked);
+  once = tt;
+  within = λ dir (k, below, is). absurd (omega (arith, below));
+}
+
+-- a listing that was noted, or that failed and found no memory to be
+pub asks_one : (answered : Bool) (dir : Option (List ℕ)) (old new : History) → Asks answered (an_ask.List dir ∷ []) old new → AsksFor (λ asked. asked ≡ dir) old new
+unfolding IsDistinct
+asks_one answered dir old new (inl is) = record {
+  dirs = dir ∷ [];
+  asked = is;
+  once = (tt, tt);
+  within = λ asked has. elim (Contains-push_cases [] dir asked has) [ inl (k, below, is) ↦ absurd (omega (arith, below)) | inr same ↦ sym same ];
+}
+asks_one answered dir old new (inr both) = asks_none (λ asked. asked ≡ dir) old new both.1
+
+pub asks_weaker : (W V : Option (List ℕ) → Type 0) (old new : History) → ((dir : Option (List ℕ)) → W dir → V dir) → AsksFor W old new → AsksFor V old new
+asks_weaker W V old new weaker asks = record { dirs = asks.dirs; asked = asks.asked; once = asks.once; within = λ dir has. weaker dir (asks.within dir has) }
+
+none_same : (dir : Option (List ℕ)) (ys : List (Option (List ℕ))) → ((y : Option (List ℕ)) → Contains ys y → is_same_dir dir y ≡ false) → AllByRecursion (λ y. is_same_dir dir y ≡ false) ys
+none_same dir [] apart = tt
+none_same dir (y ∷ ys) apart =
+    (apart y (Contains-append_left (y ∷ []) ys y (Contains-push [] y)), none_same dir ys (λ other has. apart other (Contains-append_right (y ∷ []) ys other has)))
+
+all_append : (P : Option (List ℕ) → Type 0) (xs ys : List (Option (List ℕ))) → AllByRecursion P xs → AllByRecursion P ys → AllByRecursion P (xs ++ ys)
+all_append P [] ys first second = second
+all_append P (x ∷ xs) ys first second = (first.0, all_append P xs ys first.1 second)
+
+distinct_append : (xs ys : List (Option (List ℕ))) → IsDistinct is_same_dir xs → IsDistinct is_same_dir ys → ((x y : Option (List ℕ)) → Contains xs x → Contains ys y → is_same_dir x y ≡ false) → IsDistinct is_same_dir (xs ++ ys)
+unfolding IsDistinct
+distinct_append [] ys first second apart = second
+distinct_append (x ∷ xs) ys first second apart = (
+  all_append (λ y. is_same_dir x y ≡ false) xs ys first.0 (none_same x ys (λ y has. apart x y (Contains-append_left (x ∷ []) xs x (Contains-push [] x)) has)),
+  distinct_append xs ys first.1 second (λ a b left right. apart a b (Contains-append_right (x ∷ []) xs a left) right),
+)
+
+pub asks_trans : (W V : Option (List ℕ) → Type 0) (a b c : History) → ((x y : Option (List ℕ)) → W x → V y → is_same_dir x y ≡ false) → AsksFor W a b → AsksFor V b c → AsksFor (λ dir. W dir ⊎ V dir) a c
+asks_trans W V a b c apart first second = record {
+  dirs = first.dirs ++ second.dirs;
+  asked =
+      second.asked ∙ ap (λ (l : List Asked). l ++ map an_ask.List second.dirs) first.asked ∙ append_assoc a.asked (map an_ask.List first.dirs) (map an_ask.List second.dirs)
+      ∙ ap (λ (l : List Asked). a.asked ++ l) (sym (map-append an_ask.List first.dirs second.dirs));
+  once = distinct_append first.dirs second.dirs first.once second.once (λ x y left right. apart x y (first.within x left) (second.within y right));
+  within = λ dir has.
+      elim (Contains-append_cases first.dirs second.dirs dir has) [ inl left ↦ inl (first.within dir left) | inr right ↦ inr (second.within dir right) ];
+}
+
+-- nothing was asked before, or behind
+pub asks_then : (W : Option (List ℕ) → Type 0) (a b c : History) → AsksNothing a b → AsksFor W b c → AsksFor W a c
+asks_then W a b c none asks =
+    record { dirs = asks.dirs; asked = asks.asked ∙ ap (λ (l : List Asked). l ++ map an_ask.List asks.dirs) none; once = asks.once; within = asks.within }
+
+pub asks_before : (W : Option (List ℕ) → Type 0) (a b c : History) → AsksFor W a b → AsksNothing b c → AsksFor W a c
+asks_before W a b c asks none = record { dirs = asks.dirs; asked = none ∙ asks.asked; once = asks.once; within = asks.within }
+
+-- ---- a path, and what stands below it
+
+-- what is asked behind a span is asked over the whole
+from_later : (old mid new : History) → Extends old mid → Extends mid new → (from : List ℕ) (dir : Option (List ℕ)) → IsDirFrom mid new from dir → IsDirFrom old new from dir
+from_later old mid new first second from dir d = record {
+  path = d.path;
+  is = d.is;
+  inside = d.inside;
+  stands = λ quiet.
+      subst (λ (m : Moment). IsTrue (is_dir (m.things d.path))) (now_same old mid first (quiet_first old mid new first second quiet))
+      (d.stands (quiet_second old mid new first second quiet));
+  visible = λ quiet.
+      subst (λ (m : Moment). IsVisibleFrom m (Some from) d.path) (now_same old mid first (quiet_first old mid new first second quiet))
+      (d.visible (quiet_second old mid new first second quiet));
+}
+
+below_later : (old mid new : History) → Extends old mid → Extends mid new → (from dir : Option (List ℕ)) → IsDirBelow mid new from dir → IsDirBelow old new from dir
+below_later old mid new first second from dir d = record {
+  path = d.path;
+  is = d.is;
+  inside = d.inside;
+  stands = λ quiet.
+      subst (λ (m : Moment). IsTrue (is_dir (m.things d.path))) (now_same old mid first (quiet_first old mid new first second quiet))
+      (d.stands (quiet_second old mid new first second quiet));
+  visible = λ quiet.
+      subst (λ (m : Moment). IsVisibleFrom m from d.path) (now_same old mid first (quiet_first old mid new first second quiet))
+      (d.visible (quiet_second old mid new first second quiet));
+}
+
+-- what is asked over a span is so over a longer one
+from_longer : (old mid new : History) → Extends old mid → Extends mid new → (from : List ℕ) (dir : Option (List ℕ)) → IsDirFrom old mid from dir → IsDirFrom old new from dir
+from_longer old mid new first second from dir d = record {
+  path = d.path;
+  is = d.is;
+  inside = d.inside;
+  stands = λ quiet. d.stands (quiet_first old mid new first second quiet);
+  visible = λ quiet. d.visible (quiet_first old mid new first second quiet);
+}
+
+itself_visible : (moment : Moment) (path : List ℕ) → IsVisibleFrom moment (Some path) path
+itself_visible moment path d from below =
+    elim (from_cases path d from) [
+      | inl same ↦ absurd (back path d (subst (λ (q : List ℕ). is_below q d ≡ true) (sym same) (subst (λ (q : List ℕ). is_below d q ≡ true) same below)) below)
+      | inr under ↦ absurd (back path d under below)
+    ]
+
+-- a directory that was seen at a path
+pub look_asks : (old mid new : History) → Extends old mid → Extends mid new → (path text : List ℕ) → text ≡ path → (IsTrue old.told → is_dir ((now mid).things path) ≡ true) → AsksNothing old mid
+    → AsksFor (IsDirIn mid new (Some text)) mid new → AsksFor (IsDirFrom old new path) old new
+look_asks old mid new first second path text same sees none asks =
+    asks_then (IsDirFrom old new path) old mid new none
+    (asks_weaker (IsDirIn mid new (Some text)) (IsDirFrom old new path) mid new
+    (λ dir.
+    elim [
+      | inl is ↦ record {
+        path = path;
+        is = is ∙ ap Some same;
+        inside = from_same path path refl;
+        stands = λ quiet.
+            subst (λ (m : Moment). is_dir (m.things path) ≡ true) (now_same old mid first (quiet_first old mid new first second quiet)) (sees quiet.told);
+        visible = λ quiet. itself_visible (now old) path;
+      }
+      | inr below ↦ in_path dir (subst (λ (t : List ℕ). IsDirBelow old new (Some t) dir) same (below_later old mid new first second (Some text) dir below))
+    ])
+    asks)
+  where
+    in_path : (dir : Option (List ℕ)) → IsDirBelow old new (Some path) dir → IsDirFrom old new path dir
+    in_path dir d = record { path = d.path; is = d.is; inside = from_below path d.path d.inside; stands = d.stands; visible = d.visible }
+
+-- ---- the names one by one
+
+-- a path is from one name of a directory at most
+joined_apart : (dir : Option (List ℕ)) (a b : List ℕ) → has_slash b ≡ false → is_below (joined dir a) (joined dir b) ≡ true → ⊥
+joined_apart None a b plain below = let not = below_name a b plain in absurd (cc (not, below))
+joined_apart (Some dir) a b plain below =
+    elim (below_of_joined (joined (Some dir) a) dir b plain below) [
+      | inl same ↦ let never = below_itself dir in absurd (cc (never, subst (λ (q : List ℕ). is_below dir q ≡ true) same (below_joined dir a)))
+      | inr higher ↦ back dir (joined (Some dir) a) (below_joined dir a) higher
+    ]
+
+one_from : (dir : Option (List ℕ)) (a b path : List ℕ) → has_slash a ≡ false → has_slash b ≡ false → is_from (Some (joined dir a)) path ≡ true → is_from (Some (joined dir b)) path ≡ true → joined dir a ≡ joined dir b
+one_from dir a b path plain_a plain_b from_a from_b =
+    elim (from_cases (joined dir a) path from_a) [
+      | inl is_a ↦
+          elim (from_cases (joined dir b) path from_b) [
+            | inl is_b ↦ is_a ∙ sym is_b
+            | inr under_b ↦ absurd (joined_apart dir b a plain_a (subst (λ (q : List ℕ). is_below (joined dir b) q ≡ true) (sym is_a) under_b))
+          ]
+      | inr under_a ↦
+          elim (from_cases (joined dir b) path from_b) [
+            | inl is_b ↦ absurd (joined_apart dir a b plain_b (subst (λ (q : List ℕ). is_below (joined dir a) q ≡ true) (sym is_b) under_a))
+            | inr under_b ↦
+                elim (below_compared (joined dir a) (joined dir b) path under_a under_b) [
+                  | inl same ↦ same
+                  | inr compared ↦ elim compared [ inl above ↦ absurd (joined_apart dir a b plain_b above) | inr deeper ↦ absurd (joined_apart dir b a plain_a deeper) ]
+                ]
+          ]
+    ]
+
+all_at : (P : List ℕ → Type 0) (xs : List (List ℕ)) (i : ℕ) (d : List ℕ) → AllByRecursion P xs → i < length xs → P (get_or xs i d)
+all_at P [] i d all below = absurd (omega (arith, below))
+all_at P (x ∷ xs) zero d all below = all.0
+all_at P (x ∷ xs) (suc i) d all below = all_at P xs i d all.1 (omega (arith, below))
+
+distinct_take : (xs : List (List ℕ)) (i : ℕ) (d : List ℕ) → IsDistinct bytes_eq xs → i < length xs → is_among (get_or xs i d) (take i xs) ≡ true → ⊥
+unfolding IsDistinct
+distinct_take [] i d own below among = absurd (omega (arith, below))
+distinct_take (x ∷ xs) zero d own below among = absurd (cc (among))
+distinct_take (x ∷ xs) (suc i) d own below among =
+    elim (or_cases (bytes_eq (get_or xs i d) x) (is_among (get_or xs i d) (take i xs)) among) [
+      | inl same ↦
+          let never : bytes_eq x (get_or xs i d) ≡ false = all_at (λ y. bytes_eq x y ≡ false) xs i d own.0 (omega (arith, below)) in
+          let is : bytes_eq x (get_or xs i d) ≡ true = (bytes_eq-Decides x (get_or xs i d)).1 (sym (same_of (get_or xs i d) x same)) in absurd (cc (never, is))
+      | inr later ↦ distinct_take xs i d own.1 (omega (arith, below)) later
+    ]
+
+among_take : (name : List ℕ) (names : List (List ℕ)) (i : ℕ) → is_among name (take i names) ≡ true → is_among name names ≡ true
+among_take name names i among =
+    ap (is_among name) (sym (take-append-drop i names)) ∙ list_any-append (bytes_eq name) (take i names) (drop i names) ∙ or_left (is_among name (take i names)) (is_among name (drop i names)) among
+
+-- what was asked for the first names was asked for the names
+pub each_asks : (old new : History) (dir : Option (List ℕ)) (names : List (List ℕ)) (i : ℕ) → AsksFor (IsDirAmong old new dir (take i names)) old new → AsksFor (IsDirAmong old new dir names) old new
+each_asks old new dir names i asks =
+    asks_weaker (IsDirAmong old new dir (take i names)) (IsDirAmong old new dir names) old new (λ asked (name, among, from). (name, among_take name names i among, from)) asks
+
+plain_of : (dir : Option (List ℕ)) (names : List (List ℕ)) (name : List ℕ) → AreFit dir names → is_among name names ≡ true → has_slash name ≡ false
+plain_of dir names name fit among = component_plain name (fit_of dir names name fit among).component
+
+among_here : (name : List ℕ) (names : List (List ℕ)) (i : ℕ) → i < length names → name ≡ get_or names i name → is_among name (take (i + 1) names) ≡ true
+among_here name names i below is =
+    list_any_more (bytes_eq name) names i name below ∙ or_right _ _ ((bytes_eq-Decides name (get_or names i name)).1 is)
+
+among_before : (name : List ℕ) (names : List (List ℕ)) (i : ℕ) (d : List ℕ) → i < length names → is_among name (take i names) ≡ true → is_among name (take (i + 1) names) ≡ true
+among_before name names i d below among = list_any_more (bytes_eq name) names i d below ∙ or_left _ _ among
+
+apart_names : (mid : History) (old new : History) (dir : Option (List ℕ)) (names : List (List ℕ)) (i : ℕ) (name : List ℕ) → AreFit dir names → i < length names → name ≡ get_or names i name
+    → (x y : Option (List ℕ)) → IsDirAmong old mid dir (take i names) x → IsDirFrom mid new (joined dir name) y → is_same_dir x y ≡ false
+apart_names mid old new dir names i name fit below is x y (other, among, f) g =
+    rw (f.is, g.is) (elim (cases_Bool (bytes_eq f.path g.path)) [
+      | inl same ↦ absurd (clash (same_of f.path g.path same))
+      | inr apart ↦ apart
+    ])
+  where
+    here : is_among name names ≡ true
+    here = among_take name names (i + 1) (among_here name names i below is)
+
+    clash : f.path ≡ g.path → ⊥
+    clash same =
+        let plain_other : has_slash other ≡ false = plain_of dir names other fit (among_take other names i among) in
+        let plain : has_slash name ≡ false = plain_of dir names name fit here in
+        let joins : joined dir other ≡ joined dir name =
+        one_from dir other name g.path plain_other plain (subst (λ (p : List ℕ). is_from (Some (joined dir other)) p ≡ true) same f.inside) g.inside in
+        let one : other ≡ get_or names i name = (joined_same dir other dir name plain_other plain joins).1 ∙ is in
+        distinct_take names i name fit.distinct below (subst (λ (n : List ℕ). is_among n (take i names) ≡ true) one among)
+
+-- one name more
+pub each_more_asks : (old mid new : History) → Extends old mid → Extends mid new → (dir : Option (List ℕ)) (names : List (List ℕ)) (i : ℕ) (name text path : List ℕ) → AreFit dir names → i < length names
+    → name ≡ get_or names i name → text ≡ name → path ≡ joined dir text
+    → AsksFor (IsDirAmong old mid dir (take i names)) old mid → AsksFor (IsDirFrom mid new path) mid new → AsksFor (IsDirAmong old new dir (take (i + 1) names)) old new
+each_more_asks old mid new first second dir names i name text path fit below is same at before one =
+    asks_weaker (λ asked. IsDirAmong old mid dir (take i names) asked ⊎ IsDirFrom mid new (joined dir name) asked) (IsDirAmong old new dir (take (i + 1) names)) old new
+    (λ asked.
+    elim [
+      | inl (other, among, f) ↦ (other, among_before other names i name below among, from_longer old mid new first second (joined dir other) asked f)
+      | inr f ↦ (name, among_here name names i below is, from_later old mid new first second (joined dir name) asked f)
+    ])
+    (asks_trans (IsDirAmong old mid dir (take i names)) (IsDirFrom mid new (joined dir name)) old mid new (apart_names mid old new dir names i name fit below is) before
+    (subst (λ (p : List ℕ). AsksFor (IsDirFrom mid new p) mid new) (at ∙ ap (joined dir) same) one))
+
+-- ---- a directory, and what stands in it
+
+pub dir_asks : (old new : History) (dir : Option (List ℕ)) → AsksFor (λ asked. asked ≡ dir) old new → AsksFor (IsDirIn old new dir) old new
+dir_asks old new dir asks = asks_weaker (λ asked. asked ≡ dir) (IsDirIn old new dir) old new (λ asked is. inl is) asks
+
+-- the directory alone over a longer span, in which nothing more is asked
+pub dir_asks_on : (old mid new : History) (dir : Option (List ℕ)) → AsksFor (λ asked. asked ≡ dir) old mid → AsksNothing mid new → AsksFor (IsDirIn old new dir) old new
+dir_asks_on old mid new dir asks none = dir_asks old new dir (asks_before (λ asked. asked ≡ dir) old mid new asks none)
+
+not_inside : (dir : Option (List ℕ)) (path : List ℕ) → is_inside dir path ≡ true → is_same_dir dir (Some path) ≡ false
+not_inside None path inside = refl
+not_inside (Some dir) path inside =
+    elim (cases_Bool (bytes_eq dir path)) [
+      | inl same ↦
+          let never = below_itself dir in absurd (cc (never, subst (λ (q : List ℕ). is_below dir q ≡ true) (sym (same_of dir path same)) inside))
+      | inr apart ↦ apart
+    ]
+
+pub visit_asks : (old mid later new : History) → Extends old mid → Extends mid later → Extends later new → (dir : Option (List ℕ)) (names again : List (List ℕ)) (holds : Bool) → AreFit dir names → again ≡ names
+    → (IsQuiet mid later → holds ≡ holds_repository (now mid) dir) → holds ≡ false
+    → AsksFor (λ asked. asked ≡ dir) old mid → AsksNothing mid later → AsksFor (IsDirAmong later new dir again) later new → AsksFor (IsDirIn old new dir) old new
+visit_asks old mid later new first second third dir names again holds fit same found never own none asks =
+    asks_weaker (λ asked. (asked ≡ dir) ⊎ IsDirAmong later new dir names asked) (IsDirIn old new dir) old new
+    (λ asked. elim [ inl is ↦ inl is | inr (name, among, f) ↦ inr (in_dir asked name among f) ])
+    (asks_trans (λ asked. asked ≡ dir) (IsDirAmong later new dir names) old later new apart (asks_before (λ asked. asked ≡ dir) old mid later own none)
+    (subst (λ (l : List (List ℕ)). AsksFor (IsDirAmong later new dir l) later new) same asks))
+  where
+    past : Extends old later
+    past = extends_trans old mid later first second
+
+    no_repository : IsQuiet old new → holds_repository (now old) dir ≡ false
+    no_repository quiet =
+        let start : IsQuiet old later = quiet_first old later new past third quiet in
+        ap (λ (m : Moment). holds_repository m dir) (sym (now_same old mid first (quiet_first old mid later first second start)))
+        ∙ sym (found (quiet_second old mid later first second start)) ∙ never
+
+    in_dir : (asked : Option (List ℕ)) (name : List ℕ) → is_among name names ≡ true → IsDirFrom later new (joined dir name) asked → IsDirBelow old new dir asked
+    in_dir asked name among f =
+        let g : IsDirFrom old new (joined dir name) asked = from_later old later new past third (joined dir name) asked f in record {
+          path = g.path;
+          is = g.is;
+          inside = inside_joined dir name g.path g.inside;
+          stands = g.stands;
+          visible = λ quiet. visible_up (now old) dir name g.path (plain_of dir names name fit among) (no_repository quiet) g.inside (g.visible quiet);
+        }
+
+    apart : (x y : Option (List ℕ)) → x ≡ dir → IsDirAmong later new dir names y → is_same_dir x y ≡ false
+    apart x y is (name, among, f) = rw (is, f.is) (not_inside dir f.path (inside_joined dir name f.path f.inside))
+
+-- ---- the whole listing
+
+pub status_asks : (old mid new : History) → Passes old mid → Passes mid new → Passes old new → AsksNothing old mid → AsksFor (IsDirIn mid new None) mid new
+    → AsksFor (λ dir. IsOurs old new → IsVisibleDir (now old) dir) old new
+status_asks old mid new first second whole none asks =
+    asks_then (λ dir. IsOurs old new → IsVisibleDir (now old) dir) old mid new none
+    (asks_weaker (IsDirIn mid new None) (λ dir. IsOurs old new → IsVisibleDir (now old) dir) mid new
+    (λ dir. elim [
+      | inl is ↦ λ ours. subst (IsVisibleDir (now old)) (sym is) tt
+      | inr below ↦ λ ours. visible dir (below_later old mid new first.past second.past None dir below) (ours_quiet old new whole ours)
+    ])
+    asks)
+  where
+    visible : (dir : Option (List ℕ)) → IsDirBelow old new None dir → IsQuiet old new → IsVisibleDir (now old) dir
+    visible dir d quiet = subst (IsVisibleDir (now old)) (sym d.is) (d.stands quiet, λ above below. d.visible quiet above refl below)

@@ -1,0 +1,325 @@
+-- The steps of a listing, for the paths that nobody touches meanwhile, in the words of the moment at its start.
+use Rattle.std.proofs.Common.{ℕ, ◌≡◌, ◌+◌, ◌<◌, Bool, true, false, cond, List, length, take, get_or, Option, Some, None, is_some, option_map, IsTrue, refl, sym, ap, ◌∙◌, subst, inl, inr, ◌⊎◌, arith, ◌++◌, ◌∷◌, []}
+use Rattle.std.specs.List.{AllZip}
+use Rattle.std.proofs.lemmas.Bool.{and_parts}
+use Rattle.std.proofs.lemmas.List.{append-nil, append_assoc, take_more}
+use Rattle.hg_base.specs.declared.stat.Stat.{Stat}
+use Rattle.hg_base.specs.declared.stat.Kind.TheVariants as a_kind
+use Rattle.hg_base.specs.PathText.{joined}
+use Rattle.hg_base.proofs.Paths.{component_plain}
+use Rattle.hg_tree.specs.Moment.{AreNames, IsFormed, Moment, has_dir, is_dir, is_dir_thing, stat_at, stat_of}
+use Rattle.hg_tree.specs.Moment as a_moment
+use Rattle.hg_tree.specs.History.{AreFormed, Extends, History, now}
+use Rattle.hg_tree.specs.Still.{AreAlike, Untouched}
+use Rattle.hg_tree.specs.declared.thing.Placed.{Placed}
+use Rattle.hg_tree.specs.declared.thing.Thing.{Thing}
+use Rattle.hg_tree.specs.declared.thing.Thing.TheVariants as a_thing
+use Rattle.hg_tree.proofs.Histories.{extends_same, extends_trans}
+use Rattle.hg_tree.proofs.Stillness.{alike_between, untouched_first, untouched_second}
+use Rattle.hg_compare.specs.Tracked.{is_file_or_link, is_file_or_link_thing}
+use Rattle.hg_compare.specs.declared.letter.Letter.{Letter}
+use Rattle.hg_flat.specs.Kept.{Kept}
+use Rattle.hg_flat.specs.Listing.{AddsTracked, HoldsFor, IsTrackedRow, IsUnknownAmong, IsUnknownFrom, IsUnknownIn, Lists, added_letter, holds_repository, unknown_row}
+use Rattle.hg_flat.specs.declared.row.Row.{Row}
+use Rattle.hg_flat.specs.declared.kept.FlatRow.{FlatRow}
+use Rattle.hg_flat.proofs.Alike.{alike_back, among_moved, from_moved, in_moved, letter_alike}
+use Rattle.hg_flat.proofs.Unknowns.{among_more, backward, forward, from_in, here_from, in_from, inside_joined, lists_moved, lists_none, lists_one, nested_in, no_dir_in, not_dir, nothing_from, only_here}
+
+-- a path of a well-formed moment, and what a stat shows there
+pub record Seen (moment : Moment) (path : List ℕ) (found : Option Stat) : Type 0 where
+  pub formed : IsFormed moment
+  pub is : found ≡ stat_at moment path
+
+pub seen : (new : History) (path text : List ℕ) (found : Option Stat) → AreFormed new → text ≡ path → found ≡ stat_at (now new) text → Seen (now new) path found
+seen new path text found formed same is = record { formed = formed.each new.last (omega arith); is = is ∙ ap (stat_at (now new)) same }
+
+-- ---- what a stat tells of the thing
+
+shown : Option Placed → Option Stat
+shown o = option_map (λ placed. stat_of placed.thing placed.mtime) o
+
+none_is : (o : Option Placed) → None ≡ option_map (λ placed. stat_of placed.thing placed.mtime) o → (is_dir o ≡ false) × (is_file_or_link o ≡ false)
+none_is None h = (refl, refl)
+none_is (Some placed) h = absurd (cc (h))
+
+file_thing : (t : Thing) (placed : Placed) (stat : Stat) → placed.thing ≡ t → stat ≡ stat_of t placed.mtime → (stat.kind ≡ a_kind.File) ⊎ (stat.kind ≡ a_kind.Link) → is_file_or_link_thing t ≡ true
+file_thing (a_thing.File exec bytes) placed stat is h kind = refl
+file_thing (a_thing.Link target) placed stat is h kind = refl
+file_thing a_thing.Dir placed stat is h kind = let k = ap (λ (s : Stat). s.kind) h in elim kind [ inl file ↦ absurd (cc (k, file)) | inr link ↦ absurd (cc (k, link)) ]
+file_thing a_thing.Other placed stat is h kind = let k = ap (λ (s : Stat). s.kind) h in elim kind [ inl file ↦ absurd (cc (k, file)) | inr link ↦ absurd (cc (k, link)) ]
+
+file_is : (o : Option Placed) (stat : Stat) → Some stat ≡ option_map (λ placed. stat_of placed.thing placed.mtime) o → (stat.kind ≡ a_kind.File) ⊎ (stat.kind ≡ a_kind.Link) → is_file_or_link o ≡ true
+file_is None stat h kind = absurd (cc (h))
+file_is (Some placed) stat h kind = file_thing placed.thing placed stat refl (cc (h)) kind
+
+dir_thing : (t : Thing) (placed : Placed) (stat : Stat) → stat ≡ stat_of t placed.mtime → stat.kind ≡ a_kind.Dir → is_dir_thing t ≡ true
+dir_thing (a_thing.File exec bytes) placed stat h kind = let k = ap (λ (s : Stat). s.kind) h in absurd (cc (k, kind))
+dir_thing (a_thing.Link target) placed stat h kind = let k = ap (λ (s : Stat). s.kind) h in absurd (cc (k, kind))
+dir_thing a_thing.Dir placed stat h kind = refl
+dir_thing a_thing.Other placed stat h kind = let k = ap (λ (s : Stat). s.kind) h in absurd (cc (k, kind))
+
+pub dir_is : (o : Option Placed) (stat : Stat) → Some stat ≡ option_map (λ placed. stat_of placed.thing placed.mtime) o → stat.kind ≡ a_kind.Dir → is_dir o ≡ true
+dir_is None stat h kind = absurd (cc (h))
+dir_is (Some placed) stat h kind = dir_thing placed.thing placed stat (cc (h)) kind
+
+other_thing : (t : Thing) (placed : Placed) (stat : Stat) → stat ≡ stat_of t placed.mtime → stat.kind ≡ a_kind.Other → (is_dir_thing t ≡ false) × (is_file_or_link_thing t ≡ false)
+other_thing (a_thing.File exec bytes) placed stat h kind = let k = ap (λ (s : Stat). s.kind) h in absurd (cc (k, kind))
+other_thing (a_thing.Link target) placed stat h kind = let k = ap (λ (s : Stat). s.kind) h in absurd (cc (k, kind))
+other_thing a_thing.Dir placed stat h kind = let k = ap (λ (s : Stat). s.kind) h in absurd (cc (k, kind))
+other_thing a_thing.Other placed stat h kind = (refl, refl)
+
+other_is : (o : Option Placed) (stat : Stat) → Some stat ≡ option_map (λ placed. stat_of placed.thing placed.mtime) o → stat.kind ≡ a_kind.Other → (is_dir o ≡ false) × (is_file_or_link o ≡ false)
+other_is None stat h kind = absurd (cc (h))
+other_is (Some placed) stat h kind = other_thing placed.thing placed stat (cc (h)) kind
+
+-- ---- paths that nobody touches
+
+module _ (old mid new : History) (first : Extends old mid) (second : Extends mid new) where
+  abbrev Whole : List ℕ → Type 0
+  Whole = Untouched new old.last
+
+  pub first_part : (p : List ℕ) → Whole p → Untouched mid old.last p
+  first_part p is = untouched_first mid new old.last p second first.later is
+
+  pub second_part : (p : List ℕ) → Whole p → Untouched new mid.last p
+  second_part p is = untouched_second new old.last mid.last p first.later second.later is
+
+  pub alike_then : (p : List ℕ) → Whole p → AreAlike (now old) (now mid) p
+  alike_then p is = alike_back (now mid) (now old) p (alike_between old mid new p first second is)
+
+  pub alike_now : (p : List ℕ) → Whole p → AreAlike (now mid) (now old) p
+  alike_now p is = alike_between old mid new p first second is
+
+  pub told_then : (p : List ℕ) → Whole p → IsTrue old.told
+  told_then p is = sym (second.told ∙ first.told) ∙ is.told
+
+-- ---- the rows of what stands at a path; the tree is not asked again behind the stat
+
+module _ (kept : Kept) (old mid : History) (first : Extends old mid) (path : List ℕ) (found : Option Stat) (sees : IsTrue old.told → Seen (now mid) path found) where
+  abbrev same : Extends mid mid
+  same = extends_same mid
+
+  -- what an untouched path says at the start it says behind the stat too
+  abbrev later : (p : List ℕ) → Untouched mid old.last p → IsUnknownFrom kept (now old) path p → IsUnknownFrom kept (now mid) path p
+  later p is u = from_moved kept (now old) (now mid) p (alike_then old mid mid first same p is) path u
+
+  pub look_none : (rows : List Row) → found ≡ None → Lists kept (Untouched mid old.last) (IsUnknownFrom kept (now old) path) rows rows
+  look_none rows none =
+      lists_none kept (Untouched mid old.last) (IsUnknownFrom kept (now old) path) rows
+      (λ p is u.
+      let s : Seen (now mid) path found = sees (told_then old mid mid first same p is) in
+      let not = none_is ((now mid).things path) (sym none ∙ s.is) in nothing_from kept (now mid) s.formed path p not.0 not.1 (later p is u))
+
+  pub look_other : (stat : Stat) (rows : List Row) → found ≡ Some stat → stat.kind ≡ a_kind.Other → Lists kept (Untouched mid old.last) (IsUnknownFrom kept (now old) path) rows rows
+  look_other stat rows some kind =
+      lists_none kept (Untouched mid old.last) (IsUnknownFrom kept (now old) path) rows
+      (λ p is u.
+      let s : Seen (now mid) path found = sees (told_then old mid mid first same p is) in
+      let not = other_is ((now mid).things path) stat (sym some ∙ s.is) kind in nothing_from kept (now mid) s.formed path p not.0 not.1 (later p is u))
+
+  -- where a file or a link stands, nothing else is from there
+  only_file : (stat : Stat) → found ≡ Some stat → (stat.kind ≡ a_kind.File) ⊎ (stat.kind ≡ a_kind.Link) → (p : List ℕ) → Untouched mid old.last p → IsUnknownFrom kept (now old) path p → p ≡ path
+  only_file stat some kind p is u =
+      let s : Seen (now mid) path found = sees (told_then old mid mid first same p is) in
+      only_here kept (now mid) s.formed path p (not_dir ((now mid).things path) (file_is ((now mid).things path) stat (sym some ∙ s.is) kind)) (later p is u)
+
+  file_by : (stat : Stat) (a b : List Row) (o : Option FlatRow) → kept path ≡ o → found ≡ Some stat → (stat.kind ≡ a_kind.File) ⊎ (stat.kind ≡ a_kind.Link)
+      → b ≡ (cond (is_some o) a (a ++ unknown_row path ∷ [])) → Lists kept (Untouched mid old.last) (IsUnknownFrom kept (now old) path) a b
+  file_by stat a b None is some kind rows =
+      lists_one kept (Untouched mid old.last) (IsUnknownFrom kept (now old) path) a b path rows is
+      (λ meets.
+      let s : Seen (now mid) path found = sees (told_then old mid mid first same path meets) in
+      from_moved kept (now mid) (now old) path (alike_now old mid mid first same path meets) path
+      (here_from kept (now mid) s.formed path (file_is ((now mid).things path) stat (sym some ∙ s.is) kind) is))
+      (only_file stat some kind)
+  file_by stat a b (Some row) is some kind rows =
+      subst (λ (n : List Row). Lists kept (Untouched mid old.last) (IsUnknownFrom kept (now old) path) a n) (sym rows)
+      (lists_none kept (Untouched mid old.last) (IsUnknownFrom kept (now old) path) a
+      (λ p meets u. let at = ap kept (only_file stat some kind p meets u) in absurd (cc (u.untracked.1, at, is))))
+
+  -- a file or link has a row exactly where it has no entry
+  pub look_file : (stat : Stat) (a b : List Row) → found ≡ Some stat → (stat.kind ≡ a_kind.File) ⊎ (stat.kind ≡ a_kind.Link)
+      → b ≡ (cond (is_some (kept path)) a (a ++ unknown_row path ∷ [])) → Lists kept (Untouched mid old.last) (IsUnknownFrom kept (now old) path) a b
+  look_file stat a b some kind rows = file_by stat a b (kept path) refl some kind rows
+
+-- a directory has the rows of what stands in it
+pub look_dir : (kept : Kept) (old mid new : History) → Extends old mid → Extends mid new → (path text : List ℕ) (found : Option Stat) → (IsTrue old.told → Seen (now mid) path found) → (stat : Stat) (a b : List Row)
+    → found ≡ Some stat → stat.kind ≡ a_kind.Dir → text ≡ path
+    → Lists kept (Untouched new mid.last) (IsUnknownIn kept (now mid) (Some text)) a b → Lists kept (Untouched new old.last) (IsUnknownFrom kept (now old) path) a b
+look_dir kept old mid new first second path text found sees stat a b some kind same lists =
+    lists_moved kept (Untouched new mid.last) (Untouched new old.last) (IsUnknownIn kept (now mid) (Some path)) (IsUnknownFrom kept (now old) path) a b
+    (second_part old mid new first second)
+    (λ p is u. from_moved kept (now mid) (now old) p (alike_now old mid new first second p is) path (from_in kept (now mid) (formed p is) path p u))
+    (λ p is u.
+    in_from kept (now mid) (formed p is) path p (dir_is ((now mid).things path) stat (sym some ∙ (sees (told p is)).is) kind)
+    (from_moved kept (now old) (now mid) p (alike_then old mid new first second p is) path u))
+    (subst (λ (t : List ℕ). Lists kept (Untouched new mid.last) (IsUnknownIn kept (now mid) (Some t)) a b) same lists)
+  where
+    told : (p : List ℕ) → Untouched new old.last p → IsTrue old.told
+    told p is = told_then old mid new first second p is
+
+    formed : (p : List ℕ) → Untouched new old.last p → IsFormed (now mid)
+    formed p is = (sees (told p is)).formed
+
+-- ---- the rows of what stands in a directory
+
+-- what was listed: at the end of it each moment is well formed, and these were the names
+pub record Named (mid : History) (dir : Option (List ℕ)) (names : Option (List (List ℕ))) : Type 0 where
+  pub formed : AreFormed mid
+  pub listed : a_moment.Lists dir names (now mid)
+
+pub these_names : (dir : Option (List ℕ)) (names : Option (List (List ℕ))) (these text : List (List ℕ)) (m : Moment) → names ≡ Some these → text ≡ these → a_moment.Lists dir names m → AreNames m dir text
+these_names dir names these text m some same listed =
+    subst (λ (l : List (List ℕ)). AreNames m dir l) (sym same) (subst (λ (n : Option (List (List ℕ))). a_moment.Lists dir n m) some listed).1
+
+formed_at : (mid : History) (dir : Option (List ℕ)) (names : Option (List (List ℕ))) → Named mid dir names → IsFormed (now mid)
+formed_at mid dir names named = named.formed.each mid.last (omega arith)
+
+pub visit_none : (kept : Kept) (old mid : History) → Extends old mid → (dir : Option (List ℕ)) (names : Option (List (List ℕ))) → (IsTrue old.told → Named mid dir names) → (rows : List Row) → names ≡ None
+    → Lists kept (Untouched mid old.last) (IsUnknownIn kept (now old) dir) rows rows
+visit_none kept old mid first dir names named rows none =
+    lists_none kept (Untouched mid old.last) (IsUnknownIn kept (now old) dir) rows
+    (λ p is u.
+    let n : Named mid dir names = named (told_then old mid mid first (extends_same mid) p is) in
+    no_dir_in kept (now mid) (formed_at mid dir names n) dir p (subst (λ (l : Option (List (List ℕ))). a_moment.Lists dir l (now mid)) none n.listed)
+    (in_moved kept (now old) (now mid) p (alike_then old mid mid first (extends_same mid) p is) dir u))
+
+pub visit_nested : (kept : Kept) (old mid new : History) → Extends old mid → Extends mid new → (dir : Option (List ℕ)) (names : Option (List (List ℕ))) → (IsTrue old.told → Named mid dir names)
+    → (these text : List (List ℕ)) (found : Bool) (rows : List Row) → names ≡ Some these → text ≡ these → (AreNames (now mid) dir text → HoldsFor (Untouched new mid.last) (now mid) dir found) → found ≡ true
+    → Lists kept (Untouched new old.last) (IsUnknownIn kept (now old) dir) rows rows
+visit_nested kept old mid new first second dir names named these text found rows some same holds is_true =
+    lists_none kept (Untouched new old.last) (IsUnknownIn kept (now old) dir) rows
+    (λ p is u.
+    let n : Named mid dir names = named (told_then old mid new first second p is) in
+    let then : IsUnknownIn kept (now mid) dir p = in_moved kept (now old) (now mid) p (alike_then old mid new first second p is) dir u in
+    nested_in kept (now mid) (formed_at mid dir names n) dir p
+    (sym (holds (these_names dir names these text (now mid) some same n.listed) p (second_part old mid new first second p is) then.inside) ∙ is_true) then)
+
+pub visit_rest : (kept : Kept) (old mid later new : History) → Extends old mid → Extends mid later → Extends later new → (dir : Option (List ℕ)) (names : Option (List (List ℕ))) → (IsTrue old.told → Named mid dir names)
+    → (these text again : List (List ℕ)) (found : Bool) (a b : List Row) → names ≡ Some these → text ≡ these → again ≡ these
+    → (AreNames (now mid) dir text → HoldsFor (Untouched later mid.last) (now mid) dir found) → found ≡ false
+    → Lists kept (Untouched new later.last) (IsUnknownAmong kept (now later) dir again) a b → Lists kept (Untouched new old.last) (IsUnknownIn kept (now old) dir) a b
+visit_rest kept old mid later new first second third dir names named these text again found a b some same too holds is_false lists =
+    lists_moved kept (Untouched new later.last) (Untouched new old.last) (IsUnknownAmong kept (now later) dir again) (IsUnknownIn kept (now old) dir) a b
+    (second_part old later new past third)
+    (λ p is (name, among, u).
+    let n : Named mid dir names = named (told p is) in
+    let at : IsUnknownFrom kept (now mid) (joined dir name) p =
+    from_moved kept (now old) (now mid) p (alike_then old mid new first rest p is) (joined dir name)
+    (from_moved kept (now later) (now old) p (alike_now old later new past third p is) (joined dir name) u) in
+    in_moved kept (now mid) (now old) p (alike_now old mid new first rest p is) dir
+    (forward kept (now mid) (formed_at mid dir names n) dir name p
+    (component_plain name (and_parts _ _ ((these_names dir names these again (now mid) some too n.listed).stand name among)).0)
+    (sym (holds (these_names dir names these text (now mid) some same n.listed) p (middle p is) (inside_joined dir name p at.inside)) ∙ is_false) at))
+    (λ p is u.
+    let n : Named mid dir names = named (told p is) in
+    let at : IsUnknownIn kept (now mid) dir p = in_moved kept (now old) (now mid) p (alike_then old mid new first rest p is) dir u in
+    among_moved kept (now old) (now later) p (alike_then old later new past third p is) dir again
+    (among_moved kept (now mid) (now old) p (alike_now old mid new first rest p is) dir again
+    (backward kept (now mid) (formed_at mid dir names n) dir again p (these_names dir names these again (now mid) some too n.listed) at)))
+    lists
+  where
+    past : Extends old later
+    past = extends_trans old mid later first second
+
+    rest : Extends mid new
+    rest = extends_trans mid later new second third
+
+    told : (p : List ℕ) → Untouched new old.last p → IsTrue old.told
+    told p is = told_then old mid new first rest p is
+
+    middle : (p : List ℕ) → Untouched new old.last p → Untouched later mid.last p
+    middle p is = second_part old mid later first second p (first_part old later new past third p is)
+
+pub each_more : (kept : Kept) (old mid new : History) → Extends old mid → Extends mid new → (dir : Option (List ℕ)) (names : List (List ℕ)) (i : ℕ) (name text path : List ℕ) (a b c : List Row)
+    → i < length names → name ≡ get_or names i name → text ≡ name → path ≡ joined dir text
+    → Lists kept (Untouched mid old.last) (IsUnknownAmong kept (now old) dir (take i names)) a b → Lists kept (Untouched new mid.last) (IsUnknownFrom kept (now mid) path) b c
+    → Lists kept (Untouched new old.last) (IsUnknownAmong kept (now old) dir (take (i + 1) names)) a c
+each_more kept old mid new first second dir names i name text path a b c below is same at before one =
+    among_more kept (Untouched new old.last) (now old) dir names i name a b c below (sym is)
+    (lists_moved kept (Untouched mid old.last) (Untouched new old.last) (IsUnknownAmong kept (now old) dir (take i names)) (IsUnknownAmong kept (now old) dir (take i names)) a b
+    (first_part old mid new first second) (λ p meets u. u) (λ p meets u. u) before)
+    (lists_moved kept (Untouched new mid.last) (Untouched new old.last) (IsUnknownFrom kept (now mid) (joined dir name)) (IsUnknownFrom kept (now old) (joined dir name)) b c
+    (second_part old mid new first second)
+    (λ p meets u. from_moved kept (now mid) (now old) p (alike_now old mid new first second p meets) (joined dir name) u)
+    (λ p meets u. from_moved kept (now old) (now mid) p (alike_then old mid new first second p meets) (joined dir name) u)
+    (subst (λ (q : List ℕ). Lists kept (Untouched new mid.last) (IsUnknownFrom kept (now mid) q) b c) (at ∙ ap (joined dir) same) one))
+
+-- ---- the rows of paths with an entry
+
+zip_append : {A B : Type 0} (R : A → B → Type 0) (xs : List A) (ys : List B) (more : List A) (again : List B) → AllZip R xs ys → AllZip R more again → AllZip R (xs ++ more) (ys ++ again)
+zip_append R [] [] more again first second = second
+zip_append R [] (y ∷ ys) more again first second = absurd first
+zip_append R (x ∷ xs) [] more again first second = absurd first
+zip_append R (x ∷ xs) (y ∷ ys) more again first second = (first.0, zip_append R xs ys more again first.1 second)
+
+zip_weaker : {A B : Type 0} (R Q : A → B → Type 0) (xs : List A) (ys : List B) → ((x : A) (y : B) → R x y → Q x y) → AllZip R xs ys → AllZip Q xs ys
+zip_weaker R Q [] [] weaker zip = tt
+zip_weaker R Q [] (y ∷ ys) weaker zip = absurd zip
+zip_weaker R Q (x ∷ xs) [] weaker zip = absurd zip
+zip_weaker R Q (x ∷ xs) (y ∷ ys) weaker zip = (weaker x y zip.0, zip_weaker R Q xs ys weaker zip.1)
+
+-- the row of one entry, whose letter is that of a moment behind the stat
+pub tracked_one : (old mid : History) → Extends old mid → (kept : FlatRow) (letter : Letter) (path : List ℕ) (source : Option (List ℕ)) (a b : List Row)
+    → (IsTrue old.told → letter ≡ added_letter (now mid) kept.path) → path ≡ kept.path → source ≡ kept.source → b ≡ a ++ record { letter = letter; path = path; source = source } ∷ []
+    → AddsTracked (Untouched mid old.last) (now old) (kept ∷ []) a b
+tracked_one old mid first kept letter path source a b is at from put = (
+  record { letter = letter; path = path; source = source } ∷ [],
+  put,
+  (
+    record {
+      path = at;
+      source = from;
+      letter = λ meets.
+          is (told_then old mid mid first (extends_same mid) kept.path meets) ∙ letter_alike (now mid) (now old) kept.path (alike_now old mid mid first (extends_same mid) kept.path meets);
+    },
+    tt,
+  ),
+)
+
+pub tracked_none : (S : List ℕ → Type 0) (m : Moment) (rows : List Row) → AddsTracked S m [] rows rows
+tracked_none S m rows = ([], sym (append-nil rows), tt)
+
+pub tracked_weaker : (S T : List ℕ → Type 0) (m n : Moment) (all : List FlatRow) (a b : List Row) → ((p : List ℕ) → T p → S p) → ((p : List ℕ) → T p → AreAlike m n p) → AddsTracked S m all a b → AddsTracked T n all a b
+tracked_weaker S T m n all a b meets alike (more, is, zip) = (
+  more,
+  is,
+  zip_weaker (IsTrackedRow S m) (IsTrackedRow T n) all more
+      (λ kept row tracked. record {
+        path = tracked.path;
+        source = tracked.source;
+        letter = λ t. tracked.letter (meets kept.path t) ∙ letter_alike m n kept.path (alike kept.path t);
+      })
+      zip,
+)
+
+tracked_trans : (S : List ℕ → Type 0) (m : Moment) (xs ys : List FlatRow) (a b c : List Row) → AddsTracked S m xs a b → AddsTracked S m ys b c → AddsTracked S m (xs ++ ys) a c
+tracked_trans S m xs ys a b c (more, is, zip) (again, also, zips) =
+    (more ++ again, also ∙ ap (λ (l : List Row). l ++ again) is ∙ append_assoc a more again, zip_append (IsTrackedRow S m) xs more ys again zip zips)
+
+pub alike_same : (m : Moment) (p : List ℕ) → AreAlike m m p
+alike_same m p = record { seen = refl; exec = refl; above = λ dir below. refl; hg = λ dir below. refl }
+
+pub tracked_more : (old mid new : History) → Extends old mid → Extends mid new → (all : List FlatRow) (i : ℕ) (kept : FlatRow) (a b c : List Row) → i < length all → get_or all i kept ≡ kept
+    → AddsTracked (Untouched mid old.last) (now old) (take i all) a b → AddsTracked (Untouched new mid.last) (now mid) (kept ∷ []) b c
+    → AddsTracked (Untouched new old.last) (now old) (take (i + 1) all) a c
+tracked_more old mid new first second all i kept a b c below is before one =
+    subst (λ (l : List FlatRow). AddsTracked (Untouched new old.last) (now old) l a c) (sym (take_more all i kept below ∙ ap (λ (r : FlatRow). take i all ++ r ∷ []) is))
+    (tracked_trans (Untouched new old.last) (now old) (take i all) (kept ∷ []) a b c
+    (tracked_weaker (Untouched mid old.last) (Untouched new old.last) (now old) (now old) (take i all) a b (first_part old mid new first second) (λ p meets. alike_same (now old) p) before)
+    (tracked_weaker (Untouched new mid.last) (Untouched new old.last) (now mid) (now old) (kept ∷ []) b c (second_part old mid new first second) (alike_now old mid new first second) one))
+
+-- ---- both, over the whole span
+
+pub tracked_first : (old mid new : History) → Extends old mid → Extends mid new → (all : List FlatRow) (a : List Row) → AddsTracked (Untouched mid old.last) (now old) all [] a → AddsTracked (Untouched new old.last) (now old) all [] a
+tracked_first old mid new first second all a added =
+    tracked_weaker (Untouched mid old.last) (Untouched new old.last) (now old) (now old) all [] a (first_part old mid new first second) (λ p meets. alike_same (now old) p) added
+
+pub lists_later : (old mid new : History) → Extends old mid → Extends mid new → (kept : Kept) (dir : Option (List ℕ)) (a b : List Row)
+    → Lists kept (Untouched new mid.last) (IsUnknownIn kept (now mid) dir) a b → Lists kept (Untouched new old.last) (IsUnknownIn kept (now old) dir) a b
+lists_later old mid new first second kept dir a b lists =
+    lists_moved kept (Untouched new mid.last) (Untouched new old.last) (IsUnknownIn kept (now mid) dir) (IsUnknownIn kept (now old) dir) a b
+    (second_part old mid new first second)
+    (λ p meets u. in_moved kept (now mid) (now old) p (alike_now old mid new first second p meets) dir u)
+    (λ p meets u. in_moved kept (now old) (now mid) p (alike_then old mid new first second p meets) dir u)
+    lists
