@@ -1,5 +1,5 @@
 -- Rows of which no two are of one path: each is found at its own path, in whatever order they stand.
-use Rattle.std.proofs.Common.{ℕ, ◌≡◌, ◌<◌, Bool, true, false, cond, List, [], ◌∷◌, map, length, get_or, Option, Some, None, option_map, Ok, Err, refl, sym, ap, ◌∙◌, subst, inl, inr, ◌⊎◌, arith}
+use Rattle.std.proofs.Common.{ℕ, zero, suc, is_some, ◌≡◌, ◌<◌, Bool, true, false, cond, List, [], ◌∷◌, map, length, get_or, Option, Some, None, option_map, Ok, Err, refl, sym, ap, ◌∙◌, subst, inl, inr, ◌⊎◌, arith}
 use Rattle.std.specs.List.{Contains, IsDistinct}
 use Rattle.std.specs.List.Sorted.{IsBinarySearchResult, IsPermutation}
 use Rattle.std.specs.Cmp.{tied_itself}
@@ -137,3 +137,17 @@ pub searched_found : (lent rows : List FlatRow) (path : List ℕ) (at : ℕ) (r 
 searched_found lent rows path at r same own below is equal =
     found_in rows path at r own (subst (λ (l : List FlatRow). at < length l) same below) is
     (subst (λ (l : List FlatRow). IsBinarySearchResult (λ row. slice_cmp nat_cmp row.path path) l (Ok at)) same equal)
+
+-- ---- a row that is known to be of a path
+
+shown : (b : Bool) (row : FlatRow) (rest : Option FlatRow) → (b ≡ true) ⊎ (is_some rest ≡ true) → is_some (cond b (Some row) rest) ≡ true
+shown true row rest either = refl
+shown false row rest (inl never) = cc (never)
+shown false row rest (inr later) = later
+
+pub stands_at : (rows : List FlatRow) (path : List ℕ) (at : ℕ) (r : FlatRow) → at < length rows → r ≡ get_or rows at r → bytes_eq r.path path ≡ true → is_some (row_at rows path) ≡ true
+stands_at [] path at r below is same = absurd (omega (arith, below))
+stands_at (row ∷ rows) path zero r below is same =
+    shown (bytes_eq row.path path) row (row_at rows path) (inl (ap (λ (q : FlatRow). bytes_eq q.path path) (sym is) ∙ same))
+stands_at (row ∷ rows) path (suc at) r below is same =
+    shown (bytes_eq row.path path) row (row_at rows path) (inr (stands_at rows path at r (omega (arith, below)) is same))

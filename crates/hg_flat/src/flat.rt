@@ -36,7 +36,7 @@ pub struct Flat {
 }
 
 impl Flat {
-    ghost use Rattle.std.specs.Prelude.{◌≡◌, ℕ, List, None, IfOk, true, false, is_some, option_map};
+    ghost use Rattle.std.specs.Prelude.{◌≡◌, ℕ, List, None, IfOk, IsTrue, true, false, is_some, option_map};
     ghost use Rattle.hg_flat.specs.Kept.{HaveOwnPaths, row_at, shown_item, shown_row};
     ghost use Rattle.hg_flat.specs.Shown.{flat_in, kept_of};
     ghost use Rattle.hg_flat.specs.Unborn.{IsBorn, IsUnborn};
@@ -91,11 +91,35 @@ impl Flat {
         }
     }
 
-    /// Whether a path has an entry.
-    pub(crate) fn has(&self, path: &str) -> bool
+    // Whether the row at this place is of the path.
+    fn is_row_of(&self, at: usize, path: &str) -> bool
+        ensures { IsTrue result → is_some (kept_of self.now path.now) ≡ true }
+    {
+        if at >= self.rows.len() {
+            return false;
+        }
+        self.rows[at].path.as_str() == path
+    }
+
+    // Where the row of a path stands, or would stand.
+    fn place_of(&self, path: &str) -> usize {
+        self.rows.partition_point(|row| row.path.as_str() < path)
+    }
+
+    /// Whether a path has an entry. Paths are mostly asked for in order, so the row at `next` is looked at first, which is made the one
+    /// behind the row that was found.
+    pub(crate) fn has(&self, path: &str, next: &mut usize) -> bool
         ensures { result ≡ is_some (kept_of self.now path.now) }
     {
-        self.find(path).is_some()
+        if self.is_row_of(*next, path) {
+            *next = next.saturating_add(1);
+            return true;
+        }
+        if self.find(path).is_none() {
+            return false;
+        }
+        *next = self.place_of(path).saturating_add(1);
+        true
     }
 
     /// What is said of a path, where it has an entry.

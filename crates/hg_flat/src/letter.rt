@@ -79,15 +79,20 @@ pub(crate) fn add_tracked<T: Tree>(
     Ok(())
 }
 
-/// Puts the row of a path, unless it has an entry.
-pub(crate) fn add_unknown(flat: &Flat, path: Path, rows: &mut Vec<Row>) -> Result<(), StatusFault>
+/// Puts the row of a path, unless it has an entry, for which the search begins at `next`.
+pub(crate) fn add_unknown(
+    flat: &Flat,
+    path: Path,
+    next: &mut usize,
+    rows: &mut Vec<Row>,
+) -> Result<(), StatusFault>
     ensures row { OnOk
         result
         (rows.new.items
         ≡ (if is_some (kept_of flat.now path) then rows.old.items else rows.old.items ++ (unknown_row path) ∷ [])) }
     ensures cause { IfErr result (λ e. e ≡ a_fault.OutOfMemory) }
 {
-    if flat.has(path.as_str()) {
+    if flat.has(path.as_str(), next) {
         return Ok(());
     }
     rows.push(Row {

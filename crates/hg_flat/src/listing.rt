@@ -87,6 +87,7 @@ fn look<T: Tree>(
     tree: &mut T,
     flat: &Flat,
     path: Path,
+    next: &mut usize,
     rows: &mut Vec<Row>,
 ) -> Result<(), StatusFault>
     ensures passes { Passes (T.history tree.old) (T.history tree.new) }
@@ -106,8 +107,8 @@ fn look<T: Tree>(
         return Ok(());
     };
     match stat.kind {
-        Kind::File | Kind::Link => add_unknown(flat, path, rows),
-        Kind::Dir => visit(alloc, tree, flat, Some(path.as_ref()), rows),
+        Kind::File | Kind::Link => add_unknown(flat, path, next, rows),
+        Kind::Dir => visit(alloc, tree, flat, Some(path.as_ref()), next, rows),
         Kind::Other => Ok(()),
     }
 }
@@ -119,6 +120,7 @@ fn look_each<T: Tree>(
     flat: &Flat,
     dir: Option<PathRef<'_>>,
     names: &[Name],
+    next: &mut usize,
     rows: &mut Vec<Row>,
 ) -> Result<(), StatusFault>
     requires { AreFit (option_map (λ d. d.text.now) dir) names.now }
@@ -140,19 +142,21 @@ fn look_each<T: Tree>(
 {
     for name in names {
         let path = Path::within(alloc, dir, name.as_str())?;
-        look(alloc, tree, flat, path, rows)?;
+        look(alloc, tree, flat, path, next, rows)?;
     }
     Ok(())
 }
 
 /// Puts a row for each file and link without an entry that stands in the directory at any depth; no directory is the root. A
-/// directory below the root that holds a directory `.hg` is a repository of its own, and nothing in it is listed.
+/// directory below the root that holds a directory `.hg` is a repository of its own, and nothing in it is listed. The search for an entry
+/// begins at `next`.
 #[cycle(listing)]
 pub(crate) fn visit<T: Tree>(
     alloc: Global,
     tree: &mut T,
     flat: &Flat,
     dir: Option<PathRef<'_>>,
+    next: &mut usize,
     rows: &mut Vec<Row>,
 ) -> Result<(), StatusFault>
     ensures passes { Passes (T.history tree.old) (T.history tree.new) }
@@ -177,5 +181,5 @@ pub(crate) fn visit<T: Tree>(
     if is_nested(alloc, tree, dir, &names)? {
         return Ok(());
     }
-    look_each(alloc, tree, flat, dir, &names, rows)
+    look_each(alloc, tree, flat, dir, &names, next, rows)
 }

@@ -73,7 +73,8 @@ pub fn plain_status<T: Tree>(alloc: Global, flat: &Flat, tree: &mut T) -> Result
 {
     let mut rows = Vec::new(alloc);
     add_each(alloc, tree, flat, &mut rows)?;
-    visit(alloc, tree, flat, None, &mut rows)?;
+    let mut next = 0;
+    visit(alloc, tree, flat, None, &mut next, &mut rows)?;
     rows.sort()?;
     rows.dedup();
     Ok(Rows::of(rows))
