@@ -3,14 +3,12 @@ use Rattle.std.proofs.Common.{ℕ, ◌≡◌, Bool, true, false, cond, ◌&&◌,
 use Rattle.std.specs.Prelude.{is_some}
 use Rattle.std.specs.Option.{option_and_then}
 use Rattle.std.specs.List.{AllByRecursion, IsDistinct}
-use Rattle.std.specs.Map.{update}
 use Rattle.std.specs.Str.{bytes_eq}
 use Rattle.std.proofs.lemmas.Bool.{cases_Bool, cond-true, cond-false, both_ways, false_from_ne_true}
 use Rattle.hg_base.specs.PathText.{is_below, is_path, parent_of}
 use Rattle.hg_base.proofs.Within.{above_is, above_none, equal_bytes, same_bytes, within_split}
 use Rattle.hg_docket.specs.Docket.{Contents}
 use Rattle.hg_entry.specs.Entry.{EntryData, StampData, cache_of, entry_of, has_entry}
-use Rattle.hg_entry.specs.Table.{Table}
 use Rattle.hg_image.specs.Node.{fields_of}
 use Rattle.hg_image.specs.Reading.{row_at}
 use Rattle.hg_image.specs.Reading as reading
@@ -18,7 +16,7 @@ use Rattle.hg_image.specs.Rows.{AreDistinct, Row}
 use Rattle.hg_mixed.specs.Drop.{bare}
 use Rattle.hg_mixed.specs.Edits.{IsFormed, IsSame}
 use Rattle.hg_mixed.specs.Held.{table_of}
-use Rattle.hg_mixed.specs.Node.{AreRooted, IsPut, NodeData, entry_in, node_at, source_in}
+use Rattle.hg_mixed.specs.Node.{IsPut, NodeData, entry_in, node_at, source_in}
 use Rattle.hg_mixed.specs.Opened.{Adds, IsThere, last_at, node_of, or_else, row_or}
 use Rattle.hg_mixed.specs.Times.{IsTimed, time_at}
 

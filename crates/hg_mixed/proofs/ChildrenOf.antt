@@ -12,8 +12,8 @@ use Rattle.hg_base.specs.declared.path.PathRef.{PathRef}
 use Rattle.hg_base.proofs.Children.{below_parent}
 use Rattle.hg_base.proofs.Paths.{path_above, path_some}
 use Rattle.hg_entry.specs.Entry.{StampData}
-use Rattle.hg_mixed.specs.ChildOf.{child_of, children_of}
-use Rattle.hg_mixed.specs.Children.{AreChildren, ChildData, IsChild}
+use Rattle.hg_mixed.specs.ChildOf.{children_of}
+use Rattle.hg_mixed.specs.Children.{AreChildren, IsChild}
 use Rattle.hg_mixed.specs.Edits.{IsFormed}
 use Rattle.hg_mixed.specs.Held.{Held, source_at, table, text_at}
 use Rattle.hg_mixed.specs.Kids.{AreKids}

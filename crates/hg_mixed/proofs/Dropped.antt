@@ -1,9 +1,7 @@
 -- An entry is dropped with what goes with it.
-use Rattle.std.proofs.Common.{ℕ, ◌≡◌, Bool, true, false, not, cond, ◌&&◌, ◌||◌, List, Option, Some, None, refl, sym, ap, ◌∙◌, subst, true≢false, inl, inr}
+use Rattle.std.proofs.Common.{ℕ, ◌≡◌, Bool, true, false, not, cond, ◌&&◌, ◌||◌, List, Option, Some, None, refl, sym, ap, ◌∙◌, subst}
 use Rattle.std.specs.Prelude.{is_some}
-use Rattle.std.specs.Map.{update}
 use Rattle.std.specs.Str.{bytes_eq}
-use Rattle.std.proofs.lemmas.Bool.{cases_Bool}
 use Rattle.hg_base.proofs.Within.{same_bytes}
 use Rattle.hg_entry.specs.Entry.{EntryData, StampData}
 use Rattle.hg_entry.specs.Table.{Table}

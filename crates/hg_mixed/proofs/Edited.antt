@@ -1,17 +1,17 @@
 -- What an edit makes of a table, and whether it makes a difference.
-use Rattle.std.proofs.Common.{ℕ, ◌≡◌, Bool, true, false, not, cond, ◌||◌, ◌⊎◌, inl, inr, List, Option, Some, None, refl, sym, ap, ◌∙◌, subst, true≢false}
+use Rattle.std.proofs.Common.{ℕ, ◌≡◌, Bool, true, false, not, cond, ◌||◌, inl, inr, List, Option, Some, None, refl, sym, ap, ◌∙◌, subst, true≢false}
 use Rattle.std.specs.Prelude.{is_some, MatchBool}
 use Rattle.std.specs.Map.{update}
 use Rattle.std.specs.Str.{bytes_eq}
-use Rattle.std.proofs.lemmas.Bool.{cases_Bool, cond-true, cond-false, or_left, or_right, or_parts, both_ways, false_from_ne_true}
+use Rattle.std.proofs.lemmas.Bool.{cases_Bool, cond-true, cond-false, or_left, or_right, or_parts, false_from_ne_true}
 use Rattle.hg_base.specs.PathText.{is_below, is_path}
 use Rattle.hg_base.specs.Within.{is_within}
 use Rattle.hg_base.proofs.Within.{equal_bytes, same_bytes, within_below, within_path, within_split, within_trans}
 use Rattle.hg_entry.specs.Entry.{EntryData, StampData}
 use Rattle.hg_entry.specs.Table.{Table}
-use Rattle.hg_mixed.specs.Edits.{IsFormed, IsSame, Marks, after_cache, after_copy, after_hash, after_ids, after_set}
+use Rattle.hg_mixed.specs.Edits.{IsFormed, IsSame, Marks, after_cache, after_copy, after_set}
 use Rattle.hg_mixed.specs.Held.{Held, table, table_of}
-use Rattle.hg_mixed.specs.Node.{AreRooted, IsPut, NodeData, entry_in, node_at, or_blank, planted, source_in, with_entry}
+use Rattle.hg_mixed.specs.Node.{IsPut, NodeData, entry_in, node_at, or_blank, planted, source_in, with_entry}
 use Rattle.hg_mixed.specs.Times.{AreNone, IsTimed, time_at}
 
 -- ---- marks

@@ -1,5 +1,5 @@
 -- The nodes of a directory's list are all that stand right in it.
-use Rattle.std.proofs.Common.{ℕ, ◌≡◌, Bool, true, false, cond, ◌||◌, List, [], ◌∷◌, map, Option, Some, None, String, refl, sym, ap, ◌∙◌, subst, true≢false, nat_cmp}
+use Rattle.std.proofs.Common.{ℕ, ◌≡◌, Bool, true, false, cond, ◌||◌, List, [], ◌∷◌, Option, Some, None, String, refl, sym, ap, ◌∙◌, subst, true≢false, nat_cmp}
 use Rattle.std.specs.Prelude.{is_some}
 use Rattle.std.specs.Option.{option_map, option_and_then}
 use Rattle.std.specs.List.{AllByRecursion, list_any}
@@ -8,8 +8,7 @@ use Rattle.std.specs.Map.{lookup, keys_of}
 use Rattle.std.specs.BTreeMap.{BTreeMap, get_by_text, is_at}
 use Rattle.std.specs.Cmp.Lexicographic.{slice_cmp}
 use Rattle.std.specs.Ordering.{is_eq, ordering_reverse}
-use Rattle.std.specs.declared.cmp.Ordering.{Ordering}
-use Rattle.std.specs.declared.cmp.Ordering.TheVariants.{Less, Equal, Greater}
+use Rattle.std.specs.declared.cmp.Ordering.TheVariants.{Less}
 use Rattle.std.specs.Str.{bytes_eq}
 use Rattle.std.specs.String.{string_bytes, string_cmp}
 use Rattle.std.proofs.lemmas.Cmp.{nat_list_cmp_total}

@@ -1,11 +1,11 @@
 -- A change of one path, in the list of its directory and in all lists.
-use Rattle.std.proofs.Common.{ℕ, ◌≡◌, Bool, true, false, not, ◌||◌, cond, List, [], ◌∷◌, ◌++◌, map, length, eqb, Option, Some, None, String, refl, sym, ap, ◌∙◌, subst, inl, inr, true≢false, arith}
+use Rattle.std.proofs.Common.{ℕ, ◌≡◌, Bool, true, false, not, ◌||◌, cond, List, [], ◌∷◌, length, eqb, Option, Some, None, String, refl, sym, ap, ◌∙◌, subst, inl, inr, true≢false, arith}
 use Rattle.std.specs.Prelude.{IsSome, is_some}
 use Rattle.std.specs.Option.{option_map, option_and_then}
-use Rattle.std.specs.List.{AllByRecursion, list_any}
+use Rattle.std.specs.List.{AllByRecursion}
 use Rattle.std.specs.List.Sorted.{IsStrictlySortedBy}
 use Rattle.std.specs.Map.{lookup, keys_of, update, remove_entry, set_value}
-use Rattle.std.specs.BTreeMap.{BTreeMap, WritesThrough, UpdatesBy, get_by_text, is_at, insert_entry}
+use Rattle.std.specs.BTreeMap.{BTreeMap, WritesThrough, get_by_text, is_at, insert_entry}
 use Rattle.std.specs.Str.{bytes_eq}
 use Rattle.std.specs.String.{string_bytes, string_cmp}
 use Rattle.std.specs.Ordering.{eq_by_cmp, is_eq, match_ordering}

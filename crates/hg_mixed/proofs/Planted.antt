@@ -1,5 +1,5 @@
 -- A node is put at a path, and nodes at the directories above it, from the path upwards.
-use Rattle.std.proofs.Common.{ℕ, ◌≡◌, ◌<◌, Bool, true, false, cond, ◌||◌, List, length, Option, Some, None, inl, inr, refl, sym, ◌∙◌, ap, true≢false}
+use Rattle.std.proofs.Common.{ℕ, ◌≡◌, Bool, true, cond, ◌||◌, List, Option, Some, None, inl, inr, refl, sym, ◌∙◌, ap, true≢false}
 use Rattle.std.specs.Prelude.{is_some}
 use Rattle.std.specs.Str.{bytes_eq}
 use Rattle.std.specs.Map.{update}
@@ -7,8 +7,8 @@ use Rattle.std.proofs.lemmas.Bool.{cases_Bool, cond-true, cond-false}
 use Rattle.hg_base.specs.PathText.{is_below, is_path, parent_of}
 use Rattle.hg_base.proofs.Below.{below_trans, below_not_back}
 use Rattle.hg_base.proofs.Children.{below_parent}
-use Rattle.hg_base.proofs.Within.{above_is, above_none, apart_above, apart_below, same_bytes, within_below, within_split, within_itself}
-use Rattle.hg_mixed.specs.Node.{AreRootedAbove, AreSame, IsPut, NodeData, blank, node_at, or_blank, planted}
+use Rattle.hg_base.proofs.Within.{above_is, apart_above, apart_below, same_bytes, within_split}
+use Rattle.hg_mixed.specs.Node.{AreRootedAbove, IsPut, NodeData, blank, node_at, or_blank, planted}
 
 module _ (path dir : List ℕ) (good : is_path path ≡ true) (parent : parent_of path ≡ Some dir) where
   up : is_below dir path ≡ true

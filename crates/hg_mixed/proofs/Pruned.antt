@@ -1,20 +1,19 @@
 -- Nodes that go, from a path upwards.
-use Rattle.std.proofs.Common.{ℕ, ◌≡◌, ◌<◌, Bool, true, false, not, cond, ◌&&◌, ◌||◌, ◌⊎◌, inl, inr, List, ◌∷◌, ◌++◌, length, Option, Some, None, refl, sym, ap, ◌∙◌, subst, true≢false}
+use Rattle.std.proofs.Common.{ℕ, ◌≡◌, Bool, true, false, not, cond, ◌&&◌, ◌||◌, inl, inr, List, Option, Some, None, refl, sym, ap, ◌∙◌, subst, true≢false}
 use Rattle.std.specs.Prelude.{is_some}
-use Rattle.std.specs.Map.{update}
 use Rattle.std.specs.Str.{bytes_eq}
-use Rattle.std.proofs.lemmas.Bool.{cases_Bool, cond-true, cond-false, and_parts, and_from, and_right, or_left, or_right, or_parts, or_from, both_ways, false_from_ne_true, not-true, not_from_false}
+use Rattle.std.proofs.lemmas.Bool.{cases_Bool, and_parts, and_from, and_right, or_left, or_right, or_parts, both_ways, false_from_ne_true, not-true, not_from_false}
 use Rattle.hg_base.specs.PathText.{is_below, is_path, joined, parent_of}
 use Rattle.hg_base.specs.Within.{is_within}
-use Rattle.hg_base.proofs.Below.{below_itself, below_not_back, below_trans}
-use Rattle.hg_base.proofs.Children.{below_parent, below_through}
+use Rattle.hg_base.proofs.Below.{below_itself, below_not_back}
+use Rattle.hg_base.proofs.Children.{below_through}
 use Rattle.hg_base.proofs.Components.{parent_joined}
-use Rattle.hg_base.proofs.Within.{above_is, above_none, apart_above, equal_bytes, same_bytes, within_below, within_itself, within_split, within_trans}
+use Rattle.hg_base.proofs.Within.{above_is, above_none, equal_bytes, same_bytes, within_below, within_itself, within_split, within_trans}
 use Rattle.hg_entry.specs.Entry.{EntryData, StampData}
 use Rattle.hg_entry.specs.Table.{Table}
 use Rattle.hg_mixed.specs.Drop.{Goes, IsPruned, bare}
 use Rattle.hg_mixed.specs.Edits.{IsFormed}
-use Rattle.hg_mixed.specs.Lists.{dir_text, has_rows_in, or_root}
+use Rattle.hg_mixed.specs.Lists.{has_rows_in, or_root}
 use Rattle.hg_mixed.specs.Node.{IsPut, NodeData, entry_in, node_at, source_in}
 use Rattle.hg_mixed.specs.Times.{IsTimed}
 use Rattle.hg_mixed.proofs.Edited.{entry_node}

@@ -1,20 +1,19 @@
 -- The lists of nodes as rows: the row of a path is in the list of its directory.
-use Rattle.std.proofs.Common.{ℕ, ◌≡◌, Bool, true, false, cond, List, [], ◌∷◌, ◌++◌, map, Option, Some, None, String, refl, sym, ap, ◌∙◌, subst, inl, inr}
+use Rattle.std.proofs.Common.{ℕ, ◌≡◌, Bool, true, false, cond, List, [], ◌∷◌, ◌++◌, Option, Some, None, String, refl, sym, ap, ◌∙◌, inl, inr}
 use Rattle.std.specs.Option.{option_map, option_and_then}
 use Rattle.std.specs.List.{AllByRecursion}
-use Rattle.std.specs.List.Sorted.{IsStrictlySortedBy}
 use Rattle.std.specs.Map.{lookup, keys_of}
 use Rattle.std.specs.Borrow.{Bor}
 use Rattle.std.specs.BTreeMap.{BTreeMap, get_by_text, is_at}
 use Rattle.std.specs.Str.{bytes_eq}
 use Rattle.std.specs.String.{string_bytes, string_cmp}
 use Rattle.std.specs.Ordering.{eq_by_cmp}
-use Rattle.std.proofs.lemmas.Bool.{cases_Bool, cond-true, cond-false, both_ways, false_from_ne_true}
+use Rattle.std.proofs.lemmas.Bool.{cases_Bool, cond-false, both_ways, false_from_ne_true}
 use Rattle.std.proofs.lemmas.Map.Keys.{IsDistinct-from_sorted, IsDistinct-head, sorted_tail}
 use Rattle.std.proofs.lemmas.Map.Text.{text_cmp, is_eq-slice_cmp}
 use Rattle.hg_base.proofs.Within.{same_bytes, equal_bytes}
 use Rattle.hg_mixed.specs.Node.{NodeData, node_at}
-use Rattle.hg_mixed.specs.Lists.{data_of, dir_text, look, rows_in, rows_of, IsListOf, AreListed}
+use Rattle.hg_mixed.specs.Lists.{data_of, dir_text, rows_in, rows_of, IsListOf, AreListed}
 use Rattle.hg_mixed.specs.declared.node.Node.{Node}
 
 -- the first, where it is there, else the second

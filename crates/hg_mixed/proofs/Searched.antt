@@ -2,14 +2,13 @@
 use Rattle.std.proofs.Common.{ℕ, ◌≡◌, ◌<◌, ◌≤◌, Bool, true, false, not, ◌&&◌, ◌||◌, cond, ◌⊎◌, inl, inr, List, [], ◌∷◌, ◌++◌, length, Option, Some, None, refl, sym, ap, ◌∙◌, subst, true≢false, nat_cmp, arith}
 use Rattle.std.specs.Prelude.{is_some}
 use Rattle.std.specs.List.{AllByRecursion, list_any}
-use Rattle.std.specs.List.Sorted.{IsStrictlySortedBy}
 use Rattle.std.specs.Map.{keys_of}
 use Rattle.std.specs.Str.{bytes_eq}
 use Rattle.std.specs.Cmp.Lexicographic.{slice_cmp}
 use Rattle.std.specs.Ordering.{is_gt, ordering_reverse}
 use Rattle.std.specs.declared.cmp.Ordering.{Ordering}
 use Rattle.std.specs.declared.cmp.Ordering.TheVariants.{Less, Equal, Greater}
-use Rattle.std.proofs.lemmas.Bool.{cases_Bool, and_parts, and_from, and_right, or_left, or_right, or_parts, or_from, not-true, false_from_ne_true, both_ways, cond-true, cond-false}
+use Rattle.std.proofs.lemmas.Bool.{cases_Bool, and_parts, and_from, and_right, or_left, or_right, or_from, not-true, false_from_ne_true, both_ways}
 use Rattle.std.proofs.lemmas.Cmp.{nat_list_cmp_total, tied_itself, upto}
 use Rattle.std.proofs.lemmas.List.{append-nil}
 use Rattle.std.proofs.lemmas.Map.Keys.{sorted_head, sorted_tail}
@@ -20,8 +19,7 @@ use Rattle.hg_base.proofs.Children.{below_parent, below_through}
 use Rattle.hg_base.proofs.Compared.{cmp_front}
 use Rattle.hg_base.proofs.Components.{parent_joined}
 use Rattle.hg_base.proofs.Paths.{path_parts, path_some}
-use Rattle.hg_base.proofs.Within.{above_is, above_none, equal_bytes, same_bytes, within_below, within_itself, within_split, within_trans}
-use Rattle.hg_entry.specs.Entry.{EntryData}
+use Rattle.hg_base.proofs.Within.{above_is, above_none, same_bytes, within_below, within_itself, within_split}
 use Rattle.hg_mixed.specs.Clash.{IsLeast, clashes, is_tracked_entry}
 use Rattle.hg_mixed.specs.Kids.{AreKids}
 use Rattle.hg_mixed.specs.Lists.{dir_text, or_root}

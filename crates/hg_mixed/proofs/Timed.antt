@@ -1,6 +1,6 @@
 -- The times of cached directories, as a map from texts has them.
-use Rattle.std.proofs.Common.{ℕ, ◌≡◌, ◌<◌, Bool, true, false, cond, List, [], ◌∷◌, map, length, eqb, eqb-true, Option, Some, None, String, refl, sym, ap, ◌∙◌, subst, true≢false, arith}
-use Rattle.std.specs.Prelude.{is_some, MatchBool}
+use Rattle.std.proofs.Common.{ℕ, ◌≡◌, Bool, true, false, cond, List, [], ◌∷◌, length, eqb, eqb-true, Option, Some, String, refl, sym, ap, ◌∙◌, subst, true≢false, arith}
+use Rattle.std.specs.Prelude.{is_some}
 use Rattle.std.specs.Option.{option_map}
 use Rattle.std.specs.Map.{lookup, update}
 use Rattle.std.specs.BTreeMap.{BTreeMap, get_by_text, is_at}

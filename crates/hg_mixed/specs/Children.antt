@@ -1,11 +1,11 @@
 -- The children of a directory, one after the other.
-use Rattle.std.specs.Prelude.{ℕ, ◌≡◌, Bool, true, false, List, map, Option, Some, None, MatchBool, option_map}
+use Rattle.std.specs.Prelude.{ℕ, ◌≡◌, Bool, true, false, List, map, Option, Some, MatchBool}
 use Rattle.std.specs.List.{AllByRecursion, list_any}
 use Rattle.std.specs.List.Sorted.{IsStrictlySortedBy}
 use Rattle.std.specs.Ordering.{nat_cmp}
 use Rattle.std.specs.Cmp.Lexicographic.{slice_cmp}
 use Rattle.std.specs.Str.{bytes_eq}
-use Rattle.hg_base.specs.PathText.{is_path, parent_of}
+use Rattle.hg_base.specs.PathText.{parent_of}
 use Rattle.hg_entry.specs.Entry.{EntryData, StampData}
 use Rattle.hg_mixed.specs.Held.{Held, source_at, table, text_at}
 

@@ -1,5 +1,5 @@
 -- What a table in memory holds, as contracts see it.
-use Rattle.std.specs.Prelude.{ℕ, ◌≡◌, Bool, List, Option, is_some}
+use Rattle.std.specs.Prelude.{ℕ, Bool, List, Option, is_some}
 use Rattle.std.specs.Option.{option_and_then}
 use Rattle.std.specs.List.{list_any}
 use Rattle.std.specs.Map.{lookup}

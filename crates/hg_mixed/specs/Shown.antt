@@ -1,5 +1,5 @@
 -- What a table in memory answers.
-use Rattle.std.specs.Prelude.{ℕ, ◌≡◌, ◌<◌, Bool, true, false, List, Option, Some, None, option_map}
+use Rattle.std.specs.Prelude.{ℕ, ◌≡◌, ◌<◌, true, false, List, Option, Some, None, option_map}
 use Rattle.hg_entry.specs.Entry.{EntryData, view}
 use Rattle.hg_entry.specs.Table.{Table}
 use Rattle.hg_entry.specs.declared.entry.Item.{Item}

@@ -1,7 +1,7 @@
-use Rattle.std.proofs.Common.{sym, ◌∙◌, ◌<◌, ◌≤◌, length, None, arith}
+use Rattle.std.proofs.Common.{sym, ◌∙◌, ◌<◌, ◌≤◌, length, arith}
 use Rattle.std.specs.Option.{option_map}
 use Rattle.hg_mixed.specs.Lists.{data_of}
-use Rattle.hg_mixed.proofs.Searched.{kid_longer, kid_path, kid_short, kid_there, left_ends, left_first, left_goes, left_stops, within_here}
+use Rattle.hg_mixed.proofs.Searched.{kid_longer, kid_short, kid_there, left_first, left_goes, left_stops, within_here}
 use Rattle.hg_mixed.proofs.clash.+searching.Goals as goal
 
 pub tracked_below-loop-text-init : goal.tracked_below-loop-text-init

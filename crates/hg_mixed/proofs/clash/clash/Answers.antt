@@ -1,4 +1,4 @@
-use Rattle.std.proofs.Common.{◌≡◌, ◌∙◌, sym, Bool, true, None, subst}
+use Rattle.std.proofs.Common.{◌≡◌, ◌∙◌, sym, Bool, true, subst}
 use Rattle.std.specs.Bool.{MatchBool}
 use Rattle.std.specs.Option.{option_map}
 use Rattle.hg_mixed.proofs.Searched.{clash_above, clash_below}

@@ -1,4 +1,4 @@
-use Rattle.std.proofs.Common.{subst, sym, List, ℕ, Some}
+use Rattle.std.proofs.Common.{subst, List, ℕ, Some}
 use Rattle.std.proofs.lemmas.Result.{on_ok_weaker, on_err_weaker}
 use Rattle.hg_mixed.specs.Lists.{IsChanged}
 use Rattle.hg_mixed.proofs.Listed.{list_changed, list_kept}

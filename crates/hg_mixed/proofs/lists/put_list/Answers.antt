@@ -1,4 +1,3 @@
-use Rattle.std.proofs.Common.{rules}
 use Rattle.std.proofs.lemmas.Map.Text.{btree_map_updates_text}
 use Rattle.std.specs.String.{string_bytes}
 use Rattle.hg_mixed.proofs.Listed.{list_added}

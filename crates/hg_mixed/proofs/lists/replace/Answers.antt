@@ -1,4 +1,4 @@
-use Rattle.std.proofs.Common.{subst, sym, ◌∙◌, ap, List, ℕ, Option}
+use Rattle.std.proofs.Common.{subst, sym, ◌∙◌, ap, Option}
 use Rattle.std.specs.Option.{option_and_then}
 use Rattle.std.specs.Prelude.{IsSome}
 use Rattle.std.specs.BTreeMap.{get_by_text}

@@ -1,10 +1,10 @@
-use Rattle.std.proofs.Common.{◌≡◌, ◌∙◌, sym, ap, List, ℕ, Some, None, Option}
+use Rattle.std.proofs.Common.{◌∙◌, Some}
 use Rattle.std.specs.Map.{update}
 use Rattle.std.specs.Str.{bytes_eq}
 use Rattle.std.proofs.lemmas.Result.{on_ok_weaker}
-use Rattle.hg_entry.specs.Entry.{StampData, has_entry}
+use Rattle.hg_entry.specs.Entry.{has_entry}
 use Rattle.hg_image.specs.View.{row}
-use Rattle.hg_mixed.specs.Node.{NodeData, node_at}
+use Rattle.hg_mixed.specs.Node.{node_at}
 use Rattle.hg_mixed.specs.Times.{time_at}
 use Rattle.hg_mixed.proofs.Adding.{adds_own, source_false}
 use Rattle.hg_mixed.proofs.opening.add_own.Goals as goal
