@@ -41,13 +41,13 @@ fn status<T: Tree, S: Shelf, O: Sink>(
 ) -> Result<(), Fault>
     ensures { Prints
         (record {
-            words = words.now;
-            looked =
-                record {
-                    tree = record { old = T.history tree.old; new = T.history tree.new; before = T.faults tree.old; after = T.faults tree.new };
-                    shelf = record { old = S.history shelf.old; new = S.history shelf.new; before = S.faults shelf.old; after = S.faults shelf.new };
-                };
-            out = record { old = O.bytes out.old; new = O.bytes out.new; before = O.faults out.old; after = O.faults out.new };
+          words = words.now;
+          looked =
+              record {
+                tree = record { old = T.history tree.old; new = T.history tree.new; before = T.faults tree.old; after = T.faults tree.new };
+                shelf = record { old = S.history shelf.old; new = S.history shelf.new; before = S.faults shelf.old; after = S.faults shelf.new };
+              };
+          out = record { old = O.bytes out.old; new = O.bytes out.new; before = O.faults out.old; after = O.faults out.new };
         })
         result }
 {
@@ -115,13 +115,13 @@ pub fn run<T: Tree, S: Shelf, I: Source, O: Sink, E: Sink>(
     // What a command answers and leaves: `Ran` in specs/Command.antt, a sentence a field.
     ensures ran { Ran
         (record {
-            words = words.now;
-            looked =
-                record {
-                    tree = record { old = T.history tree.old; new = T.history tree.new; before = T.faults tree.old; after = T.faults tree.new };
-                    shelf = record { old = S.history shelf.old; new = S.history shelf.new; before = S.faults shelf.old; after = S.faults shelf.new };
-                };
-            out = record { old = O.bytes out.old; new = O.bytes out.new; before = O.faults out.old; after = O.faults out.new };
+          words = words.now;
+          looked =
+              record {
+                tree = record { old = T.history tree.old; new = T.history tree.new; before = T.faults tree.old; after = T.faults tree.new };
+                shelf = record { old = S.history shelf.old; new = S.history shelf.new; before = S.faults shelf.old; after = S.faults shelf.new };
+              };
+          out = record { old = O.bytes out.old; new = O.bytes out.new; before = O.faults out.old; after = O.faults out.new };
         })
         result.fault }
     // A status doesn't look at the input.
@@ -129,13 +129,13 @@ pub fn run<T: Tree, S: Shelf, I: Source, O: Sink, E: Sink>(
     // What stands on the error stream, and with which status it ends.
     ensures told { Tells
         (record {
-            words = words.now;
-            looked =
-                record {
-                    tree = record { old = T.history tree.old; new = T.history tree.new; before = T.faults tree.old; after = T.faults tree.new };
-                    shelf = record { old = S.history shelf.old; new = S.history shelf.new; before = S.faults shelf.old; after = S.faults shelf.new };
-                };
-            out = record { old = O.bytes out.old; new = O.bytes out.new; before = O.faults out.old; after = O.faults out.new };
+          words = words.now;
+          looked =
+              record {
+                tree = record { old = T.history tree.old; new = T.history tree.new; before = T.faults tree.old; after = T.faults tree.new };
+                shelf = record { old = S.history shelf.old; new = S.history shelf.new; before = S.faults shelf.old; after = S.faults shelf.new };
+              };
+          out = record { old = O.bytes out.old; new = O.bytes out.new; before = O.faults out.old; after = O.faults out.new };
         })
         result.fault
         (E.bytes err.old)

@@ -78,8 +78,8 @@ pub(crate) fn list<T: Tree, S: Shelf>(
 ) -> Result<Rows, Fault>
     ensures { Lists
         (record {
-            tree = record { old = T.history tree.old; new = T.history tree.new; before = T.faults tree.old; after = T.faults tree.new };
-            shelf = record { old = S.history shelf.old; new = S.history shelf.new; before = S.faults shelf.old; after = S.faults shelf.new };
+          tree = record { old = T.history tree.old; new = T.history tree.new; before = T.faults tree.old; after = T.faults tree.new };
+          shelf = record { old = S.history shelf.old; new = S.history shelf.new; before = S.faults shelf.old; after = S.faults shelf.new };
         })
         result }
 {

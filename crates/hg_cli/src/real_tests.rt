@@ -88,9 +88,7 @@ fn tells_times(rt: HostRuntime) -> Result<(), Fail> {
     let root = Root { named: None };
     let mut tree = RealTree::new(&rt, &root);
     fs::write(&rt, "timed_test", b"one".as_slice())?;
-    let file = fs::OpenOptions::new()
-        .write(true)
-        .open(&rt, "timed_test")?;
+    let file = fs::OpenOptions::new().write(true).open(&rt, "timed_test")?;
     for (seconds, nanos, mode, exec) in [
         (1_234_567_890, 123_456_789, 0o644, false),
         (1_234_567_890, 123_456_789, 0o744, true),
@@ -100,9 +98,16 @@ fn tells_times(rt: HostRuntime) -> Result<(), Fail> {
     ] {
         file.set_modified(SystemTime::UNIX_EPOCH + Duration::new(seconds, nanos))?;
         fs::set_permissions(&rt, "timed_test", Permissions::from_mode(mode))?;
-        let stat = tree.stat(PathRef::read("timed_test")?).ok().ok_or("a failure")?;
+        let stat = tree
+            .stat(PathRef::read("timed_test")?)
+            .ok()
+            .ok_or("a failure")?;
         let shown = stat.map(|stat| (stat.mtime.seconds, stat.mtime.nanos, stat.exec));
-        assert_eq!(rt; shown, Some((seconds as i64, nanos, exec)), "{seconds}.{nanos} {mode}");
+        assert_eq!(rt;
+            shown,
+            Some((seconds as i64, nanos, exec)),
+            "{seconds}.{nanos} {mode}"
+        );
     }
     fs::remove_file(&rt, "timed_test")?;
     Ok(())
