@@ -32,9 +32,8 @@ use Rattle.hg_tree.specs.declared.thing.Placed.{Placed}
 use Rattle.hg_tree.specs.declared.thing.Thing.{Thing}
 use Rattle.hg_tree.specs.declared.thing.Thing.TheVariants as a_thing
 use Rattle.hg_tree.specs.Still.{Untouched}
-use Rattle.hg_tree.proofs.Histories.{now_same, quiet_first}
-use Rattle.hg_tree.proofs.Spans.{passes_trans}
-use Rattle.hg_tree.proofs.Stillness.{alike_between, ours_quiet, quiet_untouched, untouched_second}
+use Rattle.hg_tree.proofs.Spans.{now_same, ours_first, ours_second, ours_unstepped}
+use Rattle.hg_tree.proofs.Stillness.{alike_between, ours_untouched, untouched_second}
 use Rattle.hg_cli.specs.Call.{Call, Fails, Looked, Serves, Watched}
 use Rattle.hg_cli.specs.Command.{CommandCause, IsBegunFor, IsExpected, IsFaultOrMemory, IsPrintedFor, LeavesFront, LeavesOut, MetBefore, Prints, Ran, is_status, plain_style}
 use Rattle.hg_cli.specs.Listed.{IgnoreCause, IgnoreSeen, IsListable, IsListed, IsListedFor, IsOwn, IsRecorded, IsUntouched, LedTo, ListingCause, LoadCause, LoadMet, has_ignore_file, is_file_kind, shows_file}
@@ -42,7 +41,7 @@ use Rattle.hg_cli.specs.Load.{id_in, of_load, record_in}
 use Rattle.hg_cli.specs.Loaded.{Answers, Loads, Try}
 use Rattle.hg_cli.specs.declared.load_fault.LoadFault.{LoadFault}
 use Rattle.hg_cli.specs.declared.load_fault.LoadFault.TheVariants as a_load
-use Rattle.hg_cli.proofs.Loads.{quiet_found, quiet_loads}
+use Rattle.hg_cli.proofs.Loads.{unstepped_found, unstepped_loads}
 
 -- ---- the load
 
@@ -140,8 +139,8 @@ listed_for looked mid flat rows first second unborn recorded full = record {
 }
 
 -- what a record that was found says, where the shelf made no step
-recorded_now : (old new : shelf.History) (flat : plain.Flat) → shelf.Extends old new → shelf.IsQuiet old new → (r : IsRecorded old new flat) → record_in (shelf.now old).files (shelf.now old).files ≡ Some (Ok r.table)
-recorded_now old new flat past quiet r = sym (quiet_found old new r.tries past quiet r.tried) ∙ r.found
+recorded_now : (old new : shelf.History) (flat : plain.Flat) → shelf.Extends old new → new.last ≡ old.last → (r : IsRecorded old new flat) → record_in (shelf.now old).files (shelf.now old).files ≡ Some (Ok r.table)
+recorded_now old new flat past none r = sym (unstepped_found old new r.tries past none r.tried) ∙ r.found
 
 -- where nobody else steps the listing is the whole
 pub listed_own : (looked : Looked) (rows : List Row) → tree.Passes looked.tree.old looked.tree.new → shelf.Passes looked.shelf.old looked.shelf.new → IsOwn looked → IsListedFor (IsUntouched looked) looked rows
@@ -149,17 +148,14 @@ pub listed_own : (looked : Looked) (rows : List Row) → tree.Passes looked.tree
 listed_own looked rows copy files own is =
     let r = is.recorded own.shelf.told in record {
       table = r.table;
-      recorded = recorded_now looked.shelf.old looked.shelf.new is.flat files.past (shelves.ours_quiet looked.shelf.old looked.shelf.new files own.shelf) r;
+      recorded = recorded_now looked.shelf.old looked.shelf.new is.flat files.past (shelves.ours_unstepped looked.shelf.old looked.shelf.new files own.shelf) r;
       full =
           subst (λ (f : plain.Flat). IsFull f (tree.now looked.tree.old) null_rows nothing_ignored default_wanted rows) (sym r.flat_is)
           (full_of (IsUntouched looked) is.flat (tree.now looked.tree.old) null_rows nothing_ignored default_wanted rows
-          (quiet_untouched looked.tree.old looked.tree.new copy.past (ours_quiet looked.tree.old looked.tree.new copy own.tree)) is.full);
+          (ours_untouched looked.tree.old looked.tree.new copy own.tree) is.full);
     }
 
 -- ---- what the tree is asked
-
-ours_second : (old mid new : tree.History) → tree.Extends old mid → tree.IsOurs old new → tree.IsOurs mid new
-ours_second old mid new first ours = record { told = first.told ∙ ours.told; ours = λ k from upto. ours.ours k (omega (arith, from, first.later)) upto }
 
 -- a listing behind a call that asked for nothing
 pub asks_later : (old mid new : tree.History) → tree.Passes old mid → tree.Passes mid new → AsksNothing old mid → AsksFor (λ dir. tree.IsOurs mid new → IsVisibleDir (tree.now mid) dir) mid new
@@ -169,23 +165,23 @@ asks_later old mid new first second none asks =
     (asks_weaker (λ dir. tree.IsOurs mid new → IsVisibleDir (tree.now mid) dir) (λ dir. tree.IsOurs old new → IsVisibleDir (tree.now old) dir) mid new
     (λ dir visible ours.
     subst (λ (m : Moment). IsVisibleDir m dir)
-    (now_same old mid first.past (quiet_first old mid new first.past second.past (ours_quiet old new (passes_trans old mid new first second) ours)))
+    (now_same old mid first (ours_first old mid new second.past ours))
     (visible (ours_second old mid new first.past ours)))
     asks)
 
 -- ---- what is expected, where nobody else steps
 
-seen_now : (there : Bool) (old new : tree.History) → tree.Extends old new → tree.IsQuiet old new → IgnoreSeen there old new → has_ignore_file (tree.now old) ≡ there
-seen_now there old new past quiet seen =
-    let same : seen.at ≡ old.last = omega (arith, seen.from, seen.to, quiet.none) in
+seen_now : (there : Bool) (old new : tree.History) → tree.Extends old new → new.last ≡ old.last → IgnoreSeen there old new → has_ignore_file (tree.now old) ≡ there
+seen_now there old new past none seen =
+    let same : seen.at ≡ old.last = omega (arith, seen.from, seen.to, none) in
     ap has_ignore_file (sym (past.stay old.last (omega arith)) ∙ sym (ap new.at same)) ∙ seen.is
 
 module _ (call : Call) (copy : tree.Passes call.looked.tree.old call.looked.tree.new) (files : shelf.Passes call.looked.shelf.old call.looked.shelf.new) (own : IsOwn call.looked) where
-  abbrev still : shelf.IsQuiet call.looked.shelf.old call.looked.shelf.new
-  still = shelves.ours_quiet call.looked.shelf.old call.looked.shelf.new files own.shelf
+  abbrev still_shelf : call.looked.shelf.new.last ≡ call.looked.shelf.old.last
+  still_shelf = shelves.ours_unstepped call.looked.shelf.old call.looked.shelf.new files own.shelf
 
-  abbrev quiet : tree.IsQuiet call.looked.tree.old call.looked.tree.new
-  quiet = ours_quiet call.looked.tree.old call.looked.tree.new copy own.tree
+  abbrev still_tree : call.looked.tree.new.last ≡ call.looked.tree.old.last
+  still_tree = ours_unstepped call.looked.tree.old call.looked.tree.new copy own.tree
 
   abbrev Expects : Option Fault → Type 0
   Expects fault = IsExpected call.words (shelf.now call.looked.shelf.old).files (tree.now call.looked.tree.old) fault
@@ -193,11 +189,11 @@ module _ (call : Call) (copy : tree.Passes call.looked.tree.old call.looked.tree
   led_now : (P : plain.Flat → Type 0) → LedTo P call.looked.shelf → (table : Table) × (record_in (shelf.now call.looked.shelf.old).files (shelf.now call.looked.shelf.old).files ≡ Some (Ok table)) × P (flat_of table)
   led_now P led =
       let l = led own.shelf.told in
-      (l.1.table, recorded_now call.looked.shelf.old call.looked.shelf.new l.0 files.past still l.1, subst P (sym l.1.flat_is) l.2)
+      (l.1.table, recorded_now call.looked.shelf.old call.looked.shelf.new l.0 files.past still_shelf l.1, subst P (sym l.1.flat_is) l.2)
 
   met_now : (fault : LoadFault) → LoadMet fault call.looked.shelf
       → (tries : List Try) × Answers (Err fault) (map (λ tried. id_in (shelf.now call.looked.shelf.old).files) tries) (record_in (shelf.now call.looked.shelf.old).files (shelf.now call.looked.shelf.old).files)
-  met_now fault met = let m = met own.shelf.told in (m.0, quiet_loads call.looked.shelf.old call.looked.shelf.new m.0 (Err fault) files.past still m.1)
+  met_now fault met = let m = met own.shelf.told in (m.0, unstepped_loads call.looked.shelf.old call.looked.shelf.new m.0 (Err fault) files.past still_shelf m.1)
 
   all_same : (id : List ℕ) (tries : List Try) → AllByRecursion (λ other. other ≡ id) (map (λ tried. id) tries)
   all_same id [] = tt
@@ -210,7 +206,7 @@ module _ (call : Call) (copy : tree.Passes call.looked.tree.old call.looked.tree
         | inl born ↦ let l = led_now IsBorn born in inr (l.0, l.1, inl l.2)
         | inr both ↦
             let l = led_now IsUnborn both.0 in
-            inr (l.0, l.1, inr (seen_now true call.looked.tree.old call.looked.tree.new copy.past quiet (both.1 own.tree.told)))
+            inr (l.0, l.1, inr (seen_now true call.looked.tree.old call.looked.tree.new copy.past still_tree (both.1 own.tree.told)))
       ]
   listing_expected (a_fault.Docket fault) cause p q = (met_now (a_load.Docket fault) cause).1
   listing_expected (a_fault.Node fault) cause p q = (met_now (a_load.Node fault) cause).1
@@ -231,7 +227,7 @@ module _ (call : Call) (copy : tree.Passes call.looked.tree.old call.looked.tree
 
   pub none_expected : (is_status call.words ≡ true) → IsListable call.looked → Expects None
   none_expected built listable =
-      (built, led_now IsUnborn listable.loaded, seen_now false call.looked.tree.old call.looked.tree.new copy.past quiet (listable.plain_root own.tree.told))
+      (built, led_now IsUnborn listable.loaded, seen_now false call.looked.tree.old call.looked.tree.new copy.past still_tree (listable.plain_root own.tree.told))
 
 -- ---- printing
 

@@ -16,7 +16,7 @@ use Rattle.hg_image.specs.Rows.{list_rows, rows_of}
 use Rattle.hg_image.specs.Walk.{levels, list_fault}
 use Rattle.hg_image.specs.declared.fault.NodeFault.{NodeFault}
 use Rattle.hg_image.specs.declared.fault.NodeFault.TheVariants as a_node
-use Rattle.hg_shelf.specs.History.{Extends, Files, History, IsQuiet, Passes, now}
+use Rattle.hg_shelf.specs.History.{Extends, Files, History, Passes, now}
 use Rattle.hg_base.specs.Reads.{ReadsBytes}
 use Rattle.hg_shelf.specs.Reads.{size_of}
 use Rattle.hg_shelf.proofs.Histories.{extends_trans}
@@ -311,28 +311,28 @@ unloaded old new fault passes failed =
 
 -- ---- where the shelf made no step
 
-one_moment : (old new : History) (k : ℕ) → Extends old new → IsQuiet old new → During old new k → files_at new k ≡ (now old).files
-one_moment old new k past quiet during =
-    let same : k ≡ old.last = omega (arith, during.from, during.to, quiet.none) in
+one_moment : (old new : History) (k : ℕ) → Extends old new → new.last ≡ old.last → During old new k → files_at new k ≡ (now old).files
+one_moment old new k past none during =
+    let same : k ≡ old.last = omega (arith, during.from, during.to, none) in
     ap (files_at new) same ∙ (past.stay old.last (omega arith)).shown
 
 last_of : (P : Try → Type 0) (earlier : List Try) (last : Try) → AllByRecursion P (earlier ++ last ∷ []) → P last
 last_of P [] last all = all.0
 last_of P (one ∷ earlier) last all = last_of P earlier last all.1
 
-same_ids : (old new : History) (tries : List Try) → Extends old new → IsQuiet old new → AllByRecursion (IsTry old new) tries → map (id_by new) tries ≡ map (λ tried. id_in (now old).files) tries
-same_ids old new [] past quiet within = refl
-same_ids old new (one ∷ more) past quiet within = λ i. id_in (one_moment old new one.docket past quiet within.0.docket i) ∷ same_ids old new more past quiet within.1 i
+same_ids : (old new : History) (tries : List Try) → Extends old new → new.last ≡ old.last → AllByRecursion (IsTry old new) tries → map (id_by new) tries ≡ map (λ tried. id_in (now old).files) tries
+same_ids old new [] past none within = refl
+same_ids old new (one ∷ more) past none within = λ i. id_in (one_moment old new one.docket past none within.0.docket i) ∷ same_ids old new more past none within.1 i
 
 -- where the shelf made no step, the last try found the record as it stands there
-pub quiet_found : (old new : History) (tries : List Try) → Extends old new → IsQuiet old new → (t : Tries old new tries) → found_by new t.last ≡ record_in (now old).files (now old).files
-quiet_found old new tries past quiet t =
+pub unstepped_found : (old new : History) (tries : List Try) → Extends old new → new.last ≡ old.last → (t : Tries old new tries) → found_by new t.last ≡ record_in (now old).files (now old).files
+unstepped_found old new tries past none t =
     let within : IsTry old new t.last = last_of (IsTry old new) t.earlier t.last (subst (AllByRecursion (IsTry old new)) t.whole t.within) in
-    λ i. record_in (one_moment old new t.last.docket past quiet within.docket i) (one_moment old new t.last.file past quiet within.file i)
+    λ i. record_in (one_moment old new t.last.docket past none within.docket i) (one_moment old new t.last.file past none within.file i)
 
 -- where the shelf made no step, a load answers the reading of the record as it stands there, whatever the tries: each names the same identifier
-pub quiet_loads : (old new : History) (tries : List Try) (result : Result Flat LoadFault) → Extends old new → IsQuiet old new → Loads old new tries result
+pub unstepped_loads : (old new : History) (tries : List Try) (result : Result Flat LoadFault) → Extends old new → new.last ≡ old.last → Loads old new tries result
     → Answers result (map (λ tried. id_in (now old).files) tries) (record_in (now old).files (now old).files)
-quiet_loads old new tries result past quiet loads =
-    subst (λ (ids : List (List ℕ)). Answers result ids (record_in (now old).files (now old).files)) (same_ids old new tries past quiet loads.tried.within)
-    (subst (Answers result (map (id_by new) tries)) (quiet_found old new tries past quiet loads.tried) loads.answer)
+unstepped_loads old new tries result past none loads =
+    subst (λ (ids : List (List ℕ)). Answers result ids (record_in (now old).files (now old).files)) (same_ids old new tries past none loads.tried.within)
+    (subst (Answers result (map (id_by new) tries)) (unstepped_found old new tries past none loads.tried) loads.answer)

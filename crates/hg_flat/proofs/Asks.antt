@@ -11,14 +11,15 @@ use Rattle.hg_base.specs.PathText.{has_slash, is_below, is_same_dir, joined}
 use Rattle.hg_base.proofs.Below.{below_compared, below_itself, below_joined, below_name, below_of_joined}
 use Rattle.hg_base.proofs.Components.{joined_same}
 use Rattle.hg_base.proofs.Paths.{component_plain}
-use Rattle.hg_tree.specs.History.{Asks, Extends, History, IsOurs, IsQuiet, Passes, now}
+use Rattle.hg_tree.specs.History.{Asks, Extends, History, IsOurs, Passes, now}
 use Rattle.hg_tree.specs.Moment.{AreFit, Moment, is_among, is_dir}
 use Rattle.hg_tree.specs.declared.asked.Asked.{Asked}
 use Rattle.hg_tree.specs.declared.asked.Asked.TheVariants as an_ask
-use Rattle.hg_tree.proofs.Histories.{extends_trans, now_same, quiet_first, quiet_second}
-use Rattle.hg_tree.proofs.Stillness.{ours_quiet}
+use Rattle.hg_tree.specs.Still.{Untouched}
+use Rattle.hg_tree.proofs.Spans.{now_same, ours_first, ours_second, passes_trans}
+use Rattle.hg_tree.proofs.Stillness.{ours_untouched}
 use Rattle.hg_flat.specs.Asked.{AsksFor, AsksNothing, IsDirAmong, IsDirBelow, IsDirFrom, IsDirIn, IsVisibleDir}
-use Rattle.hg_flat.specs.Listing.{IsVisibleFrom, holds_repository, is_from, is_inside}
+use Rattle.hg_flat.specs.Listing.{HoldsFor, IsVisibleFrom, holds_repository, is_from, is_inside}
 use Rattle.hg_flat.proofs.Among.{fit_of}
 use Rattle.hg_flat.proofs.Unknowns.{back, from_below, from_cases, from_same, inside_joined, same_of, visible_up}
 
@@ -90,40 +91,40 @@ asks_before W a b c asks none = record { dirs = asks.dirs; asked = none ∙ asks
 -- ---- a path, and what stands below it
 
 -- what is asked behind a span is asked over the whole
-from_later : (old mid new : History) → Extends old mid → Extends mid new → (from : List ℕ) (dir : Option (List ℕ)) → IsDirFrom mid new from dir → IsDirFrom old new from dir
+from_later : (old mid new : History) → Passes old mid → Extends mid new → (from : List ℕ) (dir : Option (List ℕ)) → IsDirFrom mid new from dir → IsDirFrom old new from dir
 from_later old mid new first second from dir d = record {
   path = d.path;
   is = d.is;
   inside = d.inside;
-  stands = λ quiet.
-      subst (λ (m : Moment). IsTrue (is_dir (m.things d.path))) (now_same old mid first (quiet_first old mid new first second quiet))
-      (d.stands (quiet_second old mid new first second quiet));
-  visible = λ quiet.
-      subst (λ (m : Moment). IsVisibleFrom m (Some from) d.path) (now_same old mid first (quiet_first old mid new first second quiet))
-      (d.visible (quiet_second old mid new first second quiet));
+  stands = λ ours.
+      subst (λ (m : Moment). IsTrue (is_dir (m.things d.path))) (now_same old mid first (ours_first old mid new second ours))
+      (d.stands (ours_second old mid new first.past ours));
+  visible = λ ours.
+      subst (λ (m : Moment). IsVisibleFrom m (Some from) d.path) (now_same old mid first (ours_first old mid new second ours))
+      (d.visible (ours_second old mid new first.past ours));
 }
 
-below_later : (old mid new : History) → Extends old mid → Extends mid new → (from dir : Option (List ℕ)) → IsDirBelow mid new from dir → IsDirBelow old new from dir
+below_later : (old mid new : History) → Passes old mid → Extends mid new → (from dir : Option (List ℕ)) → IsDirBelow mid new from dir → IsDirBelow old new from dir
 below_later old mid new first second from dir d = record {
   path = d.path;
   is = d.is;
   inside = d.inside;
-  stands = λ quiet.
-      subst (λ (m : Moment). IsTrue (is_dir (m.things d.path))) (now_same old mid first (quiet_first old mid new first second quiet))
-      (d.stands (quiet_second old mid new first second quiet));
-  visible = λ quiet.
-      subst (λ (m : Moment). IsVisibleFrom m from d.path) (now_same old mid first (quiet_first old mid new first second quiet))
-      (d.visible (quiet_second old mid new first second quiet));
+  stands = λ ours.
+      subst (λ (m : Moment). IsTrue (is_dir (m.things d.path))) (now_same old mid first (ours_first old mid new second ours))
+      (d.stands (ours_second old mid new first.past ours));
+  visible = λ ours.
+      subst (λ (m : Moment). IsVisibleFrom m from d.path) (now_same old mid first (ours_first old mid new second ours))
+      (d.visible (ours_second old mid new first.past ours));
 }
 
 -- what is asked over a span is so over a longer one
-from_longer : (old mid new : History) → Extends old mid → Extends mid new → (from : List ℕ) (dir : Option (List ℕ)) → IsDirFrom old mid from dir → IsDirFrom old new from dir
-from_longer old mid new first second from dir d = record {
+from_longer : (old mid new : History) → Extends mid new → (from : List ℕ) (dir : Option (List ℕ)) → IsDirFrom old mid from dir → IsDirFrom old new from dir
+from_longer old mid new second from dir d = record {
   path = d.path;
   is = d.is;
   inside = d.inside;
-  stands = λ quiet. d.stands (quiet_first old mid new first second quiet);
-  visible = λ quiet. d.visible (quiet_first old mid new first second quiet);
+  stands = λ ours. d.stands (ours_first old mid new second ours);
+  visible = λ ours. d.visible (ours_first old mid new second ours);
 }
 
 itself_visible : (moment : Moment) (path : List ℕ) → IsVisibleFrom moment (Some path) path
@@ -134,7 +135,7 @@ itself_visible moment path d from below =
     ]
 
 -- a directory that was seen at a path
-pub look_asks : (old mid new : History) → Extends old mid → Extends mid new → (path text : List ℕ) → text ≡ path → (IsTrue old.told → is_dir ((now mid).things path) ≡ true) → AsksNothing old mid
+pub look_asks : (old mid new : History) → Passes old mid → Extends mid new → (path text : List ℕ) → text ≡ path → (IsTrue old.told → is_dir ((now mid).things path) ≡ true) → AsksNothing old mid
     → AsksFor (IsDirIn mid new (Some text)) mid new → AsksFor (IsDirFrom old new path) old new
 look_asks old mid new first second path text same sees none asks =
     asks_then (IsDirFrom old new path) old mid new none
@@ -145,9 +146,9 @@ look_asks old mid new first second path text same sees none asks =
         path = path;
         is = is ∙ ap Some same;
         inside = from_same path path refl;
-        stands = λ quiet.
-            subst (λ (m : Moment). is_dir (m.things path) ≡ true) (now_same old mid first (quiet_first old mid new first second quiet)) (sees quiet.told);
-        visible = λ quiet. itself_visible (now old) path;
+        stands = λ ours.
+            subst (λ (m : Moment). is_dir (m.things path) ≡ true) (now_same old mid first (ours_first old mid new second ours)) (sees ours.told);
+        visible = λ ours. itself_visible (now old) path;
       }
       | inr below ↦ in_path dir (subst (λ (t : List ℕ). IsDirBelow old new (Some t) dir) same (below_later old mid new first second (Some text) dir below))
     ])
@@ -243,14 +244,14 @@ apart_names mid old new dir names i name fit below is x y (other, among, f) g =
         distinct_take names i name fit.distinct below (subst (λ (n : List ℕ). is_among n (take i names) ≡ true) one among)
 
 -- one name more
-pub each_more_asks : (old mid new : History) → Extends old mid → Extends mid new → (dir : Option (List ℕ)) (names : List (List ℕ)) (i : ℕ) (name text path : List ℕ) → AreFit dir names → i < length names
+pub each_more_asks : (old mid new : History) → Passes old mid → Extends mid new → (dir : Option (List ℕ)) (names : List (List ℕ)) (i : ℕ) (name text path : List ℕ) → AreFit dir names → i < length names
     → name ≡ get_or names i name → text ≡ name → path ≡ joined dir text
     → AsksFor (IsDirAmong old mid dir (take i names)) old mid → AsksFor (IsDirFrom mid new path) mid new → AsksFor (IsDirAmong old new dir (take (i + 1) names)) old new
 each_more_asks old mid new first second dir names i name text path fit below is same at before one =
     asks_weaker (λ asked. IsDirAmong old mid dir (take i names) asked ⊎ IsDirFrom mid new (joined dir name) asked) (IsDirAmong old new dir (take (i + 1) names)) old new
     (λ asked.
     elim [
-      | inl (other, among, f) ↦ (other, among_before other names i name below among, from_longer old mid new first second (joined dir other) asked f)
+      | inl (other, among, f) ↦ (other, among_before other names i name below among, from_longer old mid new second (joined dir other) asked f)
       | inr f ↦ (name, among_here name names i below is, from_later old mid new first second (joined dir name) asked f)
     ])
     (asks_trans (IsDirAmong old mid dir (take i names)) (IsDirFrom mid new (joined dir name)) old mid new (apart_names mid old new dir names i name fit below is) before
@@ -274,8 +275,8 @@ not_inside (Some dir) path inside =
       | inr apart ↦ apart
     ]
 
-pub visit_asks : (old mid later new : History) → Extends old mid → Extends mid later → Extends later new → (dir : Option (List ℕ)) (names again : List (List ℕ)) (holds : Bool) → AreFit dir names → again ≡ names
-    → (IsQuiet mid later → holds ≡ holds_repository (now mid) dir) → holds ≡ false
+pub visit_asks : (old mid later new : History) → Passes old mid → Passes mid later → Extends later new → (dir : Option (List ℕ)) (names again : List (List ℕ)) (holds : Bool) → AreFit dir names → again ≡ names
+    → HoldsFor (Untouched later mid.last) (now mid) dir holds → holds ≡ false
     → AsksFor (λ asked. asked ≡ dir) old mid → AsksNothing mid later → AsksFor (IsDirAmong later new dir again) later new → AsksFor (IsDirIn old new dir) old new
 visit_asks old mid later new first second third dir names again holds fit same found never own none asks =
     asks_weaker (λ asked. (asked ≡ dir) ⊎ IsDirAmong later new dir names asked) (IsDirIn old new dir) old new
@@ -283,23 +284,25 @@ visit_asks old mid later new first second third dir names again holds fit same f
     (asks_trans (λ asked. asked ≡ dir) (IsDirAmong later new dir names) old later new apart (asks_before (λ asked. asked ≡ dir) old mid later own none)
     (subst (λ (l : List (List ℕ)). AsksFor (IsDirAmong later new dir l) later new) same asks))
   where
-    past : Extends old later
-    past = extends_trans old mid later first second
+    past : Passes old later
+    past = passes_trans old mid later first second
 
-    no_repository : IsQuiet old new → holds_repository (now old) dir ≡ false
-    no_repository quiet =
-        let start : IsQuiet old later = quiet_first old later new past third quiet in
-        ap (λ (m : Moment). holds_repository m dir) (sym (now_same old mid first (quiet_first old mid later first second start)))
-        ∙ sym (found (quiet_second old mid later first second start)) ∙ never
+    no_repository : (path : List ℕ) → is_inside dir path ≡ true → IsOurs old new → holds_repository (now old) dir ≡ false
+    no_repository path inside ours =
+        let start : IsOurs old later = ours_first old later new third ours in
+        let within : IsOurs mid later = ours_second old mid later first.past start in
+        ap (λ (m : Moment). holds_repository m dir) (sym (now_same old mid first (ours_first old mid later second.past start)))
+        ∙ sym (found path (ours_untouched mid later second within path) inside) ∙ never
 
     in_dir : (asked : Option (List ℕ)) (name : List ℕ) → is_among name names ≡ true → IsDirFrom later new (joined dir name) asked → IsDirBelow old new dir asked
     in_dir asked name among f =
-        let g : IsDirFrom old new (joined dir name) asked = from_later old later new past third (joined dir name) asked f in record {
+        let g : IsDirFrom old new (joined dir name) asked = from_later old later new past third (joined dir name) asked f in
+        let inside : is_inside dir g.path ≡ true = inside_joined dir name g.path g.inside in record {
           path = g.path;
           is = g.is;
-          inside = inside_joined dir name g.path g.inside;
+          inside = inside;
           stands = g.stands;
-          visible = λ quiet. visible_up (now old) dir name g.path (plain_of dir names name fit among) (no_repository quiet) g.inside (g.visible quiet);
+          visible = λ ours. visible_up (now old) dir name g.path (plain_of dir names name fit among) (no_repository g.path inside ours) g.inside (g.visible ours);
         }
 
     apart : (x y : Option (List ℕ)) → x ≡ dir → IsDirAmong later new dir names y → is_same_dir x y ≡ false
@@ -307,16 +310,16 @@ visit_asks old mid later new first second third dir names again holds fit same f
 
 -- ---- the whole listing
 
-pub status_asks : (old mid new : History) → Passes old mid → Passes mid new → Passes old new → AsksNothing old mid → AsksFor (IsDirIn mid new None) mid new
+pub status_asks : (old mid new : History) → Passes old mid → Passes mid new → AsksNothing old mid → AsksFor (IsDirIn mid new None) mid new
     → AsksFor (λ dir. IsOurs old new → IsVisibleDir (now old) dir) old new
-status_asks old mid new first second whole none asks =
+status_asks old mid new first second none asks =
     asks_then (λ dir. IsOurs old new → IsVisibleDir (now old) dir) old mid new none
     (asks_weaker (IsDirIn mid new None) (λ dir. IsOurs old new → IsVisibleDir (now old) dir) mid new
     (λ dir. elim [
       | inl is ↦ λ ours. subst (IsVisibleDir (now old)) (sym is) tt
-      | inr below ↦ λ ours. visible dir (below_later old mid new first.past second.past None dir below) (ours_quiet old new whole ours)
+      | inr below ↦ visible dir (below_later old mid new first second.past None dir below)
     ])
     asks)
   where
-    visible : (dir : Option (List ℕ)) → IsDirBelow old new None dir → IsQuiet old new → IsVisibleDir (now old) dir
-    visible dir d quiet = subst (IsVisibleDir (now old)) (sym d.is) (d.stands quiet, λ above below. d.visible quiet above refl below)
+    visible : (dir : Option (List ℕ)) → IsDirBelow old new None dir → IsOurs old new → IsVisibleDir (now old) dir
+    visible dir d ours = subst (IsVisibleDir (now old)) (sym d.is) (d.stands ours, λ above below. d.visible ours above refl below)

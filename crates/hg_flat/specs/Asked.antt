@@ -3,7 +3,7 @@ use Rattle.std.specs.Prelude.{ℕ, ◌≡◌, ◌⊎◌, List, map, ◌++◌, Op
 use Rattle.std.specs.List.{Contains, IsDistinct}
 use Rattle.hg_base.specs.PathText.{is_same_dir, joined}
 use Rattle.hg_tree.specs.Moment.{Moment, is_among, is_dir}
-use Rattle.hg_tree.specs.History.{History, IsQuiet, now}
+use Rattle.hg_tree.specs.History.{History, IsOurs, now}
 use Rattle.hg_tree.specs.declared.asked.Asked.TheVariants as an_ask
 use Rattle.hg_flat.specs.Full.{IsVisible}
 use Rattle.hg_flat.specs.Listing.{IsVisibleFrom, is_from, is_inside}
@@ -20,25 +20,25 @@ abbrev pub IsVisibleDir : Moment → Option (List ℕ) → Type 0
 IsVisibleDir moment None = Unit {0}
 IsVisibleDir moment (Some dir) = IsTrue (is_dir (moment.things dir)) × IsVisible moment dir
 
--- a directory at a path or below it. Where no step is made it stands there, with no repository between
+-- a directory at a path or below it. Where nobody else makes a step it stands there, with no repository between
 pub record IsDirFrom (old new : History) (from : List ℕ) (asked : Option (List ℕ)) : Type 0 where
   pub path : List ℕ
   pub is : asked ≡ Some path
   pub inside : IsTrue (is_from (Some from) path)
-  pub stands : IsQuiet old new → IsTrue (is_dir ((now old).things path))
-  pub visible : IsQuiet old new → IsVisibleFrom (now old) (Some from) path
+  pub stands : IsOurs old new → IsTrue (is_dir ((now old).things path))
+  pub visible : IsOurs old new → IsVisibleFrom (now old) (Some from) path
 
 -- the same at one of some names of a directory, or below it
 abbrev pub IsDirAmong : History → History → Option (List ℕ) → List (List ℕ) → Option (List ℕ) → Type 0
 IsDirAmong old new dir names asked = (name : List ℕ) × IsTrue (is_among name names) × IsDirFrom old new (joined dir name) asked
 
--- a directory in a directory, at any depth. Where no step is made it stands there, with no repository between
+-- a directory in a directory, at any depth. Where nobody else makes a step it stands there, with no repository between
 pub record IsDirBelow (old new : History) (dir asked : Option (List ℕ)) : Type 0 where
   pub path : List ℕ
   pub is : asked ≡ Some path
   pub inside : IsTrue (is_inside dir path)
-  pub stands : IsQuiet old new → IsTrue (is_dir ((now old).things path))
-  pub visible : IsQuiet old new → IsVisibleFrom (now old) dir path
+  pub stands : IsOurs old new → IsTrue (is_dir ((now old).things path))
+  pub visible : IsOurs old new → IsVisibleFrom (now old) dir path
 
 -- the directory itself, or one in it
 abbrev pub IsDirIn : History → History → Option (List ℕ) → Option (List ℕ) → Type 0

@@ -2,7 +2,7 @@
 
 ghost use Rattle.std.specs.Prelude.{◌≡◌, IsTrue, IfOk, OnOk, Some, option_map, codes};
 ghost use Rattle.hg_base.specs.PathText.{is_path, joined};
-ghost use Rattle.hg_tree.specs.History.{IsQuiet, Passes, now};
+ghost use Rattle.hg_tree.specs.History.{Passes, now};
 ghost use Rattle.hg_tree.specs.Still.{Untouched};
 ghost use Rattle.hg_tree.specs.Moment.{AreFit, AreNames, has_dir, is_among, is_dir, stat_at};
 ghost use Rattle.hg_flat.specs.Cause.{HasStatusCause};
@@ -41,8 +41,6 @@ fn holds_hg<T: Tree>(alloc: Global, tree: &mut T, dir: PathRef<'_>) -> Result<bo
         result
         (HoldsFor (Untouched (T.history tree.new) (T.history tree.old).last) (now (T.history tree.old)) (Some dir.entry.text.now)) }
     ensures asked { IsTrue (T.history tree.old).told → AsksNothing (T.history tree.old) (T.history tree.new) }
-    ensures quiet { IsQuiet (T.history tree.old) (T.history tree.new)
-        → IfOk result (λ holds. holds ≡ holds_repository (now (T.history tree.old)) (Some dir.entry.text.now)) }
     ensures cause { HasStatusCause (T.faults tree.old) (T.faults tree.new) result }
 {
     let path = Path::within(alloc, Some(dir), ".hg")?;
@@ -66,9 +64,6 @@ fn is_nested<T: Tree>(
         (now (T.history tree.old))
         (option_map (λ d. d.text.now) dir.entry)) }
     ensures asked { IsTrue (T.history tree.old).told → AsksNothing (T.history tree.old) (T.history tree.new) }
-    ensures quiet { IsQuiet (T.history tree.old) (T.history tree.new)
-        → AreNames (now (T.history tree.old)) (option_map (λ d. d.text.now) dir.entry) names.now
-        → IfOk result (λ holds. holds ≡ holds_repository (now (T.history tree.old)) (option_map (λ d. d.text.now) dir.entry)) }
     ensures cause { HasStatusCause (T.faults tree.old) (T.faults tree.new) result }
 {
     let Some(dir) = dir else {

@@ -1,7 +1,7 @@
--- Histories over spans: what holds of two spans holds of both, and a quiet span has quiet parts.
+-- Histories over spans: what holds of two spans holds of both.
 use Rattle.std.proofs.Common.{◌≡◌, ℕ, refl, ap, ◌∙◌, arith, inl, inr, Bool, true, false, sym}
 use Rattle.std.proofs.lemmas.Bool.{cases_lt}
-use Rattle.hg_shelf.specs.History.{History, Moment, Stays, Extends, Passes, IsOurs, IsQuiet, us, label, now}
+use Rattle.hg_shelf.specs.History.{History, Moment, Stays, Extends, Passes, IsOurs, us, label, now}
 
 pub stays_same : (m : Moment) → Stays m m
 stays_same m = record { shown = refl }
@@ -33,25 +33,14 @@ passes_trans a b c p q = record {
   ];
 }
 
-pub quiet_first : (a b c : History) → Extends a b → Extends b c → IsQuiet a c → IsQuiet a b
-quiet_first a b c p q quiet = record { told = quiet.told; none = omega (arith, p.later, q.later, quiet.none) }
-
-pub quiet_second : (a b c : History) → Extends a b → Extends b c → IsQuiet a c → IsQuiet b c
-quiet_second a b c p q quiet = record { told = p.told ∙ quiet.told; none = omega (arith, p.later, q.later, quiet.none) }
-
-pub files_same : (a b : History) → Extends a b → IsQuiet a b → (now b).files ≡ (now a).files
-files_same a b p quiet = ap (λ (k : ℕ). (b.at k).files) quiet.none ∙ (p.stay a.last (omega arith)).shown
-
 us_apart : (ours : Bool) → us ≡ label ours → ⊥
 us_apart true is = absurd (cc is)
 us_apart false is = absurd (cc is)
 
--- the caller's part of a call that only asks is nothing, so where nobody else steps nothing does
-pub ours_quiet : (old new : History) → Passes old new → IsOurs old new → IsQuiet old new
-ours_quiet old new passes ours = record {
-  told = ours.told;
-  none = elim (cases_lt old.last new.last) [
-    | inl less ↦ absurd (us_apart old.ours (sym (ours.ours old.last (omega arith) less) ∙ passes.by_others old.last (omega arith) less))
-    | inr most ↦ (omega (arith, most, passes.past.later))
-  ];
-}
+-- the caller's part of a call that only asks is nothing, so where nobody else steps no step is made
+pub ours_unstepped : (old new : History) → Passes old new → IsOurs old new → new.last ≡ old.last
+ours_unstepped old new passes ours =
+    elim (cases_lt old.last new.last) [
+      | inl less ↦ absurd (us_apart old.ours (sym (ours.ours old.last (omega arith) less) ∙ passes.by_others old.last (omega arith) less))
+      | inr most ↦ (omega (arith, most, passes.past.later))
+    ]

@@ -1,11 +1,11 @@
 -- What stays as it was: over parts of a span, and between two moments of one.
-use Rattle.std.proofs.Common.{ℕ, ◌≡◌, ◌≤◌, Bool, List, Option, Some, None, option_map, refl, sym, ap, ◌∙◌, subst, arith, inl, inr, []}
-use Rattle.std.proofs.lemmas.Bool.{cases_lt}
+use Rattle.std.proofs.Common.{ℕ, ◌≡◌, ◌≤◌, Bool, List, Option, Some, None, option_map, refl, sym, ap, ◌∙◌, subst, arith, []}
 use Rattle.hg_tree.specs.declared.thing.Thing.TheVariants as a_thing
 use Rattle.hg_tree.specs.declared.thing.Thing.{Thing}
 use Rattle.hg_tree.specs.declared.thing.Placed.{Placed}
 use Rattle.hg_tree.specs.Moment.{Moment, kind_of}
-use Rattle.hg_tree.specs.History.{History, Extends, Passes, IsOurs, IsQuiet, us, others, now}
+use Rattle.hg_tree.specs.History.{History, Extends, Passes, IsOurs, now}
+use Rattle.hg_tree.proofs.Spans.{ours_unstepped}
 use Rattle.hg_tree.specs.Honest.{Face, face, face_with}
 use Rattle.hg_tree.specs.Still.{AreAlike, Keeps, KeepsFace, Still, Untouched, hg_in, is_exec, kind_at}
 
@@ -100,37 +100,25 @@ alike_between old mid new path p q is =
 
 -- ---- nobody else steps
 
--- the caller's part of a call that only asks is nothing, so where nobody else steps nothing does
-pub ours_quiet : (old new : History) → Passes old new → IsOurs old new → IsQuiet old new
-ours_quiet old new passes ours = record {
-  told = ours.told;
-  none = elim (cases_lt old.last new.last) [
-    | inl less ↦ absurd (who_apart (sym (ours.ours old.last (omega arith) less) ∙ passes.by_others old.last (omega arith) less))
-    | inr most ↦ (omega (arith, most, passes.past.later))
-  ];
-}
-  where
-    who_apart : us ≡ others → ⊥
-    who_apart is = absurd (cc is)
+keeps_last : {A : Type 0} (shown : Moment → A) (old new : History) → new.last ≡ old.last → Keeps shown new old.last
+keeps_last shown old new none k above upto = ap (λ (n : ℕ). shown (new.at n)) (omega (arith, above, upto, none))
 
-keeps_quiet : {A : Type 0} (shown : Moment → A) (old new : History) → IsQuiet old new → Keeps shown new old.last
-keeps_quiet shown old new quiet k above upto = ap (λ (n : ℕ). shown (new.at n)) (omega (arith, above, upto, quiet.none))
-
-face_quiet : (old new : History) → IsQuiet old new → (path : List ℕ) → KeepsFace new old.last path
-face_quiet old new quiet path = record {
-  seen = keeps_quiet (λ moment. face moment path) old new quiet;
-  exec = keeps_quiet (λ moment. is_exec (moment.things path)) old new quiet;
+face_last : (old new : History) → new.last ≡ old.last → (path : List ℕ) → KeepsFace new old.last path
+face_last old new none path = record {
+  seen = keeps_last (λ moment. face moment path) old new none;
+  exec = keeps_last (λ moment. is_exec (moment.things path)) old new none;
 }
 
--- where no step was made each path is still
-pub quiet_still : (old new : History) → Extends old new → IsQuiet old new → (besides : List (List ℕ)) (path : List ℕ) → Still new old.last besides path
-quiet_still old new p quiet besides path = record {
-  told = p.told ∙ quiet.told;
-  own = face_quiet old new quiet path;
-  above = λ dir below. face_quiet old new quiet dir;
-  hg = λ dir below. keeps_quiet (λ moment. kind_at moment (hg_in dir)) old new quiet;
-  others = λ other among. face_quiet old new quiet other;
-}
+-- over calls that only ask each path is still
+pub ours_still : (old new : History) → Passes old new → IsOurs old new → (besides : List (List ℕ)) (path : List ℕ) → Still new old.last besides path
+ours_still old new passes ours besides path =
+    let none = ours_unstepped old new passes ours in record {
+      told = passes.past.told ∙ ours.told;
+      own = face_last old new none path;
+      above = λ dir below. face_last old new none dir;
+      hg = λ dir below. keeps_last (λ moment. kind_at moment (hg_in dir)) old new none;
+      others = λ other among. face_last old new none other;
+    }
 
-pub quiet_untouched : (old new : History) → Extends old new → IsQuiet old new → (path : List ℕ) → Untouched new old.last path
-quiet_untouched old new p quiet path = still_untouched new old.last [] path (quiet_still old new p quiet [] path)
+pub ours_untouched : (old new : History) → Passes old new → IsOurs old new → (path : List ℕ) → Untouched new old.last path
+ours_untouched old new passes ours path = still_untouched new old.last [] path (ours_still old new passes ours [] path)

@@ -39,11 +39,6 @@ pub record Passes (old new : History) : Type 0 where
   pub past : Extends old new
   pub by_others : By others new old.last new.last
 
--- no step was made between two states of a tree that tells its moments
-pub record IsQuiet (old new : History) : Type 0 where
-  pub told : IsTrue old.told
-  pub none : new.last ≡ old.last
-
 -- every step between two states of a tree that tells its moments was the caller's own
 pub record IsOurs (old new : History) : Type 0 where
   pub told : IsTrue old.told

@@ -48,7 +48,7 @@ look_each-loop-name-preserved g t c = record {
       (option_map (λ d. d.text.now) c.args.dir) c.args.names.now c.loop-name.name-index c.name-item.result c.as_str.result.now c.in_ok-path.path c.args.rows.now.items c.loop-name.rows.items c.look.new.rows.items
       c.loop-name-test.true c.name-item.is c.as_str.ensures.text c.in_ok-path.ensures c.loop-name.invariant.listed c.in_ok-look.ensures.listed;
   asked = λ told.
-      each_more_asks (g.T.Tree.history c.args.tree.now) (g.T.Tree.history c.loop-name.tree) (g.T.Tree.history c.look.new.tree) c.loop-name.invariant.passes.past c.look.ensures.passes.past
+      each_more_asks (g.T.Tree.history c.args.tree.now) (g.T.Tree.history c.loop-name.tree) (g.T.Tree.history c.look.new.tree) c.loop-name.invariant.passes c.look.ensures.passes.past
       (option_map (λ d. d.text.now) c.args.dir) c.args.names.now c.loop-name.name-index c.name-item.result c.as_str.result.now c.in_ok-path.path c.requires
       c.loop-name-test.true c.name-item.is c.as_str.ensures.text c.in_ok-path.ensures (c.loop-name.invariant.asked told) (c.look.ensures.asked (c.loop-name.invariant.passes.past.told ∙ told));
   still = c.in_ok-look.ensures.cause.quiet ∙ c.loop-name.invariant.still;
@@ -101,7 +101,7 @@ look-returns-in-Other-clause-asked g t c = λ told.
 
 pub look-returns-in-Dir-clause-asked : goal.look-returns-in-Dir-clause-asked
 look-returns-in-Dir-clause-asked g t c = λ told.
-    look_asks (g.T.Tree.history c.args.tree.now) (g.T.Tree.history c.stat.new.self) (g.T.Tree.history c.visit.new.tree) c.stat.ensures.passes.past c.visit.ensures.passes.past
+    look_asks (g.T.Tree.history c.args.tree.now) (g.T.Tree.history c.stat.new.self) (g.T.Tree.history c.visit.new.tree) c.stat.ensures.passes c.visit.ensures.passes.past
     c.args.path c.as_ref-in-Dir.result.text.now c.as_ref-in-Dir.ensures
     (λ told.
     dir_is ((now (g.T.Tree.history c.stat.new.self)).things c.args.path) c.in-Some.stat
@@ -125,7 +125,7 @@ look_each-returns-in_err-path-clause-asked g t c = λ told.
 pub look_each-returns-in_err-look-clause-asked : goal.look_each-returns-in_err-look-clause-asked
 look_each-returns-in_err-look-clause-asked g t c = λ told.
     each_asks (g.T.Tree.history c.args.tree.now) (g.T.Tree.history c.look.new.tree) (option_map (λ d. d.text.now) c.args.dir) c.args.names.now (c.loop-name.name-index + 1)
-    (each_more_asks (g.T.Tree.history c.args.tree.now) (g.T.Tree.history c.loop-name.tree) (g.T.Tree.history c.look.new.tree) c.loop-name.invariant.passes.past c.look.ensures.passes.past
+    (each_more_asks (g.T.Tree.history c.args.tree.now) (g.T.Tree.history c.loop-name.tree) (g.T.Tree.history c.look.new.tree) c.loop-name.invariant.passes c.look.ensures.passes.past
     (option_map (λ d. d.text.now) c.args.dir) c.args.names.now c.loop-name.name-index c.name-item.result c.as_str.result.now c.in_ok-path.path c.requires
     c.loop-name-test.true c.name-item.is c.as_str.ensures.text c.in_ok-path.ensures (c.loop-name.invariant.asked told) (c.look.ensures.asked (c.loop-name.invariant.passes.past.told ∙ told)))
 
@@ -146,10 +146,9 @@ visit-returns-then-branch-clause-asked g t c = λ told.
 pub visit-returns-clause-asked : goal.visit-returns-clause-asked
 visit-returns-clause-asked g t c = λ told.
     visit_asks (g.T.Tree.history c.args.tree.now) (g.T.Tree.history c.list.new.self) (g.T.Tree.history c.is_nested.new.tree) (g.T.Tree.history c.look_each.new.tree)
-    c.list.ensures.passes.past c.is_nested.ensures.passes.past c.look_each.ensures.passes.past
+    c.list.ensures.passes c.is_nested.ensures.passes c.look_each.ensures.passes.past
     (option_map (λ d. d.text.now) c.args.dir) c.in-Some.names.items c.deref-2.result.now c.in_ok-is_nested.field-0 (rw c.in-Some.is at c.in_ok-names.ensures.fit) c.deref-2.ensures.value
-    (λ quiet.
-    c.in_ok-is_nested.ensures.quiet quiet
+    (c.in_ok-is_nested.ensures.found
     (these_names (option_map (λ d. d.text.now) c.args.dir) (option_map (λ v. v.items) c.in_ok-names.field-0) c.in-Some.names.items c.deref.result.now (now (g.T.Tree.history c.list.new.self))
     (ap (option_map (λ v. v.items)) c.in-Some.is) c.deref.ensures.value (c.in_ok-names.ensures.found told))) c.if-branch.false
     (asks_one _ (option_map (λ d. d.text.now) c.args.dir) (g.T.Tree.history c.args.tree.now) (g.T.Tree.history c.list.new.self) (c.list.ensures.asked told)) (c.is_nested.ensures.asked (c.list.ensures.passes.past.told ∙ told))

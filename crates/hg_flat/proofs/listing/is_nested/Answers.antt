@@ -8,10 +8,5 @@ returns-then-not-has_name-clause-found g c = λ are path untouched inside.
     not_nested (now (g.T.Tree.history c.args.tree.now)) (option_map (λ d. d.text.now) c.args.dir) c.in-Some.dir.text.now c.args.names.now
     (ap (option_map (λ d. d.text.now)) c.in-Some.is) (sym c.has_name.ensures ∙ c.if-not-has_name.true) are
 
-pub returns-then-not-has_name-clause-quiet : goal.returns-then-not-has_name-clause-quiet
-returns-then-not-has_name-clause-quiet g c = λ quiet are.
-    not_nested (now (g.T.Tree.history c.args.tree.now)) (option_map (λ d. d.text.now) c.args.dir) c.in-Some.dir.text.now c.args.names.now
-    (ap (option_map (λ d. d.text.now)) c.in-Some.is) (sym c.has_name.ensures ∙ c.if-not-has_name.true) are
-
 pub holds_hg-requires : goal.holds_hg-requires
 holds_hg-requires g c = rw c.in-Some.is at (fit_of _ c.args.names.now (codes ".hg") c.requires (sym c.has_name.ensures ∙ c.if-not-has_name.false)).path

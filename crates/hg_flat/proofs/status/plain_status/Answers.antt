@@ -4,7 +4,7 @@ use Rattle.std.proofs.lemmas.List.Filters.{dedup_is}
 use Rattle.hg_tree.specs.History.{IsOurs, now}
 use Rattle.hg_tree.specs.Still.{Untouched}
 use Rattle.hg_tree.proofs.Spans.{passes_trans}
-use Rattle.hg_tree.proofs.Stillness.{ours_quiet, quiet_untouched}
+use Rattle.hg_tree.proofs.Stillness.{ours_untouched}
 use Rattle.hg_flat.specs.Asked.{IsVisibleDir}
 use Rattle.hg_flat.specs.Full.{default_wanted, nothing_ignored, null_rows}
 use Rattle.hg_flat.specs.Order.{whole_order}
@@ -39,7 +39,7 @@ returns-clause-full g c = λ ours.
     let whole = passes_trans old (g.T.Tree.history c.add_each.new.tree) new c.add_each.ensures.passes c.visit.ensures.passes in
     rw c.of.ensures
     (full_of (Untouched new old.last) (flat_in c.args.flat.now) (now old) null_rows nothing_ignored default_wanted c.dedup.new.self.items
-    (quiet_untouched old new whole.past (ours_quiet old new whole ours)) (rw (c.of.ensures) at (returns-clause-still g c)))
+    (ours_untouched old new whole ours) (rw (c.of.ensures) at (returns-clause-still g c)))
 
 -- ---- what the tree is asked
 
@@ -51,17 +51,14 @@ returns-in_err-add_each-clause-asked g c = λ told.
 pub returns-in_err-visit-clause-asked : goal.returns-in_err-visit-clause-asked
 returns-in_err-visit-clause-asked g c = λ told.
     status_asks (g.T.Tree.history c.args.tree.now) (g.T.Tree.history c.add_each.new.tree) (g.T.Tree.history c.visit.new.tree) c.add_each.ensures.passes c.visit.ensures.passes
-    (passes_trans (g.T.Tree.history c.args.tree.now) (g.T.Tree.history c.add_each.new.tree) (g.T.Tree.history c.visit.new.tree) c.add_each.ensures.passes c.visit.ensures.passes)
     (c.add_each.ensures.asked told) (c.visit.ensures.asked (c.add_each.ensures.passes.past.told ∙ told))
 
 pub returns-in_err-sort-clause-asked : goal.returns-in_err-sort-clause-asked
 returns-in_err-sort-clause-asked g c = λ told.
     status_asks (g.T.Tree.history c.args.tree.now) (g.T.Tree.history c.add_each.new.tree) (g.T.Tree.history c.visit.new.tree) c.add_each.ensures.passes c.visit.ensures.passes
-    (passes_trans (g.T.Tree.history c.args.tree.now) (g.T.Tree.history c.add_each.new.tree) (g.T.Tree.history c.visit.new.tree) c.add_each.ensures.passes c.visit.ensures.passes)
     (c.add_each.ensures.asked told) (c.visit.ensures.asked (c.add_each.ensures.passes.past.told ∙ told))
 
 pub returns-clause-asked : goal.returns-clause-asked
 returns-clause-asked g c = λ told.
     status_asks (g.T.Tree.history c.args.tree.now) (g.T.Tree.history c.add_each.new.tree) (g.T.Tree.history c.visit.new.tree) c.add_each.ensures.passes c.visit.ensures.passes
-    (passes_trans (g.T.Tree.history c.args.tree.now) (g.T.Tree.history c.add_each.new.tree) (g.T.Tree.history c.visit.new.tree) c.add_each.ensures.passes c.visit.ensures.passes)
     (c.add_each.ensures.asked told) (c.visit.ensures.asked (c.add_each.ensures.passes.past.told ∙ told))

@@ -1,4 +1,4 @@
-use Rattle.std.proofs.Common.{rules, arith}
+use Rattle.std.proofs.Common.{rules}
 use Rattle.hg_flat.proofs.Holding.{stands_at}
 use Rattle.hg_flat.proofs.flat.Flat.is_row_of.Goals as goal
 
