@@ -16,7 +16,7 @@
 //! in `specs/PathText.antt`, and why a text is none in `specs/PathRefusal.antt`. Lemmas on them for the crates above are in `proofs/`:
 //! `Below`, `Children`, `Components`, `Compared`, `Paths`, and `Faults` for counts of failures.
 //!
-//! `put` writes the parts of a format one behind another. Devices (the working copy, `.hg`, input and output) count their failures;
+//! `put` writes the parts of a format one behind another, and `read_past` reads what lies past a place of bytes in memory. Devices (the working copy, `.hg`, input and output) count their failures;
 //! what "a count rose" means stands here once, in `specs/Fault.antt`, and what a read of a part of a file answers in `specs/Reads.antt`. `Calls` counts those of a device in memory, which fails at the calls that it was told to.
 #![tactic(auto)]
 
@@ -33,7 +33,7 @@ mod stat;
 mod time;
 mod words;
 
-pub use bytes::put;
+pub use bytes::{put, read_past};
 pub use calls::Calls;
 pub use fault::{Failed, OutOfMemory, risen};
 pub use id::Id20;

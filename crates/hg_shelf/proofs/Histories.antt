@@ -1,7 +1,7 @@
 -- Histories over spans: what holds of two spans holds of both.
-use Rattle.std.proofs.Common.{◌≡◌, ℕ, refl, ap, ◌∙◌, arith, inl, inr, Bool, true, false, sym}
+use Rattle.std.proofs.Common.{◌≡◌, refl, ap, ◌∙◌, arith, inl, inr, Bool, true, false, sym}
 use Rattle.std.proofs.lemmas.Bool.{cases_lt}
-use Rattle.hg_shelf.specs.History.{History, Moment, Stays, Extends, Passes, IsOurs, us, label, now}
+use Rattle.hg_shelf.specs.History.{History, Moment, Stays, Extends, Passes, IsOurs, us, label}
 
 pub stays_same : (m : Moment) → Stays m m
 stays_same m = record { shown = refl }

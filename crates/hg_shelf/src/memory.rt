@@ -11,7 +11,7 @@ ghost use Rattle.hg_shelf.specs.declared.outside.Outside.TheVariants as a_change
 
 use crate::outside::{Change, Outside};
 use crate::shelf::Shelf;
-use hg_base::{Blob, Calls, Failed, Got, OutOfMemory, Text};
+use hg_base::{Blob, Calls, Failed, Got, OutOfMemory, Text, read_past};
 use std::alloc::Global;
 use std::collections::BTreeMap;
 use std::marker::Model;
@@ -109,7 +109,7 @@ impl Shelf for MemShelf {
     {
         self.calls.begin()?;
         match self.files.get(name) {
-            Some(bytes) => Ok(Got::Bytes(fill(past(bytes.as_bytes(), place), buf))),
+            Some(bytes) => Ok(Got::Bytes(read_past(bytes.as_bytes(), place, buf))),
             None => Ok(Got::Absent),
         }
     }
@@ -129,24 +129,4 @@ fn put(
     let bytes = Blob::of(alloc, bytes)?;
     files.insert(name, bytes)?;
     Ok(())
-}
-
-// What lies past a place of some bytes.
-fn past(bytes: &[u8], place: u64) -> &[u8]
-    ensures { result.now ≡ drop place bytes.now }
-{
-    match usize::try_from(place) {
-        Ok(place) if place <= bytes.len() => bytes.split_at(place).1,
-        _ => &[],
-    }
-}
-
-// Fills the front of a buffer, and answers how many bytes that were.
-fn fill(bytes: &[u8], buf: &mut [u8]) -> usize
-    ensures count { result ≡ min (length buf.old) (length bytes.now) }
-    ensures filled { buf.new ≡ take result bytes.now ++ drop result buf.old }
-{
-    let n = bytes.len().min(buf.len());
-    buf[..n].copy_from_slice(bytes.split_at(n).0);
-    n
 }

@@ -1,6 +1,7 @@
 -- The tree in memory: how it began, what was changed and by whom, what it was asked and which of its calls fail.
 use Rattle.std.specs.Prelude.{ℕ, zero, suc, ◌≡◌, ◌≤◌, ◌⊎◌, true, false, if◌then◌else◌, List, [], ◌∷◌, ◌++◌, length, take, Option, Result, Ok, Err}
 use Rattle.hg_base.specs.Calls.{Counted, answered, failed, is_due}
+use Rattle.hg_base.specs.declared.fault.Failed.{Failed}
 use Rattle.hg_base.specs.declared.time.Time.{Time}
 use Rattle.hg_tree.specs.declared.asked.Asked.{Asked}
 use Rattle.hg_tree.specs.declared.asked.Asked.TheVariants as an_ask
@@ -61,6 +62,11 @@ LeavesListed dir (Err a_fault.OutOfMemory) old new =
     ((is_due old.calls ≡ false) × (new ≡ noting (an_ask.List dir) (after_call old))) ⊎ ((is_due old.calls ≡ true) × (new ≡ after_failure old))
 LeavesListed dir (Err a_fault.Failed) old new =
     ((is_due old.calls ≡ true) × (new ≡ noting (an_ask.List dir) (after_failure old))) ⊎ ((is_due old.calls ≡ false) × (new ≡ after_failure old))
+
+-- what a read leaves: the same
+abbrev pub LeavesRead : {T : Type 0} → List ℕ → Result T Failed → Memory → Memory → Type 0
+LeavesRead path (Ok got) old new = (is_due old.calls ≡ false) × (new ≡ noting (an_ask.Read path) (after_call old))
+LeavesRead path (Err fault) old new = ((is_due old.calls ≡ true) × (new ≡ noting (an_ask.Read path) (after_failure old))) ⊎ (new ≡ after_failure old)
 
 -- what is shown now is what the changes make, and each moment so far is well formed
 pub record IsKept (start : Time) (changes : List Change) (shown : Things) : Type 0 where

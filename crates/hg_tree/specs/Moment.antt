@@ -2,6 +2,7 @@
 use Rattle.std.specs.Prelude.{ℕ, ◌≡◌, pos, Bool, true, false, IsTrue, ◌&&◌, List, length, Option, Some, None, is_some, option_map, All, nat_le}
 use Rattle.std.specs.Str.{bytes_eq}
 use Rattle.std.specs.List.{list_any, IsDistinct}
+use Rattle.std.specs.Option.{option_and_then}
 use Rattle.std.proofs.Common.{lit<}
 use Rattle.hg_base.specs.PathText.{is_component, is_path, is_below, joined}
 use Rattle.hg_base.specs.declared.time.Time.{Time}
@@ -50,6 +51,17 @@ is_file_thing a_thing.Other = false
 abbrev pub is_file : Option Placed → Bool
 is_file None = false
 is_file (Some placed) = is_file_thing placed.thing
+
+-- what can be read of a thing: a file's bytes, and a link's target
+abbrev pub bytes_of : Thing → Option (List ℕ)
+bytes_of (a_thing.File exec bytes) = Some bytes
+bytes_of (a_thing.Link target) = Some target
+bytes_of a_thing.Dir = None
+bytes_of a_thing.Other = None
+
+-- what can be read at a path, where a file or a link stands there
+abbrev pub bytes_at : Moment → List ℕ → Option (List ℕ)
+bytes_at moment path = option_and_then (λ placed. bytes_of placed.thing) (moment.things path)
 
 abbrev pub kind_of : Thing → Kind
 kind_of (a_thing.File exec bytes) = a_kind.File

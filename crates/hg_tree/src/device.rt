@@ -1,15 +1,16 @@
 //! The trait of working copies.
 
-ghost use Rattle.std.specs.Prelude.{◌≡◌, ◌∷◌, [], ℕ, IsTrue, IfOk, OnOk, IfSome, is_ok, option_map};
+ghost use Rattle.std.specs.Prelude.{◌≡◌, ◌∷◌, [], ℕ, length, IsTrue, IfOk, OnOk, IfSome, is_ok, option_map};
 ghost use Rattle.hg_base.specs.Fault.{HasCause};
+ghost use Rattle.hg_base.specs.Reads.{IsWithin, ReadsBytes};
 ghost use Rattle.hg_tree.specs.declared.asked.Asked.TheVariants as an_ask;
 ghost use Rattle.hg_tree.specs.declared.fault.TreeFault.TheVariants as a_fault;
-ghost use Rattle.hg_tree.specs.Moment.{AreFit, IsPlain, Lists, stat_at};
+ghost use Rattle.hg_tree.specs.Moment.{AreFit, IsPlain, Lists, bytes_at, stat_at};
 ghost use Rattle.hg_tree.specs.History.{History, AreFormed, Asks, Passes, now};
 
 use crate::fault::TreeFault;
 use crate::name::Name;
-use hg_base::{Failed, PathRef, Stat};
+use hg_base::{Failed, Got, PathRef, Stat};
 use std::alloc::Global;
 
 /// A working copy that can be looked at.
@@ -52,4 +53,16 @@ pub trait Tree {
         ensures fit { IfOk result (λ found. IfSome found (λ names. AreFit (option_map (λ d. d.text.now) dir.entry) names.items)) }
         ensures formed { IsTrue (history self.old).told → OnOk result (AreFormed (history self.new)) }
         ensures cause { HasCause (faults self.old) (faults self.new) result (λ e. e ≡ a_fault.Failed) };
+
+    /// Fills the front of the buffer with what a file, or the target of a link, has past a place, in bytes from its start; absent where neither
+    /// stands at the path. What fits isn't cut short. Links aren't followed, neither in the last component nor in an ancestor.
+    fn read(&mut self, path: PathRef<'_>, place: u64, buf: &mut [u8]) -> Result<Got, Failed>
+        ensures passes { Passes (history self.old) (history self.new) }
+        ensures asked { IsTrue (history self.old).told
+            → Asks (is_ok result) (an_ask.Read path.entry.text.now ∷ []) (history self.old) (history self.new) }
+        ensures found { IsTrue (history self.old).told
+            → IfOk result (λ got. ReadsBytes (bytes_at (now (history self.new)) path.entry.text.now) place buf.old buf.new got) }
+        ensures fit { IfOk result (λ got. IsWithin (length buf.old) got) }
+        ensures formed { IsTrue (history self.old).told → OnOk result (AreFormed (history self.new)) }
+        ensures cause { HasCause (faults self.old) (faults self.new) result (λ e. Unit {0}) };
 }

@@ -1,24 +1,25 @@
 //! A working copy in memory, for tests.
 
-ghost use Rattle.std.specs.Prelude.{◌≡◌, ◌≤◌, ◌⊎◌, true, if◌then◌else◌, ◌++◌, ◌∷◌, [], false, option_map, IsTrue, OnOk, OnErr, IfOk, IfErr, IfSome, is_ok, is_err};
+ghost use Rattle.std.specs.Prelude.{◌≡◌, ◌≤◌, ◌⊎◌, true, if◌then◌else◌, ◌++◌, ◌∷◌, [], false, length, option_map, IsTrue, OnOk, OnErr, IfOk, IfErr, IfSome, is_ok, is_err};
 ghost use Rattle.hg_base.specs.Calls.{unmade, fails_at, is_due};
 ghost use Rattle.hg_base.specs.Fault.{HasCause, Rose};
+ghost use Rattle.hg_base.specs.Reads.{IsWithin, ReadsBytes};
 ghost use Rattle.hg_tree.specs.declared.asked.Outside.TheVariants as a_change;
 ghost use Rattle.hg_tree.specs.declared.asked.Asked.TheVariants as an_ask;
 ghost use Rattle.hg_tree.specs.declared.fault.TreeFault.TheVariants as a_fault;
-ghost use Rattle.hg_tree.specs.Moment.{AreFit, IsPlain, Lists, is_short_thing, stat_at};
+ghost use Rattle.hg_tree.specs.Moment.{AreFit, IsPlain, Lists, bytes_at, is_short_thing, stat_at};
 ghost use Rattle.hg_tree.specs.History.{AreFormed, Asks, Passes, now};
 ghost use Rattle.hg_tree.specs.Change.{by_others};
-ghost use Rattle.hg_tree.specs.Memory.{LeavesListed, after_call, after_due, after_failure, history_of, noting};
+ghost use Rattle.hg_tree.specs.Memory.{LeavesListed, LeavesRead, after_call, after_due, after_failure, history_of, noting};
 
 use crate::asked::{Asked, Change, Outside};
 use crate::device::Tree;
 use crate::fault::TreeFault;
 use crate::listing::{is_listed, names_in};
 use crate::name::Name;
-use crate::thing::{Placed, Thing, stat_of};
+use crate::thing::{Placed, Thing, bytes_of, stat_of};
 use crate::things::{remove, settle};
-use hg_base::{Calls, Failed, OutOfMemory, Path, PathRef, Stat, Time};
+use hg_base::{Calls, Failed, Got, OutOfMemory, Path, PathRef, Stat, Time, read_past};
 use std::alloc::Global;
 use std::collections::BTreeMap;
 use std::marker::Model;
@@ -143,6 +144,47 @@ impl MemTree {
         }
     }
 
+    fn bytes(&self, path: &str) -> Option<&[u8]>
+        ensures found { option_map (λ bytes. bytes.now) result ≡ bytes_at (now (history_of self.now)) path.now }
+        ensures formed { AreFormed (history_of self.now) }
+    {
+        match self.things.get(path) {
+            Some(placed) => bytes_of(&placed.thing),
+            None => None,
+        }
+    }
+
+    // Notes that a path is read.
+    fn note_read(&mut self, path: PathRef<'_>) -> Result<(), OutOfMemory>
+        ensures ok { OnOk result (self.new ≡ noting (an_ask.Read path.entry.text.now) self.old) }
+        ensures err { OnErr result (self.new ≡ self.old) }
+    {
+        let path = Path::of(self.alloc, path)?;
+        self.asked.push(Asked::Read { path })?;
+        Ok(())
+    }
+
+    // Counts a read and notes it, also one that fails.
+    fn begin_read(&mut self, path: PathRef<'_>) -> Result<(), Failed>
+        ensures state { LeavesRead path.entry.text.now result self.old self.new }
+        ensures cause { HasCause self.old.calls.faults self.new.calls.faults result (λ e. Unit {0}) }
+    {
+        match self.note_read(path) {
+            Ok(()) => self.calls.begin(),
+            Err(_) => Err(self.unread()),
+        }
+    }
+
+    // A read for whose note there is no memory is counted as one that failed.
+    fn unread(&mut self) -> Failed
+        ensures state { self.new ≡ after_failure self.old }
+        ensures later { self.old.calls.faults ≤ self.new.calls.faults }
+        ensures rose { Rose self.old.calls.faults self.new.calls.faults }
+    {
+        let _ = self.unnoted();
+        Failed
+    }
+
     // Notes that a directory is listed.
     fn note(&mut self, dir: Option<PathRef<'_>>) -> Result<(), OutOfMemory>
         ensures ok { OnOk result (self.new ≡ noting (an_ask.List (option_map (λ d. d.text.now) dir.entry)) self.old) }
@@ -254,5 +296,24 @@ impl Tree for MemTree {
         self.begin_listing(dir)?;
         let names = self.names(alloc, dir)?;
         Ok(names)
+    }
+
+    // A read is counted and noted, and changes nothing else.
+    fn read(&mut self, path: PathRef<'_>, place: u64, buf: &mut [u8]) -> Result<Got, Failed>
+        ensures passes { Passes (history_of self.old) (history_of self.new) }
+        ensures asked { Asks (is_ok result) (an_ask.Read path.entry.text.now ∷ []) (history_of self.old) (history_of self.new) }
+        ensures found { IfOk
+            result
+            (λ got. ReadsBytes (bytes_at (now (history_of (after_due self.old))) path.entry.text.now) place buf.old buf.new got) }
+        ensures fit { IfOk result (λ got. IsWithin (length buf.old) got) }
+        ensures formed { OnOk result (AreFormed (history_of self.new)) }
+        ensures cause { HasCause self.old.calls.faults self.new.calls.faults result (λ e. Unit {0}) }
+        ensures state { LeavesRead path.entry.text.now result self.old self.new }
+    {
+        self.begin_read(path)?;
+        match self.bytes(path.text) {
+            Some(bytes) => Ok(Got::Bytes(read_past(bytes, place, buf))),
+            None => Ok(Got::Absent),
+        }
     }
 }

@@ -1,6 +1,6 @@
 //! What no clause says: that memory is found, that calls fail where they were told to and nowhere else, and worked looks.
 use super::*;
-use hg_base::{Blob, Kind, PathRef, Time};
+use hg_base::{Blob, Failed, Got, Kind, PathRef, Time};
 use std::alloc::Global;
 use std::string::String;
 use std::test::Fail;
@@ -119,5 +119,33 @@ fn fails_where_it_was_told_to(rt: HostRuntime) -> Result<(), Fail> {
     assert_eq!(rt; asked.len(), 2);
     assert!(rt; matches!(&asked[0], Asked::List { dir: None }));
     assert!(rt; matches!(&asked[1], Asked::List { dir: Some(dir) } if dir.as_str() == "a"));
+    Ok(())
+}
+
+#[test]
+fn reads_past_a_place(rt: HostRuntime) -> Result<(), Fail> {
+    let mut tree = sample(rt.alloc())?;
+    tree.fail_at(6)?;
+    for (path, place, answer, bytes) in [
+        ("a", 0, Ok(Got::Bytes(4)), "hell"),
+        ("a", 3, Ok(Got::Bytes(2)), "lo.."),
+        ("a", 5, Ok(Got::Bytes(0)), "...."),
+        ("d/e/f", 1, Ok(Got::Bytes(3)), "./a."),
+        ("d", 0, Ok(Got::Absent), "...."),
+        ("d/g", 0, Ok(Got::Absent), "...."),
+        ("a", 0, Err(Failed), "...."),
+        ("b", 0, Ok(Got::Absent), "...."),
+    ] {
+        let mut buf = [b'.'; 4];
+        assert_eq!(rt;
+            tree.read(PathRef::read(path)?, place, &mut buf),
+            answer,
+            "{path} at {place}"
+        );
+        assert_eq!(rt; &buf[..], bytes.as_bytes(), "{path} at {place}");
+    }
+    let asked = tree.asked();
+    assert_eq!(rt; asked.len(), 8);
+    assert!(rt; matches!(&asked[6], Asked::Read { path } if path.as_str() == "a"));
     Ok(())
 }

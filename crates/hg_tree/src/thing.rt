@@ -1,7 +1,7 @@
 //! The things that stand in a working copy.
 
-ghost use Rattle.std.specs.Prelude.{◌≡◌, IfOk};
-ghost use Rattle.hg_tree.specs.Moment.{IsPlain, is_dir_thing, stat_of};
+ghost use Rattle.std.specs.Prelude.{◌≡◌, IfOk, option_map};
+ghost use Rattle.hg_tree.specs.Moment.{IsPlain, bytes_of, is_dir_thing, stat_of};
 
 use hg_base::{Blob, Kind, OutOfMemory, Stat, Time};
 use std::alloc::Global;
@@ -45,6 +45,17 @@ impl Thing {
             Thing::Dir => Ok(Thing::Dir),
             Thing::Other => Ok(Thing::Other),
         }
+    }
+}
+
+// What can be read of the thing.
+pub(crate) fn bytes_of(thing: &Thing) -> Option<&[u8]>
+    ensures { option_map (λ bytes. bytes.now) result ≡ bytes_of thing.now }
+{
+    match thing {
+        Thing::File { bytes, .. } => Some(bytes.as_bytes()),
+        Thing::Link { target } => Some(target.as_bytes()),
+        Thing::Dir | Thing::Other => None,
     }
 }
 
