@@ -1,12 +1,14 @@
 //! The working copy seen from its root alone, where that has no name that serves: each ancestor of a path is asked first.
 
-ghost use Rattle.std.specs.Prelude.{IfOk, IfSome};
+ghost use Rattle.std.specs.Prelude.{IfOk, IfSome, length};
+ghost use Rattle.hg_base.specs.Reads.{IsWithin};
 ghost use Rattle.hg_tree.specs.Moment.{IsPlain};
 
+use crate::contents::read_name;
 use crate::disk::is_absence;
 use crate::failure::{FirstFailure, Reason};
 use crate::look::{NO_TIME, stat_of};
-use hg_base::{Failed, Stat};
+use hg_base::{Failed, Got, Stat};
 use std::fs;
 use std::rt::Files;
 
@@ -39,6 +41,19 @@ impl<'a, R: Files + AllocGlobal> Staying<'a, R> {
             },
             Err(error) if is_absence(&error) => Ok(None),
             Err(error) => Err(self.failed(path, Reason::System(error))),
+        }
+    }
+
+    /// Fills the front of a buffer with what a file, or the target of a link, has past a place.
+    pub(crate) fn read(&mut self, path: &str, place: u64, buf: &mut [u8]) -> Result<Got, Failed>
+        ensures { IfOk result (λ got. IsWithin (length buf.old) got) }
+    {
+        if !self.is_reached(path)? {
+            return Ok(Got::Absent);
+        }
+        match read_name(self.rt, path, place, buf) {
+            Ok(got) => Ok(got),
+            Err(reason) => Err(self.failed(path, reason)),
         }
     }
 

@@ -19,6 +19,7 @@
 
 mod ancestors;
 mod command;
+mod contents;
 mod disk;
 mod entries;
 mod failure;

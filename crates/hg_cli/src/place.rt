@@ -4,18 +4,20 @@
 //! the same device and inode; so no link is ever followed. Upwards `.` has to be what it was on the way down. Where it isn't, or where a
 //! name has gone meanwhile, the way begins at the root again.
 
-ghost use Rattle.std.specs.Prelude.{IfOk, IfSome, OnErr, IsTrue};
+ghost use Rattle.std.specs.Prelude.{IfOk, IfSome, OnErr, IsTrue, length};
+ghost use Rattle.hg_base.specs.Reads.{IsWithin};
 ghost use Rattle.hg_cli.specs.Way.{Kept};
 ghost use Rattle.hg_cli.specs.Place.{StandsAt};
 ghost use Rattle.hg_tree.specs.Moment.{IsPlain};
 
+use crate::contents::read_name;
 use crate::disk::is_absence;
 use crate::failure::{FirstFailure, Reason};
 use crate::look::{NO_TIME, stat_of};
 use crate::root::Named;
 use crate::spot::{Spot, spot_of};
 use crate::way::Way;
-use hg_base::{Failed, Stat};
+use hg_base::{Failed, Got, Stat};
 use std::io::ErrorKind;
 use std::rt::{Env, Files};
 use std::{env, fs, io};
@@ -138,6 +140,21 @@ impl<'a, R: Files + Env + AllocGlobal> Place<'a, R> {
         match self.go(dir)? {
             Gone::There => self.look(name),
             Gone::Absent => Ok(None),
+            Gone::Shut => Err(self.shut(dir)),
+        }
+    }
+
+    /// Fills the front of a buffer with what a file, or the target of a link, has past a place.
+    pub(crate) fn read(&mut self, path: &str, place: u64, buf: &mut [u8]) -> Result<Got, Failed>
+        ensures { IfOk result (λ got. IsWithin (length buf.old) got) }
+    {
+        let (dir, name) = parted(path);
+        match self.go(dir)? {
+            Gone::There => match read_name(self.rt, name, place, buf) {
+                Ok(got) => Ok(got),
+                Err(reason) => Err(self.failed(name, reason)),
+            },
+            Gone::Absent => Ok(Got::Absent),
             Gone::Shut => Err(self.shut(dir)),
         }
     }

@@ -42,9 +42,31 @@ fn looks_at_real_files(rt: HostRuntime) -> Result<(), Fail> {
     Ok(())
 }
 
+fn read_files<T: Tree>(at: &impl Abort, tree: &mut T) -> Result<(), Fail> {
+    for (path, place, shown, bytes) in [
+        ("real_tree_test/file", 0, Got::Bytes(4), "hell"),
+        ("real_tree_test/file", 3, Got::Bytes(2), "lo.."),
+        ("real_tree_test/file", 9, Got::Bytes(0), "...."),
+        ("real_tree_test/folder/inner", 0, Got::Bytes(1), "1..."),
+        ("real_tree_test/link", 0, Got::Bytes(4), "fold"),
+        ("real_tree_test/dangling", 5, Got::Bytes(2), "re.."),
+        ("real_tree_test/folder", 0, Got::Absent, "...."),
+        ("real_tree_test/link/inner", 0, Got::Absent, "...."),
+        ("real_tree_test/file/inner", 0, Got::Absent, "...."),
+        ("real_tree_test/absent", 0, Got::Absent, "...."),
+    ] {
+        let mut buf = [b'.'; 4];
+        let got = tree.read(PathRef::read(path)?, place, &mut buf);
+        assert_eq!(at; got.ok(), Some(shown), "{path}");
+        assert_eq!(at; &buf[..], bytes.as_bytes(), "{path}");
+    }
+    Ok(())
+}
+
 // At its end the process stands in the root again.
 fn look_at_files(at: &impl Abort, rt: &HostRuntime, root: &Root) -> Result<(), Fail> {
     let mut tree = RealTree::new(rt, root);
+    read_files(at, &mut tree)?;
     for (path, shown) in [
         ("real_tree_test", Some((Kind::Dir, false, 0))),
         ("real_tree_test/file", Some((Kind::File, false, 5))),

@@ -1,16 +1,17 @@
 //! The working copy in the file system.
 
-ghost use Rattle.std.specs.Prelude.{◌≡◌, IfOk, IfSome, option_map};
+ghost use Rattle.std.specs.Prelude.{◌≡◌, IfOk, IfSome, length, option_map};
 ghost use Rattle.hg_tree.specs.Moment.{AreFit, IsPlain};
 ghost use Rattle.hg_tree.specs.declared.fault.TreeFault.TheVariants as a_fault;
 ghost use Rattle.hg_base.specs.Fault.{HasCause};
+ghost use Rattle.hg_base.specs.Reads.{IsWithin};
 
 use crate::ancestors::Staying;
 use crate::disk::counted;
 use crate::entries::{list_from_root, list_there};
 use crate::place::Place;
 use crate::root::Root;
-use hg_base::{Failed, PathRef, Stat, risen};
+use hg_base::{Failed, Got, PathRef, Stat, risen};
 use hg_tree::{Name, Tree, TreeFault};
 use std::alloc::Global;
 use std::rt::{Env, Files};
@@ -78,6 +79,11 @@ impl<'a, R: Files + Env + AllocGlobal> Tree for RealTree<'a, R> {
         let answer = list_at(&mut self.looks, alloc, dir);
         counted_listing(&mut self.faults, answer)
     }
+
+    fn read(&mut self, path: PathRef<'_>, place: u64, buf: &mut [u8]) -> Result<Got, Failed> {
+        let answer = read_at(&mut self.looks, path.text, place, buf);
+        counted(&mut self.faults, answer)
+    }
 }
 
 // What stands at the path, no link followed. It has a frame of its own, so that what it reads takes no room in the frames of a caller that
@@ -92,6 +98,21 @@ fn stat_at<R: Files + Env + AllocGlobal>(
     match looks {
         Looks::From(place) => place.stat(path),
         Looks::Staying(staying) => staying.stat(path),
+    }
+}
+
+// What stands at the path past a place.
+fn read_at<R: Files + Env + AllocGlobal>(
+    looks: &mut Looks<'_, R>,
+    path: &str,
+    place: u64,
+    buf: &mut [u8],
+) -> Result<Got, Failed>
+    ensures { IfOk result (λ got. IsWithin (length buf.old) got) }
+{
+    match looks {
+        Looks::From(from) => from.read(path, place, buf),
+        Looks::Staying(staying) => staying.read(path, place, buf),
     }
 }
 
