@@ -3,7 +3,11 @@
 
 mod fault;
 mod line;
+mod load;
+mod manifest;
+mod place;
 mod row;
 
 pub use fault::ManifestFault;
+pub use manifest::Manifest;
 pub use row::FileRow;

@@ -9,6 +9,7 @@ ghost use Rattle.hg_manifest.specs.Front.{IsFront, nul_place, rest_behind};
 use hg_base::PathRef;
 
 /// The path of a line, and what stands behind the line.
+#[derive(Clone, Copy, Debug)]
 pub(crate) struct Front<'a> {
     pub path: PathRef<'a>,
     pub rest: &'a [u8],
