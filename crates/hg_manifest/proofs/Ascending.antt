@@ -1,5 +1,5 @@
 -- The rows of a manifest ascend.
-use Rattle.std.proofs.Common.{◌≡◌, ℕ, zero, suc, ◌+◌, Bool, true, false, cond, List, [], ◌∷◌, map, Option, Some, None, Result, Ok, Err, Ordering, Less, Equal, Greater, nat_cmp, refl, sym, ap, ◌∙◌, subst}
+use Rattle.std.proofs.Common.{◌≡◌, ℕ, zero, suc, ◌+◌, Bool, true, false, cond, List, [], ◌∷◌, map, Option, Some, None, Result, Ok, Err, Ordering, Less, Equal, Greater, nat_cmp, refl, sym, ap, ◌∙◌, subst, arith}
 use Rattle.std.specs.List.{AllByRecursion}
 use Rattle.std.specs.List.Sorted.{IsStrictlySortedBy}
 use Rattle.std.specs.Cmp.Lexicographic.{slice_cmp, nat_list_cmp_total}
@@ -7,7 +7,7 @@ use Rattle.std.specs.Map.{keys_of}
 use Rattle.std.specs.Ordering.{is_lt}
 use Rattle.hg_manifest.specs.Line.{Line, line_of}
 use Rattle.hg_manifest.specs.Rows.{Rows, is_before, manifest_of, rows_at, rows_from, with_row}
-use Rattle.hg_manifest.specs.Kept.{AreAscending}
+use Rattle.hg_manifest.specs.Kept.{AreAscending, IsKept}
 use Rattle.hg_manifest.specs.declared.fault.ManifestFault.{ManifestFault}
 use Rattle.hg_manifest.specs.declared.fault.ManifestFault.TheVariants as a_fault
 use Rattle.hg_manifest.specs.declared.row.FileRow.{FileRow}
@@ -64,3 +64,8 @@ rows_ascend (suc most) number before (b ∷ text) rows is = at_ok number before 
 
 pub ascending : (text : List ℕ) (rows : Rows) → manifest_of text ≡ Ok rows → AreAscending rows
 ascending text rows is = (rows_ascend _ 1 [] text rows is).1
+
+-- a manifest without rows
+pub none_kept : IsKept [] []
+unfolding IsStrictlySortedBy
+none_kept = record { lines = λ k d less. absurd (omega (arith, less)); ascending = tt }

@@ -54,7 +54,7 @@ fn ask_size<S: Shelf>(shelf: &mut S, name: &str, id: &Id20) -> Result<u64, Manif
 }
 
 // So many bytes of the file, all where it is shorter.
-fn take<S: Shelf>(
+fn take_bytes<S: Shelf>(
     alloc: Global,
     shelf: &mut S,
     name: &str,
@@ -75,5 +75,51 @@ fn take<S: Shelf>(
             bytes.truncate(n);
             Ok(bytes)
         }
+    }
+}
+
+// The manifest of a parent that isn't null.
+fn load_file<S: Shelf>(
+    alloc: Global,
+    shelf: &mut S,
+    id: &Id20,
+) -> Result<Manifest, ManifestFault>
+    ensures passes { Passes (S.history shelf.old) (S.history shelf.new) }
+    ensures found { Finds (S.history shelf.old) (S.history shelf.new) (plain_name id.now.0) id.now result }
+    ensures cause { HasCause (S.faults shelf.old) (S.faults shelf.new) result (λ e. e ≡ a_fault.Failed) }
+    ensures counted { IsCounted (S.faults shelf.old) (S.faults shelf.new) result }
+{
+    let name = name_of(alloc, id)?;
+    let size = ask_size(shelf, name.as_str(), id)?;
+    let bytes = take_bytes(alloc, shelf, name.as_str(), id, size)?;
+    Manifest::of(alloc, bytes)
+}
+
+impl Manifest {
+    /// Loads the manifest of a commit from the plain store: the size of its file, then its bytes by one read. The null parent has no
+    /// rows, and the shelf isn't asked.
+    ///
+    /// The faults are looked for in this order: an absent file, its size, then line by line the form of the line and the order of
+    /// its path. A file that gets shorter between the two calls is taken as short as it is.
+    pub fn load<S: Shelf>(
+        alloc: Global,
+        shelf: &mut S,
+        id: &Id20,
+    ) -> Result<Manifest, ManifestFault>
+        ensures null { IsTrue (is_null id.now.0) → result ≡ Ok [] }
+        ensures unasked { IsTrue (is_null id.now.0) → shelf.new ≡ shelf.old }
+        ensures passes { Passes (S.history shelf.old) (S.history shelf.new) }
+        ensures found { is_null id.now.0 ≡ false → Finds (S.history shelf.old) (S.history shelf.new) (plain_name id.now.0) id.now result }
+        ensures cause { HasCause (S.faults shelf.old) (S.faults shelf.new) result (λ e. e ≡ a_fault.Failed) }
+        ensures counted { IsCounted (S.faults shelf.old) (S.faults shelf.new) result }
+
+        // Where the file stays as it is and no count rises, it is the file's manifest, or there was no memory.
+        ensures complete { (file : Option (List ℕ)) → IsTrue (S.history shelf.old).told → Stays (S.history shelf.old) (S.history shelf.new) (plain_name id.now.0) file
+            → IsSteady (S.faults shelf.old) (S.faults shelf.new) → Answers (manifest_in id.now file) result }
+    {
+        if is_null(id) {
+            return Ok(Manifest::empty(alloc));
+        }
+        load_file(alloc, shelf, id)
     }
 }

@@ -1,6 +1,6 @@
 //! Manifests: the files of a commit by path.
 
-ghost use Rattle.std.specs.Prelude.{◌≡◌, ◌≤◌, ◌<◌, Some, length, slice_get, take};
+ghost use Rattle.std.specs.Prelude.{◌≡◌, ◌≤◌, ◌<◌, [], Some, length, slice_get, take};
 ghost use Rattle.std.specs.Map.{lookup};
 ghost use Rattle.std.specs.Str.{bytes_eq};
 ghost use Rattle.hg_manifest.specs.Kept.{Answers, AreAscending, IsKept};
@@ -53,6 +53,16 @@ fn find(text: &[u8], places: &[Place], path: &str) -> Option<usize>
 }
 
 impl Manifest {
+    /// A manifest without rows.
+    pub(crate) fn empty(alloc: Global) -> Manifest
+        ensures { result ≡ [] }
+    {
+        Manifest {
+            text: Vec::new(alloc),
+            places: Vec::new(alloc),
+        }
+    }
+
     /// The manifest of a text.
     pub(crate) fn of(alloc: Global, text: Vec<u8>) -> Result<Manifest, ManifestFault>
         requires { length text.items ≤ 67108864 }
