@@ -1,9 +1,10 @@
 -- Where a text is cut at its first NUL, and when digits spell an identifier.
-use Rattle.std.proofs.Common.{◌≡◌, ◌≢◌, ℕ, ◌+◌, ◌*◌, ◌<◌, ◌≤◌, Bool, true, false, cond, List, [], length, take, drop, Option, Some, None, Result, Ok, Err, is_some, refl, sym, ap, ◌∙◌, arith, ltb, nat_lt}
+use Rattle.std.proofs.Common.{◌≡◌, ◌≢◌, ℕ, ◌+◌, ◌*◌, ◌<◌, ◌≤◌, Bool, true, false, cond, List, [], length, take, drop, Option, Some, None, Result, Ok, Err, is_some, refl, sym, ap, ◌∙◌, arith, ltb, le-ltb, nat_lt}
 use Rattle.std.specs.List.{list_all, position_or_len, before_first, after_first, AllPass}
 use Rattle.std.proofs.lemmas.List.{take_all, drop_all}
-use Rattle.std.proofs.lemmas.List.Sums.{AllPass-from_list_all, list_all-from_AllPass}
-use Rattle.std.proofs.lemmas.Bool.{false_from_ne_true, ltb-true, ltb-false}
+use Rattle.std.proofs.lemmas.List.Sums.{AllPass-from_list_all, list_all-from_AllPass, position_or_len_is}
+use Rattle.std.proofs.lemmas.Bool.{false_from_ne_true, lt-ltb, ltb-true, ltb-false}
+use Rattle.memchr.specs.Find.{IsFirstByte, is_byte}
 use Rattle.std.specs.Result.{IsOk}
 use Rattle.hex.specs.Hex.{decode_sized, is_hex_digit}
 use Rattle.hex.specs.declared.error.FromHexError.{FromHexError}
@@ -18,6 +19,18 @@ at_first k n at false less is = absurd (cc is)
 no_first : (k n : ℕ) (t : Bool) → ltb k n ≡ t → cond t (Some k) None ≡ None → n ≤ k
 no_first k n true less is = absurd (cc is)
 no_first k n false less is = ltb-false k n less
+
+-- what a search for the first NUL answers
+pub nul_first : (text : List ℕ) (r : Option ℕ) → IsFirstByte (is_byte 0) text r → r ≡ nul_place text
+nul_first text None none =
+    let at : position_or_len is_nul text ≡ length text = position_or_len_is is_nul text (length text) 0 (omega arith) (λ k less. false_from_ne_true _ (none k (omega arith) less)) (λ less. absurd (omega (arith, less))) in
+    sym (ap (λ (t : Bool). cond t (Some (position_or_len is_nul text)) None) (le-ltb (position_or_len is_nul text) (length text) (omega (arith, at))))
+nul_first text (Some k) first =
+    let at : position_or_len is_nul text ≡ k = position_or_len_is is_nul text k 0 (omega (arith, first.0.high)) (λ j less. false_from_ne_true _ (first.0.before j (omega arith) less)) (λ less. first.1) in
+    sym (
+      ap (λ (t : Bool). cond t (Some (position_or_len is_nul text)) None) (lt-ltb (position_or_len is_nul text) (length text) (omega (arith, at, first.0.high)))
+      ∙ ap Some at
+    )
 
 pub nul_found : (text : List ℕ) (at : ℕ) → nul_place text ≡ Some at → (at ≡ position_or_len is_nul text) × (at < length text)
 nul_found text at is =

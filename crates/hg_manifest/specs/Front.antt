@@ -1,5 +1,5 @@
 -- What a reading finds at the front of a text.
-use Rattle.std.specs.Prelude.{ℕ, ◌≡◌, if◌then◌else◌, List, length, take, drop, Option, Some, None, nat_lt}
+use Rattle.std.specs.Prelude.{ℕ, ◌≡◌, if◌then◌else◌, Bool, not, ◌&&◌, ◌||◌, ◌==◌, nat_le, List, [], ◌∷◌, length, take, drop, Option, Some, None, nat_lt}
 use Rattle.std.specs.List.{position_or_len}
 use Rattle.hg_manifest.specs.Line.{Ending, Line, ending, id_of, is_nul}
 use Rattle.hg_base.specs.declared.id.Id20.{Id20}
@@ -8,6 +8,15 @@ use Rattle.hg_manifest.specs.declared.line.Front.{Front}
 -- the place of the first NUL
 abbrev pub nul_place : List ℕ → Option ℕ
 nul_place text = if nat_lt (position_or_len is_nul text) (length text) then Some (position_or_len is_nul text) else None
+
+-- a byte that a plain path may have where a component begins, or goes on
+abbrev pub is_plain_byte : Bool → ℕ → Bool
+is_plain_byte begins b = nat_le 1 b && nat_lt b 128 && not (begins && (b == 47 || b == 46))
+
+-- ASCII without a NUL, whose components aren't empty and don't begin with a dot; the first one begins there, or goes on
+abbrev pub is_plain_from : Bool → List ℕ → Bool
+is_plain_from begins [] = not begins
+is_plain_from begins (b ∷ text) = is_plain_byte begins b && is_plain_from (b == 47) text
 
 abbrev pub rest_from : Option Id20 → Option Ending → Option (List ℕ)
 rest_from None end = None

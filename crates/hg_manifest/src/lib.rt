@@ -11,3 +11,6 @@ mod row;
 pub use fault::ManifestFault;
 pub use manifest::Manifest;
 pub use row::FileRow;
+
+// #[cfg(test)]
+// mod tests;

@@ -1,12 +1,13 @@
 //! The line at the front of a text.
 
-ghost use Rattle.std.specs.Prelude.{◌≡◌, Some, None, take, drop, option_map, if◌then◌else◌, is_some};
+ghost use Rattle.std.specs.Prelude.{◌≡◌, ◌<◌, true, length, Some, None, take, drop, option_map, if◌then◌else◌, is_some};
 ghost use Rattle.std.specs.List.{before_first, after_first, list_all};
 ghost use Rattle.hex.specs.Hex.{is_hex_digit};
 ghost use Rattle.hg_manifest.specs.Line.{after_end, ending, id_of, is_file_path, is_nul, line_of};
-ghost use Rattle.hg_manifest.specs.Front.{IsFront, nul_place, rest_behind};
+ghost use Rattle.hg_manifest.specs.Front.{IsFront, is_plain_byte, is_plain_from, nul_place, rest_behind};
 
 use hg_base::PathRef;
+use memchr::memchr;
 
 /// The path of a line, and what stands behind the line.
 #[derive(Clone, Copy, Debug)]
@@ -15,10 +16,11 @@ pub(crate) struct Front<'a> {
     pub rest: &'a [u8],
 }
 
+#[tactic(auto, using(crate::proofs::Digits::nul_first))]
 fn nul_place(bytes: &[u8]) -> Option<usize>
     ensures { result ≡ nul_place bytes.now }
 {
-    bytes.iter().position(|b| *b == 0)
+    memchr(0, bytes)
 }
 
 // What stands before the first NUL and behind it; where there is none, all and nothing.
@@ -33,9 +35,29 @@ fn cut_at_nul(bytes: &[u8]) -> (&[u8], &[u8])
     }
 }
 
+// Whether the bytes are ASCII without a NUL, and no component is empty or begins with a dot. (No branch depends on a byte.)
+fn is_plain(bytes: &[u8]) -> bool
+    ensures { result ≡ is_plain_from true bytes.now }
+{
+    let mut plain = true;
+    let mut begins = true;
+    for b in bytes {
+        plain &= is_plain_byte(*b, begins);
+        begins = *b == b'/';
+    }
+    plain & !begins
+}
+
+// Whether a plain path may have the byte there, where `begins` says that a component begins with it.
+fn is_plain_byte(b: u8, begins: bool) -> bool
+    ensures { result ≡ is_plain_byte begins b }
+{
+    (b >= 1) & (b < 128) & !(begins & ((b == b'/') | (b == b'.')))
+}
+
 // A path in UTF-8.
 #[tactic(auto, using(crate::proofs::Texts::utf8_true, crate::proofs::Texts::utf8_false, crate::proofs::Texts::path_false))]
-fn read_path(bytes: &[u8]) -> Option<PathRef<'_>>
+fn read_any(bytes: &[u8]) -> Option<PathRef<'_>>
     ensures { option_map (λ p. p.text.now) result ≡ (if is_file_path bytes.now then Some bytes.now else None) }
 {
     match std::str::from_utf8(bytes) {
@@ -47,16 +69,48 @@ fn read_path(bytes: &[u8]) -> Option<PathRef<'_>>
     }
 }
 
+// The same of bytes that are known to be one.
+#[tactic(auto, using(crate::proofs::Plain::plain_utf8, crate::proofs::Plain::plain_path))]
+fn plain_path(bytes: &[u8]) -> PathRef<'_>
+    requires plain { is_plain_from true bytes.now ≡ true }
+    requires short { length bytes.now < 2048 }
+    ensures { result.text.now ≡ bytes.now }
+{
+    PathRef {
+        text: unsafe { std::str::from_utf8_unchecked(bytes) },
+    }
+}
+
+// The same, where most are plain and short, which needs no look at each component.
+#[tactic(auto, using(crate::proofs::Plain::plain_file_path))]
+fn read_path(bytes: &[u8]) -> Option<PathRef<'_>>
+    ensures { option_map (λ p. p.text.now) result ≡ (if is_file_path bytes.now then Some bytes.now else None) }
+{
+    if bytes.len() >= 2048 {
+        return read_any(bytes);
+    }
+    if is_plain(bytes) {
+        Some(plain_path(bytes))
+    } else {
+        read_any(bytes)
+    }
+}
+
 fn is_digit(b: u8) -> bool
     ensures { result ≡ is_hex_digit b }
 {
-    matches!(b, b'0'..=b'9' | b'a'..=b'f' | b'A'..=b'F')
+    ((b >= b'0') & (b <= b'9')) | ((b >= b'a') & (b <= b'f')) | ((b >= b'A') & (b <= b'F'))
 }
 
+// Whether all are digits. (No branch depends on a byte.)
 fn all_digits(bytes: &[u8]) -> bool
     ensures { result ≡ list_all is_hex_digit bytes.now }
 {
-    bytes.iter().all(|b| is_digit(*b))
+    let mut all = true;
+    for b in bytes {
+        all &= is_digit(*b);
+    }
+    all
 }
 
 // Whether they spell an identifier.
