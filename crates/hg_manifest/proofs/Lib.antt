@@ -8,3 +8,4 @@ pub mod Plain
 pub mod Reading
 pub mod Searching
 pub mod Texts
+mod Worked

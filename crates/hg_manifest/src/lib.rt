@@ -12,5 +12,5 @@ pub use fault::ManifestFault;
 pub use manifest::Manifest;
 pub use row::FileRow;
 
-// #[cfg(test)]
-// mod tests;
+#[cfg(test)]
+mod tests;
