@@ -2,7 +2,7 @@
 """Times the built program against C loops that make the same system calls, and against other programs:
 python3 bench/bench.py [PROGRAM] [PART ..] [rhg=PROGRAM] [before=PROGRAM].
 
-PROGRAM is build/hgtrack where it isn't named. The parts are listing, tracked, peers, deep, opening, placing and editing; all where none is named. `rhg` is
+PROGRAM is build/hgtrack where it isn't named. The parts are listing, tracked, peers, deep, opening, placing, editing and manifests; all where none is named. `rhg` is
 Mercurial's program of that name, which is looked for in PATH otherwise, and `before` an earlier hgtrack, which is timed beside this one. Every time
 is the least of some runs, taken in turn with what it is compared with. The status is 0 exactly where each figure is within its limit.
 """

@@ -1,6 +1,6 @@
 -- Where a text is cut at its first NUL, and when digits spell an identifier.
-use Rattle.std.proofs.Common.{◌≡◌, ◌≢◌, ℕ, ◌+◌, ◌*◌, ◌<◌, ◌≤◌, Bool, true, false, cond, List, [], length, take, drop, Option, Some, None, Result, Ok, Err, is_some, refl, sym, ap, ◌∙◌, arith, ltb, le-ltb, nat_lt}
-use Rattle.std.specs.List.{list_all, position_or_len, before_first, after_first, AllPass}
+use Rattle.std.proofs.Common.{◌≡◌, ◌≢◌, ℕ, ◌+◌, ◌<◌, ◌≤◌, Bool, true, false, cond, List, [], length, Option, Some, None, Result, Ok, Err, is_some, refl, sym, ap, ◌∙◌, arith, ltb, le-ltb}
+use Rattle.std.specs.List.{list_all, position_or_len, before_first, after_first}
 use Rattle.std.proofs.lemmas.List.{take_all, drop_all}
 use Rattle.std.proofs.lemmas.List.Sums.{AllPass-from_list_all, list_all-from_AllPass, position_or_len_is}
 use Rattle.std.proofs.lemmas.Bool.{false_from_ne_true, lt-ltb, ltb-true, ltb-false}
@@ -28,8 +28,8 @@ nul_first text None none =
 nul_first text (Some k) first =
     let at : position_or_len is_nul text ≡ k = position_or_len_is is_nul text k 0 (omega (arith, first.0.high)) (λ j less. false_from_ne_true _ (first.0.before j (omega arith) less)) (λ less. first.1) in
     sym (
-      ap (λ (t : Bool). cond t (Some (position_or_len is_nul text)) None) (lt-ltb (position_or_len is_nul text) (length text) (omega (arith, at, first.0.high)))
-      ∙ ap Some at
+    ap (λ (t : Bool). cond t (Some (position_or_len is_nul text)) None) (lt-ltb (position_or_len is_nul text) (length text) (omega (arith, at, first.0.high)))
+    ∙ ap Some at
     )
 
 pub nul_found : (text : List ℕ) (at : ℕ) → nul_place text ≡ Some at → (at ≡ position_or_len is_nul text) × (at < length text)

@@ -1,5 +1,5 @@
 -- The faults of a manifest's text are those of its lines.
-use Rattle.std.proofs.Common.{◌≡◌, ℕ, zero, suc, ◌+◌, Bool, true, false, cond, List, [], ◌∷◌, Option, Some, None, Result, Ok, Err, refl, subst}
+use Rattle.std.proofs.Common.{◌≡◌, ℕ, zero, suc, ◌+◌, Bool, true, false, cond, List, [], ◌∷◌, Option, Some, None, Result, Ok, Err, subst}
 use Rattle.hg_manifest.specs.Line.{Line, line_of}
 use Rattle.hg_manifest.specs.Rows.{Rows, is_before, manifest_of, rows_at, rows_from, with_row}
 use Rattle.hg_manifest.specs.declared.fault.ManifestFault.{ManifestFault}

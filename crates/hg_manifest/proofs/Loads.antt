@@ -1,5 +1,5 @@
 -- What a load finds, from what its steps find.
-use Rattle.std.proofs.Common.{◌≡◌, ℕ, ◌+◌, ◌-◌, ◌^◌, ◌<◌, ◌≤◌, min, Bool, true, false, cond, List, [], length, take, Option, Some, None, Result, Ok, Err, Vec, Global, refl, sym, ap, ◌∙◌, subst, arith, ltb, le-ltb}
+use Rattle.std.proofs.Common.{◌≡◌, ℕ, ◌<◌, ◌≤◌, Bool, true, false, cond, List, [], length, take, Option, Some, None, Result, Ok, Err, Vec, Global, refl, sym, ap, ◌∙◌, subst, arith, le-ltb}
 use Rattle.std.specs.Prelude.{IsTrue}
 use Rattle.std.proofs.lemmas.Bool.{lt-ltb}
 use Rattle.std.proofs.Math.Seq.{take-length}
@@ -8,7 +8,7 @@ use Rattle.hg_base.specs.declared.id.Id20.{Id20}
 use Rattle.hg_shelf.specs.History.{Files, History, Passes}
 use Rattle.hg_shelf.specs.Reads.{size_of}
 use Rattle.hg_manifest.specs.Kept.{Answers}
-use Rattle.hg_manifest.specs.Load.{During, Finds, IsCounted, IsFrontOf, Reads, Stays, Took, Was, file_at, file_manifest, manifest_in}
+use Rattle.hg_manifest.specs.Load.{Finds, IsCounted, IsFrontOf, Reads, Stays, Took, Was, file_at, file_manifest, manifest_in}
 use Rattle.hg_manifest.specs.Loaded.{IsUntaken, Sizes, Takes}
 use Rattle.hg_manifest.specs.Plain.{is_null, most}
 use Rattle.hg_manifest.specs.Rows.{Rows, manifest_of}

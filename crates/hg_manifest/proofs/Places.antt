@@ -1,5 +1,5 @@
 -- What stands at the place of a line.
-use Rattle.std.proofs.Common.{◌≡◌, ◌≢◌, ℕ, zero, suc, ◌+◌, ◌<◌, ◌≤◌, Bool, true, false, cond, not, List, [], ◌∷◌, length, take, drop, get_or, Option, Some, None, is_some, refl, sym, ap, ◌∙◌, subst, inl, inr, arith, eqb, true≢false}
+use Rattle.std.proofs.Common.{◌≡◌, ℕ, ◌+◌, ◌<◌, ◌≤◌, Bool, true, false, cond, not, List, [], ◌∷◌, length, take, drop, get_or, Option, Some, None, is_some, refl, sym, ap, ◌∙◌, subst, inl, inr, arith, eqb, true≢false}
 use Rattle.std.specs.List.{before_first, after_first, position_or_len}
 use Rattle.std.specs.Str.{IsUtf8, is_utf8}
 use Rattle.std.proofs.lemmas.Str.{IsUtf8-from_is_utf8}
@@ -8,7 +8,7 @@ use Rattle.std.proofs.lemmas.List.{length-take, length-take-le, length-drop}
 use Rattle.std.proofs.lemmas.List.Sums.{prefix_len-le-length}
 use Rattle.hg_base.specs.PathText.{is_path}
 use Rattle.hg_base.specs.declared.id.Id20.{Id20}
-use Rattle.hg_manifest.specs.Line.{Ending, Line, after_end, ending, flagged, id_of, is_file_path, is_nul, line_behind, line_from, line_of}
+use Rattle.hg_manifest.specs.Line.{Ending, Line, after_end, ending, flagged, id_of, is_file_path, is_nul, line_from, line_of}
 use Rattle.hg_manifest.specs.Kept.{IsPlace, row_in, row_of}
 use Rattle.hg_manifest.specs.declared.place.Place.{Place}
 use Rattle.hg_manifest.specs.declared.row.FileRow.{FileRow}
@@ -47,11 +47,13 @@ end_of (b ∷ text) end is = exec_tested (eqb b 120) refl is
     plain no_exec no_link is =
         let parts = flagged_end false false (b ∷ text) end is in
         record { size = 1; some = omega arith; within = parts.3; rest = parts.2; exec = parts.0 ∙ sym no_exec; link = parts.1 ∙ sym no_link }
+
     link_tested : (t : Bool) → eqb b 108 ≡ t → eqb b 120 ≡ false → cond t (flagged false true (after_end text)) (flagged false false (after_end (b ∷ text))) ≡ Some end → IsEnd (b ∷ text) end
     link_tested true link no_exec is =
         let parts = flagged_end false true text end is in
         record { size = 2; some = omega arith; within = omega (arith, parts.3); rest = parts.2; exec = parts.0 ∙ sym no_exec; link = parts.1 ∙ sym link }
     link_tested false link no_exec is = plain no_exec link is
+
     exec_tested : (t : Bool) → eqb b 120 ≡ t → cond t (flagged true false (after_end text)) (cond (eqb b 108) (flagged false true (after_end text)) (flagged false false (after_end (b ∷ text)))) ≡ Some end → IsEnd (b ∷ text) end
     exec_tested true exec is =
         let parts = flagged_end true false text end is in

@@ -1,5 +1,5 @@
 -- The lines of a text, one after another.
-use Rattle.std.proofs.Common.{◌≡◌, ◌≢◌, ℕ, zero, suc, ◌+◌, ◌-◌, ◌<◌, ◌≤◌, Bool, true, false, cond, List, [], ◌∷◌, ◌++◌, length, map, take, drop, get_or, Option, Some, None, Result, Ok, Err, refl, sym, ap, ◌∙◌, subst, arith, eqb, Vec, Global}
+use Rattle.std.proofs.Common.{◌≡◌, ℕ, zero, suc, ◌+◌, ◌-◌, ◌<◌, ◌≤◌, Bool, true, false, cond, List, [], ◌∷◌, ◌++◌, length, map, drop, Option, Some, None, Result, Ok, Err, refl, sym, ap, ◌∙◌, arith, eqb, Vec, Global}
 use Rattle.std.specs.List.{All}
 use Rattle.std.proofs.lemmas.List.{map_push, length_push, drop-drop, length-drop}
 use Rattle.std.proofs.lemmas.List.Elements.{All-push}
@@ -42,8 +42,7 @@ behind text line is =
     let s = stands text line is in
     let end = s.parts.end in
     let at = length line.path + 1 in
-    let far : length (drop 40 (drop at text)) ≡ length text - at - 40 = length-drop 40 (drop at text) ∙ ap (λ (n : ℕ). n - 40) (length-drop at text) in
-    (
+    let far : length (drop 40 (drop at text)) ≡ length text - at - 40 = length-drop 40 (drop at text) ∙ ap (λ (n : ℕ). n - 40) (length-drop at text) in (
       at + 40 + end.size,
       omega (arith, end.some),
       omega (arith, s.fits, end.within, far),
@@ -113,12 +112,12 @@ unfolding all_rows
 none_so_far text =
     let most : length text ≡ length text - 0 = omega arith in
     let at : 0 ≡ length text - length text = omega arith in record {
-  read = ap (λ (n : ℕ). rows_from n 1 [] text) most;
-  lines = λ k d less. absurd (omega (arith, less));
-  there = ap (λ (n : ℕ). drop n text) at;
-  counted = omega arith;
-  few = omega arith;
-}
+      read = ap (λ (n : ℕ). rows_from n 1 [] text) most;
+      lines = λ k d less. absurd (omega (arith, less));
+      there = ap (λ (n : ℕ). drop n text) at;
+      counted = omega arith;
+      few = omega arith;
+    }
 
 -- where the rest begins
 pub front_place : (text : List ℕ) (places : List Place) (rest before : List ℕ) (number : ℕ) → SoFar text places rest before number → 0 < length rest → length text - length rest < length text
@@ -172,18 +171,17 @@ stops text places rest before number fault s some is =
     let most = length text - length places in
     finds_fault text fault
     (
-      s.read
-      ∙ ap (all_rows (map (row_in text) places)) (rows_step most number before rest (omega (arith, s.few, some)) some ∙ rows_fault before number (line_of rest) fault (rows_from (most - 1) (number + 1)) is)
-      ∙ all_fault (map (row_in text) places) fault
+    s.read
+    ∙ ap (all_rows (map (row_in text) places)) (rows_step most number before rest (omega (arith, s.few, some)) some ∙ rows_fault before number (line_of rest) fault (rows_from (most - 1) (number + 1)) is)
+    ∙ all_fault (map (row_in text) places) fault
     )
 
 -- nothing is left
 pub done : (text : List ℕ) (places : Vec Place Global) (rest before : List ℕ) (number : ℕ) → SoFar text places.items rest before number → length rest ≡ 0 → FindsPlaces text (Ok places)
-done text places [] before number s none =
-    (
-      s.lines,
-      s.read ∙ ap (all_rows (map (row_in text) places.items)) (rows_end (length text - length places.items) number before) ∙ all_done (map (row_in text) places.items),
-    )
+done text places [] before number s none = (
+  s.lines,
+  s.read ∙ ap (all_rows (map (row_in text) places.items)) (rows_end (length text - length places.items) number before) ∙ all_done (map (row_in text) places.items),
+)
 done text places (b ∷ rest) before number s none = absurd (omega (arith, none))
 
 -- whether anything is left

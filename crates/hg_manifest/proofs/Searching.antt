@@ -1,5 +1,5 @@
 -- A search among ascending rows.
-use Rattle.std.proofs.Common.{◌≡◌, ℕ, zero, suc, ◌+◌, ◌<◌, ◌≤◌, ◌⊎◌, inl, inr, Bool, true, false, List, [], ◌∷◌, length, map, get_or, Option, Some, None, Ordering, Less, Equal, Greater, nat_cmp, refl, sym, ap, ◌∙◌, subst, arith}
+use Rattle.std.proofs.Common.{◌≡◌, ℕ, zero, suc, ◌+◌, ◌<◌, ◌≤◌, inl, inr, true, false, List, [], ◌∷◌, length, map, get_or, Some, None, Ordering, Less, Equal, Greater, nat_cmp, refl, sym, ap, ◌∙◌, subst, arith}
 use Rattle.std.specs.Cmp.Lexicographic.{slice_cmp, nat_list_cmp_total}
 use Rattle.std.specs.Map.{keys_of, lookup}
 use Rattle.std.specs.Ordering.{is_eq, ordering_reverse}
@@ -128,11 +128,10 @@ pub place_found : (text : List ℕ) (places : List Place) (path at : List ℕ) (
     → at ≡ (row_in text (get_or places middle d)).0 → slice_cmp nat_cmp at path ≡ Equal → FindsAt text places path (Some middle)
 place_found text places path at low high middle d kept b to is cmp =
     let within = inside text places path low high middle b to in
-    let rows = map (row_in text) places in
-    (
+    let rows = map (row_in text) places in (
       get_or places middle d,
       slice_get-get_or places middle d within,
       within,
       found rows path middle (row_in text d) kept.ascending (omega (arith, within, length-map places (row_in text))) (compared text places path at middle d Equal within is cmp)
-      ∙ ap (λ (row : List ℕ × FileRow). Some row.1) (get_or-map (row_in text) places middle d (row_in text d) within),
+          ∙ ap (λ (row : List ℕ × FileRow). Some row.1) (get_or-map (row_in text) places middle d (row_in text d) within),
     )

@@ -1,12 +1,12 @@
 -- Manifests worked by hand: their rows, and the first fault of each.
-use Rattle.std.proofs.Common.{◌≡◌, ℕ, ◌++◌, Bool, true, false, List, [], ◌∷◌, Some, None, Result, Ok, Err, codes, replicate, refl}
+use Rattle.std.proofs.Common.{◌≡◌, ℕ, ◌++◌, Bool, true, false, List, [], ◌∷◌, None, Ok, Err, codes, replicate, refl}
 use Rattle.std.specs.Prelude.{⊤}
 use Rattle.std.specs.Char.{encode_utf8}
 use Rattle.std.specs.Str.{chars, is_utf8}
 use Rattle.hex.proofs.OnLiterals.{hex_on_literals}
-use Rattle.hg_manifest.specs.Line.{Ending, ending}
+use Rattle.hg_manifest.specs.Line.{ending}
 use Rattle.hg_manifest.specs.Plain.{plain_name}
-use Rattle.hg_manifest.specs.Rows.{Rows, manifest_of, rows_from}
+use Rattle.hg_manifest.specs.Rows.{manifest_of, rows_from}
 use Rattle.hg_manifest.specs.declared.fault.ManifestFault.TheVariants as a_fault
 use Rattle.hg_manifest.specs.declared.row.FileRow.{FileRow}
 

@@ -18,6 +18,7 @@ abbrev pub is_plain_from : Bool → List ℕ → Bool
 is_plain_from begins [] = not begins
 is_plain_from begins (b ∷ text) = is_plain_byte begins b && is_plain_from (b == 47) text
 
+-- what stands behind a line that has an identifier and an end
 abbrev pub rest_from : Option Id20 → Option Ending → Option (List ℕ)
 rest_from None end = None
 rest_from (Some id) None = None

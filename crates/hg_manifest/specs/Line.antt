@@ -1,7 +1,6 @@
 -- A line of a manifest: `path NUL id flag LF`.
-use Rattle.std.specs.Prelude.{ℕ, ◌+◌, if◌then◌else◌, Bool, true, false, ◌&&◌, List, [], ◌∷◌, take, drop, Option, Some, None, ◌==◌, Result, Ok, Err}
+use Rattle.std.specs.Prelude.{ℕ, if◌then◌else◌, Bool, true, false, ◌&&◌, List, [], ◌∷◌, take, drop, Option, Some, None, ◌==◌, Result, Ok, Err}
 use Rattle.std.specs.List.{before_first, after_first}
-use Rattle.std.specs.Option.{option_map}
 use Rattle.std.specs.Str.{is_utf8}
 use Rattle.hex.specs.Hex.{decode_sized}
 use Rattle.hex.specs.declared.error.FromHexError.{FromHexError}
@@ -26,6 +25,7 @@ abbrev pub after_end : List ℕ → Option (List ℕ)
 after_end [] = None
 after_end (b ∷ rest) = if b == 10 then Some rest else None
 
+-- an end with this flag, where an LF follows it
 abbrev pub flagged : Bool → Bool → Option (List ℕ) → Option Ending
 flagged exec link None = None
 flagged exec link (Some rest) = Some (record { exec = exec; link = link; rest = rest })
@@ -38,6 +38,7 @@ ending (b ∷ rest) =
     then flagged true false (after_end rest)
     else (if b == 108 then flagged false true (after_end rest) else flagged false false (after_end (b ∷ rest)))
 
+-- the identifier that was decoded, where digits were
 abbrev pub some_id : Result (List ℕ) FromHexError → Option Id20
 some_id (Ok bytes) = Some (record { 0 = bytes })
 some_id (Err fault) = None
@@ -50,6 +51,7 @@ id_of digits = some_id (decode_sized digits 20)
 abbrev pub is_file_path : List ℕ → Bool
 is_file_path text = is_utf8 text && is_path text
 
+-- the line of a path, an identifier and an end, where all are there
 abbrev pub line_from : List ℕ → Option Id20 → Option Ending → Option Line
 line_from path None end = None
 line_from path (Some id) None = None
@@ -59,6 +61,7 @@ line_from path (Some id) (Some end) = Some (record { path = path; file = record 
 abbrev pub line_behind : List ℕ → List ℕ → Option Line
 line_behind path behind = if is_file_path path then line_from path (id_of (take 40 behind)) (ending (drop 40 behind)) else None
 
+-- the byte is a NUL
 abbrev pub is_nul : ℕ → Bool
 is_nul b = b == 0
 

@@ -63,6 +63,7 @@ IsCounted before now (Err (a_fault.ManifestTooLarge size)) = now ≡ before
 IsCounted before now (Err (a_fault.ManifestLine line)) = now ≡ before
 IsCounted before now (Err (a_fault.ManifestOrder line)) = now ≡ before
 
+-- the manifest of a file that may be absent or too large
 abbrev pub file_manifest : Id20 → Option (List ℕ) → Result Rows ManifestFault
 file_manifest id None = Err (a_fault.NoManifest id)
 file_manifest id (Some bytes) = if nat_lt most (length bytes) then Err (a_fault.ManifestTooLarge (length bytes)) else manifest_of bytes

@@ -1,5 +1,5 @@
 -- The steps of a load.
-use Rattle.std.specs.Prelude.{ℕ, ◌≡◌, ◌≤◌, ◌<◌, List, length, Option, Some, None, Result, Ok, Err, IsTrue, Vec}
+use Rattle.std.specs.Prelude.{ℕ, ◌≡◌, ◌≤◌, ◌<◌, List, length, Some, None, Result, Ok, Err, IsTrue, Vec}
 use Rattle.std.specs.declared.alloc.Global.{Global}
 use Rattle.hg_base.specs.declared.id.Id20.{Id20}
 use Rattle.hg_shelf.specs.History.{History}

@@ -11,6 +11,7 @@ use Rattle.hg_manifest.specs.declared.row.FileRow.{FileRow}
 abbrev pub Rows : Type 0
 Rows = List (List ℕ × FileRow)
 
+-- a row in front of those behind it, where these have no fault
 abbrev pub with_row : List ℕ × FileRow → Result Rows ManifestFault → Result Rows ManifestFault
 with_row row (Ok rows) = Ok (row ∷ rows)
 with_row row (Err fault) = Err fault

@@ -160,7 +160,11 @@ fn behind_line(behind: &[u8]) -> Option<&[u8]>
         return None;
     }
     let (digits, end) = behind.split_at(40);
-    if are_digits(digits) { after_flag(end) } else { None }
+    if are_digits(digits) {
+        after_flag(end)
+    } else {
+        None
+    }
 }
 
 /// The line at the front of a text, where it has the form of one.

@@ -79,11 +79,7 @@ fn take_bytes<S: Shelf>(
 }
 
 // The manifest of a parent that isn't null.
-fn load_file<S: Shelf>(
-    alloc: Global,
-    shelf: &mut S,
-    id: &Id20,
-) -> Result<Manifest, ManifestFault>
+fn load_file<S: Shelf>(alloc: Global, shelf: &mut S, id: &Id20) -> Result<Manifest, ManifestFault>
     ensures passes { Passes (S.history shelf.old) (S.history shelf.new) }
     ensures found { Finds (S.history shelf.old) (S.history shelf.new) (plain_name id.now.0) id.now result }
     ensures cause { HasCause (S.faults shelf.old) (S.faults shelf.new) result (λ e. e ≡ a_fault.Failed) }

@@ -6,13 +6,18 @@ use std::alloc::Global;
 use std::test::Fail;
 
 const ID: Id20 = Id20([0x1f; 20]);
+
 const FILE: &str = "plain/m-1f1f1f1f1f1f1f1f1f1f1f1f1f1f1f1f1f1f1f1f";
+
 const NULL: Id20 = Id20([0; 20]);
 
 // The same identifier in lower case, in upper case, and one digit short.
 const LOWER: &[u8] = b"abcdef0123456789abcdef0123456789abcdef01";
+
 const UPPER: &[u8] = b"ABCDEF0123456789ABCDEF0123456789ABCDEF01";
+
 const SHORT: &[u8] = b"abcdef0123456789abcdef0123456789abcdef0";
+
 const NAMED: [u8; 20] = [
     0xab, 0xcd, 0xef, 0x01, 0x23, 0x45, 0x67, 0x89, 0xab, 0xcd, 0xef, 0x01, 0x23, 0x45, 0x67, 0x89,
     0xab, 0xcd, 0xef, 0x01,
@@ -56,7 +61,10 @@ fn refuses_the_first_bad_line(rt: HostRuntime) -> Result<(), Fail> {
         (&[(b"a", LOWER, b"X\n")], form(1)),
         (&[(b"a", LOWER, b"xl\n")], form(1)),
         (&[(b"a", LOWER, b"0\n")], form(1)),
-        (&[(b"a", b"gbcdef0123456789abcdef0123456789abcdef01", b"\n")], form(1)),
+        (
+            &[(b"a", b"gbcdef0123456789abcdef0123456789abcdef01", b"\n")],
+            form(1),
+        ),
         (&[(b"", LOWER, b"\n")], form(1)),
         (&[(b"a//b", LOWER, b"\n")], form(1)),
         (&[(b".hg/a", LOWER, b"\n")], form(1)),
@@ -109,7 +117,11 @@ fn gives_the_file_of_each_path(rt: HostRuntime) -> Result<(), Fail> {
     assert_eq!(rt; count(&manifest), 4);
     for (i, (path, exec, link)) in rows.into_iter().enumerate() {
         let file = FileRow { id, exec, link };
-        assert_eq!(rt; file_of(&manifest, PathRef::read(path)?), Some(file), "{path}");
+        assert_eq!(rt;
+            file_of(&manifest, PathRef::read(path)?),
+            Some(file),
+            "{path}"
+        );
         assert_eq!(rt; text_at(&manifest, i), Some((path, file)));
     }
     for path in ["a", "a/a", "b", "ö"] {
@@ -130,11 +142,17 @@ fn asks_the_shelf(rt: HostRuntime) -> Result<(), Fail> {
         (ID, Some(ManifestFault::Failed)),
         (ID, Some(gone)),
     ] {
-        assert_eq!(rt; fault_of(Manifest::load(rt.alloc(), &mut shelf, &id)), fault);
+        assert_eq!(rt;
+            fault_of(Manifest::load(rt.alloc(), &mut shelf, &id)),
+            fault
+        );
     }
     shelf.place(FILE, b"")?;
     for fault in [Some(ManifestFault::Failed), None] {
-        assert_eq!(rt; fault_of(Manifest::load(rt.alloc(), &mut shelf, &ID)), fault);
+        assert_eq!(rt;
+            fault_of(Manifest::load(rt.alloc(), &mut shelf, &ID)),
+            fault
+        );
     }
     Ok(())
 }
@@ -163,6 +181,9 @@ impl Shelf for Sized {
 fn refuses_what_is_too_large(rt: HostRuntime) -> Result<(), Fail> {
     let size = 67_108_865;
     let fault = ManifestFault::ManifestTooLarge { size };
-    assert_eq!(rt; fault_of(Manifest::load(rt.alloc(), &mut Sized(size), &ID)), Some(fault));
+    assert_eq!(rt;
+        fault_of(Manifest::load(rt.alloc(), &mut Sized(size), &ID)),
+        Some(fault)
+    );
     Ok(())
 }

@@ -1,4 +1,4 @@
-use Rattle.std.proofs.Common.{rules, refl, ◌+◌, arith}
+use Rattle.std.proofs.Common.{rules, refl, ◌+◌}
 use Rattle.std.proofs.lemmas.Result.{err_from_is_err_and}
 use Rattle.hg_manifest.proofs.Reading.{done, none_left, none_so_far, one_more, shorter, some_left, stops}
 use Rattle.hg_manifest.proofs.place.read_places.Goals as goal

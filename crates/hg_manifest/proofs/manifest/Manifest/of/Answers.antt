@@ -1,4 +1,3 @@
-use Rattle.hg_manifest.specs.Kept.{row_in}
 use Rattle.hg_manifest.proofs.Ascending.{ascending}
 use Rattle.hg_manifest.proofs.manifest.Manifest.of.Goals as goal
 
