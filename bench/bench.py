@@ -2,11 +2,12 @@
 """Times the built program against C loops that make the same system calls, and against other programs:
 python3 bench/bench.py [PROGRAM] [PART ..] [rhg=PROGRAM] [before=PROGRAM].
 
-PROGRAM is build/hgtrack where it isn't named. The parts are listing, tracked, peers, deep, opening, placing and editing; all where none is named. `rhg` is
+PROGRAM is build/hgtrack where it isn't named. The parts are listing, tracked, peers, deep, opening, placing, editing and manifests; all where none is named. `rhg` is
 Mercurial's program of that name, which is looked for in PATH otherwise, and `before` an earlier hgtrack, which is timed beside this one. Every time
 is the least of some runs, taken in turn with what it is compared with. The status is 0 exactly where each figure is within its limit.
 """
 
+import hashlib
 import os
 import shutil
 import subprocess
@@ -266,6 +267,23 @@ def editing(bench):
     bench.tell(f"dropping {MANY:,} paths one by one", both - sets, 1, " s")
 
 
+def manifests(bench):
+    """Loading a manifest: many rounds over one that is in memory already, less one round."""
+    program, loop, rounds = bench.build("manifests"), bench.compiled("manifests"), 41
+    paths = sorted(it.encode() for it in in_directories(MANY))
+    flags = (b"x", b"l") + 8 * (b"",)
+    text = b"".join(path + b"\0" + hashlib.sha1(path).hexdigest().encode() + flags[i % 10] + b"\n" for i, path in enumerate(paths))
+    given = f"{bench.room}/manifest"
+    with open(given, "wb") as file:
+        file.write(text)
+    ours = [([program, str(it)], bench.room, given) for it in (rounds, 1)]
+    theirs = [([loop, given, str(it)], bench.room) for it in (rounds, 1)]
+    (all_ours, _), (one_of_ours, _), (all_theirs, _), (one_of_theirs, _) = bench.least(*ours, *theirs)
+    own, other = (all_ours - one_of_ours) / (rounds - 1), (all_theirs - one_of_theirs) / (rounds - 1)
+    print(f"| loading a manifest of {len(paths):,} lines, {len(text):,} bytes | {own * 1000:.2f} ms, the C loop {other * 1000:.2f} ms | | |")
+    bench.tell("its time over the C loop's", own / other, 2.5)
+
+
 PARTS = {
     "listing": listing,
     "tracked": tracked,
@@ -274,6 +292,7 @@ PARTS = {
     "opening": opening,
     "placing": placing,
     "editing": editing,
+    "manifests": manifests,
 }
 
 
