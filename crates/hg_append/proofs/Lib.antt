@@ -1,0 +1,5 @@
+pub mod Names
+pub mod Sizes
+pub mod Snoc
+pub mod Steps
+pub mod Scratch

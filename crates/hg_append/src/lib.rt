@@ -1,0 +1,10 @@
+//! x
+#![tactic(auto)]
+
+mod encoding;
+mod fault;
+mod lists;
+mod sums;
+
+pub use encoding::{Encoded, Way, end_of, plan};
+pub use fault::EncodeFault;
