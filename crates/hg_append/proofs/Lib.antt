@@ -2,4 +2,5 @@ pub mod Names
 pub mod Sizes
 pub mod Snoc
 pub mod Steps
-pub mod Scratch
+pub mod Has
+pub mod Walked

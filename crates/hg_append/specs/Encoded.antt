@@ -12,7 +12,8 @@ use Rattle.hg_append.specs.declared.fault.EncodeFault.{EncodeFault}
 use Rattle.hg_append.specs.declared.fault.EncodeFault.TheVariants as a_fault
 use Rattle.hg_append.specs.Tree.{IsTreeOf, Tree, count_in, has_entry, has_source, heads}
 use Rattle.hg_append.specs.Layout.{list_start, put_of, size_of}
-use Rattle.hg_append.specs.Put.{kept}
+use Rattle.hg_append.specs.declared.lists.Put.{Put}
+use Rattle.hg_append.specs.Put.{AreSound, kept}
 
 -- what the docket of a table says that is written anew as a tree, under an identifier
 abbrev pub contents_of : Held → List ℕ → Tree → Contents
@@ -39,6 +40,35 @@ pub record IsWritten (held : Held) (e : Encoded) : Type 0 where
   pub bytes : e.bytes.items ≡ put_of 0 tree
   pub docket : e.docket.items ≡ docket.bytes_of (contents_of held e.id tree)
   pub small : size_of tree < 2 ^ 32
+
+-- and each node can be read back, and so can the docket
+pub record IsSoundly (held : Held) (e : Encoded) : Type 0 where
+  pub written : IsWritten held e
+  pub sound : AreSound written.tree
+  pub back : docket.ReadsAs e.docket.items (contents_of held e.id written.tree)
+
+-- the docket with what was put, and an end
+abbrev pub contents_with : Held → List ℕ → Put → ℕ → Contents
+contents_with held id put used =
+    record {
+      p1 = held.p1;
+      p2 = held.p2;
+      root_start = put.start;
+      root_count = put.sums.count;
+      entries = put.sums.entries;
+      copies = put.sums.copies;
+      unreachable = 0;
+      hash = held.hash;
+      used = used;
+      id = id;
+    }
+
+-- the numbers of a docket fit 32 bits
+pub record IsFit (put : Put) : Type 0 where
+  pub start : put.start < 2 ^ 32
+  pub count : put.sums.count < 2 ^ 32
+  pub entries : put.sums.entries < 2 ^ 32
+  pub copies : put.sums.copies < 2 ^ 32
 
 -- the nodes of a table take so many bytes, which are too many
 pub record IsTooLarge (held : Held) (told : ℕ) : Type 0 where

@@ -6,5 +6,5 @@ mod fault;
 mod lists;
 mod sums;
 
-pub use encoding::{Encoded, Way, end_of, plan};
+pub use encoding::{Encoded, Way, encode, end_of, plan};
 pub use fault::EncodeFault;
