@@ -258,7 +258,7 @@ tracked_counted = counted_as counts.is_tracked is_tracked (λ child r sound sour
 pub copies_counted : (at place : ℕ) (t : Tree) → AreSound t → count_by is_copy (rows_at at place t) ≡ count_in tree.has_source t
 copies_counted = counted_as is_copy tree.has_source (λ child r sound source fields. ap is_some source)
 
-has_by_entry : (f : Fields) (e : EntryData) → entry_of f ≡ Some e → has_entry f.flags ≡ true
+pub has_by_entry : (f : Fields) (e : EntryData) → entry_of f ≡ Some e → has_entry f.flags ≡ true
 has_by_entry f e h = told (has_entry f.flags) _ h
   where
     told : (t : Bool) (x : EntryData) → cond t (Some x) None ≡ Some e → t ≡ true
