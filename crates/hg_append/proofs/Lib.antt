@@ -5,3 +5,4 @@ pub mod Read
 pub mod Steps
 pub mod Has
 pub mod Walked
+pub mod Written
