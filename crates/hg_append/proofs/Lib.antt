@@ -1,4 +1,5 @@
 pub mod Names
+pub mod OneTree
 pub mod Sizes
 pub mod Snoc
 pub mod Read
