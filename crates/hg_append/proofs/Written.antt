@@ -1,5 +1,6 @@
 -- A table that was put whole is written, or too large.
-use Rattle.std.proofs.Common.{◌≡◌, ℕ, ◌+◌, ◌*◌, ◌<◌, ◌≤◌, ◌^◌, List, [], ◌++◌, length, Option, Some, None, refl, sym, ap, subst, ◌∙◌, arith, append-nil, min}
+use Rattle.std.proofs.Common.{◌≡◌, ℕ, ◌+◌, ◌*◌, ◌<◌, ◌≤◌, ◌^◌, List, [], ◌++◌, length, Option, Some, None, Result, Ok, Err, ◌⊎◌, inl, inr, true, true≢false, refl, sym, ap, subst, ◌∙◌, arith, append-nil, min}
+use Rattle.std.specs.Prelude.{IfErr, IfOk, is_some}
 use Rattle.hg_docket.specs.Docket.{Contents}
 use Rattle.hg_docket.specs.Number.{next_name}
 use Rattle.hg_docket.specs.Written as docket
@@ -11,7 +12,8 @@ use Rattle.hg_append.specs.declared.lists.Put.{Put}
 use Rattle.hg_append.specs.Tree.{IsTreeOf, Nothing, Node, Tree, count_in, has_entry, has_source, heads}
 use Rattle.hg_append.specs.Layout.{front_size, list_start, put_of, size_of}
 use Rattle.hg_append.specs.Put.{IsPut, kept}
-use Rattle.hg_append.specs.Encoded.{HasCause, IsFit, IsSoundly, IsTooLarge, contents_of, contents_with}
+use Rattle.hg_append.specs.Encoded.{HasCause, IsFit, IsSoundly, IsTooLarge, Yields, contents_of, contents_with}
+use Rattle.hg_append.proofs.OneTree.{one_tree}
 use Rattle.hg_append.proofs.Sizes.{counted_few, kept_back, size_is}
 
 -- the docket reads back
@@ -87,3 +89,22 @@ module _ (held : Held) (put : Put) (old new old_records new_records : List ℕ) 
         sound = p.sound;
         back = subst (docket.ReadsAs e.docket.items) same back;
       }
+
+-- what follows of each success
+pub ok_then : {E : Type 0} (P Q : Encoded → Type 0) → ((e : Encoded) → P e → Q e) → (r : Result Encoded E) → IfOk r P → IfOk r Q
+ok_then P Q f (Ok e) p = f e p
+ok_then P Q f (Err e) p = tt
+
+-- a size that is too great is told
+pub told_large : (held : Held) (r : Result Encoded EncodeFault) → IfOk r (IsSoundly held) → IfErr r (HasCause held)
+    → (tree : Tree) → IsTreeOf held None tree → 2 ^ 32 ≤ size_of tree → is_some (next_name held.docket.id) ≡ true → Yields (a_fault.TooLarge (kept (size_of tree))) r
+told_large held (Ok e) ok err tree is large next =
+    let same : tree ≡ ok.written.tree = one_tree held None tree ok.written.tree is ok.written.is in
+    let size : size_of tree ≡ size_of ok.written.tree = ap size_of same in
+    let small : size_of ok.written.tree < 2 ^ 32 = ok.written.small in
+    absurd (omega (arith, size, small, large))
+told_large held (Err a_fault.OutOfMemory) ok err tree is large next = inr refl
+told_large held (Err (a_fault.TooLarge size)) ok err tree is large next =
+    let same : err.tree ≡ tree = one_tree held None err.tree tree err.is is in
+    inl (ap a_fault.TooLarge (err.size ∙ ap (λ (t : Tree). kept (size_of t)) same))
+told_large held (Err a_fault.IdsSpent) ok err tree is large next = absurd (true≢false (sym next ∙ ap is_some err))

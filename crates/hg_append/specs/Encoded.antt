@@ -1,5 +1,5 @@
 -- What a table is encoded as.
-use Rattle.std.specs.Prelude.{ℕ, ◌≡◌, ◌<◌, ◌≤◌, ◌+◌, ◌^◌, if◌then◌else◌, nat_lt, List, length, Option, Some, None, Result, Ok, Err}
+use Rattle.std.specs.Prelude.{ℕ, ◌≡◌, ◌<◌, ◌≤◌, ◌+◌, ◌^◌, if◌then◌else◌, nat_lt, List, length, Option, Some, None, Result, Ok, Err, ◌⊎◌}
 use Rattle.hg_docket.specs.Docket.{Contents}
 use Rattle.hg_docket.specs.Number.{next_name}
 use Rattle.hg_docket.specs.Written as docket
@@ -83,6 +83,11 @@ abbrev pub HasCause : Held → EncodeFault → Type 0
 HasCause held a_fault.OutOfMemory = Unit {0}
 HasCause held (a_fault.TooLarge size) = IsTooLarge held size
 HasCause held a_fault.IdsSpent = next_name held.docket.id ≡ None
+
+-- this fault is answered, unless there is no memory
+abbrev pub Yields : {T : Type 0} → EncodeFault → Result T EncodeFault → Type 0
+Yields fault (Ok x) = ⊥
+Yields fault (Err e) = (e ≡ fault) ⊎ (e ≡ a_fault.OutOfMemory)
 
 -- a reading is a table that says the same
 pub record ReadsAs (t : Table) (read : Result Table RecordFault) : Type 0 where

@@ -1,6 +1,6 @@
 //! A table, written as a docket and a data file.
 
-ghost use Rattle.std.specs.Prelude.{◌≡◌, ◌<◌, ◌≤◌, ◌^◌, IfOk, IfErr, IfSome, is_some, true};
+ghost use Rattle.std.specs.Prelude.{◌≡◌, ◌<◌, ◌≤◌, ◌^◌, IfOk, IfErr, IfSome, None, is_some, true};
 ghost use Rattle.hg_docket.specs.Number.{next_name, number_of};
 ghost use Rattle.hg_docket.specs.Docket.{docket_of};
 ghost use Rattle.hg_docket.specs.Written as written;
@@ -9,10 +9,13 @@ ghost use Rattle.hg_image.specs.Reading.{reading_of};
 ghost use Rattle.hg_image.specs.Rows.{rows_of};
 ghost use Rattle.hg_mixed.specs.Edits.{IsFormed};
 ghost use Rattle.hg_mixed.specs.Held.{table};
-ghost use Rattle.hg_append.specs.Encoded.{HasCause, IsFit, IsSoundly, IsWritten, ReadsAs, contents_with, end_in};
+ghost use Rattle.hg_append.specs.Encoded.{HasCause, IsFit, IsSoundly, IsWritten, ReadsAs, Yields, contents_with, end_in};
+ghost use Rattle.hg_append.specs.Layout.{size_of};
+ghost use Rattle.hg_append.specs.Put.{kept};
+ghost use Rattle.hg_append.specs.Tree.{IsTreeOf, Tree};
 ghost use Rattle.hg_append.specs.Lost.{waste};
 ghost use Rattle.hg_append.specs.declared.encoding.Way.TheVariants as a_way;
-ghost use Rattle.hg_append.specs.declared.fault.EncodeFault.TheVariants.{TooLarge};
+ghost use Rattle.hg_append.specs.declared.fault.EncodeFault.TheVariants.{IdsSpent, TooLarge};
 
 use crate::fault::EncodeFault;
 use crate::lists::{LAST, Put, put_list};
@@ -157,11 +160,12 @@ pub fn encode(alloc: Global, mixed: &Mixed<'_>, way: Way) -> Result<Encoded, Enc
     ensures counted { IfOk result (λ e. is_counted (docket_of e.docket.items) (rows_of (docket_of e.docket.items) e.bytes.items) ≡ true) }
     // Something leads to each byte.
     ensures waste { IfOk result (λ e. waste (docket_of e.docket.items) (rows_of (docket_of e.docket.items) e.bytes.items) ≡ 0) }
-    // Each fault comes for its cause alone, and a success for none.
+    // Each fault comes for its cause alone. Where no identifier is left, that is told first, and else a size that is too great.
     ensures cause { IfErr result (λ e. HasCause mixed.now e) }
+    ensures ids_spent { next_name mixed.now.docket.id ≡ None → Yields IdsSpent result }
+    ensures too_large { (tree : Tree) → IsTreeOf mixed.now None tree → 2 ^ 32 ≤ size_of tree → is_some (next_name mixed.now.docket.id) ≡ true → Yields (TooLarge (kept (size_of tree))) result }
 {
     let _ = way;
     formed(mixed);
-    let encoded = write(alloc, mixed)?;
-    Ok(encoded)
+    write(alloc, mixed)
 }
