@@ -37,7 +37,7 @@ apart_at dir m a b stands later = (
 
 module _ (faults : List ℕ → ℕ → ℕ → Option NodeFault) (rows : ℕ → ℕ → List Row) (kids : Kids faults rows) (bytes : List ℕ) (dir : Option (List ℕ)) where
   -- the first of some nodes
-  parted : (before : Option (List ℕ)) (at n : ℕ) → 0 < n → nodes_fault faults bytes dir before at n ≡ None
+  pub parted : (before : Option (List ℕ)) (at n : ℕ) → 0 < n → nodes_fault faults bytes dir before at n ≡ None
       → AreParted (path_of bytes (record_at bytes at)) (rows (record_at bytes at).kids_start (record_at bytes at).kids_count) (nodes_rows rows bytes (at + 44) (n - 1))
   unfolding nodes_fault
   parted before at zero some h = absurd (omega arith)

@@ -1,8 +1,10 @@
 pub mod Adding
+pub mod Behind
 pub mod ChildrenOf
 pub mod Dropped
 pub mod Edited
 pub mod KidsOf
+pub mod LeftBefore
 pub mod Listed
 pub mod Planted
 pub mod Pruned

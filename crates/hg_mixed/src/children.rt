@@ -3,7 +3,8 @@
 ghost use Rattle.std.specs.Prelude.{◌≡◌, option_map};
 ghost use Rattle.hg_mixed.specs.Child.{shown_child};
 ghost use Rattle.hg_mixed.specs.Children.{AreChildren};
-ghost use Rattle.hg_mixed.specs.Kids.{Takes};
+ghost use Rattle.std.specs.String.{string_bytes};
+ghost use Rattle.hg_mixed.specs.Kids.{Looks, Takes, is_before};
 ghost use Rattle.hg_mixed.specs.Lists.{data_of, or_root};
 
 use crate::child::Child;
@@ -21,18 +22,22 @@ pub struct Children<'t> {
     nodes: &'t Nodes,
     times: &'t Times,
     kids: Kids<'t>,
+    // (so that not each child is looked for among the directories: none before this one has nodes, and none at all where it is none)
+    next: Option<&'t str>,
 }
 
 impl<'t> Model for Children<'t> {
     ghost use Rattle.std.specs.Prelude.{List};
     ghost use Rattle.hg_mixed.specs.Children.{ChildData};
+    ghost use Rattle.std.specs.Option.{option_map};
     ghost use Rattle.hg_mixed.specs.ChildOf.{AreAtPaths, children_of};
+    ghost use Rattle.hg_mixed.specs.Kids.{AreLeftBefore};
 
     ghost Value = { List ChildData };
 
     ghost view = { λ c. children_of c.nodes.now c.times.now c.kids };
 
-    ghost invariant = { λ c. AreAtPaths c.kids };
+    ghost invariant = { λ c. AreAtPaths c.kids × AreLeftBefore c.nodes.now (option_map (λ n. n.now) c.next) c.kids };
 }
 
 // The copy source of a node.
@@ -45,22 +50,47 @@ fn source_of(node: &Node) -> Option<PathRef<'_>>
     }
 }
 
+// Whether a path stands before the next directory that has nodes.
+fn is_before(next: Option<&str>, path: &str) -> bool
+    ensures { result ≡ is_before (option_map (λ n. n.now) next.entry) path.now }
+{
+    match next {
+        None => true,
+        Some(next) => path.cmp(next).is_lt(),
+    }
+}
+
+// Whether nodes stand in a directory, and the next one that has any; `next` is the one that was known.
+fn look<'t>(nodes: &'t Nodes, next: Option<&'t str>, dir: &String) -> (bool, Option<&'t str>)
+    ensures { Looks nodes.entry.now (option_map (λ n. n.now) next.entry) (string_bytes dir.now) result.0 (option_map (λ n. n.now) result.1) }
+{
+    if is_before(next, dir.as_str()) {
+        return (false, next);
+    }
+    (nodes.has_kids(dir.as_str()), nodes.behind(dir))
+}
+
 impl<'t> Children<'t> {
     /// The next child, if any is left.
     pub fn next(&mut self) -> Option<Child<'t>>
         ensures { Takes self.old self.new (option_map shown_child result) }
     {
-        match self.kids.next() {
+        match self.kids.next_held() {
             None => None,
-            Some((text, node)) => Some(Child {
-                path: PathRef { text },
-                entry: node.entry,
-                source: source_of(node),
-                cache: self.times.get(text),
-                has_kids: self.nodes.has_kids(text),
-                text_at: None,
-                source_at: None,
-            }),
+            Some((held, node)) => {
+                let (has_kids, next) = look(self.nodes, self.next, held);
+                self.next = next;
+                let text = held.as_str();
+                Some(Child {
+                    path: PathRef { text },
+                    entry: node.entry,
+                    source: source_of(node),
+                    cache: self.times.get(text),
+                    has_kids,
+                    text_at: None,
+                    source_at: None,
+                })
+            }
         }
     }
 }
@@ -84,6 +114,7 @@ impl Mixed<'_> {
             nodes: &self.nodes,
             times: &self.times,
             kids: self.nodes.kids(text_of(dir)),
+            next: Some(""),
         }
     }
 }

@@ -1,6 +1,7 @@
 //! The nodes of one directory, one after the other.
 
 ghost use Rattle.std.specs.Prelude.{◌≡◌, option_map};
+ghost use Rattle.std.specs.String.{string_bytes};
 ghost use Rattle.hg_mixed.specs.Kids.{Takes};
 ghost use Rattle.hg_mixed.specs.Lists.{data_of, rows_left};
 
@@ -25,15 +26,22 @@ impl<'t> Model for Kids<'t> {
 }
 
 impl<'t> Kids<'t> {
-    pub fn next(&mut self) -> Option<(&'t str, &'t Node)>
-        ensures { Takes self.old self.new (option_map (λ kid. (kid.0.now, data_of kid.1.now)) result) }
+    /// The next one, with its path as it is held.
+    pub fn next_held(&mut self) -> Option<(&'t String, &'t Node)>
+        ensures { Takes self.old self.new (option_map (λ kid. (string_bytes kid.0.now, data_of kid.1.now)) result) }
     {
         match &mut self.rest {
             None => None,
-            Some(rest) => match rest.next() {
-                None => None,
-                Some((path, node)) => Some((path.as_str(), node)),
-            },
+            Some(rest) => rest.next(),
+        }
+    }
+
+    pub fn next(&mut self) -> Option<(&'t str, &'t Node)>
+        ensures { Takes self.old self.new (option_map (λ kid. (kid.0.now, data_of kid.1.now)) result) }
+    {
+        match self.next_held() {
+            None => None,
+            Some((path, node)) => Some((path.as_str(), node)),
         }
     }
 }

@@ -3,12 +3,14 @@
 ghost use Rattle.std.specs.Prelude.{◌≡◌, Some, None, OnOk, OnErr, IsSome, option_map};
 ghost use Rattle.std.specs.BTreeMap.{get_by_text};
 ghost use Rattle.std.specs.String.{string_bytes};
+ghost use Rattle.hg_mixed.specs.Kids.{IsBehind};
 ghost use Rattle.hg_mixed.specs.Lists.{AreChanged, AreKept, AreListed, IsChanged, dir_text, has_rows_in, look, rows_of};
 
 use crate::node::Node;
 use hg_base::{OutOfMemory, PathRef};
 use std::alloc::Global;
 use std::collections::BTreeMap;
+use std::ops::Bound;
 
 /// The text of the directory in which a path stands, empty for the root.
 pub fn dir_text(path: PathRef<'_>) -> &str
@@ -136,6 +138,20 @@ pub fn has_kids(lists: &BTreeMap<String, BTreeMap<String, Node>>, dir: &str) -> 
     match lists.get(dir) {
         None => false,
         Some(list) => list.len() != 0,
+    }
+}
+
+/// The first directory behind one that has a list.
+pub fn behind<'t>(
+    lists: &'t BTreeMap<String, BTreeMap<String, Node>>,
+    dir: &String,
+) -> Option<&'t str>
+    requires { AreListed lists.now.entries }
+    ensures { IsBehind (rows_of lists.now.entries) (string_bytes dir.now) (option_map (λ d. d.now) result) }
+{
+    match lists.range((Bound::Excluded(dir), Bound::Unbounded)).next() {
+        None => None,
+        Some((dir, _)) => Some(dir.as_str()),
     }
 }
 

@@ -1,7 +1,8 @@
 //! All nodes of a table.
 
 ghost use Rattle.std.specs.Prelude.{◌≡◌, ℕ, true, List, Some, None, is_some, option_map, OnOk, OnErr};
-ghost use Rattle.hg_mixed.specs.Kids.{AreKids};
+ghost use Rattle.std.specs.String.{string_bytes};
+ghost use Rattle.hg_mixed.specs.Kids.{AreKids, IsBehind};
 ghost use Rattle.hg_mixed.specs.Lists.{data_of, has_rows_in};
 ghost use Rattle.hg_mixed.specs.Node.{AreSame, IsPut, node_at};
 
@@ -76,6 +77,13 @@ impl Nodes {
         ensures { result ≡ has_rows_in self.now dir.now }
     {
         lists::has_kids(&self.lists, dir)
+    }
+
+    /// The first directory behind one in which a node may stand: in none between them one does.
+    pub fn behind(&self, dir: &String) -> Option<&str>
+        ensures { IsBehind self.now (string_bytes dir.now) (option_map (λ d. d.now) result) }
+    {
+        lists::behind(&self.lists, dir)
     }
 
     /// The nodes that stand right in a directory, of which the text is empty for the root.

@@ -24,6 +24,10 @@ mod devices;
 #[cfg(test)]
 mod docket_faults;
 #[cfg(test)]
+mod edits;
+#[cfg(test)]
+mod encodings;
+#[cfg(test)]
 mod flat;
 #[cfg(test)]
 mod great_count;

@@ -1,0 +1,5 @@
+pub mod Tree
+pub mod Layout
+pub mod Put
+pub mod Encoded
+pub mod Lost

@@ -1,0 +1,233 @@
+//! How nodes are put into the bytes of a data file.
+
+ghost use Rattle.std.specs.Prelude.{◌≡◌, ◌≤◌, ◌<◌, ◌^◌, ◌+◌, ◌++◌, take, drop, length, IfOk, OnOk, Some, true, ℕ, List, option_map};
+ghost use Rattle.hg_node.specs.Node.{bytes_of};
+ghost use Rattle.hg_mixed.specs.Child.{shown_child};
+ghost use Rattle.hg_mixed.specs.Children.{IsChild};
+ghost use Rattle.std.specs.Str.{is_utf8};
+ghost use Rattle.hg_base.specs.PathText.{is_path, parent_of};
+ghost use Rattle.hg_append.specs.Layout as layout;
+ghost use Rattle.hg_append.specs.Put as puts;
+ghost use Rattle.hg_append.specs.Put.{AreFields, IsFew, IsPut, IsSound, Puts, rec_with};
+
+use crate::sums::{Sums, ended, none, with_node};
+use hg_base::{OutOfMemory, PathRef};
+use hg_entry::{Fields, dir_fields};
+use hg_mixed::{Child, Mixed};
+use hg_node::Rec;
+
+/// The last place that 32 bits can name.
+pub const LAST: u64 = 4_294_967_295;
+
+/// A list that was put: where its records begin, and its sums.
+#[derive(Clone, Copy)]
+pub struct Put {
+    pub start: u64,
+    pub sums: Sums,
+}
+
+// The numbers that are written for a node.
+fn fields(child: &Child<'_>) -> Fields
+    ensures { AreFields (shown_child child.now) result }
+{
+    match child.entry {
+        None => dir_fields(child.cache),
+        Some(entry) => entry.write(),
+    }
+}
+
+// The bytes of a path.
+fn path_bytes<'t>(path: PathRef<'t>) -> &'t [u8]
+    ensures bytes { result.now ≡ path.entry.text.now }
+    ensures path { is_path path.entry.text.now ≡ true }
+    ensures utf8 { is_utf8 path.entry.text.now ≡ true }
+{
+    path.text.as_bytes()
+}
+
+// The bytes of a copy source, nothing where there is none.
+fn source_bytes<'t>(source: Option<PathRef<'t>>) -> &'t [u8]
+    ensures bytes { result.now ≡ layout.source_text (option_map (λ s. s.text.now) source.entry) }
+    ensures sound { (text : List ℕ) → option_map (λ s. s.text.now) source.entry ≡ Some text → ((is_path text ≡ true) × (is_utf8 text ≡ true)) }
+{
+    match source {
+        None => &[],
+        Some(path) => path_bytes(path),
+    }
+}
+
+// The length of a path, which 16 bits can name.
+fn length(path: PathRef<'_>) -> u16
+    ensures { result ≡ length path.entry.text.now }
+{
+    path.text.len() as u16
+}
+
+fn source_length(source: Option<PathRef<'_>>) -> u16
+    ensures { result ≡ length (layout.source_text (option_map (λ s. s.text.now) source.entry)) }
+{
+    match source {
+        None => 0,
+        Some(path) => length(path),
+    }
+}
+
+// Where a copy source begins, where there is one.
+fn copy_start(source: Option<PathRef<'_>>, at: u64) -> u32
+    requires { at < 2 ^ 32 }
+    ensures { result ≡ layout.copy_start (option_map (λ s. s.text.now) source.entry) at }
+{
+    match source {
+        None => 0,
+        Some(_) => at as u32,
+    }
+}
+
+// The record of a node.
+fn rec_of(child: &Child<'_>, fields: Fields, base_at: usize, under: Put) -> Rec
+    requires fields { fields ≡ layout.fields_for (shown_child child.now).entry (shown_child child.now).cache }
+    requires few { IsFew under }
+    requires base { base_at ≤ length child.now.path.text.now }
+    requires inside { under.sums.end + length child.now.path.text.now < 2 ^ 32 }
+    ensures { result ≡ rec_with (shown_child child.now) base_at under }
+{
+    let path_len = length(child.path);
+    Rec {
+        place: 0,
+        path_start: under.sums.end as u32,
+        path_len,
+        base_at: base_at as u16,
+        copy_start: copy_start(child.source, under.sums.end + path_len as u64),
+        copy_len: source_length(child.source),
+        kids_start: under.start as u32,
+        kids_count: under.sums.count as u32,
+        entries_below: under.sums.entries as u32,
+        tracked_below: under.sums.tracked as u32,
+        flags: fields.flags,
+        size: fields.size,
+        seconds: fields.seconds,
+        nanos: fields.nanos,
+    }
+}
+
+// Keeps a record.
+fn keep(rec: Rec, records: &mut Vec<u8>) -> Result<(), OutOfMemory>
+    ensures { OnOk result (records.new.items ≡ records.old.items ++ bytes_of rec) }
+{
+    records.extend_from_slice(&rec.write())?;
+    Ok(())
+}
+
+// Puts the texts of a node, and keeps its record. Where they would end behind the last place, it only counts.
+fn put_node(
+    child: &Child<'_>,
+    base_at: usize,
+    under: Put,
+    sums: Sums,
+    bytes: &mut Vec<u8>,
+    records: &mut Vec<u8>,
+) -> Result<Sums, OutOfMemory>
+    requires few { IsFew under }
+    requires base { base_at ≤ length child.now.path.text.now }
+    ensures sums { IfOk result (λ s. s ≡ puts.with_node (shown_child child.now) under.sums sums) }
+    ensures sound { IsSound (shown_child child.now) }
+    ensures bytes { IfOk result (λ s. Puts s.end ((shown_child child.now).path ++ layout.source_text (shown_child child.now).source) bytes.old.items bytes.new.items) }
+    ensures records { IfOk result (λ s. Puts s.end (bytes_of (rec_with (shown_child child.now) base_at under)) records.old.items records.new.items) }
+{
+    let path = path_bytes(child.path);
+    let source = source_bytes(child.source);
+    let fields = fields(child);
+    let sums = with_node(child, under.sums, sums);
+    if sums.end > LAST {
+        return Ok(sums);
+    }
+    bytes.extend_from_slice(path)?;
+    bytes.extend_from_slice(source)?;
+    keep(rec_of(child, fields, base_at, under), records)?;
+    Ok(sums)
+}
+
+// Where the records of a list begin.
+fn start_of(sums: Sums) -> u64
+    ensures { result ≡ puts.start_with sums }
+{
+    if sums.count == 0 { 0 } else { sums.end }
+}
+
+// Puts the records of a list, which were kept from one on.
+fn put_records(
+    sums: Sums,
+    from: usize,
+    bytes: &mut Vec<u8>,
+    records: &mut Vec<u8>,
+) -> Result<Put, OutOfMemory>
+    requires { (puts.ended sums).end < 2 ^ 32 → from ≤ length records.old.items }
+    ensures sums { IfOk result (λ p. p.sums ≡ puts.ended sums) }
+    ensures start { IfOk result (λ p. p.start ≡ puts.start_with sums) }
+    ensures bytes { IfOk result (λ p. Puts p.sums.end (drop from records.old.items) bytes.old.items bytes.new.items) }
+    ensures records { IfOk result (λ p. p.sums.end < 2 ^ 32 → records.new.items ≡ take from records.old.items) }
+{
+    let start = start_of(sums);
+    let sums = ended(sums);
+    if sums.end > LAST {
+        return Ok(Put { start, sums });
+    }
+    bytes.extend_from_slice(records.as_slice().split_at(from).1)?;
+    records.truncate(from);
+    Ok(Put { start, sums })
+}
+
+// Where the last component of what stands in a directory begins.
+fn base_at(dir: Option<PathRef<'_>>) -> usize
+    ensures { result ≡ puts.base_in (option_map (λ d. d.text.now) dir.entry) }
+{
+    match dir {
+        None => 0,
+        Some(dir) => dir.text.len() + 1,
+    }
+}
+
+// Puts the list of a node's children at a place, where it has any.
+#[cycle(putting)]
+fn put_below(
+    mixed: &Mixed<'_>,
+    child: &Child<'_>,
+    at: u64,
+    bytes: &mut Vec<u8>,
+    records: &mut Vec<u8>,
+) -> Result<Put, OutOfMemory>
+    requires { IsChild mixed.now (parent_of child.now.path.text.now) (shown_child child.now) }
+    ensures { IfOk result (λ p. IsPut mixed.now (Some child.now.path.text.now) at p bytes.old.items bytes.new.items records.old.items records.new.items) }
+{
+    if !child.has_kids {
+        return Ok(Put {
+            start: 0,
+            sums: none(at),
+        });
+    }
+    put_list(mixed, Some(child.path), at, bytes, records)
+}
+
+/// Puts the list of a directory's children at a place, none for the root, with all that stands below; `records` keeps the records of lists
+/// that aren't done.
+#[cycle(putting)]
+pub fn put_list(
+    mixed: &Mixed<'_>,
+    dir: Option<PathRef<'_>>,
+    at: u64,
+    bytes: &mut Vec<u8>,
+    records: &mut Vec<u8>,
+) -> Result<Put, OutOfMemory>
+    ensures { IfOk result (λ p. IsPut mixed.now (option_map (λ d. d.text.now) dir.entry) at p bytes.old.items bytes.new.items records.old.items records.new.items) }
+{
+    let from = records.as_slice().len();
+    let base_at = base_at(dir);
+    let mut sums = none(at);
+    let mut children = mixed.children(dir);
+    while let Some(child) = children.next() {
+        let under = put_below(mixed, &child, sums.end, bytes, records)?;
+        sums = put_node(&child, base_at, under, sums, bytes, records)?;
+    }
+    let put = put_records(sums, from, bytes, records)?;
+    Ok(put)
+}
