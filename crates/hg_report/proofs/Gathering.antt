@@ -70,7 +70,7 @@ module _ (held : Held) where
   weaker s t goes (row ∷ rows) all = ((goes (path_of row) all.0.1 all.0.0, all.0.1, all.0.2), weaker s t goes rows all.1)
 
   -- what is among the rows passes the test
-  passes : (s : List ℕ → Bool) (rows : List Child) → AllByRecursion (Sound s) rows → (p : List ℕ) → list_any (bytes_eq p) (paths_of rows) ≡ true → s p ≡ true
+  pub passes : (s : List ℕ → Bool) (rows : List Child) → AllByRecursion (Sound s) rows → (p : List ℕ) → list_any (bytes_eq p) (paths_of rows) ≡ true → s p ≡ true
   passes s [] all p is = absurd (true≢false (sym is))
   passes s (row ∷ rows) all p is = elim (or_cases (bytes_eq p (path_of row)) (list_any (bytes_eq p) (paths_of rows)) is) [
     | inl here ↦ ap s (same_bytes p (path_of row) here) ∙ all.0.0
@@ -161,16 +161,16 @@ module _ (held : Held) where
         let through = path_through p in (
           through.0,
           parent_joined None through.0 through.1,
-          elim through.2 [ | inl e ↦ sym (ap (table held).nodes e) ∙ node | inr below ↦ formed.rooted through.0 p below node ],
-          elim through.2 [ | inl e ↦ ap (is_within through.0) e ∙ within_itself through.0 | inr below ↦ within_below through.0 p below ],
+          elim through.2 [ inl e ↦ sym (ap (table held).nodes e) ∙ node | inr below ↦ formed.rooted through.0 p below node ],
+          elim through.2 [ inl e ↦ ap (is_within through.0) e ∙ within_itself through.0 | inr below ↦ within_below through.0 p below ],
         )
     at_kid (Some dir) p above node =
         let through = below_through dir p above in
         let kid : List ℕ = joined (Some dir) through.0 in (
           kid,
           parent_joined (Some dir) through.0 through.1,
-          elim through.2 [ | inl e ↦ sym (ap (table held).nodes e) ∙ node | inr below ↦ formed.rooted kid p below node ],
-          elim through.2 [ | inl e ↦ ap (is_within kid) e ∙ within_itself kid | inr below ↦ within_below kid p below ],
+          elim through.2 [ inl e ↦ sym (ap (table held).nodes e) ∙ node | inr below ↦ formed.rooted kid p below node ],
+          elim through.2 [ inl e ↦ ap (is_within kid) e ∙ within_itself kid | inr below ↦ within_below kid p below ],
         )
 
     -- nothing is recorded below a path without children
@@ -300,10 +300,10 @@ module _ (held : Held) where
             let up : AllByRecursion (λ y. slice_cmp nat_cmp c.path y ≡ Less) (map (λ x. x.path) rest) = sorted_head (slice_cmp nat_cmp) c.path (map (λ x. x.path) rest) here.sorted in
             let within : AreGathered held (is_within c.path) (mine ++ below.0) =
             gathered_both (own_test child) (is_below c.path) (is_within c.path) mine below.0 (gathered_own child (shows_child dir child here.each.0)) below.2
-                (λ p at under. let same = same_bytes p c.path at in both_ways (is_below c.path c.path) (below_itself_not c.path) (sym (ap (is_below c.path) same) ∙ under))
-                (λ p there at. or_left (bytes_eq p c.path) (is_below c.path p) at)
-                (λ p there under. or_right (bytes_eq p c.path) (is_below c.path p) under)
-                (λ p there at. or_cases (bytes_eq p c.path) (is_below c.path p) at) in
+            (λ p at under. let same = same_bytes p c.path at in both_ways (is_below c.path c.path) (below_itself_not c.path) (sym (ap (is_below c.path) same) ∙ under))
+            (λ p there at. or_left (bytes_eq p c.path) (is_below c.path p) at)
+            (λ p there under. or_right (bytes_eq p c.path) (is_below c.path p) under)
+            (λ p there at. or_cases (bytes_eq p c.path) (is_below c.path p) at) in
             record {
               sorted = sorted_tail (slice_cmp nat_cmp) c.path (map (λ x. x.path) rest) here.sorted;
               each = here.each.1;

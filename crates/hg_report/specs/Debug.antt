@@ -37,7 +37,7 @@ doubt_text ambiguous = if ambiguous then codes "~" else []
 
 -- a time: its seconds, a point and its nanoseconds
 abbrev pub stamp_text : StampData → List ℕ
-stamp_text s = decimal s.seconds ++ 46 ∷ nine_digits s.nanos ++ doubt_text s.ambiguous
+stamp_text s = decimal s.seconds ++ 46 ∷ (nine_digits s.nanos ++ doubt_text s.ambiguous)
 
 abbrev pub time_text : Option StampData → List ℕ
 time_text None = codes "-"

@@ -38,4 +38,4 @@ add_children-loop-child-preserved t c =
 
 pub add_children-returns : goal.add_children-returns
 add_children-returns t c =
-    left_done c.args.mixed.now c.requires (option_map (λ d. d.text.now) c.args.dir) c.loop-child.children c.args.rows.now.items c.loop-child.rows.items ? c.loop-child.invariant
+    left_done c.args.mixed.now c.requires (option_map (λ d. d.text.now) c.args.dir) c.loop-child.children c.args.rows.now.items c.loop-child.rows.items c.in_default.ensures.0 c.loop-child.invariant
