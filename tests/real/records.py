@@ -85,7 +85,8 @@ MODES = {"lnk": "l", "755": "x", "644": "f"}
 
 
 def ours(text):
-    """The parents, the entries and the copies that this program prints; the times in whole seconds, and apart from them the whole times."""
+    """The parents, the entries and the copies that this program prints; the times in whole seconds, and apart from them the whole times.
+    A time that may be that of several contents is left out, as Mercurial shows it as unset."""
     parents, entries, copies, times = [], [], [], {}
     for line in text.decode().splitlines():
         if line[:3] in ("p1 ", "p2 "):
@@ -98,7 +99,8 @@ def ours(text):
                 return line
             if it["time"] != "-":
                 times[it["path"]] = it["time"]
-            entries.append((it["state"], it["mode"], it["size"], it["time"].split(".")[0], it["path"]))
+            at = "-" if it["time"].endswith("~") else it["time"].split(".")[0]
+            entries.append((it["state"], it["mode"], it["size"], at, it["path"]))
     return parents, entries, sorted(copies), times
 
 
