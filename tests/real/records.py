@@ -7,7 +7,8 @@ import re
 import shutil
 import time
 
-from folder import lay_out, put
+from dirstate import written
+from folder import lay_out, lines, put, put_record
 from mercurial import hg, is_v2
 
 NULL = "0" * 40
@@ -156,7 +157,19 @@ def run_case(tests, what, steps):
     return timed
 
 
+def run_written(tests):
+    """Records that no `hg` is needed for: the deepest path, and many."""
+    deep = b"/".join([b"a"] * 2_048)
+    many = sorted(b"d%03d/e%d/f%02d.c" % (i, j, k) for i in range(40) for j in range(5) for k in range(50))
+    for what, paths in (("the deepest path", [deep]), ("10,000 files", many)):
+        with tests.working_copy() as root:
+            put_record(root, *written(paths))
+            wanted = lines(f"p1 {NULL}", f"p2 {NULL}") + b"".join(b"a - - - %s\n" % it for it in paths)
+            tests.check(f"record: {what}", root, wanted, b"", ["debugdirstate"])
+
+
 def run(tests):
+    run_written(tests)
     if shutil.which("hg") is None:
         tests.skip("the command hg is not installed, so no record of Mercurial's own was read")
         return
