@@ -26,7 +26,7 @@ def shelf(name, reason="permission denied"):
 # words that are not built yet
 WORDS = [
     [], ["stat"], ["status", "x"], ["status", ""], ["status", "-m"], ["status", "--"], ["--", "status"], [""], ["Status"], ["status "],
-    ["add", "a"], ["debugdirstate"], ["help"], ["-h"], ["-V"], ["--help", "status"], ["status", "--help"], ["--version", "--version"],
+    ["add", "a"], ["debugdirstate", "--all"], ["debugstate"], ["help"], ["-h"], ["-V"], ["--help", "status"], ["status", "--help"], ["--version", "--version"],
     [b"\xff"], [b"status", b"\xff"], ["s" * 100_000],
 ]
 
@@ -69,9 +69,9 @@ def run_words(tests):
     with tests.working_copy() as root:
         put_record(root, b"damaged")
         tests.check("words before the docket", root, b"", NOT_BUILT, ["stat"])
-        for word, begins in (("--help", b"Usage: hgtrack status"), ("--version", b"hgtrack ")):
+        for word, begins in (("--help", (b"Usage: hgtrack status", b" hgtrack debugdirstate ")), ("--version", (b"hgtrack ",))):
             status, out, err = tests.run(root, [word])
-            good = begins in out and out.endswith(b"\n")
+            good = all(it in out for it in begins) and out.endswith(b"\n")
             tests.compare(word, (status, good, err), (0, True, b""))
 
 
@@ -79,7 +79,7 @@ def run_streams(tests):
     with tests.working_copy() as root:
         lay_out(root, ["a", "b"])
         put_record(root, GOOD, DATA)
-        for what, words, status, line in (("status", ["status"], 255, OUT), ("help", ["--help"], 255, OUT), ("version", ["--version"], 255, OUT)):
+        for what, words, status, line in (("status", ["status"], 255, OUT), ("debugdirstate", ["debugdirstate"], 255, OUT), ("help", ["--help"], 255, OUT), ("version", ["--version"], 255, OUT)):
             with open("/dev/full", "wb") as full:
                 at = tests.run(root, words, stdout=full)
             tests.compare(f"{what}: output to a full device", (at[0], at[2]), (status, line))

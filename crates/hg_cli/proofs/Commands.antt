@@ -35,17 +35,17 @@ use Rattle.hg_tree.specs.Still.{Untouched}
 use Rattle.hg_tree.proofs.Spans.{now_same, ours_first, ours_second, ours_unstepped}
 use Rattle.hg_tree.proofs.Stillness.{alike_between, ours_untouched, untouched_second}
 use Rattle.hg_cli.specs.Call.{Call, Fails, Looked, Serves, Watched}
-use Rattle.hg_cli.specs.Command.{CommandCause, IsBegunFor, IsExpected, IsFaultOrMemory, IsPrintedFor, LeavesFront, LeavesOut, MetBefore, Prints, Ran, is_status, plain_style}
+use Rattle.hg_cli.specs.Command.{CommandCause, IsBegunFor, IsExpected, IsFaultOrMemory, IsPrintedFor, LeavesFront, LeavesOut, MetBefore, Prints, RanStatus, is_status, plain_style}
 use Rattle.hg_cli.specs.Listed.{IgnoreCause, IgnoreSeen, IsListable, IsListed, IsListedFor, IsOwn, IsRecorded, IsUntouched, LedTo, ListingCause, LoadCause, LoadMet, has_ignore_file, is_file_kind, shows_file}
 use Rattle.hg_cli.specs.Load.{id_in, of_load, record_in}
-use Rattle.hg_cli.specs.Loaded.{Answers, Loads, Try}
+use Rattle.hg_cli.specs.Loaded.{Answers, IsFlatOf, Loads, Try}
 use Rattle.hg_cli.specs.declared.load_fault.LoadFault.{LoadFault}
 use Rattle.hg_cli.specs.declared.load_fault.LoadFault.TheVariants as a_load
 use Rattle.hg_cli.proofs.Loads.{unstepped_found, unstepped_loads}
 
 -- ---- the load
 
-pub recorded_by : (old new : shelf.History) (tries : List Try) (flat : Flat) → Loads old new tries (Ok flat) → IsRecorded old new (flat_in flat)
+pub recorded_by : (old new : shelf.History) (tries : List Try) (flat : Flat) → Loads IsFlatOf old new tries (Ok flat) → IsRecorded old new (flat_in flat)
 recorded_by old new tries flat loads = record {
   tries = tries;
   tried = loads.tried;
@@ -54,7 +54,7 @@ recorded_by old new tries flat loads = record {
   flat_is = sym loads.answer.2.flat;
 }
 
-pub load_cause : (files : Watched shelf.History) (fault : LoadFault) → (IsTrue files.old.told → (tries : List Try) × Loads files.old files.new tries (Err fault)) → (fault ≡ a_load.Failed → Fails files) → LoadCause files (of_load fault)
+pub load_cause : (files : Watched shelf.History) (fault : LoadFault) → (IsTrue files.old.told → (tries : List Try) × Loads IsFlatOf files.old files.new tries (Err fault)) → (fault ≡ a_load.Failed → Fails files) → LoadCause files (of_load fault)
 load_cause files a_load.OutOfMemory met failed = tt
 load_cause files (a_load.Docket fault) met failed = met
 load_cause files (a_load.Node fault) met failed = met
@@ -192,8 +192,8 @@ module _ (call : Call) (copy : tree.Passes call.looked.tree.old call.looked.tree
       (l.1.table, recorded_now call.looked.shelf.old call.looked.shelf.new l.0 files.past still_shelf l.1, subst P (sym l.1.flat_is) l.2)
 
   met_now : (fault : LoadFault) → LoadMet fault call.looked.shelf
-      → (tries : List Try) × Answers (Err fault) (map (λ tried. id_in (shelf.now call.looked.shelf.old).files) tries) (record_in (shelf.now call.looked.shelf.old).files (shelf.now call.looked.shelf.old).files)
-  met_now fault met = let m = met own.shelf.told in (m.0, unstepped_loads call.looked.shelf.old call.looked.shelf.new m.0 (Err fault) files.past still_shelf m.1)
+      → (tries : List Try) × Answers IsFlatOf (Err fault) (map (λ tried. id_in (shelf.now call.looked.shelf.old).files) tries) (record_in (shelf.now call.looked.shelf.old).files (shelf.now call.looked.shelf.old).files)
+  met_now fault met = let m = met own.shelf.told in (m.0, unstepped_loads IsFlatOf call.looked.shelf.old call.looked.shelf.new m.0 (Err fault) files.past still_shelf m.1)
 
   all_same : (id : List ℕ) (tries : List Try) → AllByRecursion (λ other. other ≡ id) (map (λ tried. id) tries)
   all_same id [] = tt
@@ -259,7 +259,7 @@ front_left call fault copy files own (inr (printing, begun)) =
 
 -- ---- a run
 
-answered_by : (P : Option Fault → Type 0) (answered : Option Fault) (fault : Fault) → IsFaultOrMemory answered fault → P (Some fault) → P (Some a_fault.OutOfMemory) → P answered
+pub answered_by : (P : Option Fault → Type 0) (answered : Option Fault) (fault : Fault) → IsFaultOrMemory answered fault → P (Some fault) → P (Some a_fault.OutOfMemory) → P answered
 answered_by P answered fault (inl same) here memory = subst P (sym same) here
 answered_by P answered fault (inr none) here memory = subst P (sym none) memory
 
@@ -270,7 +270,7 @@ not_without answered fault (inr memory) none = absurd (cc (memory, none))
 is_built : (call : Call) (u : Unit) → Prints call (Ok u) → is_status call.words ≡ true
 is_built call u prints = elim (cases_Bool (is_status call.words)) [ inl built ↦ built | inr other ↦ let never = prints.words other in absurd (cc (never)) ]
 
-pub ran_ok : (call : Call) (u : Unit) → Prints call (Ok u) → Ran call None
+pub ran_ok : (call : Call) (u : Unit) → Prints call (Ok u) → RanStatus call None
 ran_ok call u prints = record {
   still = λ none. prints.still;
   listed = λ none own. record {
@@ -290,7 +290,7 @@ ran_ok call u prints = record {
   front = λ own. tt;
 }
 
-pub ran_err : (call : Call) (fault : Fault) (answered : Option Fault) → Prints call (Err fault) → IsFaultOrMemory answered fault → Ran call answered
+pub ran_err : (call : Call) (fault : Fault) (answered : Option Fault) → Prints call (Err fault) → IsFaultOrMemory answered fault → RanStatus call answered
 ran_err call fault answered prints is = record {
   still = λ none. not_without answered fault is none;
   listed = λ none. not_without answered fault is none;

@@ -9,7 +9,6 @@ use Rattle.hg_base.specs.declared.stat.Got.TheVariants as a_got
 use Rattle.hg_docket.specs.Docket.{Contents, docket_of, docket_refusal}
 use Rattle.hg_docket.specs.declared.fault.DocketFault.{DocketFault}
 use Rattle.hg_entry.specs.Table.{Table}
-use Rattle.hg_flat.specs.declared.flat.Flat.{Flat}
 use Rattle.hg_image.specs.Reading.{RecordFault, data_reading, docket_reading, of_data, reading_of, sound_reading, table_of}
 use Rattle.hg_image.specs.Reading as a_record_fault
 use Rattle.hg_image.specs.Rows.{list_rows, rows_of}
@@ -199,13 +198,13 @@ used old new d id result some same finds = record {
 -- ---- the nodes
 
 -- an answer that says nothing of the shelf, behind a call in which its count stood still
-pub cause_still : (before now : ℕ) (result : Result Flat LoadFault) (found : Result Table NodeFault) → now ≡ before → NodesFind result found → HasCause before now result (λ e. e ≡ a_fault.Failed)
-cause_still before now (Ok flat) found still finds = record { later = omega (arith, still); quiet = still; rose = tt }
-cause_still before now (Err a_fault.OutOfMemory) found still finds = record { later = omega (arith, still); quiet = tt; rose = λ failed. absurd (cc (failed)) }
-cause_still before now (Err (a_fault.Node fault)) found still finds = record { later = omega (arith, still); quiet = tt; rose = λ failed. absurd (cc (failed)) }
-cause_still before now (Err (a_fault.Docket fault)) found still finds = absurd finds
-cause_still before now (Err (a_fault.DataGone ids)) found still finds = absurd finds
-cause_still before now (Err a_fault.Failed) found still finds = absurd finds
+pub cause_still : {X : Type 0} (IsOf : Table → X → Type 0) (before now : ℕ) (result : Result X LoadFault) (found : Result Table NodeFault) → now ≡ before → NodesFind IsOf result found → HasCause before now result (λ e. e ≡ a_fault.Failed)
+cause_still IsOf before now (Ok flat) found still finds = record { later = omega (arith, still); quiet = still; rose = tt }
+cause_still IsOf before now (Err a_fault.OutOfMemory) found still finds = record { later = omega (arith, still); quiet = tt; rose = λ failed. absurd (cc (failed)) }
+cause_still IsOf before now (Err (a_fault.Node fault)) found still finds = record { later = omega (arith, still); quiet = tt; rose = λ failed. absurd (cc (failed)) }
+cause_still IsOf before now (Err (a_fault.Docket fault)) found still finds = absurd finds
+cause_still IsOf before now (Err (a_fault.DataGone ids)) found still finds = absurd finds
+cause_still IsOf before now (Err a_fault.Failed) found still finds = absurd finds
 
 -- ---- by the docket's bytes
 
@@ -222,91 +221,91 @@ unfolding by_refusal
 named_sound bytes files d sound is = ap (by_refusal bytes files) sound ∙ ap (λ (c : Contents). option_map (λ nodes. of_data (data_reading c nodes)) (data_in c files)) (sym is)
 
 -- a docket with a fault
-pub named_fault : (h : History) (bytes : List ℕ) (fault : DocketFault) → docket_refusal bytes ≡ Some fault → NamedFinds h h bytes (Err (a_fault.Docket fault))
-named_fault h bytes fault is = record {
+pub named_fault : {X : Type 0} (IsOf : Table → X → Type 0) (h : History) (bytes : List ℕ) (fault : DocketFault) → docket_refusal bytes ≡ Some fault → NamedFinds IsOf h h bytes (Err (a_fault.Docket fault))
+named_fault IsOf h bytes fault is = record {
   at = h.last;
   file = record { from = omega arith; to = omega arith };
   answer = named_refused bytes (files_at h h.last) fault is;
 }
 
-unread_by : (d : Contents) (fault : LoadFault) (file : Option (List ℕ)) → IsUnread d.id fault file → Answers (Err fault) (d.id ∷ []) (option_map (λ nodes. of_data (data_reading d nodes)) file)
-unread_by d a_fault.OutOfMemory file unread = tt
-unread_by d a_fault.Failed file unread = tt
-unread_by d (a_fault.DataGone ids) file unread = (ap (option_map (λ (nodes : List ℕ). of_data (data_reading d nodes))) unread.1, unread.0)
-unread_by d (a_fault.Docket fault) file unread = absurd unread
-unread_by d (a_fault.Node fault) file unread = absurd unread
+unread_by : {X : Type 0} (IsOf : Table → X → Type 0) (d : Contents) (fault : LoadFault) (file : Option (List ℕ)) → IsUnread d.id fault file → Answers IsOf (Err fault) (d.id ∷ []) (option_map (λ nodes. of_data (data_reading d nodes)) file)
+unread_by IsOf d a_fault.OutOfMemory file unread = tt
+unread_by IsOf d a_fault.Failed file unread = tt
+unread_by IsOf d (a_fault.DataGone ids) file unread = (ap (option_map (λ (nodes : List ℕ). of_data (data_reading d nodes))) unread.1, unread.0)
+unread_by IsOf d (a_fault.Docket fault) file unread = absurd unread
+unread_by IsOf d (a_fault.Node fault) file unread = absurd unread
 
-read_by_nodes : (result : Result Flat LoadFault) (ids : List (List ℕ)) (found : Result Table NodeFault) → NodesFind result found → Answers result ids (Some (of_data found))
-read_by_nodes (Ok flat) ids found finds = (finds.0, ap (λ (r : Result Table NodeFault). Some (of_data r)) finds.1, finds.2)
-read_by_nodes (Err (a_fault.Node fault)) ids found finds = ap (λ (r : Result Table NodeFault). Some (of_data r)) finds
-read_by_nodes (Err a_fault.OutOfMemory) ids found finds = tt
-read_by_nodes (Err (a_fault.Docket fault)) ids found finds = absurd finds
-read_by_nodes (Err (a_fault.DataGone gone)) ids found finds = absurd finds
-read_by_nodes (Err a_fault.Failed) ids found finds = absurd finds
+read_by_nodes : {X : Type 0} (IsOf : Table → X → Type 0) (result : Result X LoadFault) (ids : List (List ℕ)) (found : Result Table NodeFault) → NodesFind IsOf result found → Answers IsOf result ids (Some (of_data found))
+read_by_nodes IsOf (Ok flat) ids found finds = (finds.0, ap (λ (r : Result Table NodeFault). Some (of_data r)) finds.1, finds.2)
+read_by_nodes IsOf (Err (a_fault.Node fault)) ids found finds = ap (λ (r : Result Table NodeFault). Some (of_data r)) finds
+read_by_nodes IsOf (Err a_fault.OutOfMemory) ids found finds = tt
+read_by_nodes IsOf (Err (a_fault.Docket fault)) ids found finds = absurd finds
+read_by_nodes IsOf (Err (a_fault.DataGone gone)) ids found finds = absurd finds
+read_by_nodes IsOf (Err a_fault.Failed) ids found finds = absurd finds
 
-read_of : (d : Contents) (nodes : List ℕ) (file : Option (List ℕ)) (result : Result Flat LoadFault) → DataFinds d (Ok nodes) file → NodesFind result (data_reading d nodes)
-    → Answers result (d.id ∷ []) (option_map (λ nodes. of_data (data_reading d nodes)) file)
-read_of d nodes None result finds found = absurd finds
-read_of d nodes (Some bytes) result finds found = read_by_nodes result (d.id ∷ []) (data_reading d bytes) (subst (NodesFind result) finds found)
+read_of : {X : Type 0} (IsOf : Table → X → Type 0) (d : Contents) (nodes : List ℕ) (file : Option (List ℕ)) (result : Result X LoadFault) → DataFinds d (Ok nodes) file → NodesFind IsOf result (data_reading d nodes)
+    → Answers IsOf result (d.id ∷ []) (option_map (λ nodes. of_data (data_reading d nodes)) file)
+read_of IsOf d nodes None result finds found = absurd finds
+read_of IsOf d nodes (Some bytes) result finds found = read_by_nodes IsOf result (d.id ∷ []) (data_reading d bytes) (subst (NodesFind IsOf result) finds found)
 
 -- the answer by the docket's bytes
-named_by : (bytes : List ℕ) (files : Files) (d : Contents) (result : Result Flat LoadFault) → docket_refusal bytes ≡ None → d ≡ docket_of bytes
-    → Answers result (d.id ∷ []) (option_map (λ nodes. of_data (data_reading d nodes)) (data_in d files)) → Answers result ((docket_of bytes).id ∷ []) (named_reading bytes files)
-named_by bytes files d result sound is answer =
-    subst (λ (l : List ℕ). Answers result (l ∷ []) (named_reading bytes files)) (ap (λ (c : Contents). c.id) is)
-    (subst (Answers result (d.id ∷ [])) (sym (named_sound bytes files d sound is)) answer)
+named_by : {X : Type 0} (IsOf : Table → X → Type 0) (bytes : List ℕ) (files : Files) (d : Contents) (result : Result X LoadFault) → docket_refusal bytes ≡ None → d ≡ docket_of bytes
+    → Answers IsOf result (d.id ∷ []) (option_map (λ nodes. of_data (data_reading d nodes)) (data_in d files)) → Answers IsOf result ((docket_of bytes).id ∷ []) (named_reading bytes files)
+named_by IsOf bytes files d result sound is answer =
+    subst (λ (l : List ℕ). Answers IsOf result (l ∷ []) (named_reading bytes files)) (ap (λ (c : Contents). c.id) is)
+    (subst (Answers IsOf result (d.id ∷ [])) (sym (named_sound bytes files d sound is)) answer)
 
 -- the data file was not read
-pub named_unread : (old new : History) (bytes : List ℕ) (d : Contents) (fault : LoadFault) → docket_refusal bytes ≡ None → d ≡ docket_of bytes → DataFindsDuring old new d (Err fault) → NamedFinds old new bytes (Err fault)
-named_unread old new bytes d fault sound is finds = record {
+pub named_unread : {X : Type 0} (IsOf : Table → X → Type 0) (old new : History) (bytes : List ℕ) (d : Contents) (fault : LoadFault) → docket_refusal bytes ≡ None → d ≡ docket_of bytes → DataFindsDuring old new d (Err fault) → NamedFinds IsOf old new bytes (Err fault)
+named_unread IsOf old new bytes d fault sound is finds = record {
   at = finds.at;
   file = finds.file;
-  answer = named_by bytes (files_at new finds.at) d (Err fault) sound is (unread_by d fault (data_in d (files_at new finds.at)) finds.finds);
+  answer = named_by IsOf bytes (files_at new finds.at) d (Err fault) sound is (unread_by IsOf d fault (data_in d (files_at new finds.at)) finds.finds);
 }
 
 -- the data file was read
-pub named_read : (old new : History) (bytes nodes : List ℕ) (d : Contents) (result : Result Flat LoadFault) → docket_refusal bytes ≡ None → d ≡ docket_of bytes → DataFindsDuring old new d (Ok nodes)
-    → NodesFind result (data_reading d nodes) → NamedFinds old new bytes result
-named_read old new bytes nodes d result sound is finds found = record {
+pub named_read : {X : Type 0} (IsOf : Table → X → Type 0) (old new : History) (bytes nodes : List ℕ) (d : Contents) (result : Result X LoadFault) → docket_refusal bytes ≡ None → d ≡ docket_of bytes → DataFindsDuring old new d (Ok nodes)
+    → NodesFind IsOf result (data_reading d nodes) → NamedFinds IsOf old new bytes result
+named_read IsOf old new bytes nodes d result sound is finds found = record {
   at = finds.at;
   file = finds.file;
-  answer = named_by bytes (files_at new finds.at) d result sound is (read_of d nodes (data_in d (files_at new finds.at)) result finds.finds found);
+  answer = named_by IsOf bytes (files_at new finds.at) d result sound is (read_of IsOf d nodes (data_in d (files_at new finds.at)) result finds.finds found);
 }
 
 -- ---- the whole load
 
 -- a load by one try
-one_try : (old new : History) (tried : Try) (result : Result Flat LoadFault) → IsTry old new tried → Answers result (id_by new tried ∷ []) (found_by new tried) → Loads old new (tried ∷ []) result
-one_try old new tried result within answer =
+one_try : {X : Type 0} (IsOf : Table → X → Type 0) (old new : History) (tried : Try) (result : Result X LoadFault) → IsTry old new tried → Answers IsOf result (id_by new tried ∷ []) (found_by new tried) → Loads IsOf old new (tried ∷ []) result
+one_try IsOf old new tried result within answer =
     record {
       tried = record { earlier = []; last = tried; whole = refl; few = omega arith; within = (within, tt); order = tt; gone = tt };
       answer = answer;
     }
 
 -- the docket was read, and then the rest
-pub loaded : (old mid new : History) (bytes : List ℕ) (result : Result Flat LoadFault) → Passes old mid → Passes mid new → bytes ≡ docket_in (now mid).files → NamedFinds mid new bytes result
-    → (tried : Try) × Loads old new (tried ∷ []) result
-loaded old mid new bytes result first second is finds =
+pub loaded : {X : Type 0} (IsOf : Table → X → Type 0) (old mid new : History) (bytes : List ℕ) (result : Result X LoadFault) → Passes old mid → Passes mid new → bytes ≡ docket_in (now mid).files → NamedFinds IsOf mid new bytes result
+    → (tried : Try) × Loads IsOf old new (tried ∷ []) result
+loaded IsOf old mid new bytes result first second is finds =
     let tried : Try = record { docket = mid.last; file = finds.at } in
     let same : bytes ≡ docket_in (files_at new mid.last) = is ∙ ap docket_in (sym (second.past.stay mid.last (omega arith)).shown) in (
       tried,
-      one_try old new tried result
+      one_try IsOf old new tried result
           (record {
             docket = record { from = first.past.later; to = second.past.later };
             file = record { from = omega (arith, first.past.later, finds.file.from); to = finds.file.to };
             order = finds.file.from;
           })
-          (subst (λ (l : List ℕ). Answers result ((docket_of l).id ∷ []) (named_reading l (files_at new finds.at))) same finds.answer),
+          (subst (λ (l : List ℕ). Answers IsOf result ((docket_of l).id ∷ []) (named_reading l (files_at new finds.at))) same finds.answer),
     )
 
 -- the docket could not be read
-pub unloaded : (old new : History) (fault : LoadFault) → Passes old new → fault ≡ a_fault.Failed → (tried : Try) × Loads old new (tried ∷ []) (Err fault)
-unloaded old new fault passes failed =
+pub unloaded : {X : Type 0} (IsOf : Table → X → Type 0) (old new : History) (fault : LoadFault) → Passes old new → fault ≡ a_fault.Failed → (tried : Try) × Loads IsOf old new (tried ∷ []) (Err fault)
+unloaded IsOf old new fault passes failed =
     let tried : Try = record { docket = new.last; file = new.last } in (
       tried,
-      one_try old new tried (Err fault)
+      one_try IsOf old new tried (Err fault)
           (record { docket = during_last old new passes.past; file = during_last old new passes.past; order = omega arith })
-          (subst (λ (f : LoadFault). Answers (Err f) (id_by new tried ∷ []) (found_by new tried)) (sym failed) tt),
+          (subst (λ (f : LoadFault). Answers IsOf (Err f) (id_by new tried ∷ []) (found_by new tried)) (sym failed) tt),
     )
 
 -- ---- where the shelf made no step
@@ -331,8 +330,8 @@ unstepped_found old new tries past none t =
     λ i. record_in (one_moment old new t.last.docket past none within.docket i) (one_moment old new t.last.file past none within.file i)
 
 -- where the shelf made no step, a load answers the reading of the record as it stands there, whatever the tries: each names the same identifier
-pub unstepped_loads : (old new : History) (tries : List Try) (result : Result Flat LoadFault) → Extends old new → new.last ≡ old.last → Loads old new tries result
-    → Answers result (map (λ tried. id_in (now old).files) tries) (record_in (now old).files (now old).files)
-unstepped_loads old new tries result past none loads =
-    subst (λ (ids : List (List ℕ)). Answers result ids (record_in (now old).files (now old).files)) (same_ids old new tries past none loads.tried.within)
-    (subst (Answers result (map (id_by new) tries)) (unstepped_found old new tries past none loads.tried) loads.answer)
+pub unstepped_loads : {X : Type 0} (IsOf : Table → X → Type 0) (old new : History) (tries : List Try) (result : Result X LoadFault) → Extends old new → new.last ≡ old.last → Loads IsOf old new tries result
+    → Answers IsOf result (map (λ tried. id_in (now old).files) tries) (record_in (now old).files (now old).files)
+unstepped_loads IsOf old new tries result past none loads =
+    subst (λ (ids : List (List ℕ)). Answers IsOf result ids (record_in (now old).files (now old).files)) (same_ids old new tries past none loads.tried.within)
+    (subst (Answers IsOf result (map (id_by new) tries)) (unstepped_found old new tries past none loads.tried) loads.answer)

@@ -17,10 +17,11 @@ use Rattle.hg_stream.specs.Stream.{Grown, GrownByFront}
 use Rattle.hg_tree.specs.History as tree
 use Rattle.hg_tree.specs.Moment.{Moment}
 use Rattle.hg_cli.specs.Call.{Call, Fails, Serves}
+use Rattle.hg_cli.specs.Debug.{IsLeftAlone, IsOutFault, PrintsRecord, RanRecord, is_debug}
 use Rattle.hg_cli.specs.Listed.{AsksOnce, IsListable, IsListed, IsListedFor, IsOwn, IsUntouched, ListingCause, has_ignore_file}
 use Rattle.hg_cli.specs.Load.{id_in, record_in}
 
--- the one command that is built: `status` without a further word
+-- the command that lists: `status` without a further word
 abbrev pub is_status : List (List ℕ) → Bool
 is_status [] = false
 is_status (word ∷ []) = bytes_eq word (codes "status")
@@ -70,22 +71,11 @@ LeavesFront files moment old new = (new ≡ old) ⊎ IsBegun files moment old ne
 abbrev pub MetBefore : Call → Fault → Type 0
 MetBefore call fault = ((is_status call.words ≡ false) × (fault ≡ a_fault.NotBuilt)) ⊎ ListingCause call.looked fault
 
--- a fault that printing may meet; for the line of the one there may be no memory
-abbrev pub IsPrintingFault : Fault → Type 0
-IsPrintingFault a_fault.OutFailed = Unit {0}
-IsPrintingFault a_fault.OutOfMemory = Unit {0}
-IsPrintingFault a_fault.NotBuilt = ⊥
-IsPrintingFault (a_fault.Docket fault) = ⊥
-IsPrintingFault (a_fault.Node fault) = ⊥
-IsPrintingFault (a_fault.DataGone ids) = ⊥
-IsPrintingFault a_fault.TreeFailed = ⊥
-IsPrintingFault a_fault.ShelfFailed = ⊥
-
 -- while it printed: no fault was found before, and standard output failed
 pub record MetPrinting (call : Call) (fault : Fault) : Type 0 where
   pub listable : IsListable call.looked
   pub failed : Fails call.out
-  pub kind : IsPrintingFault fault
+  pub kind : IsOutFault fault
 
 abbrev pub CommandCause : Call → Fault → Type 0
 CommandCause call fault = MetBefore call fault ⊎ MetPrinting call fault
@@ -149,14 +139,19 @@ pub record Prints (call : Call) (result : Result Unit Fault) : Type 0 where
   pub calm_shelf : OnOk result (call.looked.shelf.after ≡ call.looked.shelf.before)
   pub calm_out : OnOk result (call.out.after ≡ call.out.before)
 
+-- what a command did: it printed the record, or it listed or was no command
+pub record Does (call : Call) (result : Result Unit Fault) : Type 0 where
+  pub debug : is_debug call.words ≡ true → IsLeftAlone call.looked.tree × PrintsRecord call.looked.shelf call.out result
+  pub status : is_debug call.words ≡ false → Prints call result
+
 -- a status only asks
 pub record OnlyAsks (call : Call) : Type 0 where
   pub tree : tree.Passes call.looked.tree.old call.looked.tree.new
   pub shelf : shelf.Passes call.looked.shelf.old call.looked.shelf.new
   pub once : AsksOnce call.looked.tree
 
--- what a command did that ended with this fault, or with none
-pub record Ran (call : Call) (fault : Option Fault) : Type 0 where
+-- what was done for words that don't ask for the record, and ended with this fault, or with none
+pub record RanStatus (call : Call) (fault : Option Fault) : Type 0 where
   -- without a fault, the rows printed have each path that nobody touched meanwhile exactly under its letter, and no two are of one path
   pub still : fault ≡ None → IsPrintedFor (IsUntouched call.looked) call
   -- and where nobody else made a step, they are the full listing
@@ -179,3 +174,8 @@ pub record Ran (call : Call) (fault : Option Fault) : Type 0 where
   -- what stands in standard output after a fault
   pub left : IfSome fault (LeavesOut call)
   pub front : IsOwn call.looked → IfSome fault (λ _. LeavesFront (shelf.now call.looked.shelf.old).files (tree.now call.looked.tree.old) call.out.old call.out.new)
+
+-- what a command did that ended with this fault, or with none: the one that prints the record, or a status and all words that are no command
+pub record Ran (call : Call) (fault : Option Fault) : Type 0 where
+  pub debug : is_debug call.words ≡ true → RanRecord call.looked.tree call.looked.shelf call.out fault
+  pub status : is_debug call.words ≡ false → RanStatus call fault

@@ -1,5 +1,6 @@
 pub mod Call
 pub mod Command
+pub mod Debug
 pub mod Listed
 pub mod Load
 pub mod Loaded

@@ -17,7 +17,7 @@ use Rattle.hg_tree.specs.Moment.{Moment, is_file}
 use Rattle.hg_tree.specs.Still.{Untouched}
 use Rattle.hg_cli.specs.Call.{Fails, Looked, Watched}
 use Rattle.hg_cli.specs.Load.{record_in}
-use Rattle.hg_cli.specs.Loaded.{Loads, Tries, Try, found_by}
+use Rattle.hg_cli.specs.Loaded.{IsFlatOf, Loads, Tries, Try, found_by}
 use Rattle.hg_cli.specs.declared.load_fault.LoadFault.{LoadFault}
 use Rattle.hg_cli.specs.declared.load_fault.LoadFault.TheVariants as a_load
 
@@ -37,7 +37,7 @@ LedTo P files = IsTrue files.old.told → ((flat : plain.Flat) × IsRecorded fil
 
 -- a load at moments of the call met this fault, where the files are told
 abbrev pub LoadMet : LoadFault → Watched shelf.History → Type 0
-LoadMet fault files = IsTrue files.old.told → ((tries : List Try) × Loads files.old files.new tries (Err fault))
+LoadMet fault files = IsTrue files.old.told → ((tries : List Try) × Loads IsFlatOf files.old files.new tries (Err fault))
 
 -- a file of ignore patterns stands at the root
 abbrev pub has_ignore_file : Moment → Bool

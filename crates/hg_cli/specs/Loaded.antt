@@ -10,6 +10,7 @@ use Rattle.hg_flat.specs.declared.flat.Flat.{Flat}
 use Rattle.hg_image.specs.Reading.{RecordFault, data_reading}
 use Rattle.hg_image.specs.Reading as a_record_fault
 use Rattle.hg_image.specs.declared.fault.NodeFault.{NodeFault}
+use Rattle.hg_report.specs.Debug.{IsDebugText}
 use Rattle.hg_shelf.specs.History.{Files, History}
 use Rattle.hg_cli.specs.Load.{data_in, data_name, id_in, named_reading, record_in}
 use Rattle.hg_cli.specs.declared.load_fault.LoadFault.{LoadFault}
@@ -54,15 +55,19 @@ pub record IsFlatOf (table : Table) (loaded : Flat) : Type 0 where
   pub flat : flat_in loaded ≡ flat_of table
   pub records : Records table (kept_of loaded)
 
--- what a load answers where its last try found this, and the dockets of its tries name these identifiers; want of memory and a
--- failing shelf say nothing of the files
-abbrev pub Answers : Result Flat LoadFault → List (List ℕ) → Option (Result Table RecordFault) → Type 0
-Answers (Ok flat) ids found = (table : Table) × (found ≡ Some (Ok table)) × IsFlatOf table flat
-Answers (Err (a_fault.Docket fault)) ids found = found ≡ Some (Err (a_record_fault.Docket fault))
-Answers (Err (a_fault.Node fault)) ids found = found ≡ Some (Err (a_record_fault.Node fault))
-Answers (Err (a_fault.DataGone gone)) ids found = (found ≡ None) × (gone ≡ ids)
-Answers (Err a_fault.OutOfMemory) ids found = Unit {0}
-Answers (Err a_fault.Failed) ids found = Unit {0}
+-- bytes are the text of a table
+abbrev pub IsBytesOf : Table → Vec ℕ Global → Type 0
+IsBytesOf table bytes = IsDebugText table bytes.items
+
+-- what a load answers where its last try found this, and the dockets of its tries name these identifiers: something that is so made of the
+-- table that was found, or a fault; want of memory and a failing shelf say nothing of the files
+abbrev pub Answers : {X : Type 0} → (Table → X → Type 0) → Result X LoadFault → List (List ℕ) → Option (Result Table RecordFault) → Type 0
+Answers IsOf (Ok made) ids found = (table : Table) × (found ≡ Some (Ok table)) × IsOf table made
+Answers IsOf (Err (a_fault.Docket fault)) ids found = found ≡ Some (Err (a_record_fault.Docket fault))
+Answers IsOf (Err (a_fault.Node fault)) ids found = found ≡ Some (Err (a_record_fault.Node fault))
+Answers IsOf (Err (a_fault.DataGone gone)) ids found = (found ≡ None) × (gone ≡ ids)
+Answers IsOf (Err a_fault.OutOfMemory) ids found = Unit {0}
+Answers IsOf (Err a_fault.Failed) ids found = Unit {0}
 
 -- the tries of a load, at most five: each but the last found the data file gone
 pub record Tries (old new : History) (tries : List Try) : Type 0 where
@@ -75,26 +80,26 @@ pub record Tries (old new : History) (tries : List Try) : Type 0 where
   pub gone : AllByRecursion (λ tried. found_by new tried ≡ None) earlier
 
 -- a load by these tries, whose answer is what the last one found
-pub record Loads (old new : History) (tries : List Try) (result : Result Flat LoadFault) : Type 0 where
+pub record Loads {X : Type 0} (IsOf : Table → X → Type 0) (old new : History) (tries : List Try) (result : Result X LoadFault) : Type 0 where
   pub tried : Tries old new tries
-  pub answer : Answers result (map (id_by new) tries) (found_by new tried.last)
+  pub answer : Answers IsOf result (map (id_by new) tries) (found_by new tried.last)
 
 -- ---- the steps of one try
 
 -- where the docket's bytes are known
-pub record NamedFinds (old new : History) (bytes : List ℕ) (result : Result Flat LoadFault) : Type 0 where
+pub record NamedFinds {X : Type 0} (IsOf : Table → X → Type 0) (old new : History) (bytes : List ℕ) (result : Result X LoadFault) : Type 0 where
   pub at : ℕ
   pub file : During old new at
-  pub answer : Answers result ((docket_of bytes).id ∷ []) (named_reading bytes (files_at new at))
+  pub answer : Answers IsOf result ((docket_of bytes).id ∷ []) (named_reading bytes (files_at new at))
 
 -- what the nodes of a data file lead to
-abbrev pub NodesFind : Result Flat LoadFault → Result Table NodeFault → Type 0
-NodesFind (Ok flat) found = (table : Table) × (found ≡ Ok table) × IsFlatOf table flat
-NodesFind (Err (a_fault.Node fault)) found = found ≡ Err fault
-NodesFind (Err a_fault.OutOfMemory) found = Unit {0}
-NodesFind (Err (a_fault.Docket fault)) found = ⊥
-NodesFind (Err (a_fault.DataGone ids)) found = ⊥
-NodesFind (Err a_fault.Failed) found = ⊥
+abbrev pub NodesFind : {X : Type 0} → (Table → X → Type 0) → Result X LoadFault → Result Table NodeFault → Type 0
+NodesFind IsOf (Ok made) found = (table : Table) × (found ≡ Ok table) × IsOf table made
+NodesFind IsOf (Err (a_fault.Node fault)) found = found ≡ Err fault
+NodesFind IsOf (Err a_fault.OutOfMemory) found = Unit {0}
+NodesFind IsOf (Err (a_fault.Docket fault)) found = ⊥
+NodesFind IsOf (Err (a_fault.DataGone ids)) found = ⊥
+NodesFind IsOf (Err a_fault.Failed) found = ⊥
 
 -- the bytes of an answer
 abbrev pub bytes_of : Result (Vec ℕ Global) LoadFault → Result (List ℕ) LoadFault

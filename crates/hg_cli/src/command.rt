@@ -1,8 +1,10 @@
 //! The top call: one command over a working copy, the files below `.hg`, and the standard streams.
 
-ghost use Rattle.std.specs.Prelude.{◌≡◌, true, None, IfSome, MatchOption};
-ghost use Rattle.hg_cli.specs.Command.{IsFaultOrMemory, IsTold, Prints, Ran, Tells, TellsLine, is_status};
+ghost use Rattle.std.specs.Prelude.{◌≡◌, ◌||◌, true, None, IfSome, MatchOption};
+ghost use Rattle.hg_cli.specs.Command.{Does, IsFaultOrMemory, IsTold, Prints, Ran, Tells, TellsLine, is_status};
+ghost use Rattle.hg_cli.specs.Debug.{is_debug};
 
+use crate::debug::print_record;
 use crate::listing::list;
 use hg_base::Words;
 use hg_report::{Fault, Style, fault_text, status_text};
@@ -29,6 +31,12 @@ fn is_status_alone(words: &Words) -> bool
     ensures { result ≡ is_status words.now }
 {
     words.len() == 1 && words.at(0).as_str() == "status"
+}
+
+fn is_debug_alone(words: &Words) -> bool
+    ensures { result ≡ is_debug words.now }
+{
+    words.len() == 1 && words.at(0).as_str() == "debugdirstate"
 }
 
 // Lists and prints.
@@ -60,6 +68,32 @@ fn status<T: Tree, S: Shelf, O: Sink>(
         Err(_) => Err(Fault::OutFailed),
         Ok(()) => Ok(()),
     }
+}
+
+// Does what the words ask for.
+fn command<T: Tree, S: Shelf, O: Sink>(
+    alloc: Global,
+    words: &Words,
+    tree: &mut T,
+    shelf: &mut S,
+    out: &mut O,
+) -> Result<(), Fault>
+    ensures { Does
+        (record {
+          words = words.now;
+          looked =
+              record {
+                tree = record { old = T.history tree.old; new = T.history tree.new; before = T.faults tree.old; after = T.faults tree.new };
+                shelf = record { old = S.history shelf.old; new = S.history shelf.new; before = S.faults shelf.old; after = S.faults shelf.new };
+              };
+          out = record { old = O.bytes out.old; new = O.bytes out.new; before = O.faults out.old; after = O.faults out.new };
+        })
+        result }
+{
+    if is_debug_alone(words) {
+        return print_record(alloc, shelf, out);
+    }
+    status(alloc, words, tree, shelf, out)
 }
 
 // The line that is printed where there is no memory for a text.
@@ -101,8 +135,8 @@ pub fn failed<E: Sink>(alloc: Global, fault: Fault, err: &mut E) -> Outcome
     }
 }
 
-/// Runs one command: `words` come after the program's name. The rows of a status go to `out`, the line of a fault to `err`, and
-/// `input` isn't looked at.
+/// Runs one command: `words` come after the program's name. The rows of a status and the text of the record go to `out`, the line of a
+/// fault to `err`, and `input` isn't looked at.
 pub fn run<T: Tree, S: Shelf, I: Source, O: Sink, E: Sink>(
     alloc: Global,
     words: &Words,
@@ -112,7 +146,7 @@ pub fn run<T: Tree, S: Shelf, I: Source, O: Sink, E: Sink>(
     out: &mut O,
     err: &mut E,
 ) -> Outcome
-    // What a command answers and leaves: `Ran` in specs/Command.antt, a sentence a field.
+    // What a command answers and leaves: `Ran` in specs/Command.antt, by its words, a sentence a field.
     ensures ran { Ran
         (record {
           words = words.now;
@@ -124,8 +158,8 @@ pub fn run<T: Tree, S: Shelf, I: Source, O: Sink, E: Sink>(
           out = record { old = O.bytes out.old; new = O.bytes out.new; before = O.faults out.old; after = O.faults out.new };
         })
         result.fault }
-    // A status doesn't look at the input.
-    ensures unread { is_status words.now ≡ true → input.new ≡ input.old }
+    // Neither command looks at the input.
+    ensures unread { (is_status words.now || is_debug words.now) ≡ true → input.new ≡ input.old }
     // What stands on the error stream, and with which status it ends.
     ensures told { Tells
         (record {
@@ -145,7 +179,7 @@ pub fn run<T: Tree, S: Shelf, I: Source, O: Sink, E: Sink>(
     ensures steady_err { result.fault ≡ None → E.faults err.new ≡ E.faults err.old }
     ensures status { MatchOption result.fault (result.status ≡ 0) (λ fault. result.status ≡ 255) }
 {
-    match status(alloc, words, tree, shelf, out) {
+    match command(alloc, words, tree, shelf, out) {
         Ok(()) => Outcome {
             status: 0,
             fault: None,

@@ -7,7 +7,7 @@ ghost use Rattle.hg_docket.specs.Name.{is_name};
 ghost use Rattle.hg_image.specs.Reading.{data_reading};
 ghost use Rattle.hg_shelf.specs.History.{Passes, now};
 ghost use Rattle.hg_cli.specs.Load.{data_name, docket_in};
-ghost use Rattle.hg_cli.specs.Loaded.{bytes_of, DataFindsDuring, FileFindsDuring, FrontFinds, Loads, NamedFinds, NodesFind, Try};
+ghost use Rattle.hg_cli.specs.Loaded.{bytes_of, DataFindsDuring, FileFindsDuring, FrontFinds, IsFlatOf, Loads, NamedFinds, NodesFind, Try};
 ghost use Rattle.hg_cli.specs.declared.load_fault.LoadFault.TheVariants as a_fault;
 
 use crate::load_fault::LoadFault;
@@ -22,10 +22,10 @@ use std::alloc::Global;
 const DOCKET: &str = "dirstate";
 
 // A docket has at most so many bytes: 125, and 255 of the identifier.
-const MOST: usize = 512;
+pub(crate) const MOST: usize = 512;
 
 // One read of the docket's bytes into the buffer; it answers how many there are.
-fn read_docket<S: Shelf>(shelf: &mut S, buf: &mut [u8]) -> Result<usize, LoadFault>
+pub(crate) fn read_docket<S: Shelf>(shelf: &mut S, buf: &mut [u8]) -> Result<usize, LoadFault>
     requires { length buf.old ≡ 512 }
     ensures passes { Passes (S.history shelf.old) (S.history shelf.new) }
     ensures most { IfOk result (λ n. n ≤ 512) }
@@ -93,7 +93,7 @@ fn read_file<S: Shelf>(
 }
 
 // The bytes of the data file that a docket names; where it uses none, no file is read.
-fn read_data<S: Shelf>(
+pub(crate) fn read_data<S: Shelf>(
     alloc: Global,
     shelf: &mut S,
     docket: &Docket<'_>,
@@ -115,7 +115,7 @@ fn read_data<S: Shelf>(
 
 // The flat map of the nodes.
 fn read_nodes(alloc: Global, docket: &Docket<'_>, nodes: &[u8]) -> Result<Flat, LoadFault>
-    ensures { NodesFind result (data_reading (view docket.now) nodes.now) }
+    ensures { NodesFind IsFlatOf result (data_reading (view docket.now) nodes.now) }
 {
     let image = Image::open(docket, nodes)?;
     let flat = Flat::read(alloc, &image)?;
@@ -126,7 +126,7 @@ fn read_nodes(alloc: Global, docket: &Docket<'_>, nodes: &[u8]) -> Result<Flat, 
 fn load_named<S: Shelf>(alloc: Global, shelf: &mut S, bytes: &[u8]) -> Result<Flat, LoadFault>
     requires { length bytes.now ≤ 512 }
     ensures passes { Passes (S.history shelf.old) (S.history shelf.new) }
-    ensures found { IsTrue (S.history shelf.old).told → NamedFinds (S.history shelf.old) (S.history shelf.new) bytes.now result }
+    ensures found { IsTrue (S.history shelf.old).told → NamedFinds IsFlatOf (S.history shelf.old) (S.history shelf.new) bytes.now result }
     ensures cause { HasCause (S.faults shelf.old) (S.faults shelf.new) result (λ e. e ≡ a_fault.Failed) }
 {
     let docket = Docket::read(bytes)?;
@@ -140,7 +140,7 @@ fn load_named<S: Shelf>(alloc: Global, shelf: &mut S, bytes: &[u8]) -> Result<Fl
 /// is not built yet.
 pub(crate) fn load<S: Shelf>(alloc: Global, shelf: &mut S) -> Result<Flat, LoadFault>
     ensures passes { Passes (S.history shelf.old) (S.history shelf.new) }
-    ensures found { IsTrue (S.history shelf.old).told → ((tried : Try) × Loads (S.history shelf.old) (S.history shelf.new) (tried ∷ []) result) }
+    ensures found { IsTrue (S.history shelf.old).told → ((tried : Try) × Loads IsFlatOf (S.history shelf.old) (S.history shelf.new) (tried ∷ []) result) }
     ensures cause { HasCause (S.faults shelf.old) (S.faults shelf.new) result (λ e. e ≡ a_fault.Failed) }
 {
     let mut buf = [0; MOST];

@@ -67,6 +67,7 @@ impl<'a> Mixed<'a> {
     pub fn parents(&self) -> (Id20, Id20)
         ensures p1 { result.0.0 ≡ self.now.p1 }
         ensures p2 { result.1.0 ≡ self.now.p2 }
+        ensures formed { IsFormed (table self.now) }
     {
         (self.p1, self.p2)
     }

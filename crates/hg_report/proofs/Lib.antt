@@ -1,1 +1,4 @@
+pub mod Gathering
 pub mod Lines
+pub mod Ordered
+pub mod Recorded

@@ -1,3 +1,5 @@
 pub mod Cause
+pub mod Debug
 pub mod Fault
+pub mod Gathered
 pub mod Status

@@ -10,10 +10,13 @@
 //! ```
 #![tactic(auto)]
 
+mod debug;
 mod fault;
 mod fault_line;
+mod gather;
 mod status;
 
+pub use debug::{debug_text, one_debug_text};
 pub use fault::Fault;
 pub use fault_line::fault_text;
 pub use status::{Style, status_text};

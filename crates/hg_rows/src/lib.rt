@@ -36,6 +36,8 @@ mod identifiers;
 #[cfg(test)]
 mod listings;
 #[cfg(test)]
+mod records;
+#[cfg(test)]
 mod refusals;
 #[cfg(test)]
 mod setting;

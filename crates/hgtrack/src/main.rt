@@ -2,7 +2,8 @@
 //! standard streams.
 //!
 //! ```text
-//! hgtrack status      # anywhere in a working copy
+//! hgtrack status           # anywhere in a working copy
+//! hgtrack debugdirstate
 //! hgtrack --help
 //! hgtrack --version
 //! ```
@@ -26,9 +27,10 @@ use std::process::ExitCode;
 
 const HELP: &str = "hgtrack: the status of a Mercurial working copy, from its dirstate-v2
 
-Usage: hgtrack status       list what is tracked and what is not, from any folder of a working copy
-       hgtrack --help       print this help
-       hgtrack --version    print the version
+Usage: hgtrack status           list what is tracked and what is not, from any folder of a working copy
+       hgtrack debugdirstate    print what the dirstate records of each path
+       hgtrack --help           print this help
+       hgtrack --version        print the version
 
 Letters of status: A added, ! missing, ? not tracked. Paths are told from the root of the working copy, which is the nearest folder
 with a folder `.hg`. It ends with 0, or with 255 after a line `abort: ...`.

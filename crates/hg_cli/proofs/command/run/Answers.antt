@@ -1,12 +1,13 @@
--- A run: what the status answered, and the line of its fault.
-use Rattle.hg_cli.proofs.Commands.{not_without, ran_err, ran_ok, status_is}
+-- A run: what the command answered, and the line of its fault.
+use Rattle.hg_cli.proofs.Commands.{not_without, status_is}
+use Rattle.hg_cli.proofs.Records.{did_err, did_ok}
 use Rattle.hg_cli.proofs.command.run.Goals as goal
 
 pub returns-in-Ok-clause-ran : goal.returns-in-Ok-clause-ran
-returns-in-Ok-clause-ran g c = ran_ok _ c.in-Ok.field-0 c.in-Ok.ensures
+returns-in-Ok-clause-ran g c = did_ok _ c.in-Ok.field-0 c.in-Ok.ensures
 
 pub returns-in-Err-clause-ran : goal.returns-in-Err-clause-ran
-returns-in-Err-clause-ran g c = ran_err _ c.in-Err.fault c.failed.result.fault c.in-Err.ensures c.failed.ensures.fault
+returns-in-Err-clause-ran g c = did_err _ c.in-Err.fault c.failed.result.fault c.in-Err.ensures c.failed.ensures.fault
 
 pub returns-in-Err-clause-steady_err : goal.returns-in-Err-clause-steady_err
 returns-in-Err-clause-steady_err g c = λ none. not_without c.failed.result.fault c.in-Err.fault c.failed.ensures.fault none

@@ -1,0 +1,193 @@
+-- What the command that prints the record answers, from what its parts answer.
+use Rattle.std.proofs.Common.{ℕ, ◌≡◌, Bool, true, false, List, [], ◌∷◌, ◌++◌, map, Option, Some, None, option_map, Result, Ok, Err, Vec, Global, IsTrue, IfSome, refl, sym, ap, ◌∙◌, subst, inl, inr, true≢false}
+use Rattle.std.specs.List.{AllByRecursion}
+use Rattle.std.proofs.lemmas.Bool.{both_ways, cases_Bool}
+use Rattle.hg_base.proofs.Faults.{steady_not_rose}
+use Rattle.hg_entry.specs.Table.{Table}
+use Rattle.hg_image.specs.Reading.{RecordFault}
+use Rattle.hg_mixed.specs.Edits.{IsSame}
+use Rattle.hg_report.specs.Debug.{IsDebugText}
+use Rattle.hg_report.specs.declared.fault.Fault.{Fault}
+use Rattle.hg_report.specs.declared.fault.Fault.TheVariants as a_fault
+use Rattle.hg_report.proofs.Recorded.{one_text}
+use Rattle.hg_shelf.specs.History as shelf
+use Rattle.hg_shelf.proofs.Histories as shelves
+use Rattle.hg_stream.specs.Stream.{Grown, GrownByFront}
+use Rattle.hg_tree.specs.History as tree
+use Rattle.hg_cli.specs.Call.{Call, Fails, Serves, Watched}
+use Rattle.hg_cli.specs.Command.{Does, IsFaultOrMemory, Prints, Ran, RanStatus}
+use Rattle.hg_cli.specs.Debug.{HasText, IsExpectedOf, IsLeftAlone, IsRead, IsReadable, IsRecordBegun, IsRecordPrinted, IsTextBegun, IsTextIn, IsTextPrinted, LeavesRecord, LeavesText, MetReading, OneRecord, PrintsRecord, RanRecord, RecordCause, is_debug}
+use Rattle.hg_cli.specs.Listed.{LoadMet}
+use Rattle.hg_cli.specs.Load.{id_in, of_load, record_in}
+use Rattle.hg_cli.specs.Loaded.{Answers, IsBytesOf, IsFlatOf, Loads, Try}
+use Rattle.hg_cli.specs.declared.load_fault.LoadFault.{LoadFault}
+use Rattle.hg_cli.specs.declared.load_fault.LoadFault.TheVariants as a_load
+use Rattle.hg_cli.proofs.Commands.{answered_by, not_without, ran_err, ran_ok}
+use Rattle.hg_cli.proofs.Loads.{quiet_found, quiet_loads}
+
+-- ---- the text that was read
+
+-- two tables that say the same are one
+pub table_same : (a b : Table) → IsSame a b → a ≡ b
+table_same a b same = λ i. record {
+  p1 = same.p1 i;
+  p2 = same.p2 i;
+  hash = same.hash i;
+  entries = λ at. same.entries at i;
+  sources = λ at. same.sources at i;
+  nodes = λ at. same.nodes at i;
+  caches = λ at. same.caches at i;
+}
+
+-- where a load was told, it found a table
+abbrev Found : Watched shelf.History → Vec ℕ Global → Type 0
+Found files text = IsTrue files.old.told → ((tried : Try) × Loads IsBytesOf files.old files.new (tried ∷ []) (Ok text))
+
+read_by : (files : Watched shelf.History) (text : Vec ℕ Global) (tried : Try) (loads : Loads IsBytesOf files.old files.new (tried ∷ []) (Ok text)) → IsRead files.old files.new loads.answer.0
+read_by files text tried loads = record { tries = tried ∷ []; tried = loads.tried; found = loads.answer.1 }
+
+pub readable_by : (files : Watched shelf.History) (text : Vec ℕ Global) → Found files text → IsReadable files
+readable_by files text found told = let m = found told in (m.1.answer.0, read_by files text m.0 m.1)
+
+pub has_text : (files : Watched shelf.History) (text : Vec ℕ Global) → Found files text → ((table : Table) × IsBytesOf table text) → HasText files text.items
+has_text files text found some = elim (cases_Bool files.old.told) [
+  | inl told ↦ let m = found told in record { table = m.1.answer.0; read = λ _. read_by files text m.0 m.1; is = m.1.answer.2 }
+  | inr not ↦ record { table = some.0; read = λ told. absurd (true≢false (sym told ∙ not)); is = some.1 }
+]
+
+pub met_reading : (files : Watched shelf.History) (fault : LoadFault) → (IsTrue files.old.told → (tried : Try) × Loads IsBytesOf files.old files.new (tried ∷ []) (Err fault)) → (fault ≡ a_load.Failed → Fails files)
+    → MetReading files (of_load fault)
+met_reading files a_load.OutOfMemory met failed = tt
+met_reading files (a_load.Docket fault) met failed = λ told. let m = met told in (m.0 ∷ [], record { tried = m.1.tried; answer = m.1.answer })
+met_reading files (a_load.Node fault) met failed = λ told. let m = met told in (m.0 ∷ [], record { tried = m.1.tried; answer = m.1.answer })
+met_reading files (a_load.DataGone ids) met failed = λ told. let m = met told in (m.0 ∷ [], record { tried = m.1.tried; answer = m.1.answer })
+met_reading files a_load.Failed met failed = failed refl
+
+-- ---- where nobody else steps
+
+module _ (files : Watched shelf.History) (passes : shelf.Passes files.old files.new) (own : shelf.IsOurs files.old files.new) where
+  abbrev still : shelf.IsQuiet files.old files.new
+  still = shelves.ours_quiet files.old files.new passes own
+
+  abbrev there : shelf.Files
+  there = (shelf.now files.old).files
+
+  read_now : (table : Table) → IsRead files.old files.new table → record_in there there ≡ Some (Ok table)
+  read_now table read = sym (quiet_found files.old files.new read.tries passes.past still read.tried) ∙ read.found
+
+  text_in : (text : List ℕ) → HasText files text → IsTextIn there text
+  text_in text has = record { table = has.table; recorded = read_now has.table (has.read own.told); is = has.is }
+
+  met_now : (fault : LoadFault) → LoadMet fault files → (tries : List Try) × Answers IsFlatOf (Err fault) (map (λ tried. id_in there) tries) (record_in there there)
+  met_now fault met = let m = met own.told in (m.0, quiet_loads IsFlatOf files.old files.new m.0 (Err fault) passes.past still m.1)
+
+  all_same : (id : List ℕ) (tries : List Try) → AllByRecursion (λ other. other ≡ id) (map (λ tried. id) tries)
+  all_same id [] = tt
+  all_same id (one ∷ more) = (refl, all_same id more)
+
+  reading_expected : (fault : Fault) → MetReading files fault → Serves files → IsExpectedOf there (Some fault)
+  reading_expected a_fault.OutOfMemory met p = tt
+  reading_expected a_fault.NotBuilt met p = absurd met
+  reading_expected (a_fault.Docket fault) met p = (met_now (a_load.Docket fault) met).1
+  reading_expected (a_fault.Node fault) met p = (met_now (a_load.Node fault) met).1
+  reading_expected (a_fault.DataGone ids) met p =
+      let m = met_now (a_load.DataGone ids) met in
+      (m.1.0, subst (AllByRecursion (λ id. id ≡ id_in there)) (sym m.1.1) (all_same (id_in there) m.0))
+  reading_expected a_fault.TreeFailed met p = absurd met
+  reading_expected a_fault.ShelfFailed met p = absurd (steady_not_rose files.before files.after p met)
+  reading_expected a_fault.OutFailed met p = absurd met
+
+  record_expected : (out : Watched (Option (List ℕ))) (fault : Fault) → RecordCause files out fault → Serves files → Serves out → IsExpectedOf there (Some fault)
+  record_expected out fault (inl met) p q = reading_expected fault met p
+  record_expected out fault (inr writing) p q = absurd (steady_not_rose out.before out.after q writing.failed)
+
+  none_expected : IsReadable files → IsExpectedOf there None
+  none_expected readable = let r = readable own.told in (r.0, read_now r.0 r.1)
+
+  record_left : (out : Watched (Option (List ℕ))) (fault : Fault) → LeavesText files out fault → LeavesRecord there out.old out.new
+  record_left out fault (inl (met, same)) = inl same
+  record_left out fault (inr (writing, begun)) = inr (record { text = begun.text; is = text_in begun.text begun.is; printed = begun.printed })
+
+-- ---- the command
+
+cause_of : (files : Watched shelf.History) (out : Watched (Option (List ℕ))) (fault : Fault) → LeavesText files out fault → RecordCause files out fault
+cause_of files out fault (inl (met, same)) = inl met
+cause_of files out fault (inr (writing, begun)) = inr writing
+
+-- what a fault leaves may also be left where there is no memory for its line
+left_any : (files : Watched shelf.History) (out : Watched (Option (List ℕ))) (fault : Fault) → LeavesText files out fault → LeavesText files out a_fault.OutOfMemory
+left_any files out fault (inl (met, same)) = inl (tt, same)
+left_any files out fault (inr (writing, begun)) = inr (record { readable = writing.readable; failed = writing.failed; kind = tt }, begun)
+
+readable_text : (files : Watched shelf.History) (text : List ℕ) → HasText files text → IsReadable files
+readable_text files text has told = (has.table, has.read told)
+
+record_ok : (copy : Watched tree.History) (files : Watched shelf.History) (out : Watched (Option (List ℕ))) (u : Unit) → IsLeftAlone copy × PrintsRecord files out (Ok u) → RanRecord copy files out None
+record_ok copy files out u (alone, prints) = record {
+  printed = λ none. prints.printed;
+  whole = λ none own. record { text = prints.printed.text; is = text_in files prints.passes own prints.printed.text prints.printed.is; printed = prints.printed.printed };
+  cause = tt;
+  complete = λ own p q. none_expected files prints.passes own (readable_text files prints.printed.text prints.printed.is);
+  calm_shelf = λ none. prints.calm_shelf;
+  calm_out = λ none. prints.calm_out;
+  alone = alone;
+  passes = prints.passes;
+  left = tt;
+  front = λ own. tt;
+}
+
+record_err : (copy : Watched tree.History) (files : Watched shelf.History) (out : Watched (Option (List ℕ))) (fault : Fault) (answered : Option Fault) → IsFaultOrMemory answered fault
+    → IsLeftAlone copy × PrintsRecord files out (Err fault) → RanRecord copy files out answered
+record_err copy files out fault answered is (alone, prints) = record {
+  printed = λ none. not_without answered fault is none;
+  whole = λ none. not_without answered fault is none;
+  cause = answered_by (λ o. IfSome o (RecordCause files out)) answered fault is (cause_of files out fault prints.left) (cause_of files out a_fault.OutOfMemory (left_any files out fault prints.left));
+  complete = λ own p q.
+      answered_by (IsExpectedOf (shelf.now files.old).files) answered fault is
+      (record_expected files prints.passes own out fault (cause_of files out fault prints.left) p q) tt;
+  calm_shelf = λ none. not_without answered fault is none;
+  calm_out = λ none. not_without answered fault is none;
+  alone = alone;
+  passes = prints.passes;
+  left = answered_by (λ o. IfSome o (LeavesText files out)) answered fault is prints.left (left_any files out fault prints.left);
+  front = λ own.
+      answered_by (λ o. IfSome o (λ _. LeavesRecord (shelf.now files.old).files out.old out.new)) answered fault is
+      (record_left files prints.passes own out fault prints.left) (record_left files prints.passes own out fault prints.left);
+}
+
+-- ---- by the words
+
+pub does_record : (call : Call) (result : Result Unit Fault) (b : Bool) → b ≡ is_debug call.words → b ≡ true → IsLeftAlone call.looked.tree → PrintsRecord call.looked.shelf call.out result → Does call result
+does_record call result b debug is alone prints = record { debug = λ _. (alone, prints); status = λ other. absurd (both_ways (is_debug call.words) other (sym debug ∙ is)) }
+
+pub does_status : (call : Call) (result : Result Unit Fault) (b : Bool) → b ≡ is_debug call.words → b ≡ false → Prints call result → Does call result
+does_status call result b is other prints = record { debug = λ it. absurd (both_ways (is_debug call.words) (sym is ∙ other) it); status = λ _. prints }
+
+pub did_ok : (call : Call) (u : Unit) → Does call (Ok u) → Ran call None
+did_ok call u does = record {
+  debug = λ is. record_ok call.looked.tree call.looked.shelf call.out u (does.debug is);
+  status = λ is. ran_ok call u (does.status is);
+}
+
+pub did_err : (call : Call) (fault : Fault) (answered : Option Fault) → Does call (Err fault) → IsFaultOrMemory answered fault → Ran call answered
+did_err call fault answered does is = record {
+  debug = λ it. record_err call.looked.tree call.looked.shelf call.out fault answered is (does.debug it);
+  status = λ it. ran_err call fault answered (does.status it) is;
+}
+
+-- ---- one text
+
+table_or : Table → Option (Result Table RecordFault) → Table
+table_or other None = other
+table_or other (Some (Ok table)) = table
+table_or other (Some (Err fault)) = other
+
+one_table : (found : Option (Result Table RecordFault)) (a b : Table) → found ≡ Some (Ok a) → found ≡ Some (Ok b) → a ≡ b
+unfolding table_or
+one_table found a b is_a is_b = ap (table_or a) (sym is_a ∙ is_b)
+
+pub same_record : OneRecord
+same_record files old a b is_a is_b =
+    let table : is_a.is.table ≡ is_b.is.table = one_table (record_in files files) is_a.is.table is_b.is.table is_a.is.recorded is_b.is.recorded in
+    let text : is_a.text ≡ is_b.text = one_text is_b.is.table is_a.text is_b.text (subst (λ (t : Table). IsDebugText t is_a.text) table is_a.is.is) is_b.is.is in
+    is_a.printed ∙ ap (λ (t : List ℕ). option_map (λ bytes. bytes ++ t) old) text ∙ sym is_b.printed
