@@ -23,7 +23,7 @@ use Rattle.hg_cli.specs.Loaded.{Answers, IsBytesOf, IsFlatOf, Loads, Try}
 use Rattle.hg_cli.specs.declared.load_fault.LoadFault.{LoadFault}
 use Rattle.hg_cli.specs.declared.load_fault.LoadFault.TheVariants as a_load
 use Rattle.hg_cli.proofs.Commands.{answered_by, not_without, ran_err, ran_ok}
-use Rattle.hg_cli.proofs.Loads.{quiet_found, quiet_loads}
+use Rattle.hg_cli.proofs.Loads.{unstepped_found, unstepped_loads}
 
 -- ---- the text that was read
 
@@ -66,20 +66,20 @@ met_reading files a_load.Failed met failed = failed refl
 -- ---- where nobody else steps
 
 module _ (files : Watched shelf.History) (passes : shelf.Passes files.old files.new) (own : shelf.IsOurs files.old files.new) where
-  abbrev still : shelf.IsQuiet files.old files.new
-  still = shelves.ours_quiet files.old files.new passes own
+  abbrev still : files.new.last ≡ files.old.last
+  still = shelves.ours_unstepped files.old files.new passes own
 
   abbrev there : shelf.Files
   there = (shelf.now files.old).files
 
   read_now : (table : Table) → IsRead files.old files.new table → record_in there there ≡ Some (Ok table)
-  read_now table read = sym (quiet_found files.old files.new read.tries passes.past still read.tried) ∙ read.found
+  read_now table read = sym (unstepped_found files.old files.new read.tries passes.past still read.tried) ∙ read.found
 
   text_in : (text : List ℕ) → HasText files text → IsTextIn there text
   text_in text has = record { table = has.table; recorded = read_now has.table (has.read own.told); is = has.is }
 
   met_now : (fault : LoadFault) → LoadMet fault files → (tries : List Try) × Answers IsFlatOf (Err fault) (map (λ tried. id_in there) tries) (record_in there there)
-  met_now fault met = let m = met own.told in (m.0, quiet_loads IsFlatOf files.old files.new m.0 (Err fault) passes.past still m.1)
+  met_now fault met = let m = met own.told in (m.0, unstepped_loads IsFlatOf files.old files.new m.0 (Err fault) passes.past still m.1)
 
   all_same : (id : List ℕ) (tries : List Try) → AllByRecursion (λ other. other ≡ id) (map (λ tried. id) tries)
   all_same id [] = tt
