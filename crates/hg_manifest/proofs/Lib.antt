@@ -1,0 +1,9 @@
+pub mod Ascending
+pub mod Digits
+pub mod Fronts
+pub mod LineFaults
+pub mod Loads
+pub mod Places
+pub mod Reading
+pub mod Searching
+pub mod Texts

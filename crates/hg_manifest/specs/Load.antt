@@ -1,0 +1,76 @@
+-- What a load answers, by the moments of the shelf during the call.
+use Rattle.std.specs.Prelude.{ℕ, ◌≡◌, ◌≤◌, ◌<◌, if◌then◌else◌, List, [], length, take, Option, Some, None, Result, Ok, Err, IsTrue, nat_lt}
+use Rattle.hg_base.specs.Fault.{Rose}
+use Rattle.hg_base.specs.declared.id.Id20.{Id20}
+use Rattle.hg_shelf.specs.History.{History}
+use Rattle.hg_shelf.specs.Reads.{size_of}
+use Rattle.hg_manifest.specs.Plain.{is_null, most}
+use Rattle.hg_manifest.specs.Rows.{Rows, manifest_of}
+use Rattle.hg_manifest.specs.declared.fault.ManifestFault.{ManifestFault}
+use Rattle.hg_manifest.specs.declared.fault.ManifestFault.TheVariants as a_fault
+
+-- a moment of a call
+pub record During (old new : History) (k : ℕ) : Type 0 where
+  pub from : old.last ≤ k
+  pub to : k ≤ new.last
+
+-- the file of a name at a moment
+abbrev pub file_at : History → List ℕ → ℕ → Option (List ℕ)
+file_at h name k = (h.at k).files name
+
+-- at a moment of the call a file was so; a shelf that tells no moments says nothing of it
+pub record Was (old new : History) (name : List ℕ) (P : Option (List ℕ) → Type 0) : Type 0 where
+  pub at : ℕ
+  pub during : IsTrue old.told → During old new at
+  pub so : IsTrue old.told → P (file_at new name at)
+
+-- so many bytes of a file, or all where it is shorter
+abbrev pub IsFrontOf : ℕ → List ℕ → Option (List ℕ) → Type 0
+IsFrontOf size bytes None = ⊥
+IsFrontOf size bytes (Some file) = bytes ≡ take size file
+
+-- the bytes that a load took of a file: as many as it had at one moment of the call, at the last one
+pub record Took (old new : History) (name bytes : List ℕ) : Type 0 where
+  pub size : ℕ
+  pub few : size ≤ most
+  pub short : length bytes ≤ size
+  pub sized : Was old new name (λ file. size_of file ≡ Some size)
+  pub front : IsTrue old.told → IsFrontOf size bytes (file_at new name new.last)
+
+-- an answer that is the manifest of what was taken
+pub record Reads (old new : History) (name : List ℕ) (answer : Result Rows ManifestFault) : Type 0 where
+  pub bytes : List ℕ
+  pub took : Took old new name bytes
+  pub found : manifest_of bytes ≡ answer
+
+-- what a load answers of a parent that isn't null; want of memory and a failing shelf say nothing of the file
+abbrev pub Finds : History → History → List ℕ → Id20 → Result Rows ManifestFault → Type 0
+Finds old new name id (Ok rows) = Reads old new name (Ok rows)
+Finds old new name id (Err a_fault.OutOfMemory) = Unit {0}
+Finds old new name id (Err a_fault.Failed) = Unit {0}
+Finds old new name id (Err (a_fault.NoManifest gone)) = (gone ≡ id) × Was old new name (λ file. file ≡ None)
+Finds old new name id (Err (a_fault.ManifestTooLarge size)) = (most < size) × Was old new name (λ file. size_of file ≡ Some size)
+Finds old new name id (Err (a_fault.ManifestLine line)) = Reads old new name (Err (a_fault.ManifestLine line))
+Finds old new name id (Err (a_fault.ManifestOrder line)) = Reads old new name (Err (a_fault.ManifestOrder line))
+
+-- the count of failures rose where the shelf failed, and stands as it stood with every other answer
+abbrev pub IsCounted : ℕ → ℕ → Result Rows ManifestFault → Type 0
+IsCounted before now (Ok rows) = now ≡ before
+IsCounted before now (Err a_fault.OutOfMemory) = now ≡ before
+IsCounted before now (Err a_fault.Failed) = Rose before now
+IsCounted before now (Err (a_fault.NoManifest id)) = now ≡ before
+IsCounted before now (Err (a_fault.ManifestTooLarge size)) = now ≡ before
+IsCounted before now (Err (a_fault.ManifestLine line)) = now ≡ before
+IsCounted before now (Err (a_fault.ManifestOrder line)) = now ≡ before
+
+abbrev pub file_manifest : Id20 → Option (List ℕ) → Result Rows ManifestFault
+file_manifest id None = Err (a_fault.NoManifest id)
+file_manifest id (Some bytes) = if nat_lt most (length bytes) then Err (a_fault.ManifestTooLarge (length bytes)) else manifest_of bytes
+
+-- the manifest of an identifier, by its file; the null parent has no file and no rows
+abbrev pub manifest_in : Id20 → Option (List ℕ) → Result Rows ManifestFault
+manifest_in id file = if is_null id.0 then Ok [] else file_manifest id file
+
+-- a file is the same at every moment of a call
+abbrev pub Stays : History → History → List ℕ → Option (List ℕ) → Type 0
+Stays old new name file = (k : ℕ) → During old new k → file_at new name k ≡ file
