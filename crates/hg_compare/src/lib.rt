@@ -4,6 +4,20 @@
 //! of it, and what stands there now decide its letter.
 #![tactic(auto)]
 
+mod alike;
+mod comparing;
+mod contents;
+mod fault;
 mod letter;
+mod looked;
+mod piece;
+mod room;
 
+pub use comparing::same;
+pub use fault::CompareFault;
 pub use letter::Letter;
+pub use looked::Looked;
+pub use room::Room;
+
+#[cfg(test)]
+mod tests;
