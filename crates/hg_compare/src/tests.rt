@@ -95,7 +95,7 @@ fn compares(rt: HostRuntime) -> Result<(), Fail> {
             "{path}"
         );
     }
-    // The read pieces: one of `one` and of `link`, two of each long file.
-    assert_eq!(rt; tree.asked().len(), 6);
+    // One piece each of `one`, `two` and `link`, and two of each long file; the others aren't read.
+    assert_eq!(rt; tree.asked().len(), 7);
     Ok(())
 }
