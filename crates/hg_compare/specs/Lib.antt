@@ -1,1 +1,5 @@
+pub mod Alike
+pub mod Pieces
+pub mod Same
+pub mod Seen
 pub mod Tracked

@@ -1,0 +1,48 @@
+use Rattle.std.proofs.Common.{rules, ◌∙◌}
+use Rattle.hg_shelf.proofs.Histories as shelves
+use Rattle.hg_tree.proofs.Spans as trees
+use Rattle.hg_compare.proofs.Bytes.{piece_last, piece_more}
+use Rattle.hg_compare.proofs.Counting.{reads_more, whole_more}
+use Rattle.hg_compare.proofs.Spans.{ends_second, parts_of}
+use Rattle.hg_compare.proofs.comparing.same_bytes.Goals as goal
+
+pub returns-in_err-same_piece-clause-asked : goal.returns-in_err-same_piece-clause-asked
+returns-in_err-same_piece-clause-asked g c = λ told.
+    reads_more c.loop-place.place c.args.size c.args.size c.args.path.text.now _ _ _ c.loop-place.invariant.whole c.loop-place-test.true c.loop-place-test.true (c.loop-place.invariant.asked told)
+    (c.same_piece.ensures.asked (c.loop-place.invariant.tree.past.told ∙ told))
+
+pub loop-place-preserved : goal.loop-place-preserved
+loop-place-preserved g c = record {
+  tree = trees.passes_trans _ _ _ c.loop-place.invariant.tree c.same_piece.ensures.tree_passes;
+  shelf = shelves.passes_trans _ _ _ c.loop-place.invariant.shelf c.same_piece.ensures.shelf_passes;
+  same =
+      let found = rw c.in-More.is at c.in_ok-same_piece.ensures.found in
+      piece_more (parts_of c.args.path.text.now c.args.name.now _ _ _ _ _ _ c.loop-place.invariant.tree c.same_piece.ensures.tree_passes c.loop-place.invariant.shelf c.same_piece.ensures.shelf_passes) c.loop-place.place _ _ found.0 (search rules) c.loop-place.invariant.same found.1;
+  whole = whole_more c.loop-place.place c.args.size c.min-width.result c.loop-place.invariant.whole c.loop-place-test.true (search rules);
+  asked = λ told.
+      reads_more c.loop-place.place c.args.size _ c.args.path.text.now _ _ _ c.loop-place.invariant.whole c.loop-place-test.true (search rules) (c.loop-place.invariant.asked told)
+      (c.same_piece.ensures.asked (c.loop-place.invariant.tree.past.told ∙ told));
+  tree_still = c.in_ok-same_piece.ensures.tree_count ∙ c.loop-place.invariant.tree_still;
+  shelf_still = c.in_ok-same_piece.ensures.shelf_count ∙ c.loop-place.invariant.shelf_still;
+  within = search rules;
+  mine = search rules;
+  theirs = search rules;
+}
+
+pub returns-in-End-clause-found : goal.returns-in-End-clause-found
+returns-in-End-clause-found g c =
+    let found = rw c.in-End.is at c.in_ok-same_piece.ensures.found in
+    piece_last (parts_of c.args.path.text.now c.args.name.now _ _ _ _ _ _ c.loop-place.invariant.tree c.same_piece.ensures.tree_passes c.loop-place.invariant.shelf c.same_piece.ensures.shelf_passes) c.loop-place.place _ c.args.size found.0 found.2 c.loop-place.invariant.same found.1
+
+pub returns-in-End-clause-asked : goal.returns-in-End-clause-asked
+returns-in-End-clause-asked g c = λ told.
+    reads_more c.loop-place.place c.args.size c.args.size c.args.path.text.now _ _ _ c.loop-place.invariant.whole c.loop-place-test.true c.loop-place-test.true (c.loop-place.invariant.asked told)
+    (c.same_piece.ensures.asked (c.loop-place.invariant.tree.past.told ∙ told))
+
+pub returns-in-Over-clause-found : goal.returns-in-Over-clause-found
+returns-in-Over-clause-found g c = ends_second (parts_of c.args.path.text.now c.args.name.now _ _ _ _ _ _ c.loop-place.invariant.tree c.same_piece.ensures.tree_passes c.loop-place.invariant.shelf c.same_piece.ensures.shelf_passes) c.in-Over.looked (rw c.in-Over.is at c.in_ok-same_piece.ensures.found)
+
+pub returns-in-Over-clause-asked : goal.returns-in-Over-clause-asked
+returns-in-Over-clause-asked g c = λ told.
+    reads_more c.loop-place.place c.args.size c.args.size c.args.path.text.now _ _ _ c.loop-place.invariant.whole c.loop-place-test.true c.loop-place-test.true (c.loop-place.invariant.asked told)
+    (c.same_piece.ensures.asked (c.loop-place.invariant.tree.past.told ∙ told))
