@@ -2,7 +2,7 @@
 """Times the built program against C loops that make the same system calls, and against other programs:
 python3 bench/bench.py [PROGRAM] [PART ..] [rhg=PROGRAM] [before=PROGRAM].
 
-PROGRAM is build/hgtrack where it isn't named. The parts are listing, tracked, peers, deep, opening, placing, editing and manifests; all where none is named. `rhg` is
+PROGRAM is build/hgtrack where it isn't named. The parts are listing, tracked, peers, deep, opening, placing, editing, encoding and manifests; all where none is named. `rhg` is
 Mercurial's program of that name, which is looked for in PATH otherwise, and `before` an earlier hgtrack, which is timed beside this one. Every time
 is the least of some runs, taken in turn with what it is compared with. The status is 0 exactly where each figure is within its limit.
 """
@@ -267,6 +267,22 @@ def editing(bench):
     bench.tell(f"dropping {MANY:,} paths one by one", both - sets, 1, " s")
 
 
+def encoding(bench):
+    """Encoding a table in memory: many rounds, less one round."""
+    program, loop, rounds = bench.build("encoding"), bench.compiled("encoded"), 41
+    given = f"{bench.room}/encoding.txt"
+    with open(given, "w", encoding="utf-8") as file:
+        file.writelines(f"{it}\n" for it in sorted(in_directories(MANY), key=lambda it: it.split("/")))
+    ours = [([program, "x" * it], bench.room, given) for it in (rounds, 1, 0)]
+    theirs = [([loop, str(it)], bench.room, given) for it in (rounds, 1)]
+    (all_ours, most), (one_of_ours, _), (_, table), (all_theirs, _), (one_of_theirs, _) = bench.least(*ours, *theirs)
+    own, other = (all_ours - one_of_ours) / (rounds - 1), (all_theirs - one_of_theirs) / (rounds - 1)
+    written = subprocess.run([program, "x"], stdin=open(given, "rb"), stdout=subprocess.PIPE, check=True).stdout
+    print(f"| encoding {MANY:,} entries, {int(written):,} bytes | {own * 1000:.2f} ms, the C loop {other * 1000:.2f} ms | | |")
+    bench.tell("its time over the C loop's", own / other, 4)
+    bench.tell("its memory over the bytes", (most - table) * 1e6 / int(written), 3)
+
+
 def manifests(bench):
     """Loading a manifest: many rounds over one that is in memory already, less one round."""
     program, loop, rounds = bench.build("manifests"), bench.compiled("manifests"), 41
@@ -292,6 +308,7 @@ PARTS = {
     "opening": opening,
     "placing": placing,
     "editing": editing,
+    "encoding": encoding,
     "manifests": manifests,
 }
 

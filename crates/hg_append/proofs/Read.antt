@@ -259,7 +259,6 @@ module _ (held : Held) (formed : IsFormed (table held)) where
       caches p None h = ap (option_and_then (λ row. cache_of (fields_of row.rec))) h ∙ no_cache p (missing p h) ((table held).caches p) refl
       caches p (Some r) h = let f = found p r h in ap (option_and_then (λ row. cache_of (fields_of row.rec))) h ∙ f.0.cache ∙ ap (table held).caches f.1
 
-
   module _ (e : Encoded) (s : IsSoundly held e) where
     whole : Tree
     whole = s.written.tree

@@ -111,7 +111,6 @@ in_parent held dir child is = subst (λ (d : Option (List ℕ)). IsChild held d 
 
 -- one node more
 module _ (held : Held) (dir : Option (List ℕ)) (at : ℕ) (children : List ChildData) (child : ChildData) (left : List ChildData) (is_left : children ≡ child ∷ left) (sums now : Sums) (old new mid fin old_records new_records mid_records fin_records : List ℕ) (under : Put) where
-
   pub part_more : IsPutPart held dir at children sums old new old_records new_records
       → IsPut held (Some child.path) sums.end under new mid new_records mid_records
       → now ≡ with_node child under.sums sums

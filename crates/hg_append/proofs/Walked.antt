@@ -302,9 +302,11 @@ module _ (held : Held) (formed : IsFormed (table held)) where
         let all : size_of t ≡ front_size t + 44 * length (heads t) = size_is t in
         let same : suc f - 1 ≡ f = omega arith in
         let found = of f refl in
-        let inside : at + front_size t + 44 * length (heads t) ≤ length bytes = omega (arith, all, room) in
-        (list_inside (suc f) bytes dir (at + front_size t) (length (heads t)) (omega arith) (omega arith) inside
-        ∙ ap (λ (n : ℕ). nodes_fault (below n bytes) bytes dir None (at + front_size t) (length (heads t))) same ∙ found.0, (found.1.0, found.1.1))
+        let inside : at + front_size t + 44 * length (heads t) ≤ length bytes = omega (arith, all, room) in (
+          list_inside (suc f) bytes dir (at + front_size t) (length (heads t)) (omega arith) (omega arith) inside
+              ∙ ap (λ (n : ℕ). nodes_fault (below n bytes) bytes dir None (at + front_size t) (length (heads t))) same ∙ found.0,
+          (found.1.0, found.1.1),
+        )
 
     -- the first node of a list comes behind a name
     abbrev Follows : Option (List ℕ) → Tree → Type 0
@@ -398,11 +400,11 @@ module _ (held : Held) (formed : IsFormed (table held)) where
           (
             ap (λ (r : Row). r ∷ (list_rows fuel bytes (record_at bytes place).kids_start (record_at bytes place).kids_count ++ nodes_rows (list_rows fuel bytes) bytes (place + 44) count))
                 (row_is bytes at place child under placed sound.0 (source_at_entry dir child are.0 sound.0))
-            ∙ ap (λ (r : Rec). head ∷ (list_rows fuel bytes r.kids_start r.kids_count ++ nodes_rows (list_rows fuel bytes) bytes (place + 44) count)) read
-            ∙ ap (λ (l : List Row). head ∷ (l ++ nodes_rows (list_rows fuel bytes) bytes (place + 44) count)) lower.1.0
-            ∙ ap (λ (l : List Row). head ∷ (rows_at at (at + front_size under) under ++ l)) rest.1.0,
+                ∙ ap (λ (r : Rec). head ∷ (list_rows fuel bytes r.kids_start r.kids_count ++ nodes_rows (list_rows fuel bytes) bytes (place + 44) count)) read
+                ∙ ap (λ (l : List Row). head ∷ (l ++ nodes_rows (list_rows fuel bytes) bytes (place + 44) count)) lower.1.0
+                ∙ ap (λ (l : List Row). head ∷ (rows_at at (at + front_size under) under ++ l)) rest.1.0,
             counted_parts head (rows_at at (at + front_size under) under) (rows_at next (place + 44) behind) parts_of
-            ∙ and_from _ _
+                ∙ and_from _ _
                 (and_from _ _ (eq-eqb _ _ (sym (entries_counted at (at + front_size under) under under_sound))) (eq-eqb _ _ (sym (tracked_counted at (at + front_size under) under under_sound))))
                 (and_from _ _ lower.1.1 rest.1.1),
           ),

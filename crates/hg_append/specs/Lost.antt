@@ -31,9 +31,9 @@ lost_of held row =
     if is_lent held (parent_of row.path)
     then 0
     else
-        44
-        + (if is_at (text_at held row.path) row.rec.path_start then 0 else row.rec.path_len)
-        + (if has_entry row.rec.flags && is_at (source_at held row.path) row.rec.copy_start then 0 else named_length row)
+    44
+    + (if is_at (text_at held row.path) row.rec.path_start then 0 else row.rec.path_len)
+    + (if has_entry row.rec.flags && is_at (source_at held row.path) row.rec.copy_start then 0 else named_length row)
 
 -- how many bytes of the data file an append would leave that nothing leads to
 abbrev pub lost : Held → ℕ

@@ -95,115 +95,139 @@ fn note(m: &mut Mixed<'_>, dir: &str) -> Result<(), Fail> {
     Ok(())
 }
 
+// A step that makes a table.
+#[derive(Clone, Copy, Debug)]
+enum Step {
+    Add(&'static str),
+    Clean(&'static str),
+    Copy(&'static str, &'static str),
+    Note(&'static str),
+    Ids(u8, u8),
+    Hash(u8),
+}
+
+fn take(m: &mut Mixed<'_>, it: Step) -> Result<(), Fail> {
+    match it {
+        Step::Add(path) => set(m, path, ADDED),
+        Step::Clean(path) => set(m, path, CLEAN),
+        Step::Copy(path, source) => copy(m, path, source),
+        Step::Note(dir) => note(m, dir),
+        Step::Ids(p1, p2) => {
+            m.set_ids(Id20([p1; 20]), Id20([p2; 20]));
+            Ok(())
+        }
+        Step::Hash(hash) => {
+            m.set_hash([hash; 20]);
+            Ok(())
+        }
+    }
+}
+
 fn rewritten(rt: &HostRuntime, m: &Mixed<'_>) -> Result<Encoded, EncodeFault> {
     encode(rt.alloc(), m, Way::Rewrite)
 }
 
-const HEAD: &str = "6469727374617465 2d76320a";
-const NO_PARENT: &str = "0000000000000000 0000000000000000 0000000000000000 0000000000000000";
-const NO_HASH: &str = "da39a3ee5e6b4b0d3255bfef95601890afd80709";
-const ZEROS: &str = "10 30303030303030303030303030303030";
-
-#[test]
-fn first_file(rt: HostRuntime) -> Result<(), Fail> {
+// What an empty table is encoded as behind these steps.
+fn encoded(rt: &HostRuntime, steps: &[Step]) -> Result<Encoded, Fail> {
     let docket = Docket::read(b"")?;
     let mut m = Mixed::open(rt.alloc(), Image::open(&docket, b"")?)?;
-    set(&mut m, "a", ADDED)?;
-    assert_eq!(rt; plan(&m), Way::Rewrite);
-    let e = rewritten(&rt, &m)?;
-    assert_eq!(rt; e.place, 0);
-    assert_eq!(rt; e.id.as_bytes(), b"0000000000000000".as_slice());
-    let data = "61 00000000 0001 0000 00000000 0000 00000000 00000000
-        00000000 00000000 0001 00000000 00000000 00000000";
-    assert_eq!(rt; e.bytes.as_slice(), bytes(&rt, data)?.as_slice());
-    let mut written = bytes(&rt, HEAD)?;
-    for part in [
-        NO_PARENT,
-        NO_PARENT,
-        "00000001 00000001 00000001 00000000 00000000 00000000",
-        NO_HASH,
-        "0000002d",
-        ZEROS,
-    ] {
-        written.extend_from_slice(&bytes(&rt, part)?)?;
+    for it in steps {
+        take(&mut m, *it)?;
     }
-    assert_eq!(rt; e.docket.as_slice(), written.as_slice());
-    Ok(())
+    Ok(rewritten(rt, &m)?)
 }
 
-// The list of a directory stands before the directory's path, and the records of a list behind all that belongs to its nodes.
-#[test]
-fn lists_in_order(rt: HostRuntime) -> Result<(), Fail> {
-    let docket = Docket::read(b"")?;
-    let mut m = Mixed::open(rt.alloc(), Image::open(&docket, b"")?)?;
-    set(&mut m, "a", ADDED)?;
-    set(&mut m, "d/1", ADDED)?;
-    set(&mut m, "d/0", ADDED)?;
-    let e = rewritten(&rt, &m)?;
-    let data = "61 642f30 642f31
+// The steps, the data file and the docket, with its marker, parents, numbers, hash, used size and identifier. The list of a directory stands before the
+// directory's path, and the records of a list behind all that belongs to its nodes.
+const CASES: &[(&[Step], &str, &str)] = &[
+    (
+        &[Step::Add("a")],
+        "61 00000000 0001 0000 00000000 0000 00000000 00000000 00000000 00000000 0001 00000000 00000000 00000000",
+        "6469727374617465 2d76320a
+        0000000000000000 0000000000000000 0000000000000000 0000000000000000
+        0000000000000000 0000000000000000 0000000000000000 0000000000000000
+        00000001 00000001 00000001 00000000 00000000 00000000
+        da39a3ee5e6b4b0d3255bfef95601890afd80709
+        0000002d 10 30303030303030303030303030303030",
+    ),
+    (
+        &[Step::Add("a"), Step::Add("d/1"), Step::Add("d/0")],
+        "61 642f30 642f31
         00000001 0003 0002 00000000 0000 00000000 00000000 00000000 00000000 0001 00000000 00000000 00000000
         00000004 0003 0002 00000000 0000 00000000 00000000 00000000 00000000 0001 00000000 00000000 00000000
         64
         00000000 0001 0000 00000000 0000 00000000 00000000 00000000 00000000 0001 00000000 00000000 00000000
-        0000005f 0001 0000 00000000 0000 00000007 00000002 00000002 00000002 0000 00000000 00000000 00000000";
-    assert_eq!(rt; e.bytes.as_slice(), bytes(&rt, data)?.as_slice());
-    Ok(())
-}
-
-#[test]
-fn all_parts(rt: HostRuntime) -> Result<(), Fail> {
-    let docket = Docket::read(b"")?;
-    let mut m = Mixed::open(rt.alloc(), Image::open(&docket, b"")?)?;
-    set(&mut m, "d/b", CLEAN)?;
-    copy(&mut m, "d/b", "c")?;
-    note(&mut m, "d")?;
-    m.set_ids(Id20([1; 20]), Id20([2; 20]));
-    m.set_hash([3; 20]);
-    let e = rewritten(&rt, &m)?;
-    let data = "642f62 63
+        0000005f 0001 0000 00000000 0000 00000007 00000002 00000002 00000002 0000 00000000 00000000 00000000",
+        "6469727374617465 2d76320a
+        0000000000000000 0000000000000000 0000000000000000 0000000000000000
+        0000000000000000 0000000000000000 0000000000000000 0000000000000000
+        00000060 00000002 00000003 00000000 00000000 00000000
+        da39a3ee5e6b4b0d3255bfef95601890afd80709
+        000000b8 10 30303030303030303030303030303030",
+    ),
+    (
+        &[
+            Step::Clean("d/b"),
+            Step::Copy("d/b", "c"),
+            Step::Note("d"),
+            Step::Ids(1, 2),
+            Step::Hash(3),
+        ],
+        "642f62 63
         00000000 0003 0002 00000003 0001 00000000 00000000 00000000 00000000 0c03 00000005 00000007 00000008
         64
-        00000030 0001 0000 00000000 0000 00000004 00000001 00000001 00000001 6800 00000000 0000000c 00000000";
-    assert_eq!(rt; e.bytes.as_slice(), bytes(&rt, data)?.as_slice());
-    let mut written = bytes(&rt, HEAD)?;
-    for part in [
-        "0101010101010101010101010101010101010101 000000000000000000000000",
-        "0202020202020202020202020202020202020202 000000000000000000000000",
-        "00000031 00000001 00000001 00000001 00000000 00000000",
-        "0303030303030303030303030303030303030303",
-        "0000005d",
-        ZEROS,
-    ] {
-        written.extend_from_slice(&bytes(&rt, part)?)?;
-    }
-    assert_eq!(rt; e.docket.as_slice(), written.as_slice());
-    Ok(())
-}
+        00000030 0001 0000 00000000 0000 00000004 00000001 00000001 00000001 6800 00000000 0000000c 00000000",
+        "6469727374617465 2d76320a
+        0101010101010101010101010101010101010101 000000000000000000000000
+        0202020202020202020202020202020202020202 000000000000000000000000
+        00000031 00000001 00000001 00000001 00000000 00000000
+        0303030303030303030303030303030303030303
+        0000005d 10 30303030303030303030303030303030",
+    ),
+];
 
 #[test]
-fn no_identifier(rt: HostRuntime) -> Result<(), Fail> {
-    for (id, next) in [
-        ("000000000000000f", Some("0000000000000010")),
-        ("ffffffffffffffff", None),
-    ] {
-        let docket = Docket {
-            id: id.as_bytes(),
-            ..Docket::read(b"")?
-        };
-        let m = Mixed::open(rt.alloc(), Image::open(&docket, b"")?)?;
-        match rewritten(&rt, &m) {
-            Ok(e) => assert_eq!(rt; Some(e.id.as_bytes()), next.map(|it| it.as_bytes())),
-            Err(fault) => {
-                assert_eq!(rt; fault, EncodeFault::IdsSpent);
-                assert_eq!(rt; next, None);
-            }
-        }
+fn worked_bytes(rt: HostRuntime) -> Result<(), Fail> {
+    for (steps, data, docket) in CASES {
+        let e = encoded(&rt, steps)?;
+        assert_eq!(rt; e.place, 0);
+        assert_eq!(rt; e.bytes.as_slice(), bytes(&rt, data)?.as_slice());
+        assert_eq!(rt; e.docket.as_slice(), bytes(&rt, docket)?.as_slice());
     }
     Ok(())
 }
 
+fn with_id<'a>(docket: Docket<'a>, id: &'a [u8]) -> Docket<'a> {
+    Docket { id, ..docket }
+}
+
+// The first byte and the last of the identifier that an empty table is written under behind one, where one is left.
+fn ends_of_next(rt: &HostRuntime, id: &[u8]) -> Result<Option<(u8, u8)>, Fail> {
+    let docket = with_id(Docket::read(b"")?, id);
+    let m = Mixed::open(rt.alloc(), Image::open(&docket, b"")?)?;
+    match rewritten(rt, &m) {
+        Ok(e) => ends(e.id.as_bytes()),
+        Err(EncodeFault::IdsSpent) => Ok(None),
+        Err(_) => Err("another fault".into()),
+    }
+}
+
+fn ends(id: &[u8]) -> Result<Option<(u8, u8)>, Fail> {
+    match id {
+        [first, .., last] => Ok(Some((*first, *last))),
+        _ => Err("too short an identifier".into()),
+    }
+}
+
 #[test]
-fn ends(rt: HostRuntime) {
+fn next_identifiers(rt: HostRuntime) -> Result<(), Fail> {
+    assert_eq!(rt; ends_of_next(&rt, b"000000000000000e")?, Some((b'0', b'f')));
+    assert_eq!(rt; ends_of_next(&rt, b"ffffffffffffffff")?, None);
+    Ok(())
+}
+
+#[test]
+fn ends_of_files(rt: HostRuntime) {
     assert_eq!(rt; end_of(4_294_967_200, 95), Ok(4_294_967_295));
     assert_eq!(rt; end_of(4_294_967_200, 96), Err(4_294_967_296));
     assert_eq!(rt; end_of(1, u64::MAX), Err(u64::MAX));

@@ -189,6 +189,10 @@ fn drawn(state: &mut u64, below: u64) -> u64 {
     (*state >> 33) % below
 }
 
+fn some_byte(state: &mut u64) -> u8 {
+    (drawn(state, 256) % 256) as u8
+}
+
 fn some_path(state: &mut u64) -> &'static str {
     let mut left = drawn(state, PATHS.len() as u64);
     for path in PATHS {
@@ -232,8 +236,8 @@ fn some_edit(state: &mut u64) -> Edit {
         17..=19 => Edit::Note(path, some_time(state)),
         20 => Edit::Forget(path),
         21 => Edit::NoCaches,
-        22 => Edit::Ids(drawn(state, 256) as u8, drawn(state, 256) as u8),
-        _ => Edit::Hash(drawn(state, 256) as u8),
+        22 => Edit::Ids(some_byte(state), some_byte(state)),
+        _ => Edit::Hash(some_byte(state)),
     }
 }
 
