@@ -2,18 +2,17 @@
 use Rattle.std.proofs.Common.{ℕ, ◌≡◌, ◌<◌, ◌≤◌, Bool, true, false, not, ◌&&◌, ◌||◌, cond, ◌⊎◌, inl, inr, List, [], ◌∷◌, ◌++◌, map, length, Option, Some, None, option_map, refl, sym, ap, ◌∙◌, subst, true≢false, nat_cmp, arith}
 use Rattle.std.specs.Prelude.{is_some, MatchBool}
 use Rattle.std.specs.List.{AllByRecursion, IsDistinct, list_any}
-use Rattle.std.specs.List.Sorted.{IsStrictlySortedBy}
 use Rattle.std.specs.Str.{bytes_eq}
 use Rattle.std.specs.Cmp.Lexicographic.{slice_cmp}
 use Rattle.std.specs.declared.cmp.Ordering.TheVariants.{Less}
-use Rattle.std.proofs.lemmas.Bool.{cases_Bool, and_parts, and_from, or_left, or_right, or_from, not-true, false_from_ne_true, both_ways}
+use Rattle.std.proofs.lemmas.Bool.{cases_Bool, and_parts, and_from, or_left, or_right, not-true, false_from_ne_true, both_ways}
 use Rattle.std.proofs.lemmas.Cmp.{nat_list_cmp_total, tied_itself}
 use Rattle.std.proofs.lemmas.List.{append_assoc, append-nil}
 use Rattle.std.proofs.lemmas.List.Folds.{list_any-append}
 use Rattle.std.proofs.lemmas.Map.Keys.{sorted_head, sorted_tail}
 use Rattle.hg_base.specs.PathText.{is_below, is_path, joined, parent_of}
 use Rattle.hg_base.specs.Within.{is_above, is_within}
-use Rattle.hg_base.proofs.Below.{below_compared, below_length, below_not_back, below_trans}
+use Rattle.hg_base.proofs.Below.{below_compared, below_length, below_trans}
 use Rattle.hg_base.proofs.Children.{below_parent, below_through, parent_length, path_through}
 use Rattle.hg_base.proofs.Components.{parent_joined}
 use Rattle.hg_base.proofs.Paths.{path_parts, path_some}

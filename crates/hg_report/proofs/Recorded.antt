@@ -1,27 +1,25 @@
 -- The text of a record.
-use Rattle.std.proofs.Common.{ℕ, ◌≡◌, ◌+◌, ◌-◌, ◌^◌, ◌<◌, Bool, true, false, ◌&&◌, ◌||◌, cond, ◌⊎◌, inl, inr, List, [], ◌∷◌, ◌++◌, map, length, replicate, Option, Some, None, option_map, refl, sym, ap, ◌∙◌, subst, true≢false, nat_cmp, arith}
+use Rattle.std.proofs.Common.{ℕ, ◌≡◌, ◌-◌, ◌^◌, Bool, true, false, ◌&&◌, ◌||◌, cond, inl, inr, List, [], ◌∷◌, ◌++◌, length, replicate, Option, Some, None, refl, sym, ap, ◌∙◌, subst, true≢false, nat_cmp, arith}
 use Rattle.std.specs.Prelude.{is_some}
 use Rattle.std.specs.Fmt.{char_count, decimal, format_spec, padded_integral, styled_decimal}
-use Rattle.std.specs.List.{AllByRecursion, IsDistinct, filter, flat_map, list_any}
+use Rattle.std.specs.List.{AllByRecursion, filter, flat_map, list_any}
 use Rattle.std.specs.List.Sorted.{IsPermutation, IsStrictlySortedBy}
 use Rattle.std.specs.Str.{bytes_eq}
 use Rattle.std.specs.Cmp.Lexicographic.{slice_cmp}
-use Rattle.std.proofs.lemmas.Bool.{cases_Bool, or_left, false_from_ne_true}
-use Rattle.std.proofs.lemmas.List.{append-nil, append_assoc}
+use Rattle.std.proofs.lemmas.Bool.{cases_Bool, or_left}
+use Rattle.std.proofs.lemmas.List.{append-nil}
 use Rattle.std.proofs.lemmas.List.Concat.{flat_map-cons}
 use Rattle.std.proofs.lemmas.List.Elements.{All-from_recursion, recursion_from_All}
 use Rattle.std.proofs.lemmas.List.Kept.{IsStrictlySortedBy-filter}
 use Rattle.std.proofs.lemmas.List.Sorted.{All-permutation, IsPermutation-map, list_any-IsPermutation}
 use Rattle.hg_base.specs.Within.{is_above}
 use Rattle.hg_base.proofs.Within.{same_bytes}
-use Rattle.hg_entry.specs.Entry.{EntryData, StampData, stamp_view, view}
-use Rattle.hg_entry.specs.Table.{Table}
+use Rattle.hg_entry.specs.Entry.{EntryData}
 use Rattle.hg_mixed.specs.Edits.{IsFormed}
 use Rattle.hg_mixed.specs.Held.{Held, table}
 use Rattle.hg_mixed.specs.declared.child.Child.{Child}
-use Rattle.hg_report.specs.Debug.{AreAll, IsDebugText, OneDebugText, copy_line, copy_lines, is_copied, is_recorded, nine_digits, parent_lines, record_line, record_lines}
+use Rattle.hg_report.specs.Debug.{IsDebugText, OneDebugText, copy_line, copy_lines, is_copied, is_recorded, nine_digits, parent_lines, record_line, record_lines}
 use Rattle.hg_report.specs.Gathered.{AreGathered, Gathers, Shows, path_of, paths_of, row_copy, row_line}
-use Rattle.hg_report.proofs.Gathering.{passes}
 use Rattle.hg_report.proofs.Ordered.{distinct_moved, one_all, same_bool}
 
 -- ---- times

@@ -3,7 +3,7 @@ use Rattle.std.specs.Cmp.Lexicographic.{nat_list_cmp_total, slice_cmp}
 use Rattle.std.specs.Ordering.{is_lt}
 use Rattle.std.proofs.lemmas.List.Sorted.{answers_always, ranks_by}
 use Rattle.hg_base.specs.Within.{is_above}
-use Rattle.hg_report.specs.Gathered.{AreGathered, path_of}
+use Rattle.hg_report.specs.Gathered.{path_of}
 use Rattle.hg_report.proofs.Ordered.{strict}
 use Rattle.hg_report.proofs.Recorded.{gathered_all}
 use Rattle.hg_report.proofs.gather.gather.Goals as goal
