@@ -35,6 +35,7 @@ pub record IsSound (child : ChildData) : Type 0 where
   pub source : (source : List ℕ) → child.source ≡ Some source → (is_path source ≡ true) × (is_utf8 source ≡ true)
   pub fields : AreFields child (fields_for child.entry child.cache)
 
+-- each node of a tree is
 abbrev pub AreSound : Tree → Type 0
 AreSound tree = AllByRecursion IsSound (nodes tree)
 

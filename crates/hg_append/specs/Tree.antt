@@ -29,7 +29,7 @@ pub record IsTreeOf (held : Held) (dir : Option (List ℕ)) (tree : Tree) : Type
   pub children : AreChildren held dir (heads tree)
   pub below : AreBelow held tree
 
--- what a node is counted for
+-- a node has an entry, is tracked, has a copy source
 abbrev pub has_entry : ChildData → Bool
 has_entry child = is_some child.entry
 
