@@ -1,4 +1,7 @@
 // What no clause says: that there is memory, and worked comparisons.
+ghost use Rattle.std.specs.Prelude.{IfOk, IsTrue};
+ghost use Rattle.hg_tree.specs.Moment.{is_short_thing};
+
 use super::*;
 use hg_base::{Blob, Id20, PathRef, Time};
 use hg_manifest::FileRow;
@@ -22,7 +25,9 @@ fn row(exec: bool, link: bool, last: u8) -> FileRow {
     }
 }
 
-fn file(alloc: Global, exec: bool, bytes: &[u8]) -> Result<Thing, Fail> {
+fn file(alloc: Global, exec: bool, bytes: &[u8]) -> Result<Thing, Fail>
+    ensures { IfOk result (λ thing. IsTrue (is_short_thing thing)) }
+{
     let bytes = Blob::of(alloc, bytes)?;
     Ok(Thing::File { exec, bytes })
 }
