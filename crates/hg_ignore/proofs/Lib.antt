@@ -1,1 +1,4 @@
+pub mod Compiled
+pub mod Lines
+pub mod Steps
 pub mod Texts

@@ -1,5 +1,5 @@
 -- The steps on a line.
-use Rattle.std.proofs.Common.{◌≡◌, ◌≢◌, ℕ, zero, suc, ◌+◌, ◌-◌, ◌<◌, ◌≤◌, Bool, true, false, not, cond, List, [], ◌∷◌, ◌++◌, length, get_or, take, drop, All, Option, Some, None, inl, inr, ◌⊎◌, refl, sym, ap, ◌∙◌, arith, eqb, eq-eqb, eqb-true, subst, lit<, Bor, IsUtf8, IsCharBoundary, append_assoc, ◌&&◌, ◌||◌}
+use Rattle.std.proofs.Common.{◌≡◌, ◌≢◌, ℕ, zero, suc, ◌+◌, ◌-◌, ◌<◌, ◌≤◌, Bool, true, false, not, cond, List, [], ◌∷◌, ◌++◌, length, get_or, take, drop, All, Option, Some, None, option_map, inl, inr, ◌⊎◌, refl, sym, ap, ◌∙◌, arith, eqb, eq-eqb, eqb-true, subst, lit<, Bor, IsUtf8, IsCharBoundary, append_assoc, ◌&&◌, ◌||◌}
 use Rattle.std.specs.Option.{MatchOption}
 use Rattle.std.specs.List.{slice_split, list_any, prefix_len}
 use Rattle.std.proofs.lemmas.List.Sums.{prefix_len-drop_yes}
@@ -165,3 +165,19 @@ start_more text start utf8 within so_far white = record {
   rest = omega (arith, so_far, prefix_len-drop_yes is_white text start 0 within white);
   cut = IsCharBoundary-after_ascii text start utf8 within (white_ascii (get_or text start 0) white);
 }
+
+-- the parts of a text at its first byte of that value
+pub cut_is_none : (at : ℕ) (text : List ℕ) → has at text ≡ false → cut_at at text ≡ None
+cut_is_none at [] h = refl
+cut_is_none at (b ∷ text) h =
+    let (here, later) = or_false (eqb b at) (has at text) h in
+    ap (λ t. cond t (Some ([], text)) (option_map (λ p. (b ∷ p.0, p.1)) (cut_at at text))) here ∙ ap (option_map (λ p. (b ∷ p.0, p.1))) (cut_is_none at text later)
+
+cut_onto : (at : ℕ) (front rest : List ℕ) → has at front ≡ false → cut_at at (front ++ at ∷ rest) ≡ Some (front, rest)
+cut_onto at [] rest h = ap (λ t. cond t (Some ([], rest)) (option_map (λ p. (at ∷ p.0, p.1)) (cut_at at rest))) (true_eqb at)
+cut_onto at (b ∷ front) rest h =
+    let (here, later) = or_false (eqb b at) (has at front) h in
+    ap (λ t. cond t (Some ([], front ++ at ∷ rest)) (option_map (λ p. (b ∷ p.0, p.1)) (cut_at at (front ++ at ∷ rest)))) here ∙ ap (option_map (λ p. (b ∷ p.0, p.1))) (cut_onto at front rest later)
+
+pub cut_is_some : (at : ℕ) (text front rest : List ℕ) → text ≡ front ++ at ∷ rest → has at front ≡ false → cut_at at text ≡ Some (front, rest)
+cut_is_some at text front rest e h = ap (cut_at at) e ∙ cut_onto at front rest h
