@@ -1,9 +1,14 @@
 -- What `regex` builds of a text, or why it refuses one.
-use Rattle.std.proofs.Common.{◌≡◌, ◌≢◌, ℕ, ◌<◌, ◌≤◌, Bool, true, false, List, length, Option, Some, None, is_some, option_map, chars, inl, inr, refl, sym, ap, ◌∙◌, le-leb}
+use Rattle.std.proofs.Common.{◌≡◌, ◌≢◌, ℕ, ◌<◌, ◌≤◌, Bool, true, false, List, length, Option, Some, None, is_some, option_map, chars, inl, inr, refl, sym, subst, ap, ◌∙◌, le-leb}
 use Rattle.std.specs.Option.{IfSome, IsSomeAnd}
 use Rattle.std.proofs.lemmas.Bool.{lt-leb}
 use Rattle.regex.specs.Patterns.{Re, find_str, default_config, Reads, Refuses, SameCaptures}
 use Rattle.regex.specs.Strings.{regex_pattern}
+use Rattle.regex.specs.Sources.{IsRefusal}
+use Rattle.regex.specs.Failures.{IsRightKind}
+use Rattle.regex.specs.declared.error.Error.{Error}
+use Rattle.regex.specs.declared.error.Error.TheVariants.{Syntax}
+use Rattle.regex_syntax.specs.declared.error.Error as parser
 use Rattle.regex.specs.declared.string.regex.Regex.{Regex}
 use Rattle.regex_syntax.specs.Grammar.{Names, read, group_count}
 use Rattle.regex_syntax.specs.Brackets.{Nested}
@@ -23,6 +28,11 @@ unfolding Refuses
 refused_is text why (inl memory) other = absurd (other memory)
 refused_is text why (inr (inl none)) other = ap is_shallow none
 refused_is text why (inr (inr (limit, deep))) other = deep_is (read default_config (chars text)) deep
+
+pub refused_by : (text : List ℕ) (error : Error) (e : parser.Error) → error ≡ Syntax e → IsRefusal default_config text error → IsRightKind default_config text error → is_regexp text ≡ false
+refused_by text error e is refusal right =
+    let P : Error → Type 0 = λ v. IsRightKind default_config text v in
+    refused_is text e.kind (refusal e is) (subst P is right)
 
 shallow_is : (o : Option (Nested Re × Names)) (a : Re) (names : Names) → IsSomeAnd o (λ (re, found). (re.depth ≤ default_config.nest_limit) × SameCaptures a re.value × (names ≡ found) × (group_count a ≤ length names)) → is_shallow o ≡ true
 shallow_is None a names h = absurd h

@@ -1,3 +1,4 @@
+pub mod Asking
 pub mod Compiled
 pub mod Lines
 pub mod Steps

@@ -4,7 +4,7 @@ use Rattle.std.specs.Option.{MatchOption}
 use Rattle.std.specs.List.{slice_split, list_any, prefix_len}
 use Rattle.std.proofs.lemmas.List.Sums.{prefix_len-drop_yes}
 use Rattle.std.proofs.lemmas.Str.{IsCharBoundary-after_ascii}
-use Rattle.std.proofs.lemmas.List.{length-append}
+use Rattle.std.proofs.lemmas.List.{length-append, get_or_default}
 use Rattle.std.proofs.lemmas.List.Splits.{length-slice_split, slice_split_at, slice_split_none}
 use Rattle.std.proofs.lemmas.Bool.{or_from, ne_eqb}
 use Rattle.std.proofs.lemmas.Str.Pattern.{IsSplitOnceResult, split_parts}
@@ -181,3 +181,7 @@ cut_onto at (b ∷ front) rest h =
 
 pub cut_is_some : (at : ℕ) (text front rest : List ℕ) → text ≡ front ++ at ∷ rest → has at front ≡ false → cut_at at text ≡ Some (front, rest)
 cut_is_some at text front rest e h = ap (cut_at at) e ∙ cut_onto at front rest h
+
+-- the elements of a text are bytes
+pub text_bytes : (text : List ℕ) → ((k : ℕ) → get_or text k 0 < 256) → All (λ b. b < 256) text
+text_bytes text each = λ k d h. rw (get_or_default text k d 0 h) (each k)

@@ -1,7 +1,9 @@
 pub mod Building
+pub mod Kept
 pub mod Line
 pub mod Normal
 pub mod Regexp
+pub mod Source
 pub mod State
 pub mod Taking
 pub mod Text

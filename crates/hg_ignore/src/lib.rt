@@ -3,6 +3,8 @@
 
 mod fault;
 mod glob_line;
+mod ignore;
+mod matcher;
 mod normal;
 mod reading;
 mod regexps;
@@ -11,6 +13,7 @@ mod text;
 mod warnings;
 
 pub use fault::IgnoreFault;
-pub use reading::read_lines;
+pub use ignore::{Ignore, ignored_with_directory};
+pub use matcher::Matcher;
 pub use regexps::{Builds, RegexpFault, Regexps};
 pub use warnings::{Warning, Warnings};
