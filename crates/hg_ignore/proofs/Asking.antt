@@ -167,3 +167,9 @@ law_by state path (Some dir) good e = (
 
 pub law_of_ignored : LawOfIgnored
 law_of_ignored state path good = law_by state path (parent_of path) good refl
+
+-- no line matches what was asked
+pub no_match : (state asked : List Piece) (path : List ℕ) (b : Bool) → asked ≡ state → (IsTrue b ↔ Matches asked path) → b ≡ false → Matches state path → ⊥
+no_match state asked path b same answer none m =
+    let P : List Piece → Type 0 = λ v. Matches v path in
+    both_ways b none (answer.1 (subst P (sym same) m))

@@ -89,3 +89,29 @@ HasSizeCause most old new a_fault.OutOfMemory = Unit {0}
 HasSizeCause most old new a_fault.Failed = Unit {0}
 HasSizeCause most old new (a_fault.IgnoreTooLarge size) = (most < size) × IsTooLarge most size old new
 HasSizeCause most old new fault = ⊥
+
+-- one read may be asked
+abbrev pub MayAsk : History → History → Type 0
+MayAsk old new = (new.asked ≡ old.asked) ⊎ (new.asked ≡ old.asked ++ the_read)
+
+-- why a read of so many bytes and one more gives no text
+abbrev pub HasReadCause : ℕ → History → IgnoreFault → Type 0
+HasReadCause most new a_fault.OutOfMemory = Unit {0}
+HasReadCause most new a_fault.Failed = Unit {0}
+HasReadCause most new (a_fault.IgnoreTooLarge size) = (most < size) × (size ≡ most + 1) × IsSomeAnd (text_at (now new)) (λ text. most < length text)
+HasReadCause most new fault = ⊥
+
+-- a call that is answered asks one read where a file was seen, and nothing where none is at the last moment
+abbrev pub AsksRight : History → History → Type 0
+AsksRight old new = ((new.asked ≡ old.asked) × (has_file (now new) ≡ false)) ⊎ (FileDuring old new × (new.asked ≡ old.asked ++ the_read))
+
+-- why bytes within the size aren't taken
+abbrev pub HasBytesCause : List ℕ → IgnoreFault → Type 0
+HasBytesCause bytes a_fault.OutOfMemory = Unit {0}
+HasBytesCause bytes a_fault.Failed = ⊥
+HasBytesCause bytes (a_fault.IgnoreTooLarge size) = ⊥
+HasBytesCause bytes (a_fault.IgnoreText at) = IsValidUpTo bytes at
+HasBytesCause bytes (a_fault.BadGlob line) = IsUtf8 bytes × HasLineCause (lines_of bytes) (a_fault.BadGlob line)
+HasBytesCause bytes (a_fault.BadRegexp line) = IsUtf8 bytes × HasLineCause (lines_of bytes) (a_fault.BadRegexp line)
+HasBytesCause bytes (a_fault.RegexpTooBig line) = IsUtf8 bytes × HasLineCause (lines_of bytes) (a_fault.RegexpTooBig line)
+HasBytesCause bytes (a_fault.BadInclude line) = IsUtf8 bytes × HasLineCause (lines_of bytes) (a_fault.BadInclude line)

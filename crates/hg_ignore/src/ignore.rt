@@ -3,6 +3,7 @@
 ghost use Rattle.std.specs.Prelude.{◌≡◌, ◌↔◌, ◌≤◌, [], Some, None, IsTrue, IfOk, IfErr, length};
 ghost use Rattle.hg_ignore.specs.Kept.{LawOfIgnored, SomeStands};
 ghost use Rattle.hg_ignore.specs.Line.{lines_of};
+ghost use Rattle.hg_ignore.specs.Source.{HasBytesCause};
 ghost use Rattle.hg_ignore.specs.State.{Hash, Ignored, Matches, hash_lines, items_of, state_of};
 ghost use Rattle.hg_ignore.specs.Taking.{Counted, HasLineCause, first_fault, globs_of, warnings_of};
 ghost use Rattle.sha1.specs.Sha1.{sha1};
@@ -100,6 +101,26 @@ impl Ignore {
             hash,
             warnings: reading.warnings,
         })
+    }
+
+    /// The state of the file's bytes, where they are text.
+    fn of_bytes<G: Regexps>(
+        alloc: Global,
+        regexps: &mut G,
+        bytes: &[u8],
+    ) -> Result<Ignore, IgnoreFault>
+        requires { length bytes.now ≤ 1048576 }
+        ensures state { IfOk result (λ i. i ≡ state_of (Some bytes.now)) }
+        ensures faultless { IfOk result (λ _. first_fault (lines_of bytes.now) ≡ None) }
+        ensures cause { IfErr result (HasBytesCause bytes.now) }
+        ensures counted { Counted (G.oversize regexps.old) (G.oversize regexps.new) result }
+    {
+        match str::from_utf8(bytes) {
+            Err(error) => Err(IgnoreFault::IgnoreText {
+                at: error.valid_up_to() as u32,
+            }),
+            Ok(text) => Ignore::of_text(alloc, regexps, text),
+        }
     }
 
     /// Whether some glob stands in the path.
