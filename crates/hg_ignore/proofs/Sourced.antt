@@ -1,5 +1,5 @@
 -- What is read of the file of ignore patterns.
-use Rattle.std.proofs.Common.{◌≡◌, ℕ, ◌+◌, ◌<◌, ◌≤◌, Bool, true, false, cond, IsTrue, ◌⊎◌, inl, inr, List, [], ◌∷◌, ◌++◌, length, map, Option, Some, None, option_map, Result, Ok, Err, IfOk, IfErr, refl, sym, subst, ap, ◌∙◌, arith, append-nil, IsUtf8}
+use Rattle.std.proofs.Common.{◌≡◌, ℕ, ◌+◌, ◌<◌, ◌≤◌, Bool, true, false, cond, IsTrue, ◌⊎◌, inl, inr, List, [], ◌∷◌, ◌++◌, length, map, Option, Some, None, option_map, Result, Ok, Err, IfOk, IfErr, OnOk, refl, sym, subst, ap, ◌∙◌, arith, append-nil, IsUtf8}
 use Rattle.std.specs.Option.{IsSomeAnd, option_and_then}
 use Rattle.std.specs.Str.{IsValidUpTo}
 use Rattle.hg_tree.specs.Moment.{Moment, stat_of, stat_at, bytes_of, bytes_at, is_file}
@@ -12,9 +12,9 @@ use Rattle.hg_tree.specs.declared.asked.Asked.TheVariants as an_ask
 use Rattle.hg_tree.proofs.Spans.{ours_unstepped, now_same}
 use Rattle.hg_base.specs.declared.stat.Stat.{Stat}
 use Rattle.hg_ignore.specs.Line.{lines_of}
-use Rattle.hg_ignore.specs.State.{Piece, Ignore, IgnoreFiles, ignore_file, state_of, Texts}
-use Rattle.hg_ignore.specs.Taking.{HasLineCause}
-use Rattle.hg_ignore.specs.Source.{file_size, has_file, text_at, FileDuring, ReadDuring, the_read, AsksOnce, AsksRight, MayAsk, reads_of, IsTooLarge, HasReadCause, HasSizeCause, HasBytesCause, HasTextCause, BytesDuring}
+use Rattle.hg_ignore.specs.State.{Piece, Ignore, IgnoreFiles, ignore_file, items_of, state_of, Texts}
+use Rattle.hg_ignore.specs.Taking.{Counted, HasLineCause, first_fault}
+use Rattle.hg_ignore.specs.Source.{file_size, has_file, text_at, FileDuring, ReadDuring, the_read, AsksOnce, AsksRight, MayAsk, reads_of, IsTooLarge, HasReadCause, HasSizeCause, HasBytesCause, HasTextCause, BytesDuring, IsOfReading}
 use Rattle.hg_ignore.specs.declared.fault.IgnoreFault.{IgnoreFault}
 use Rattle.hg_ignore.specs.declared.fault.IgnoreFault.TheVariants as a_fault
 
@@ -159,3 +159,40 @@ state_among old new state (inr (during, e)) = inr (new.last, (omega arith), e)
 pub states_among : {A : Type 0} (view : A → List Piece) (old new : History) (r : Result A IgnoreFault) → IfOk r (λ i. ReadDuring old new (view i)) → IfOk r (λ i. Texts new (view i))
 states_among view old new (Ok i) h = state_among old new (view i) h
 states_among view old new (Err f) h = tt
+
+pub asked_behind : {A : Type 0} (old mid new : History) (r : Result A IgnoreFault) → Asks true [] old mid → FileDuring old new → OnOk r (new.asked ≡ mid.asked ++ the_read) → OnOk r (AsksRight old new)
+asked_behind old mid new (Ok x) quiet during e = asks_right old mid new quiet during e
+asked_behind old mid new (Err f) quiet during e = tt
+
+pub asked_still : {A : Type 0} (old new : History) (r : Result A IgnoreFault) → Passes old new → (IsTrue old.told → OnOk r (AsksRight old new)) → IsOurs old new → OnOk r (new.asked ≡ old.asked ++ reads_of (now old))
+asked_still old new (Ok x) passes asks ours = asks_still old new passes ours (asks ours.told)
+asked_still old new (Err f) passes asks ours = tt
+
+-- the state that was read has no line with a fault
+pub faultless_of : (state : List Piece) (bytes : List ℕ) → state ≡ state_of (Some bytes) → first_fault (lines_of bytes) ≡ None → first_fault (items_of state) ≡ None
+faultless_of state bytes e none = ap (λ s. first_fault (items_of s)) e ∙ ap first_fault (append-nil (lines_of bytes)) ∙ none
+
+pub faultless_all : {A : Type 0} (view : A → List Piece) (bytes : List ℕ) (r : Result A IgnoreFault) → IfOk r (λ i. view i ≡ state_of (Some bytes)) → IfOk r (λ i. first_fault (lines_of bytes) ≡ None) → IfOk r (λ i. first_fault (items_of (view i)) ≡ None)
+faultless_all view bytes (Ok i) e none = faultless_of (view i) bytes e none
+faultless_all view bytes (Err f) e none = tt
+
+-- no regexp was compiled where no bytes were given
+pub counted_still : (A : Type 0) (most count : ℕ) (f : IgnoreFault) → IsOfReading most f → Counted {T = A} count count (Err f)
+counted_still A most count a_fault.OutOfMemory kind = refl
+counted_still A most count a_fault.Failed kind = refl
+counted_still A most count (a_fault.IgnoreTooLarge size) kind = refl
+counted_still A most count (a_fault.IgnoreText at) kind = absurd kind
+counted_still A most count (a_fault.BadGlob line) kind = absurd kind
+counted_still A most count (a_fault.BadRegexp line) kind = absurd kind
+counted_still A most count (a_fault.RegexpTooBig line) kind = absurd kind
+counted_still A most count (a_fault.BadInclude line) kind = absurd kind
+
+pub over_of : (most size : ℕ) (f : IgnoreFault) → IsOfReading most f → f ≡ a_fault.IgnoreTooLarge size → most < size
+over_of most size f kind e = let P : IgnoreFault → Type 0 = λ v. IsOfReading most v in subst P e kind
+
+on_any : {A : Type 0} (r : Result A IgnoreFault) (X : Type 0) → X → OnOk r X
+on_any (Ok i) X x = x
+on_any (Err f) X x = tt
+
+pub asked_for : {A : Type 0} (old new : History) (r : Result A IgnoreFault) → Passes old new → (IsTrue old.told → AsksRight old new) → IsOurs old new → OnOk r (new.asked ≡ old.asked ++ reads_of (now old))
+asked_for old new r passes asks ours = on_any r (new.asked ≡ old.asked ++ reads_of (now old)) (asks_still old new passes ours (asks ours.told))

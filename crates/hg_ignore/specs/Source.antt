@@ -115,3 +115,10 @@ HasBytesCause bytes (a_fault.BadGlob line) = IsUtf8 bytes × HasLineCause (lines
 HasBytesCause bytes (a_fault.BadRegexp line) = IsUtf8 bytes × HasLineCause (lines_of bytes) (a_fault.BadRegexp line)
 HasBytesCause bytes (a_fault.RegexpTooBig line) = IsUtf8 bytes × HasLineCause (lines_of bytes) (a_fault.RegexpTooBig line)
 HasBytesCause bytes (a_fault.BadInclude line) = IsUtf8 bytes × HasLineCause (lines_of bytes) (a_fault.BadInclude line)
+
+-- which faults a reading of bytes can have, over any tree
+abbrev pub IsOfReading : ℕ → IgnoreFault → Type 0
+IsOfReading most a_fault.OutOfMemory = Unit {0}
+IsOfReading most a_fault.Failed = Unit {0}
+IsOfReading most (a_fault.IgnoreTooLarge size) = most < size
+IsOfReading most fault = ⊥

@@ -1,10 +1,14 @@
 //! The ignore state of a working copy, compiled.
 
-ghost use Rattle.std.specs.Prelude.{◌≡◌, ◌↔◌, ◌≤◌, [], Some, None, IsTrue, IfOk, IfErr, length};
+ghost use Rattle.std.specs.Prelude.{ℕ, ◌≡◌, ◌↔◌, ◌≤◌, ◌<◌, ◌++◌, [], Some, None, IsTrue, IfOk, IfErr, OnOk, length};
+ghost use Rattle.hg_base.specs.Fault.{HasCause};
+ghost use Rattle.hg_tree.specs.History.{IsOurs, Passes, now};
+ghost use Rattle.hg_ignore.specs.declared.fault.IgnoreFault.TheVariants as a_fault;
 ghost use Rattle.hg_ignore.specs.Kept.{LawOfIgnored, SomeStands};
 ghost use Rattle.hg_ignore.specs.Line.{lines_of};
-ghost use Rattle.hg_ignore.specs.Source.{HasBytesCause};
-ghost use Rattle.hg_ignore.specs.State.{Hash, Ignored, Matches, hash_lines, items_of, state_of};
+ghost use Rattle.hg_ignore.specs.Source.{AsksOnce, AsksRight, HasBytesCause, HasTextCause, ReadDuring, reads_of};
+ghost use Rattle.hg_ignore.specs.State as states;
+ghost use Rattle.hg_ignore.specs.State.{Hash, Ignored, Matches, Texts, items_of, state_of};
 ghost use Rattle.hg_ignore.specs.Taking.{Counted, HasLineCause, first_fault, globs_of, warnings_of};
 ghost use Rattle.sha1.specs.Sha1.{sha1};
 
@@ -13,12 +17,17 @@ use crate::glob_line::GlobLine;
 use crate::matcher::Matcher;
 use crate::reading::read_lines;
 use crate::regexps::Regexps;
+use crate::source::read_bytes;
 use crate::warnings::Warnings;
 use hg_base::{OutOfMemory, PathRef, Text};
+use hg_tree::Tree;
 use regex::RegexSet;
 use sha1::Sha1;
 use std::alloc::Global;
 use std::marker::Model;
+
+/// The most bytes of a text.
+const MOST: usize = 1_048_576;
 
 /// What a working copy ignores; contracts see the files that were read, with their texts.
 #[derive(Drop)]
@@ -128,6 +137,40 @@ impl Ignore {
         ensures { IsTrue result ↔ SomeStands (globs_of (items_of self.now)) path.now }
     {
         some_stands(self.globs.as_slice(), path)
+    }
+
+    /// The state of the working copy: the text of the file `.hgignore` at its root, taken by one read behind a stat. Anything else
+    /// than a file there counts as absent.
+    pub fn read<T: Tree, G: Regexps>(
+        alloc: Global,
+        tree: &mut T,
+        regexps: &mut G,
+    ) -> Result<Ignore, IgnoreFault>
+        ensures passes { Passes (T.history tree.old) (T.history tree.new) }
+
+        // what is asked: at most one read, and that only where a file was seen
+        ensures asked { IsTrue (T.history tree.old).told → AsksOnce (T.history tree.old) (T.history tree.new) }
+        ensures asks { IsTrue (T.history tree.old).told → OnOk result (AsksRight (T.history tree.old) (T.history tree.new)) }
+        ensures asked_still { IsOurs (T.history tree.old) (T.history tree.new)
+            → OnOk result ((T.history tree.new).asked ≡ (T.history tree.old).asked ++ reads_of (now (T.history tree.old))) }
+
+        // what is read
+        ensures state { IsTrue (T.history tree.old).told → IfOk result (λ i. ReadDuring (T.history tree.old) (T.history tree.new) i) }
+        ensures still { IsOurs (T.history tree.old) (T.history tree.new) → IfOk result (λ i. i ≡ states.Ignore (now (T.history tree.old))) }
+        ensures among { IsTrue (T.history tree.old).told → IfOk result (λ i. Texts (T.history tree.new) i) }
+        ensures faultless { IfOk result (λ i. first_fault (items_of i) ≡ None) }
+
+        // why nothing is
+        ensures cause { IsTrue (T.history tree.old).told → IfErr result (HasTextCause 1048576 (T.history tree.old) (T.history tree.new)) }
+        ensures over { IfErr result (λ e. (size : ℕ) → e ≡ a_fault.IgnoreTooLarge size → 1048576 < size) }
+        ensures faults { HasCause (T.faults tree.old) (T.faults tree.new) result (λ e. e ≡ a_fault.Failed) }
+        ensures oversize { Counted (G.oversize regexps.old) (G.oversize regexps.new) result }
+    {
+        match read_bytes(alloc, tree, MOST) {
+            Err(fault) => Err(fault),
+            Ok(None) => Ok(Ignore::absent(alloc)),
+            Ok(Some(bytes)) => Ignore::of_bytes(alloc, regexps, bytes.as_slice()),
+        }
     }
 
     /// What asks the state many paths.

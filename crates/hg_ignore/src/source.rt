@@ -1,10 +1,10 @@
 //! The file of ignore patterns, as a tree has it.
 
-ghost use Rattle.std.specs.Prelude.{◌≡◌, ◌++◌, ◌≤◌, ◌<◌, ◌^◌, ℕ, IsTrue, IfOk, IfErr, IfSome, OnOk, length, option_map};
+ghost use Rattle.std.specs.Prelude.{◌≡◌, ◌++◌, ◌≤◌, ◌<◌, ◌^◌, IsTrue, IfOk, IfErr, IfSome, OnOk, length, option_map};
 ghost use Rattle.hg_base.specs.Fault.{HasCause};
 ghost use Rattle.hg_tree.specs.History.{Passes, now};
 ghost use Rattle.hg_ignore.specs.Source as source;
-ghost use Rattle.hg_ignore.specs.Source.{AsksOnce, AsksRight, BytesDuring, HasReadCause, HasSizeCause, MayAsk, text_at, the_read};
+ghost use Rattle.hg_ignore.specs.Source.{AsksOnce, AsksRight, BytesDuring, HasReadCause, HasSizeCause, IsOfReading, MayAsk, text_at, the_read};
 ghost use Rattle.hg_ignore.specs.declared.fault.IgnoreFault.TheVariants as a_fault;
 
 use crate::fault::IgnoreFault;
@@ -41,7 +41,7 @@ fn read_file<T: Tree>(
     ensures found { IsTrue (T.history tree.old).told → IfOk result (λ bytes. option_map (λ v. v.items) bytes ≡ text_at (now (T.history tree.new))) }
     ensures within { IfOk result (λ bytes. IfSome bytes (λ v. length v.items ≤ most)) }
     ensures large { IsTrue (T.history tree.old).told → IfErr result (HasReadCause most (T.history tree.new)) }
-    ensures over { IfErr result (λ e. (size : ℕ) → e ≡ a_fault.IgnoreTooLarge size → most < size) }
+    ensures kind { IfErr result (IsOfReading most) }
     ensures cause { HasCause (T.faults tree.old) (T.faults tree.new) result (λ e. e ≡ a_fault.Failed) }
 {
     let mut bytes = vec![in alloc; 0u8; most + 1]?;
@@ -71,7 +71,7 @@ pub fn read_bytes<T: Tree>(
     ensures found { IsTrue (T.history tree.old).told → IfOk result (λ bytes. BytesDuring (T.history tree.old) (T.history tree.new) (option_map (λ v. v.items) bytes)) }
     ensures within { IfOk result (λ bytes. IfSome bytes (λ v. length v.items ≤ most)) }
     ensures size { IsTrue (T.history tree.old).told → IfErr result (HasSizeCause most (T.history tree.old) (T.history tree.new)) }
-    ensures over { IfErr result (λ e. (size : ℕ) → e ≡ a_fault.IgnoreTooLarge size → most < size) }
+    ensures kind { IfErr result (IsOfReading most) }
     ensures cause { HasCause (T.faults tree.old) (T.faults tree.new) result (λ e. e ≡ a_fault.Failed) }
 {
     match tree.stat(PathRef { text: FILE }) {
