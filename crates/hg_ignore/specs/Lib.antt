@@ -1,3 +1,4 @@
+pub mod Asked
 pub mod Building
 pub mod Kept
 pub mod Line

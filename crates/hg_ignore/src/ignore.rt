@@ -4,6 +4,7 @@ ghost use Rattle.std.specs.Prelude.{ℕ, ◌≡◌, ◌↔◌, ◌≤◌, ◌<�
 ghost use Rattle.hg_base.specs.Fault.{HasCause};
 ghost use Rattle.hg_tree.specs.History.{IsOurs, Passes, now};
 ghost use Rattle.hg_ignore.specs.declared.fault.IgnoreFault.TheVariants as a_fault;
+ghost use Rattle.hg_ignore.specs.Asked.{state_asked};
 ghost use Rattle.hg_ignore.specs.Kept.{LawOfIgnored, SomeStands};
 ghost use Rattle.hg_ignore.specs.Line.{lines_of};
 ghost use Rattle.hg_ignore.specs.Source.{AsksOnce, AsksRight, HasBytesCause, HasTextCause, ReadDuring, reads_of};
@@ -175,7 +176,7 @@ impl Ignore {
 
     /// What asks the state many paths.
     pub fn matcher(&self, alloc: Global) -> Result<Matcher<'_>, OutOfMemory>
-        ensures { IfOk result (λ m. m.ignore.now ≡ self.now) }
+        ensures { IfOk result (λ m. state_asked m ≡ self.now) }
     {
         let set = self.regexps.matcher(alloc)?;
         Ok(Matcher { ignore: self, set })

@@ -8,6 +8,7 @@ mod matcher;
 mod normal;
 mod reading;
 mod regexps;
+mod searching;
 mod source;
 mod syntax;
 mod text;
