@@ -1,5 +1,5 @@
 -- What is asked of an ignore state.
-use Rattle.std.proofs.Common.{◌≡◌, ℕ, ◌+◌, ◌<◌, Bool, true, false, ◌||◌, ◌⊎◌, ◌↔◌, inl, inr, List, [], ◌∷◌, ◌++◌, map, length, All, Option, Some, None, is_some, IsTrue, chars, refl, sym, subst, ap, ◌∙◌, arith, append-nil, length-append}
+use Rattle.std.proofs.Common.{◌≡◌, ℕ, ◌<◌, Bool, true, false, ◌||◌, ◌⊎◌, ◌↔◌, inl, inr, List, [], ◌∷◌, map, length, Option, Some, None, is_some, IsTrue, chars, refl, sym, subst, ap, ◌∙◌, arith, append-nil, length-append}
 use Rattle.std.specs.List.{list_any, Any}
 use Rattle.std.proofs.lemmas.Bool.{both_ways}
 use Rattle.std.proofs.lemmas.List.Folds.{Any-from_list_any, list_any-from_Any}
@@ -10,17 +10,15 @@ use Rattle.regex.specs.declared.string.regex.Regex.{Regex}
 use Rattle.regex.specs.declared.string.set.RegexSet.{RegexSet}
 use Rattle.hg_base.specs.PathText.{is_path, is_below, parent_of, joined, base_of}
 use Rattle.hg_base.specs.Within.{is_within}
-use Rattle.hg_base.proofs.Below.{below_itself}
 use Rattle.hg_base.proofs.Within.{within_itself, within_below, within_split, within_trans, above_is, above_none}
 use Rattle.hg_glob.specs.Part.{glob_of}
 use Rattle.hg_glob.specs.Line.{Stands}
 use Rattle.hg_ignore.specs.Line.{Item, glob, regexp, unknown, included, lines_of}
 use Rattle.hg_ignore.specs.Regexp.{AreBytes, finds, found_by}
-use Rattle.hg_ignore.specs.State.{Piece, state_of, items_of, LineMatches, SomeMatches, Matches, Ignored, Hash}
+use Rattle.hg_ignore.specs.State.{Piece, state_of, items_of, SomeMatches, Matches, Ignored, Hash}
 use Rattle.hg_ignore.specs.Taking.{globs_of, regexps_of, warnings_of, Reaches}
 use Rattle.hg_ignore.specs.Kept.{SomeStands, FindsAll, IsKept, DirIgnored, LawOfIgnored}
 use Rattle.hg_ignore.specs.declared.reading.Reading.{Reading}
-use Rattle.hg_ignore.proofs.Texts.{or_false}
 
 -- the regexps of a set, as they are searched for
 by_set : (path : List ℕ) (regexes : List Regex) → map (λ re. is_some (find_str re path 0)) (map regex_pattern regexes) ≡ map (found_by path) regexes

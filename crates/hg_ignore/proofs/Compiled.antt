@@ -1,5 +1,5 @@
 -- What `regex` builds of a text, or why it refuses one.
-use Rattle.std.proofs.Common.{◌≡◌, ◌≢◌, ℕ, ◌<◌, ◌≤◌, Bool, true, false, List, length, Option, Some, None, is_some, option_map, chars, inl, inr, refl, sym, subst, ap, ◌∙◌, le-leb}
+use Rattle.std.proofs.Common.{◌≡◌, ◌≢◌, ℕ, ◌<◌, ◌≤◌, true, false, List, length, Option, Some, None, is_some, chars, inl, inr, refl, sym, subst, ap, ◌∙◌, le-leb}
 use Rattle.std.specs.Option.{IfSome, IsSomeAnd}
 use Rattle.std.proofs.lemmas.Bool.{lt-leb}
 use Rattle.regex.specs.Patterns.{Re, find_str, default_config, Reads, Refuses, SameCaptures}

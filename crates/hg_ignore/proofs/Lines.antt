@@ -1,14 +1,13 @@
 -- Lines that are taken in, one behind another.
-use Rattle.std.proofs.Common.{◌≡◌, ℕ, ◌+◌, ◌≤◌, Bool, true, false, not, cond, List, [], ◌∷◌, ◌++◌, map, length, Option, Some, None, is_some, refl, sym, subst, ap, ◌∙◌, arith, append_assoc, append-nil, ◌&&◌, ◌||◌}
+use Rattle.std.proofs.Common.{◌≡◌, ℕ, ◌+◌, Bool, true, false, not, cond, List, [], ◌∷◌, ◌++◌, map, Option, Some, None, is_some, refl, sym, subst, ap, ◌∙◌, append_assoc, append-nil, ◌&&◌, ◌||◌}
 use Rattle.std.proofs.lemmas.List.{map-append}
 use Rattle.regex.specs.declared.string.regex.Regex.{Regex}
 use Rattle.hg_ignore.specs.Text.{has, pieces, text_of}
-use Rattle.hg_ignore.specs.Line.{Item, glob, regexp, unknown, included, Said, said, lines_from, lines_of}
-use Rattle.hg_ignore.specs.Regexp.{AreBytes, finds, found_by, IsBuiltFrom}
+use Rattle.hg_ignore.specs.Line.{Item, glob, regexp, unknown, included, Said, said, lines_from}
+use Rattle.hg_ignore.specs.Regexp.{finds, found_by, IsBuiltFrom}
 use Rattle.hg_ignore.specs.Taking.{globs_of, regexps_of, warnings_of, fault_at, or_else, first_fault, is_regexp_at, comes_to, HasLineCause, Taken, Reaches}
 use Rattle.hg_ignore.specs.declared.reading.Reading.{Reading}
 use Rattle.hg_ignore.specs.declared.syntax.Syntax.{Syntax}
-use Rattle.hg_ignore.specs.declared.syntax.Syntax.TheVariants as a_syntax
 use Rattle.hg_ignore.specs.declared.fault.IgnoreFault.{IgnoreFault}
 use Rattle.hg_ignore.specs.declared.fault.IgnoreFault.TheVariants as a_fault
 use Rattle.hg_ignore.proofs.Compiled.{built_is, found_is}

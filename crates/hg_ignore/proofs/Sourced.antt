@@ -1,18 +1,17 @@
 -- What is read of the file of ignore patterns.
-use Rattle.std.proofs.Common.{◌≡◌, ℕ, ◌+◌, ◌<◌, ◌≤◌, Bool, true, false, cond, IsTrue, ◌⊎◌, inl, inr, List, [], ◌∷◌, ◌++◌, length, map, Option, Some, None, option_map, Result, Ok, Err, IfOk, IfErr, OnOk, refl, sym, subst, ap, ◌∙◌, arith, append-nil, IsUtf8}
+use Rattle.std.proofs.Common.{◌≡◌, ℕ, ◌<◌, ◌≤◌, Bool, true, false, cond, IsTrue, inl, inr, List, [], ◌∷◌, ◌++◌, length, map, Option, Some, None, option_map, Result, Ok, Err, IfOk, IfErr, OnOk, refl, sym, subst, ap, ◌∙◌, arith, append-nil, IsUtf8}
 use Rattle.std.specs.Option.{IsSomeAnd, option_and_then}
 use Rattle.std.specs.Str.{IsValidUpTo}
-use Rattle.hg_tree.specs.Moment.{Moment, stat_of, stat_at, bytes_of, bytes_at, is_file}
-use Rattle.hg_tree.specs.History.{History, Extends, Passes, IsOurs, Asks, now}
+use Rattle.hg_tree.specs.Moment.{Moment, stat_of, stat_at, bytes_of, is_file}
+use Rattle.hg_tree.specs.History.{History, Passes, IsOurs, Asks, now}
 use Rattle.hg_tree.specs.declared.thing.Placed.{Placed}
 use Rattle.hg_tree.specs.declared.thing.Thing.{Thing}
 use Rattle.hg_tree.specs.declared.thing.Thing.TheVariants as a_thing
-use Rattle.hg_tree.specs.declared.asked.Asked.{Asked}
 use Rattle.hg_tree.specs.declared.asked.Asked.TheVariants as an_ask
 use Rattle.hg_tree.proofs.Spans.{ours_unstepped, now_same}
 use Rattle.hg_base.specs.declared.stat.Stat.{Stat}
 use Rattle.hg_ignore.specs.Line.{lines_of}
-use Rattle.hg_ignore.specs.State.{Piece, Ignore, IgnoreFiles, ignore_file, items_of, state_of, Texts}
+use Rattle.hg_ignore.specs.State.{Piece, Ignore, ignore_file, items_of, state_of, Texts}
 use Rattle.hg_ignore.specs.Taking.{Counted, HasLineCause, first_fault}
 use Rattle.hg_ignore.specs.Source.{file_size, has_file, text_at, FileDuring, ReadDuring, the_read, AsksOnce, AsksRight, MayAsk, reads_of, IsTooLarge, HasReadCause, HasSizeCause, HasBytesCause, HasTextCause, BytesDuring, IsOfReading}
 use Rattle.hg_ignore.specs.declared.fault.IgnoreFault.{IgnoreFault}

@@ -1,7 +1,7 @@
 -- The steps on a line.
 use Rattle.std.proofs.Common.{◌≡◌, ◌≢◌, ℕ, zero, suc, ◌+◌, ◌-◌, ◌<◌, ◌≤◌, Bool, true, false, not, cond, List, [], ◌∷◌, ◌++◌, length, get_or, take, drop, All, Option, Some, None, option_map, inl, inr, ◌⊎◌, refl, sym, ap, ◌∙◌, arith, eqb, eq-eqb, eqb-true, subst, lit<, Bor, IsUtf8, IsCharBoundary, append_assoc, ◌&&◌, ◌||◌}
 use Rattle.std.specs.Option.{MatchOption}
-use Rattle.std.specs.List.{slice_split, list_any, prefix_len}
+use Rattle.std.specs.List.{prefix_len}
 use Rattle.std.proofs.lemmas.List.Sums.{prefix_len-drop_yes}
 use Rattle.std.proofs.lemmas.Str.{IsCharBoundary-after_ascii}
 use Rattle.std.proofs.lemmas.List.{length-append, get_or_default}

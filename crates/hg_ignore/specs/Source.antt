@@ -1,5 +1,5 @@
 -- What is read of the file of ignore patterns, and at which moments.
-use Rattle.std.specs.Prelude.{ℕ, ◌≡◌, ◌+◌, ◌≤◌, ◌<◌, ◌⊎◌, Bool, true, false, IsTrue, List, [], ◌∷◌, ◌++◌, length, Option, Some, None, IsSomeAnd, map, OnOk}
+use Rattle.std.specs.Prelude.{ℕ, ◌≡◌, ◌+◌, ◌≤◌, ◌<◌, ◌⊎◌, Bool, true, false, List, [], ◌∷◌, ◌++◌, length, Option, Some, None, IsSomeAnd, map}
 use Rattle.std.specs.Str.{IsUtf8, IsValidUpTo}
 use Rattle.hg_base.specs.declared.stat.Stat.{Stat}
 use Rattle.hg_base.specs.declared.stat.Kind.{Kind}
@@ -9,8 +9,8 @@ use Rattle.hg_tree.specs.declared.asked.Asked.TheVariants as an_ask
 use Rattle.hg_tree.specs.Moment.{Moment, is_file, bytes_at}
 use Rattle.hg_tree.specs.History.{History, now}
 use Rattle.hg_ignore.specs.Line.{lines_of}
-use Rattle.hg_ignore.specs.State.{Piece, Ignore, IgnoreFiles, ignore_file, items_of, state_of}
-use Rattle.hg_ignore.specs.Taking.{HasLineCause, first_fault}
+use Rattle.hg_ignore.specs.State.{Piece, Ignore, IgnoreFiles, ignore_file, state_of}
+use Rattle.hg_ignore.specs.Taking.{HasLineCause}
 use Rattle.hg_ignore.specs.declared.fault.IgnoreFault.{IgnoreFault}
 use Rattle.hg_ignore.specs.declared.fault.IgnoreFault.TheVariants as a_fault
 

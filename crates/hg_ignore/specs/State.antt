@@ -1,6 +1,6 @@
 -- The ignore state of a working copy: which texts are read, which paths they ignore, and their hash. It is a list of files with their
 -- texts, as it will be once a text can name another; there is one at most.
-use Rattle.std.specs.Prelude.{ℕ, ◌≡◌, ◌≤◌, ◌⊎◌, Bool, false, IsTrue, List, [], ◌∷◌, ◌++◌, Option, Some, None, codes, chars, if◌then◌else◌}
+use Rattle.std.specs.Prelude.{ℕ, ◌≡◌, ◌≤◌, ◌⊎◌, false, IsTrue, List, [], ◌∷◌, ◌++◌, Option, Some, None, codes, chars, if◌then◌else◌}
 use Rattle.hg_base.specs.Within.{is_within}
 use Rattle.sha1.specs.Sha1.{sha1}
 use Rattle.hg_glob.specs.Part.{glob_of}

@@ -55,7 +55,11 @@ type Case = (
 
 const CASES: &[Case] = &[
     ("", &[], &["a"]),
-    ("syntax: glob\n*.o\n", &["d/x.o", "x.o"], &["d/b", ".hgignore"]),
+    (
+        "syntax: glob\n*.o\n",
+        &["d/x.o", "x.o"],
+        &["d/b", ".hgignore"],
+    ),
     (
         "syntax: glob\n**/t\n{a,b}.c\n[!x]y\n\\#z\n",
         &["#z", "a.c", "ay", "p/t", "t/u"],
@@ -64,7 +68,11 @@ const CASES: &[Case] = &[
     ("syntax: glob\n?\n", &["t/u"], &["xy"]),
     ("a", &["a.c", "ay"], &["#z", "c.c", "p/t", "t/u", "xy"]),
     ("^d$", &["d", "d/x/y"], &["e/d", "dd"]),
-    ("syntax: glob\r\n*.o\r\nbuild/\r\n", &["a.o", "x/build/y"], &["a"]),
+    (
+        "syntax: glob\r\n*.o\r\nbuild/\r\n",
+        &["a.o", "x/build/y"],
+        &["a"],
+    ),
     ("syntax: glob\n*.o # objects\n", &["a.o"], &["a"]),
     ("syntax: glob\na\\#b#c\n", &["a#b"], &["a", "a\\"]),
     ("a\\\\#b", &["a\\"], &["a", "b"]),
@@ -75,14 +83,26 @@ const CASES: &[Case] = &[
     ("syntax:glob\n*\n", &["a"], &[]),
     ("syntax:\x0Bglob\t\n*.o\n", &["a.o"], &["a"]),
     ("syntax: rootglob\nb\n", &["b", "b/c"], &["a/b"]),
-    ("syntax: glob\nb\nsyntax: re\n^c\nsyntax: regexp\nd$\n", &["a/b", "cd", "xd"], &["ac", "bb"]),
+    (
+        "syntax: glob\nb\nsyntax: re\n^c\nsyntax: regexp\nd$\n",
+        &["a/b", "cd", "xd"],
+        &["ac", "bb"],
+    ),
     ("glob:*.o\nx.y\n", &["a.o", "xzy"], &["xy"]),
     ("relglob:b\n", &["a/b"], &["ab"]),
     ("rootglob:b\n", &["b/c"], &["a/b"]),
-    ("syntax: glob\nre:^a\nregexp:b$\nrelre:c.d\n*.o\n", &["ax", "xb", "c/d", "p.o"], &["x", "xa", "cd"]),
+    (
+        "syntax: glob\nre:^a\nregexp:b$\nrelre:c.d\n*.o\n",
+        &["ax", "xb", "c/d", "p.o"],
+        &["x", "xa", "cd"],
+    ),
     ("glob:glob:a\n", &["glob:a"], &["a"]),
     ("globs:a\n", &["globs:a"], &["a"]),
-    ("syntax: glob\n./src//gen/\n", &["src/gen", "x/src/gen/y"], &["src", "gen"]),
+    (
+        "syntax: glob\n./src//gen/\n",
+        &["src/gen", "x/src/gen/y"],
+        &["src", "gen"],
+    ),
     ("syntax: glob\n/a\n.\n//\n", &[], &["a", "b/a"]),
     ("glob:\n", &[], &["a"]),
     ("re:\n", &["a", "b/c"], &[]),
@@ -225,7 +245,10 @@ fn fails_where_the_tree_does(rt: HostRuntime) -> Result<(), Fail> {
 
 #[test]
 fn hash_and_warnings(rt: HostRuntime) -> Result<(), Fail> {
-    let ignore = read(rt.alloc(), b"syntax: glob\n*.o\n\nsyntax: none such \nsyntax:\n")??;
+    let ignore = read(
+        rt.alloc(),
+        b"syntax: glob\n*.o\n\nsyntax: none such \nsyntax:\n",
+    )??;
     assert_eq!(rt;
         digits(rt.alloc(), ignore.hash())?.as_str(),
         "52a8df95dab3b3fc36ac757ee98ed667ffaff476"

@@ -33,7 +33,11 @@ fn escaped(text: &str) -> Option<&str>
 {
     match text.strip_suffix('\\') {
         None => None,
-        Some(front) => if is_escaping(front) { None } else { Some(front) },
+        Some(front) => if is_escaping(front) {
+            None
+        } else {
+            Some(front)
+        },
     }
 }
 

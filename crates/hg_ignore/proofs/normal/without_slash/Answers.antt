@@ -1,4 +1,4 @@
-use Rattle.std.proofs.Common.{lit<, rules, Bor, List, ℕ, ◌≡◌, ◌≢◌, ◌∷◌, Option, None, Some}
+use Rattle.std.proofs.Common.{lit<, Bor, List, ℕ, ◌≡◌, ◌≢◌, ◌∷◌, Option, None, Some}
 use Rattle.std.specs.Option.{MatchOption}
 use Rattle.std.proofs.lemmas.Str.Pattern.{strip_prefix_char}
 use Rattle.hg_ignore.proofs.Steps.{unslashed}

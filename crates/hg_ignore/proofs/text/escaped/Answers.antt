@@ -1,4 +1,4 @@
-use Rattle.std.proofs.Common.{◌∙◌, sym, ap, lit<, not, Some}
+use Rattle.std.proofs.Common.{◌∙◌, sym, lit<}
 use Rattle.std.proofs.lemmas.Str.Pattern.{strip_suffix_char}
 use Rattle.hg_ignore.proofs.Texts.{escaped_none, escaped_twice, escaped_once, strips_none, strips_some}
 use Rattle.hg_ignore.proofs.text.escaped.Goals as goal

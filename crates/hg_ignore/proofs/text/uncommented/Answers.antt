@@ -10,9 +10,11 @@ returns-in-None c =
 
 pub loop-front-preserved : goal.loop-front-preserved
 loop-front-preserved c =
-    let text : IsUtf8 c.in-Some.behind.now = search rules in
-    (text, put_more (string_bytes c.loop-front.text) c.in-Some-escaped.front.now _ _ _ (string_bytes c.push_str-in-Some-escaped.new.self) _ c.in_ok-push_str-in-Some-escaped.ensures.bytes (c.in_ok-push-in-Some-escaped.ensures.bytes ∙ ap (λ v. string_bytes c.push_str-in-Some-escaped.new.self ++ v) (c.in_ok-push-in-Some-escaped.ensures.ascii (lit< tt)))
-        (kept_escaped c.loop-front.left.now c.in-Some.front.now c.in-Some.behind.now c.in-Some-escaped.front.now c.in-Some.ensures.0 c.in-Some.ensures.1 (sym c.in-Some-escaped.ensures)) c.loop-front.invariant.1)
+    let text : IsUtf8 c.in-Some.behind.now = search rules in (
+      text,
+      put_more (string_bytes c.loop-front.text) c.in-Some-escaped.front.now _ _ _ (string_bytes c.push_str-in-Some-escaped.new.self) _ c.in_ok-push_str-in-Some-escaped.ensures.bytes (c.in_ok-push-in-Some-escaped.ensures.bytes ∙ ap (λ v. string_bytes c.push_str-in-Some-escaped.new.self ++ v) (c.in_ok-push-in-Some-escaped.ensures.ascii (lit< tt)))
+          (kept_escaped c.loop-front.left.now c.in-Some.front.now c.in-Some.behind.now c.in-Some-escaped.front.now c.in-Some.ensures.0 c.in-Some.ensures.1 (sym c.in-Some-escaped.ensures)) c.loop-front.invariant.1,
+    )
 
 pub returns : goal.returns
 returns c =

@@ -1,4 +1,4 @@
-use Rattle.std.proofs.Common.{◌≡◌, List, ℕ, Some, sym, subst}
+use Rattle.std.proofs.Common.{List, ℕ, Some, sym, subst}
 use Rattle.hg_ignore.specs.Source.{BytesDuring}
 use Rattle.hg_ignore.specs.State.{Piece}
 use Rattle.hg_ignore.proofs.Sourced.{absent_during, asked_for, asks_still, counted_still, state_still, states_during, states_still}

@@ -1,6 +1,4 @@
-use Rattle.std.proofs.Common.{rules}
 use Rattle.regex.specs.Strings.{set_matcher_patterns}
-use Rattle.hg_ignore.specs.Regexp.{AreBytes}
 use Rattle.hg_ignore.proofs.Asking.{glob_decides, set_decides}
 use Rattle.hg_ignore.proofs.Texts.{text_bytes}
 use Rattle.hg_ignore.proofs.matcher.Matcher.matches_text.Goals as goal
