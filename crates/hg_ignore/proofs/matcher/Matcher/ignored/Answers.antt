@@ -1,5 +1,6 @@
-use Rattle.std.proofs.Common.{sym, ◌∙◌}
+use Rattle.std.proofs.Common.{sym, subst, refl, List, ◌∙◌}
 use Rattle.std.proofs.lemmas.Bool.{false≢true}
+use Rattle.hg_ignore.specs.State.{Piece, Matches}
 use Rattle.hg_ignore.proofs.Asking.{asks_more, asks_last, no_match}
 use Rattle.hg_ignore.proofs.matcher.Matcher.ignored.Goals as goal
 
@@ -19,3 +20,9 @@ loop-left-preserved c =
       asks = asks_more c.args.self.now.ignore.now c.args.path.text.now c.loop-left.left.text.now c.in-Some.dir.text.now c.loop-left.left.is_path (sym c.in-Some.ensures.parent) none kept.asks;
       same = c.matches.ensures.same ∙ kept.same;
     }
+
+pub returns-then-matches-clause-ignored : goal.returns-then-matches-clause-ignored
+returns-then-matches-clause-ignored c =
+    let kept = c.loop-left.invariant in
+    let P : List Piece → Type 0 = λ v. Matches v c.loop-left.left.text.now in
+    (λ _. (c.loop-left.left.text.now, kept.asks.within, subst P kept.same (c.matches.ensures.matches.0 c.if-matches.true)), λ _. refl)
