@@ -3,11 +3,12 @@ use Rattle.std.proofs.Common.{◌≡◌, ℕ, ◌+◌, Bool, true, false, not, c
 use Rattle.std.proofs.lemmas.List.{map-append}
 use Rattle.regex.specs.declared.string.regex.Regex.{Regex}
 use Rattle.hg_ignore.specs.Text.{has, pieces, text_of}
-use Rattle.hg_ignore.specs.Line.{Item, glob, regexp, unknown, included, Said, said, lines_from}
+use Rattle.hg_ignore.specs.Line.{Item, glob, regexp, unknown, included, Said, said, lines_from, lines_of}
 use Rattle.hg_ignore.specs.Regexp.{finds, found_by, IsBuiltFrom}
 use Rattle.hg_ignore.specs.Taking.{globs_of, regexps_of, warnings_of, fault_at, or_else, first_fault, is_regexp_at, comes_to, HasLineCause, Taken, Reaches}
 use Rattle.hg_ignore.specs.declared.reading.Reading.{Reading}
 use Rattle.hg_ignore.specs.declared.syntax.Syntax.{Syntax}
+use Rattle.hg_ignore.specs.declared.syntax.Syntax.TheVariants as a_syntax
 use Rattle.hg_ignore.specs.declared.fault.IgnoreFault.{IgnoreFault}
 use Rattle.hg_ignore.specs.declared.fault.IgnoreFault.TheVariants as a_fault
 use Rattle.hg_ignore.proofs.Compiled.{built_is, found_is}
@@ -159,3 +160,10 @@ caused_last all n text old f plain reaches cause =
     let s = said n old.syntax (text_of text) in
     let whole : Reaches all (s.items ++ []) old = rw (sym (left_last n old.syntax text plain)) reaches in
     cause_more all s.items [] old f whole cause
+
+-- before the first line, which has the number 1
+pub read_first : (text : List ℕ) (n : ℕ) (reading : Reading) → n ≡ 1 → reading.syntax ≡ a_syntax.Regexp → reading.globs.items ≡ [] → reading.regexes.items ≡ [] → reading.warnings ≡ [] → Reaches (lines_of text) (left_from n reading.syntax text) reading
+read_first text n reading first syntax globs regexes warned =
+    let P : Syntax → Type 0 = λ s. Reaches (lines_of text) (left_from n s text) reading in
+    let Q : ℕ → Type 0 = λ k. Reaches (lines_of text) (left_from k a_syntax.Regexp text) reading in
+    subst P (sym syntax) (subst Q (sym first) (reach_first (lines_of text) reading globs regexes warned))

@@ -1,8 +1,8 @@
-use Rattle.std.proofs.Common.{◌∙◌, arith, rules, IsUtf8}
+use Rattle.std.proofs.Common.{◌∙◌, arith, refl, rules, IsUtf8}
 use Rattle.std.proofs.lemmas.Result.{err_from_is_err_and}
 use Rattle.hg_ignore.specs.Line.{lines_of}
 use Rattle.hg_ignore.proofs.Texts.{cut_length}
-use Rattle.hg_ignore.proofs.Lines.{taken_more, caused_more, taken_last, caused_last}
+use Rattle.hg_ignore.proofs.Lines.{read_first, taken_more, caused_more, taken_last, caused_last}
 use Rattle.hg_ignore.proofs.reading.read_lines.Goals as goal
 
 pub returns-in_err-take-clause-cause : goal.returns-in_err-take-clause-cause
@@ -29,3 +29,11 @@ returns-in_err-take-2-clause-cause g c =
 
 pub returns-clause-read : goal.returns-clause-read
 returns-clause-read g c = taken_last (lines_of c.args.text.now) c.loop-line.n c.loop-line.left.now c.loop-line.reading c.take-2.new.self (search rules) c.loop-line.invariant.reaches c.in_ok-take-2.ensures.taken
+
+pub loop-line-init : goal.loop-line-init
+loop-line-init g c = record {
+  text = c.utf8.text;
+  reaches = read_first c.args.text.now 1 c.new-reading.result refl c.new-reading.ensures.syntax c.new-reading.ensures.globs c.new-reading.ensures.regexes c.new-reading.ensures.warnings;
+  far = omega arith;
+  quiet = refl;
+}

@@ -1,7 +1,7 @@
 use Rattle.std.proofs.Common.{List, ℕ, Some, sym, subst}
 use Rattle.hg_ignore.specs.Source.{BytesDuring}
 use Rattle.hg_ignore.specs.State.{Piece}
-use Rattle.hg_ignore.proofs.Sourced.{absent_during, asked_for, asks_still, counted_still, state_still, states_during, states_still}
+use Rattle.hg_ignore.proofs.Sourced.{absent_during, asked_for, asks_still, cause_of_size, counted_still, state_still, states_during, states_still}
 use Rattle.hg_ignore.proofs.ignore.Ignore.read.Goals as goal
 
 pub returns-in-Err-clause-oversize : goal.returns-in-Err-clause-oversize
@@ -27,3 +27,6 @@ returns-in-Ok-Some-clause-still g c = λ ours.
     let P : List ℕ → Type 0 = λ v. BytesDuring old new (Some v) in
     states_still (λ i. i) old new c.of_bytes.result c.in-Ok-Some.ensures.passes
     (λ told. states_during (λ i. i) old new c.as_slice.result.now c.of_bytes.result (subst P (sym c.as_slice.ensures.value) (rw c.in-Ok-Some.field-0-is at (c.in-Ok-Some.ensures.found told))) c.of_bytes.ensures.state) ours
+
+pub returns-in-Err-clause-cause : goal.returns-in-Err-clause-cause
+returns-in-Err-clause-cause g c = λ told. cause_of_size 1048576 (g.T.Tree.history c.args.tree.now) (g.T.Tree.history c.read_bytes.new.tree) c.in-Err.fault (c.in-Err.ensures.size told)
