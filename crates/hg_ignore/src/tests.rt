@@ -1,6 +1,6 @@
 //! What no clause says: that memory is found, that `regex` takes what it should, and texts with the paths that they ignore, by hand.
 use super::*;
-use hg_base::{Blob, PathRef, Time};
+use hg_base::{Blob, Kind, PathRef, Time};
 use hg_tree::{MemTree, Thing};
 use std::alloc::Global;
 use std::string::String;
@@ -11,19 +11,30 @@ const NOON: Time = Time {
     nanos: 0,
 };
 
-/// A working copy with such a thing at `.hgignore`.
-fn placed(alloc: Global, thing: Option<Thing>) -> Result<MemTree, Fail> {
+/// A working copy with such an ignore text.
+fn with_text(alloc: Global, text: &[u8]) -> Result<MemTree, Fail> {
     let mut tree = MemTree::new(alloc, NOON)?;
-    if let Some(thing) = thing {
-        tree.place(PathRef::read(".hgignore")?, thing, NOON)?;
-    }
+    let bytes = Blob::of(alloc, text)?;
+    tree.place(
+        PathRef::read(".hgignore")?,
+        Thing::File { exec: false, bytes },
+        NOON,
+    )?;
     Ok(tree)
 }
 
-/// A working copy with such an ignore text.
-fn with_text(alloc: Global, text: &[u8]) -> Result<MemTree, Fail> {
-    let bytes = Blob::of(alloc, text)?;
-    placed(alloc, Some(Thing::File { exec: false, bytes }))
+/// A working copy with a directory, a link or nothing at `.hgignore`.
+fn without_text(alloc: Global, kind: Option<Kind>) -> Result<MemTree, Fail> {
+    let mut tree = MemTree::new(alloc, NOON)?;
+    match kind {
+        Some(Kind::Dir) => tree.place(PathRef::read(".hgignore")?, Thing::Dir, NOON)?,
+        Some(Kind::Link) => {
+            let target = Blob::of(alloc, b"a")?;
+            tree.place(PathRef::read(".hgignore")?, Thing::Link { target }, NOON)?;
+        }
+        _ => {}
+    }
+    Ok(tree)
 }
 
 /// What is read of an ignore text.
@@ -194,18 +205,6 @@ fn too_big_where_it_was_told(rt: HostRuntime) -> Result<(), Fail> {
     Ok(())
 }
 
-/// What is read where such a thing is at `.hgignore`, and the tree is told to fail at that call.
-fn read_thing(
-    alloc: Global,
-    thing: Option<Thing>,
-    call: u64,
-) -> Result<Result<Ignore, IgnoreFault>, Fail> {
-    let mut tree = placed(alloc, thing)?;
-    tree.fail_at(call)?;
-    let mut builds = Builds::new();
-    Ok(Ignore::read(alloc, &mut tree, &mut builds))
-}
-
 /// The digits of a hash.
 fn digits(alloc: Global, hash: [u8; 20]) -> Result<String, Fail> {
     let mut text = String::new(alloc);
@@ -217,9 +216,10 @@ fn digits(alloc: Global, hash: [u8; 20]) -> Result<String, Fail> {
 
 #[test]
 fn other_things_are_absent(rt: HostRuntime) -> Result<(), Fail> {
-    let target = Blob::of(rt.alloc(), b"a")?;
-    for thing in [None, Some(Thing::Dir), Some(Thing::Link { target })] {
-        let ignore = read_thing(rt.alloc(), thing, 9)??;
+    for kind in [None, Some(Kind::Dir), Some(Kind::Link)] {
+        let mut tree = without_text(rt.alloc(), kind)?;
+        let mut builds = Builds::new();
+        let ignore = Ignore::read(rt.alloc(), &mut tree, &mut builds)?;
         assert!(rt; !ignored(rt.alloc(), &ignore, "a")?);
         assert_eq!(rt;
             digits(rt.alloc(), ignore.hash())?.as_str(),
@@ -236,9 +236,14 @@ fn fails_where_the_tree_does(rt: HostRuntime) -> Result<(), Fail> {
         (1, Some(IgnoreFault::Failed)),
         (2, None),
     ] {
-        let bytes = Blob::of(rt.alloc(), b"a")?;
-        let thing = Some(Thing::File { exec: false, bytes });
-        assert_eq!(rt; read_thing(rt.alloc(), thing, call)?.err(), what, "{call}");
+        let mut tree = with_text(rt.alloc(), b"a")?;
+        tree.fail_at(call)?;
+        let mut builds = Builds::new();
+        assert_eq!(rt;
+            Ignore::read(rt.alloc(), &mut tree, &mut builds).err(),
+            what,
+            "{call}"
+        );
     }
     Ok(())
 }
