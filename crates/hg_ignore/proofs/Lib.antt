@@ -1,0 +1,6 @@
+pub mod Asking
+pub mod Compiled
+pub mod Lines
+pub mod Sourced
+pub mod Steps
+pub mod Texts

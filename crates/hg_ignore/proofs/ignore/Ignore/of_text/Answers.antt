@@ -1,0 +1,8 @@
+use Rattle.std.proofs.Common.{ap, ◌∙◌, Some}
+use Rattle.hg_ignore.specs.State.{Hash, state_of}
+use Rattle.hg_ignore.proofs.Asking.{kept_of}
+use Rattle.hg_ignore.proofs.ignore.Ignore.of_text.Goals as goal
+
+pub invariant_of-result : goal.invariant_of-result
+invariant_of-result g c =
+    kept_of c.args.text.now c.in_ok-text.text c.in_ok-reading.reading c.from_regexes.result c.hash_of-hash.result c.in_ok-text.ensures c.in_ok-reading.ensures.read c.from_regexes.ensures.patterns (c.hash_of-hash.ensures ∙ ap (λ v. Hash (state_of (Some v))) c.as_bytes.ensures.value)

@@ -1,0 +1,38 @@
+-- What an ignore state keeps compiled, and what is asked of it.
+use Rattle.std.specs.Prelude.{ℕ, ◌≡◌, ◌⊎◌, ◌↔◌, false, IsTrue, List, [], ◌∷◌, map, is_some, chars, Option, Some, None}
+use Rattle.regex.specs.Patterns.{Re, find_str}
+use Rattle.regex.specs.Strings.{set_patterns}
+use Rattle.regex.specs.declared.string.set.RegexSet.{RegexSet}
+use Rattle.hg_base.specs.PathText.{is_path, parent_of}
+use Rattle.hg_glob.specs.Part.{glob_of}
+use Rattle.hg_glob.specs.Line.{Stands}
+use Rattle.hg_ignore.specs.Regexp.{AreBytes, finds}
+use Rattle.hg_ignore.specs.State.{Piece, items_of, Hash, Ignored, Matches}
+use Rattle.hg_ignore.specs.Taking.{globs_of, regexps_of, warnings_of}
+use Rattle.hg_ignore.specs.declared.glob_line.GlobLine.{GlobLine}
+use Rattle.hg_ignore.specs.declared.warnings.Warning.{Warning}
+
+-- some glob stands in the path
+abbrev pub SomeStands : List GlobLine → List ℕ → Type 0
+SomeStands [] path = ⊥
+SomeStands (line ∷ more) path = Stands false line.rooted (glob_of (chars line.glob)) (chars path) ⊎ SomeStands more path
+
+-- patterns are found where the regexps of the state are, each
+abbrev pub FindsAll : List Re → List Piece → Type 0
+FindsAll patterns state = (path : List ℕ) → AreBytes path → map (λ re. is_some (find_str re path 0)) patterns ≡ map (λ text. finds text path) (regexps_of (items_of state))
+
+-- what is kept of a state
+pub record IsKept (state : List Piece) (globs : List GlobLine) (set : RegexSet) (hash : List ℕ) (warnings : List Warning) : Type 0 where
+  pub globs_are : globs ≡ globs_of (items_of state)
+  pub finds_are : FindsAll (set_patterns set) state
+  pub hash_is : hash ≡ Hash state
+  pub warnings_are : warnings ≡ warnings_of (items_of state)
+
+-- a directory is ignored, where no directory is the root
+abbrev pub DirIgnored : List Piece → Option (List ℕ) → Type 0
+DirIgnored state None = ⊥
+DirIgnored state (Some dir) = Ignored state dir
+
+-- the law of a listing: a path is ignored where its directory is, or where a line matches the path itself
+abbrev pub LawOfIgnored : Type 0
+LawOfIgnored = (state : List Piece) (path : List ℕ) → IsTrue (is_path path) → Ignored state path ↔ (DirIgnored state (parent_of path) ⊎ Matches state path)

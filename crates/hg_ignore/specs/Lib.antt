@@ -1,0 +1,10 @@
+pub mod Asked
+pub mod Building
+pub mod Kept
+pub mod Line
+pub mod Normal
+pub mod Regexp
+pub mod Source
+pub mod State
+pub mod Taking
+pub mod Text
