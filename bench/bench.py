@@ -2,7 +2,7 @@
 """Times the built program against C loops that make the same system calls, and against other programs:
 python3 bench/bench.py [PROGRAM] [PART ..] [rhg=PROGRAM] [before=PROGRAM].
 
-PROGRAM is build/hgtrack where it isn't named. The parts are listing, tracked, peers, deep, opening, placing, editing, encoding and manifests; all where none is named. `rhg` is
+PROGRAM is build/hgtrack where it isn't named. The parts are listing, tracked, compared, peers, deep, opening, placing, editing, encoding and manifests; all where none is named. `rhg` is
 Mercurial's program of that name, which is looked for in PATH otherwise, and `before` an earlier hgtrack, which is timed beside this one. Every time
 is the least of some runs, taken in turn with what it is compared with. The status is 0 exactly where each figure is within its limit.
 """
@@ -19,7 +19,7 @@ BENCH = os.path.dirname(os.path.abspath(__file__))
 TOP = os.path.dirname(BENCH)
 sys.path.insert(0, f"{TOP}/tests/real")
 
-from dirstate import written
+from dirstate import P1_TRACKED, WDIR_TRACKED, written
 from folder import put_record
 
 RUNS = 5
@@ -160,6 +160,33 @@ def tracked(bench):
     compare(bench, f"`status` of {MANY:,} tracked files in {MANY // IN_EACH:,} directories", figures, 1.5, 30, 12)
     for (before, _) in figures[MANY][2:]:
         bench.tell(f"its time over that of the program before ({before:.3f} s)", figures[MANY][0][0] / before, 0.42)
+
+
+def compared(bench):
+    """A status of clean files of a commit, all of whose bytes are compared."""
+    loop, root, names = bench.compiled("tracked"), f"{bench.room}/compared", f"{bench.room}/compared.txt"
+    paths, parent = sorted(it.encode() for it in in_directories(MANY)), b"\x11" * 20
+    contents = {path: b"%s\n" % path * 3 for path in paths}
+    ids = {path: hashlib.sha1(path).hexdigest() for path in paths}
+    for path in paths:
+        put_new(os.fsencode(root) + b"/" + path, contents[path])
+        put_new(f"{root}/.hg/plain/f-{ids[path]}", contents[path])
+    manifest = b"".join(path + b"\0" + ids[path].encode() + b"\n" for path in paths)
+    put_new(f"{root}/.hg/plain/m-{parent.hex()}", manifest)
+    put_record(root, *written(paths, WDIR_TRACKED | P1_TRACKED, p1=parent))
+    with open(names, "w", encoding="utf-8") as file:
+        file.writelines(f"{path.decode()}\t{ids[path]}\n" for path in paths)
+    (seconds, memory), (own, _) = bench.least(([bench.program, "status"], root), ([loop, names, "compared"], root))
+    print(f"| `status` of {MANY:,} clean files of a commit, all bytes compared | {seconds:.3f} s, the C loop {own:.3f} s | | |")
+    bench.tell("its time over the C loop's", seconds / own, 1.4)
+    bench.tell("its peak memory without the manifest's bytes", memory - len(manifest) / 1e6, 60, " MB")
+    shutil.rmtree(root)
+
+
+def put_new(path, content):
+    os.makedirs(os.path.dirname(path), exist_ok=True)
+    with open(path, "wb") as file:
+        file.write(content)
 
 
 def compare(bench, what, figures, most, megabytes, growth=13):
@@ -303,6 +330,7 @@ def manifests(bench):
 PARTS = {
     "listing": listing,
     "tracked": tracked,
+    "compared": compared,
     "peers": peers,
     "deep": deep,
     "opening": opening,

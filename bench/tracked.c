@@ -2,7 +2,10 @@
 // for, then each directory is listed and each thing in it is asked for, and a line for each tracked path is written. The process stands
 // in the directory whose names it asks for. On the way down a name is asked for, gone into, and `.` has to be what the name was; on the
 // way up `.` has to be what it was on the way down. A directory that was asked for last isn't asked for again before it is gone into. A
-// path is asked for by statx, as Rust's std does it. The tracked paths are the lines of the file that is named.
+// path is asked for by statx, as Rust's std does it. The tracked paths are the lines of the file that is named. Where the word `compared`
+// follows, each line has the identifier of contents behind a tab: then each path is compared with these, as a status against a commit does
+// it, and lines are written of those that differ. The size of the contents is asked for; the path is asked for again, opened, asked for as it is open, and read; the contents are
+// asked for again, opened, sought and read; and the path is asked for once more.
 #define _GNU_SOURCE
 #include <dirent.h>
 #include <fcntl.h>
@@ -107,9 +110,39 @@ static void read_whole(const char *name) {
     close(file);
 }
 
+static size_t read_some(int file, char *room, size_t size) {
+    size_t n = 0;
+    for (ssize_t more; n < size && (more = read(file, room + n, size - n)) > 0;) n += more;
+    return n;
+}
+
+// Whether a path, which is asked for already, has the bytes of these contents.
+static int compare(const char *name, const struct statx *seen, const char *contents) {
+    static char mine[65536], theirs[65536];
+    struct statx found;
+    if (!ask(contents, 0, &found) || found.stx_size != seen->stx_size) return 0;
+    for (size_t place = 0; place < seen->stx_size; place += sizeof mine) {
+        size_t size = seen->stx_size - place < sizeof mine ? seen->stx_size - place : sizeof mine;
+        struct statx again;
+        if (!ask(name, AT_SYMLINK_NOFOLLOW, &again)) return 0;
+        int file = open(name, O_RDONLY | O_CLOEXEC);
+        if (file < 0 || !S_ISREG(again.stx_mode) || statx(file, "", AT_EMPTY_PATH, STATX_BASIC_STATS | STATX_BTIME, &found) || !is_same(&again, &found)) exit(1);
+        if (place) lseek(file, place, SEEK_SET);
+        size_t n = read_some(file, mine, size);
+        close(file);
+        if (!ask(contents, 0, &found) || (file = open(contents, O_RDONLY | O_CLOEXEC)) < 0) return 0;
+        lseek(file, place, SEEK_SET);
+        size_t m = read_some(file, theirs, size);
+        close(file);
+        if (n != m || memcmp(mine, theirs, n)) return 0;
+    }
+    return ask(name, AT_SYMLINK_NOFOLLOW, &found);
+}
+
 int main(int count, char **words) {
-    static char path[70000];
+    static char path[70000], contents[4200];
     FILE *tracked = count > 1 ? fopen(words[1], "r") : 0;
+    int compared = count > 2 && !strcmp(words[2], "compared");
     if (!tracked || !getcwd(home, sizeof home) || !ask(".", 0, &steps[0].spot)) return 1;
     read_whole(".hg/dirstate");
     read_whole(".hg/dirstate.0000000000000000");
@@ -119,10 +152,16 @@ int main(int count, char **words) {
         struct statx found;
         char *name;
         path[strcspn(path, "\n")] = 0;
+        char *tab = compared ? strchr(path, '\t') : 0;
+        if (tab) {
+            *tab = 0;
+            snprintf(contents, sizeof contents, "%s/.hg/plain/f-%s", home, tab + 1);
+        }
         size_t size = strlen(path);
         if (used + size + 4 > room) lines = realloc(lines, room = room * 2 + size + 4);
         int stands = go(path, &name) && ask(name, AT_SYMLINK_NOFOLLOW, &found);
-        used += sprintf(lines + used, "%c %s\n", stands ? 'A' : '!', path);
+        if (compared && stands && compare(name, &found, contents)) continue;
+        used += sprintf(lines + used, "%c %s\n", !stands ? '!' : compared ? 'M' : 'A', path);
     }
     fclose(tracked);
     while (depth) leave();

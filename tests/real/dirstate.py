@@ -55,17 +55,17 @@ def tree_of(paths):
     return root
 
 
-def put_list(data, node, path):
-    """Puts the list of a node's children behind the data, each child's own list and its path first. Answers the place and the
-    number of the list, and how many entries it has at any depth."""
+def put_list(data, node, path, entry=WDIR_TRACKED):
+    """Puts the list of a node's children behind the data, each child's own list and its path first; `entry` is the flags of each entry. Answers the place and
+    the number of the list, and how many entries it has at any depth."""
     records, total = [], 0
     for name in sorted(node.children):
         child = node.children[name]
         whole = path + name
-        children, below = put_list(data, child, whole + b"/")
+        children, below = put_list(data, child, whole + b"/", entry)
         start = len(data)
         data += whole
-        flags = WDIR_TRACKED if child.is_tracked else 0
+        flags = entry if child.is_tracked else 0
         records.append(record(start, len(whole), len(path), (0, 0), children, (below, below), flags))
         total += below + child.is_tracked
     start = len(data) if records else 0
@@ -73,9 +73,9 @@ def put_list(data, node, path):
     return (start, len(records)), total
 
 
-def written(paths, **changes):
-    """The docket and the data of a dirstate that has exactly these paths, each one added."""
+def written(paths, entry=WDIR_TRACKED, **changes):
+    """The docket and the data of a dirstate that has exactly these paths, each one added, or with other flags."""
     data = bytearray()
-    root, total = put_list(data, tree_of(paths), b"")
+    root, total = put_list(data, tree_of(paths), b"", entry)
     given = {"counts": (total, 0, 0), **changes}
     return docket(len(data), root, **given), bytes(data)

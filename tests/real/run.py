@@ -1,7 +1,7 @@
 #!/usr/bin/env python3
 """Black-box tests of the built program over real folders: python3 tests/real/run.py [PROGRAM] [PART ..].
 
-PROGRAM is build/hgtrack where it isn't named. The parts are listings, damage, outside, standing, meanwhile, mercurial and records; all where none is named. The last line is
+PROGRAM is build/hgtrack where it isn't named. The parts are listings, damage, outside, standing, meanwhile, mercurial, records and parents; all where none is named. The last line is
 'N passed, M failed', and the status 0 exactly where M is 0.
 """
 
@@ -18,11 +18,12 @@ import listings
 import meanwhile
 import mercurial
 import outside
+import parents
 import records
 import standing
 from folder import Tests
 
-PARTS = {"listings": listings, "damage": damage, "outside": outside, "standing": standing, "meanwhile": meanwhile, "mercurial": mercurial, "records": records}
+PARTS = {"listings": listings, "damage": damage, "outside": outside, "standing": standing, "meanwhile": meanwhile, "mercurial": mercurial, "records": records, "parents": parents}
 
 
 def main(words):
