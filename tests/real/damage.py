@@ -1,4 +1,4 @@
-"""Dirstates that are damaged, odd or not built yet, each with the line that has to be printed."""
+"""Dirstates that are damaged or odd, each with the line that has to be printed."""
 
 from dirstate import (ALL_UNKNOWN_RECORDED, DIRECTORY, EXPECTED_STATE_IS_MODIFIED, HAS_MODE_AND_SIZE, HAS_MTIME, IDENTIFIER,
                       P1_TRACKED, P2_INFO, WDIR_TRACKED, docket, record, written)
@@ -28,8 +28,6 @@ DOCKETS = [
     ("marker before length", b"Dirstate", True, "dirstate: marker differs at byte 0"),
     ("length before identifier", docket(45, (1, 1), identifier=b"a/b")[:-1], True, "dirstate: 127 bytes where 128 are needed"),
     ("docket before parents", docket(45, (1, 1), p1=PARENT, identifier=b"/"), True, "dirstate: identifier byte 125"),
-    ("a first parent", docket(45, (1, 1), p1=PARENT), True, NOT_BUILT),
-    ("a second parent", docket(45, (1, 1), p2=PARENT), True, NOT_BUILT),
     ("the data file before parents", docket(45, (1, 1), p1=PARENT), False, GONE),
     ("the data before parents", docket(46, (1, 1), p1=PARENT), True, "dirstate data: 45 bytes where 46 are used"),
     ("no data file", GOOD, False, GONE),
@@ -83,14 +81,6 @@ NODES = [
     ("children before the next sibling", b"ac" + record(0, 1, children=(90, 1)) + record(1, 1, 1), (2, 2), "list at 90 of 1 nodes"),
 ]
 
-# what is not built yet, the data, the place and the number of the root list
-NOT_BUILT_YET = [
-    ("tracked in the first parent", b"a" + record(0, 1, flags=WDIR_TRACKED | P1_TRACKED), (1, 1)),
-    ("removed", b"a" + record(0, 1, flags=P1_TRACKED), (1, 1)),
-    ("of a merge", b"a" + record(0, 1, flags=WDIR_TRACKED | P2_INFO), (1, 1)),
-    ("below a directory", b"a/b" + record(0, 3, 2, flags=P2_INFO) + record(0, 1, children=(3, 1), flags=0), (47, 1)),
-]
-
 # what is taken all the same, the docket, the data, the lines with the file `a` and those without it
 TAKEN = [
     ("an empty docket", b"", None, ["? a"], []),
@@ -109,6 +99,14 @@ TAKEN = [
     ("bits without a meaning", GOOD, b"a" + record(0, 1, flags=WDIR_TRACKED | EXPECTED_STATE_IS_MODIFIED | 0xF1E0), ["A a"], ["! a"]),
     ("a copy source", docket(46, (2, 1)), b"ab" + record(0, 1, copy=(1, 1)), ["A a"], ["! a"]),
     ("a copy source of nothing", docket(46, (2, 1)), b"ab" + record(0, 1, copy=(1, 1), flags=0), ["? a"], []),
+    ("a first parent", docket(45, (1, 1), p1=PARENT), DATA, ["A a"], ["! a"]),
+    ("a second parent", docket(45, (1, 1), p2=PARENT), DATA, ["A a"], ["! a"]),
+    ("of a first parent that is null", GOOD, b"a" + record(0, 1, flags=WDIR_TRACKED | P1_TRACKED), ["M a"], ["! a"]),
+    ("removed", GOOD, b"a" + record(0, 1, flags=P1_TRACKED), ["R a"], ["R a"]),
+    ("of a merge", GOOD, b"a" + record(0, 1, flags=WDIR_TRACKED | P2_INFO), ["M a"], ["! a"]),
+    ("of both parents", docket(45, (1, 1), p1=PARENT, p2=PARENT), b"a" + record(0, 1, flags=WDIR_TRACKED | P1_TRACKED | P2_INFO), ["M a"], ["! a"]),
+    ("copied", docket(46, (2, 1), p1=PARENT), b"ab" + record(0, 1, copy=(1, 1), flags=WDIR_TRACKED | P1_TRACKED), ["M a"], ["! a"]),
+    ("removed below a directory", docket(91, (47, 1)), b"a/b" + record(0, 3, 2, flags=P2_INFO) + record(0, 1, children=(3, 1), flags=0), ["R a/b", "? a"], ["R a/b"]),
     ("texts that share bytes", docket(91, (47, 1)), b"a/b" + record(0, 3, 2) + record(0, 1, children=(3, 1)), ["A a", "! a/b"], ["! a", "! a/b"]),
 ]
 
@@ -136,11 +134,15 @@ def run(tests):
     check(tests, "data: an empty file", GOOD, b"", aborted(short.format(0)))
     for what, data, root_list, line in NODES:
         check(tests, f"data: {what}", docket(len(data), root_list), data, aborted(f"dirstate data: {line}"))
-    for what, data, root_list in NOT_BUILT_YET:
-        check(tests, f"not built: {what}", docket(len(data), root_list), data, aborted(NOT_BUILT))
     late = b"ab" + record(0, 1, flags=P1_TRACKED) + record(1, 1, flags=TIMED, nanos=10**9)
-    check(tests, "damage before what is not built", docket(len(late), (2, 2)), late, aborted("dirstate data: node 46: time"))
+    check(tests, "damage behind a removed file", docket(len(late), (2, 2)), late, aborted("dirstate data: node 46: time"))
     check(tests, "not built: a file .hgignore", GOOD, DATA, aborted(NOT_BUILT), ("a", ".hgignore"))
+    for words in (["status", "-m", "-a"], ["status", "-A"]):
+        with tests.working_copy() as root:
+            lay_out(root, ["a", ".hgignore"])
+            put_record(root, GOOD, DATA)
+            built = "-A" not in words
+            tests.check(f"a file .hgignore and {words}", root, lines("A a") if built else b"", b"" if built else aborted(NOT_BUILT), words)
     check(tests, "damage before .hgignore", GOOD, DATA[:-1], aborted(short.format(44)), ("a", ".hgignore"))
     for what, docket_bytes, data, with_file, without in TAKEN:
         identifier = IDENTIFIER.decode()

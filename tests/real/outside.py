@@ -25,7 +25,7 @@ def shelf(name, reason="permission denied"):
 
 # words that are not built yet
 WORDS = [
-    [], ["stat"], ["status", "x"], ["status", ""], ["status", "-m"], ["status", "--"], ["--", "status"], [""], ["Status"], ["status "],
+    [], ["stat"], ["status", "x"], ["status", ""], ["status", "-mm"], ["status", "-ma"], ["status", "-M"], ["status", "-"], ["status", "-m", "x"], ["status", "--modified=x"], ["status", "--no"], ["status", "--"], ["-m", "status"], ["--", "status"], [""], ["Status"], ["status "],
     ["add", "a"], ["debugdirstate", "--all"], ["debugstate"], ["help"], ["-h"], ["-V"], ["--help", "status"], ["status", "--help"], ["--version", "--version"],
     [b"\xff"], [b"status", b"\xff"], ["s" * 100_000],
 ]
@@ -162,7 +162,8 @@ def run_names(tests):
     with tests.working_copy() as root:
         lay_out(root, [os.fsdecode(b"b\xff")])
         put_record(root, docket(45, (1, 1), p1=b"\x11" * 20), DATA)
-        tests.check("parents before the working copy", root, b"", NOT_BUILT)
+        tests.check("the working copy behind a commit's record", root, b"", tree("b\\xff", NO_TEXT))
+        tests.check("and not listed where nothing unknown is wanted", root, lines("! a"), b"", ["status", "-d"])
 
 
 def run(tests):

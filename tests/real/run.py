@@ -1,7 +1,7 @@
 #!/usr/bin/env python3
 """Black-box tests of the built program over real folders: python3 tests/real/run.py [PROGRAM] [PART ..].
 
-PROGRAM is build/hgtrack where it isn't named. The parts are listings, damage, outside, standing, meanwhile, mercurial, records and parents; all where none is named. The last line is
+PROGRAM is build/hgtrack where it isn't named. The parts are listings, commits, damage, outside, standing, meanwhile, mercurial, records and parents; all where none is named. The last line is
 'N passed, M failed', and the status 0 exactly where M is 0.
 """
 
@@ -13,6 +13,7 @@ sys.dont_write_bytecode = True
 # (a path of 2,049 components is laid out by recursion)
 sys.setrecursionlimit(20_000)
 
+import commits
 import damage
 import listings
 import meanwhile
@@ -23,7 +24,7 @@ import records
 import standing
 from folder import Tests
 
-PARTS = {"listings": listings, "damage": damage, "outside": outside, "standing": standing, "meanwhile": meanwhile, "mercurial": mercurial, "records": records, "parents": parents}
+PARTS = {"listings": listings, "commits": commits, "damage": damage, "outside": outside, "standing": standing, "meanwhile": meanwhile, "mercurial": mercurial, "records": records, "parents": parents}
 
 
 def main(words):
