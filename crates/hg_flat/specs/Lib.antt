@@ -3,7 +3,9 @@ pub mod Cause
 pub mod Full
 pub mod Kept
 pub mod Listing
+pub mod Met
 pub mod Order
+pub mod Parent
 pub mod Recorded
 pub mod Unborn
 pub mod Shown

@@ -78,6 +78,13 @@ impl Flat {
         are_added(&self.rows)
     }
 
+    /// The first parent.
+    pub fn first_parent(&self) -> Id20
+        ensures { result.0 ≡ (flat_in self.now).p1 }
+    {
+        self.p1
+    }
+
     // The row of a path, where it has an entry.
     fn find(&self, path: &str) -> Option<&FlatRow>
         ensures { option_map (λ row. row.now) result ≡ kept_of self.now path.now }
