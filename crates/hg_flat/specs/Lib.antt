@@ -1,5 +1,6 @@
 pub mod Asked
 pub mod Cause
+pub mod Course
 pub mod Full
 pub mod Kept
 pub mod Listing
