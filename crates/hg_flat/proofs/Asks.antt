@@ -1,5 +1,5 @@
 -- What a listing asks the tree: each directory once, and where nothing changes only those that are visible.
-use Rattle.std.proofs.Common.{ℕ, zero, suc, ◌≡◌, ◌+◌, ◌<◌, Bool, true, false, List, [], ◌∷◌, ◌++◌, length, map, take, drop, get_or, Option, Some, None, IsTrue, refl, sym, ap, ◌∙◌, subst, inl, inr, ◌⊎◌, arith}
+use Rattle.std.proofs.Common.{ℕ, zero, suc, ◌≡◌, ◌+◌, ◌<◌, Bool, true, false, List, [], ◌∷◌, ◌++◌, length, map, take, drop, replicate, get_or, Option, Some, None, IsTrue, refl, sym, ap, ◌∙◌, subst, inl, inr, ◌⊎◌, arith}
 use Rattle.std.specs.List.{AllByRecursion, Contains, IsDistinct}
 use Rattle.std.specs.Str.{bytes_eq}
 use Rattle.std.proofs.lemmas.Bool.{cases_Bool, or_cases, or_left, or_right}
@@ -18,7 +18,8 @@ use Rattle.hg_tree.specs.declared.asked.Asked.TheVariants as an_ask
 use Rattle.hg_tree.specs.Still.{Untouched}
 use Rattle.hg_tree.proofs.Spans.{now_same, ours_first, ours_second, passes_trans}
 use Rattle.hg_tree.proofs.Stillness.{ours_untouched}
-use Rattle.hg_flat.specs.Asked.{AsksFor, AsksNothing, IsDirAmong, IsDirBelow, IsDirFrom, IsDirIn, IsVisibleDir}
+use Rattle.hg_compare.specs.Same.{Reads}
+use Rattle.hg_flat.specs.Asked.{AsksBoth, AsksFor, AsksNothing, AsksReads, IsDirAmong, IsDirBelow, IsDirFrom, IsDirIn, IsVisibleDir}
 use Rattle.hg_flat.specs.Listing.{HoldsFor, IsVisibleFrom, holds_repository, is_from, is_inside}
 use Rattle.hg_flat.proofs.Among.{fit_of}
 use Rattle.hg_flat.proofs.Unknowns.{back, from_below, from_cases, from_same, inside_joined, same_of, visible_up}
@@ -323,3 +324,52 @@ status_asks old mid new first second none asks =
   where
     visible : (dir : Option (List ℕ)) → IsDirBelow old new None dir → IsOurs old new → IsVisibleDir (now old) dir
     visible dir d ours = subst (IsVisibleDir (now old)) (sym d.is) (d.stands ours, λ above below. d.visible ours above refl below)
+
+-- ---- paths that are read
+
+pub reads_none : (C : List ℕ → Type 0) (old new : History) → AsksNothing old new → AsksReads C old new
+reads_none C old new none = record { paths = []; asked = none ∙ sym (append-nil old.asked); compared = λ path (k, below, is). absurd (omega (arith, below)) }
+
+reads_map : (n : ℕ) (path : List ℕ) → map an_ask.Read (replicate n path) ≡ replicate n (an_ask.Read path)
+reads_map zero path = refl
+reads_map (suc n) path = ap (λ (l : List Asked). an_ask.Read path ∷ l) (reads_map n path)
+
+reads_same : (n : ℕ) (path other : List ℕ) → Contains (replicate n path) other → other ≡ path
+reads_same zero path other (k, below, is) = absurd (omega (arith, below))
+reads_same (suc n) path other has =
+    elim (Contains-append_cases (path ∷ []) (replicate n path) other has) [
+      | inl one ↦ elim (Contains-push_cases [] path other one) [ inl (k, below, is) ↦ absurd (omega (arith, below)) | inr same ↦ sym same ]
+      | inr later ↦ reads_same n path other later
+    ]
+
+-- one path that is read piece by piece
+pub reads_pieces : (C : List ℕ → Type 0) (size : ℕ) (path : List ℕ) (old new : History) → C path → Reads size path old new → AsksReads C old new
+reads_pieces C size path old new compared reads = record {
+  paths = replicate reads.pieces path;
+  asked = reads.asked ∙ ap (λ (l : List Asked). old.asked ++ l) (sym (reads_map reads.pieces path));
+  compared = λ other has. subst C (sym (reads_same reads.pieces path other has)) compared;
+}
+
+pub reads_weaker : (C D : List ℕ → Type 0) (old new : History) → ((path : List ℕ) → C path → D path) → AsksReads C old new → AsksReads D old new
+reads_weaker C D old new weaker reads = record { paths = reads.paths; asked = reads.asked; compared = λ path has. weaker path (reads.compared path has) }
+
+pub reads_trans : (C : List ℕ → Type 0) (a b c : History) → AsksReads C a b → AsksReads C b c → AsksReads C a c
+reads_trans C a b c first second = record {
+  paths = first.paths ++ second.paths;
+  asked =
+      second.asked ∙ ap (λ (l : List Asked). l ++ map an_ask.Read second.paths) first.asked ∙ append_assoc a.asked (map an_ask.Read first.paths) (map an_ask.Read second.paths)
+      ∙ ap (λ (l : List Asked). a.asked ++ l) (sym (map-append an_ask.Read first.paths second.paths));
+  compared = λ path has.
+      elim (Contains-append_cases first.paths second.paths path has) [ inl left ↦ first.compared path left | inr right ↦ second.compared path right ];
+}
+
+-- paths that are read, and then directories that are listed
+pub asks_both : (C : List ℕ → Type 0) (W V : Option (List ℕ) → Type 0) (a b c : History) → AsksReads C a b → AsksFor W b c → ((dir : Option (List ℕ)) → W dir → V dir) → AsksBoth C V a c
+asks_both C W V a b c reads lists weaker = record {
+  paths = reads.paths;
+  dirs = lists.dirs;
+  asked = lists.asked ∙ ap (λ (l : List Asked). l ++ map an_ask.List lists.dirs) reads.asked;
+  compared = reads.compared;
+  once = lists.once;
+  within = λ dir has. weaker dir (lists.within dir has);
+}

@@ -58,10 +58,10 @@ tracked files id moment kept w =
 
 -- not tracked any more: of a parent
 removed_by : (w p1 p2 : Bool) (tracked : Option Letter) → IsTrue (w || p1 || p2) → w ≡ false → cond w tracked (cond (p1 || p2) (Some a_letter.R) None) ≡ Some a_letter.R
-removed_by true p1 p2 tracked some not = absurd (cc (not))
-removed_by false true p2 tracked some not = refl
-removed_by false false true tracked some not = refl
-removed_by false false false tracked some not = absurd (cc (some))
+removed_by true p1 p2 tracked some gone = absurd (cc (gone))
+removed_by false true p2 tracked some gone = refl
+removed_by false false true tracked some gone = refl
+removed_by false false false tracked some gone = absurd (cc (some))
 
 or_letter : Option Letter → Letter → Letter
 or_letter None last = last
@@ -111,6 +111,9 @@ some_by true true false true false letter plain there is = absurd (cc (is))
 compared_parts : (wanted : Wanted) (kept : FlatRow) → IsTrue (is_compared_row wanted kept) → (wants_bytes wanted ≡ true) × (is_plain_entry (Some (marks_of (view kept.entry))) (is_some kept.source) ≡ true)
 compared_parts wanted kept is = and_parts (wants_bytes wanted) (is_plain_entry (Some (marks_of (view kept.entry))) (is_some kept.source)) is
 
+pub compared_by : (wanted : Wanted) (kept : FlatRow) → wants_bytes wanted ≡ true → is_plain_entry (Some (marks_of (view kept.entry))) (is_some kept.source) ≡ true → is_compared_row wanted kept ≡ true
+compared_by wanted kept first second = cc (first, second)
+
 -- ---- the letter that is found
 
 module _ (S : FlatRow → Type 0) (files : shelves.Files) (id : Id20) (moment : Moment) (wanted : Wanted) (kept : FlatRow) where
@@ -118,14 +121,14 @@ module _ (S : FlatRow → Type 0) (files : shelves.Files) (id : Id20) (moment : 
   Found letter = IsLetterFor S files id moment wanted kept letter
 
   pub found_removed : kept.entry.w ≡ false → Found (Some a_letter.R)
-  found_removed not = record {
-    right = λ meets. ap (rows_under wanted kept) (sym (removed_by kept.entry.w kept.entry.p1 kept.entry.p2 _ kept.entry.is_entry not));
-    served = λ meets asked. absurd (untracked kept.entry.w kept.entry.p1 kept.entry.p2 (is_some kept.source) not (compared_parts wanted kept asked.compared).1);
+  found_removed gone = record {
+    right = λ meets. ap (rows_under wanted kept) (sym (removed_by kept.entry.w kept.entry.p1 kept.entry.p2 _ kept.entry.is_entry gone));
+    served = λ meets asked. absurd (untracked kept.entry.w kept.entry.p1 kept.entry.p2 (is_some kept.source) gone (compared_parts wanted kept asked.compared).1);
   }
     where
       untracked : (w p1 p2 copied : Bool) → w ≡ false → (w && p1 && not p2 && not copied) ≡ true → ⊥
-      untracked true p1 p2 copied not is = absurd (cc (not))
-      untracked false p1 p2 copied not is = absurd (cc (is))
+      untracked true p1 p2 copied gone is = absurd (cc (gone))
+      untracked false p1 p2 copied gone is = absurd (cc (is))
 
   -- no letter of a tracked path is wanted
   none_if : (b : Bool) (x y : Letter) → wants wanted x ≡ false → wants wanted y ≡ false → wants wanted (cond b x y) ≡ false

@@ -8,6 +8,7 @@ pub mod Fullness
 pub mod Holding
 pub mod Letters
 pub mod Manifests
+pub mod Meeting
 pub mod Moved
 pub mod Parents
 pub mod Recording

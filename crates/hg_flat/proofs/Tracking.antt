@@ -114,8 +114,9 @@ module _ (wanted : Wanted) (id : Id20) (old mid new : trees.History) (first : tr
     row = λ compared. row_earlier files later since id k.path past within (is.row compared);
   }
 
-  pub left_second : (k : FlatRow) → IsLeftRow wanted id new old.last later since k → IsLeftRow wanted id new mid.last later since k
-  left_second k is = record { own = untouched_second new old.last mid.last k.path first.later second.later is.own; row = is.row }
+pub left_second : (wanted : Wanted) (id : Id20) (old mid new : trees.History) → trees.Extends old mid → trees.Extends mid new → (later : shelves.History) (since : ℕ) (k : FlatRow) → IsLeftRow wanted id new old.last later since k → IsLeftRow wanted id new mid.last later since k
+left_second wanted id old mid new first second later since k is =
+    record { own = untouched_second new old.last mid.last k.path first.later second.later is.own; row = is.row }
 
 -- ---- what is found at one moment is so at another at which the path is alike
 
@@ -185,4 +186,4 @@ tracked_more wanted id old mid new first second files later since past within st
     (tracked_moved (IsLeftRow wanted id mid old.last files since) (IsLeftRow wanted id new old.last later since) start id (trees.now old) (trees.now old) wanted (take i all) a b
     (left_first wanted id old mid new first second files later since past within) (λ k t. alike_same (trees.now old) k.path) before)
     (tracked_moved (IsLeftRow wanted id new mid.last later since) (IsLeftRow wanted id new old.last later since) start id (trees.now mid) (trees.now old) wanted (kept ∷ []) b c
-    (left_second wanted id old mid new first second files later since past within) (λ k t. alike_between old mid new k.path first second t.own) one))
+    (left_second wanted id old mid new first second later since) (λ k t. alike_between old mid new k.path first second t.own) one))
