@@ -309,22 +309,6 @@ visit_asks old mid later new first second third dir names again holds fit same f
     apart : (x y : Option (List ℕ)) → x ≡ dir → IsDirAmong later new dir names y → is_same_dir x y ≡ false
     apart x y is (name, among, f) = rw (is, f.is) (not_inside dir f.path (inside_joined dir name f.path f.inside))
 
--- ---- the whole listing
-
-pub status_asks : (old mid new : History) → Passes old mid → Passes mid new → AsksNothing old mid → AsksFor (IsDirIn mid new None) mid new
-    → AsksFor (λ dir. IsOurs old new → IsVisibleDir (now old) dir) old new
-status_asks old mid new first second none asks =
-    asks_then (λ dir. IsOurs old new → IsVisibleDir (now old) dir) old mid new none
-    (asks_weaker (IsDirIn mid new None) (λ dir. IsOurs old new → IsVisibleDir (now old) dir) mid new
-    (λ dir. elim [
-      | inl is ↦ λ ours. subst (IsVisibleDir (now old)) (sym is) tt
-      | inr below ↦ visible dir (below_later old mid new first second.past None dir below)
-    ])
-    asks)
-  where
-    visible : (dir : Option (List ℕ)) → IsDirBelow old new None dir → IsOurs old new → IsVisibleDir (now old) dir
-    visible dir d ours = subst (IsVisibleDir (now old)) (sym d.is) (d.stands ours, λ above below. d.visible ours above refl below)
-
 -- ---- paths that are read
 
 pub reads_none : (C : List ℕ → Type 0) (old new : History) → AsksNothing old new → AsksReads C old new
@@ -373,3 +357,17 @@ asks_both C W V a b c reads lists weaker = record {
   once = lists.once;
   within = λ dir has. weaker dir (lists.within dir has);
 }
+
+-- ---- the whole listing
+
+visible_in : (old mid new : History) → Passes old mid → Passes mid new → (dir : Option (List ℕ)) → IsDirIn mid new None dir → IsOurs old new → IsVisibleDir (now old) dir
+visible_in old mid new first second dir (inl is) ours = subst (IsVisibleDir (now old)) (sym is) tt
+visible_in old mid new first second dir (inr below) ours =
+    let d : IsDirBelow old new None dir = below_later old mid new first second.past None dir below in
+    subst (IsVisibleDir (now old)) (sym d.is) (d.stands ours, λ above under. d.visible ours above refl under)
+
+pub status_asks : (C : List ℕ → Type 0) (u : Bool) (old mid new : History) → Passes old mid → Passes mid new → AsksReads C old mid → AsksFor (λ dir. IsTrue u × IsDirIn mid new None dir) mid new
+    → AsksBoth C (λ dir. IsTrue u × (IsOurs old new → IsVisibleDir (now old) dir)) old new
+status_asks C u old mid new first second reads lists =
+    asks_both C (λ dir. IsTrue u × IsDirIn mid new None dir) (λ dir. IsTrue u × (IsOurs old new → IsVisibleDir (now old) dir)) old mid new reads lists
+    (λ dir both. (both.0, visible_in old mid new first second dir both.1))

@@ -1,5 +1,5 @@
 -- That the rows of the paths with an entry and of what else stands in the working copy are the full listing.
-use Rattle.std.proofs.Common.{ℕ, ◌≡◌, true, false, List, [], ◌∷◌, map, Option, Some, None, is_some, option_map, refl, sym, ap, ◌∙◌, subst, inl, inr, ◌⊎◌, arith}
+use Rattle.std.proofs.Common.{ℕ, ◌≡◌, Bool, true, false, ◌&&◌, ◌||◌, List, [], ◌∷◌, map, Option, Some, None, is_some, option_map, refl, sym, ap, ◌∙◌, subst, inl, inr, ◌⊎◌, arith}
 use Rattle.std.specs.Prelude.{IsTrue}
 use Rattle.std.specs.List.{AllByRecursion, Contains, IsDistinct, dedup}
 use Rattle.std.specs.List.Sorted.{IsPermutation, IsSorted, IsStrictlySortedBy}
@@ -12,14 +12,14 @@ use Rattle.hg_entry.specs.Entry.{view}
 use Rattle.hg_entry.specs.Table.{Flat, marks_of}
 use Rattle.hg_shelf.specs.History as shelves
 use Rattle.hg_tree.specs.Moment.{Moment}
-use Rattle.hg_compare.specs.Tracked.{ParentRow, tracked_letter}
+use Rattle.hg_compare.specs.Tracked.{ParentRow, is_file_or_link, tracked_letter}
 use Rattle.hg_compare.specs.declared.letter.Letter.{Letter}
 use Rattle.hg_compare.specs.declared.letter.Letter.TheVariants as a_letter
 use Rattle.hg_flat.specs.Full.{HasLetter, HasLetterBy, IsFull, IsFullFor, IsTold, nothing_ignored, wants}
 use Rattle.hg_flat.specs.Kept.{AreNamed, HaveOwnPaths, Kept, flat_from, source_of}
 use Rattle.hg_flat.specs.Listing.{AddsTracked, ArePutFor, IsPutFor, IsUnknownIn, Lists, letter_at, row_under, rows_under, unknown_row}
 use Rattle.hg_flat.specs.Order.{row_order, whole_order}
-use Rattle.hg_flat.specs.Parent.{parent_rows}
+use Rattle.hg_flat.specs.Parent.{IsAsked, IsServed, is_plain_entry, parent_rows}
 use Rattle.hg_flat.specs.declared.kept.FlatRow.{FlatRow}
 use Rattle.hg_flat.specs.declared.row.Row.{Row}
 use Rattle.hg_flat.specs.declared.row.Wanted.{Wanted}
@@ -207,6 +207,27 @@ module _ (p1 p2 : List ℕ) (kept : Kept) (files : shelves.Files) (id : Id20) (m
             let mine : p.path ≡ from.0.path = ap (λ (r : Row). r.path) (put_row from.0 from.1 from.3 p from.4).1 in
             let there : kept q.path ≡ Some from.0 = ap kept (sym at ∙ mine) ∙ holds.found from.0 from.2 in
             let none = (lists.2.each q second).1 in absurd (cc (there, none))
+
+    -- what a comparison asked for was there
+    pub served_path : (path : List ℕ) → S path → IsAsked wanted flat moment path → IsServed files id moment path
+    served_path path meets asked = by (kept path) refl
+      where
+        test : Option FlatRow → Bool
+        test o = (wanted.m || wanted.c) && is_plain_entry (option_map (λ r. marks_of (view r.entry)) o) (is_some (source_of o))
+
+        by : (o : Option FlatRow) → kept path ≡ o → IsServed files id moment path
+        by None is = absurd (never (wanted.m || wanted.c) (sym (ap test is) ∙ asked.compared))
+          where
+            never : (b : Bool) → (b && false) ≡ true → ⊥
+            never true same = absurd (cc (same))
+            never false same = absurd (cc (same))
+        by (Some k) is =
+            let same : k.path ≡ path = path_is path k is in
+            let of : Contains rows k = holds.all path k is in
+            let from = in_put Put rows tracked.0 tracked.2 k of in
+            subst (IsServed files id moment) same
+            (from.1.found.served (left k of (subst S (sym same) meets))
+            (record { compared = sym (ap test is) ∙ asked.compared; there = ap (λ (p : List ℕ). is_file_or_link (moment.things p)) same ∙ asked.there }))
 
     -- these rows put in order without doubles are the full listing of the paths that meet S
     pub full_for : (c d : List Row) → IsPermutation b c → IsSorted whole_order c → d ≡ dedup (eq_by_cmp whole_order) c → IsFullFor S flat moment (parent_rows files id) nothing_ignored wanted d

@@ -6,6 +6,7 @@ pub mod Asks
 pub mod Faces
 pub mod Fullness
 pub mod Holding
+pub mod Leaving
 pub mod Letters
 pub mod Manifests
 pub mod Meeting

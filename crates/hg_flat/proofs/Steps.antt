@@ -244,21 +244,12 @@ each_more kept old mid new first second dir names i name text path a b c below i
 
 -- ---- over the whole span
 
-pub lists_later : (old mid new : History) → Extends old mid → Extends mid new → (kept : Kept) (dir : Option (List ℕ)) (a b : List Row)
-    → Lists kept (Untouched new mid.last) (IsUnknownIn kept (now mid) dir) a b → Lists kept (Untouched new old.last) (IsUnknownIn kept (now old) dir) a b
-lists_later old mid new first second kept dir a b lists =
-    lists_moved kept (Untouched new mid.last) (Untouched new old.last) (IsUnknownIn kept (now mid) dir) (IsUnknownIn kept (now old) dir) a b
-    (second_part old mid new first second)
-    (λ p meets u. in_moved kept (now mid) (now old) p (alike_now old mid new first second p meets) dir u)
-    (λ p meets u. in_moved kept (now old) (now mid) p (alike_then old mid new first second p meets) dir u)
+-- what was listed behind a span is so over the whole, for paths that nobody touches over it
+pub lists_later : (old mid new : History) → Extends old mid → Extends mid new → (kept : Kept) (u : Bool) (S : List ℕ → Type 0) → ((p : List ℕ) → S p → Untouched new old.last p) → (a b : List Row)
+    → Lists kept (Untouched new mid.last) (λ p. IsTrue u × IsUnknownIn kept (now mid) None p) a b → Lists kept S (λ p. IsTrue u × IsUnknownIn kept (now old) None p) a b
+lists_later old mid new first second kept u S own a b lists =
+    lists_moved kept (Untouched new mid.last) S (λ p. IsTrue u × IsUnknownIn kept (now mid) None p) (λ p. IsTrue u × IsUnknownIn kept (now old) None p) a b
+    (λ p meets. second_part old mid new first second p (own p meets))
+    (λ p meets both. (both.0, in_moved kept (now mid) (now old) p (alike_now old mid new first second p (own p meets)) None both.1))
+    (λ p meets both. (both.0, in_moved kept (now old) (now mid) p (alike_then old mid new first second p (own p meets)) None both.1))
     lists
-
--- the same where `?` is wanted; else nothing is listed
-pub lists_wanted : (old new : History) (kept : Kept) (u : Bool) (a b : List Row) → u ≡ true → Lists kept (Untouched new old.last) (IsUnknownIn kept (now old) None) a b
-    → Lists kept (Untouched new old.last) (λ p. IsTrue u × IsUnknownIn kept (now old) None p) a b
-lists_wanted old new kept u a b is lists =
-    lists_moved kept (Untouched new old.last) (Untouched new old.last) (IsUnknownIn kept (now old) None) (λ p. IsTrue u × IsUnknownIn kept (now old) None p) a b
-    (λ p meets. meets) (λ p meets unknown. (is, unknown)) (λ p meets both. both.1) lists
-
-pub lists_unwanted : (h : History) (kept : Kept) (u : Bool) (rows : List Row) → u ≡ false → Lists kept (Untouched h h.last) (λ p. IsTrue u × IsUnknownIn kept (now h) None p) rows rows
-lists_unwanted h kept u rows not = lists_none kept (Untouched h h.last) (λ p. IsTrue u × IsUnknownIn kept (now h) None p) rows (λ p meets both. let is = both.0 in absurd (cc (is, not)))
