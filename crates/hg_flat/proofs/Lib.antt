@@ -11,7 +11,6 @@ pub mod Letters
 pub mod Manifests
 pub mod Meeting
 pub mod Moved
-pub mod Parents
 pub mod Recording
 pub mod Rooms
 pub mod Steps

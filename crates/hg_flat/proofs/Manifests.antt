@@ -189,16 +189,16 @@ found_letter s copy later old new rows path before (Ok letter) first second is k
         (λ row kept. keeps_stays s.shelf_old old new (contents_name row.id.0) first second kept)
         (contents_kept (upto s later new) rows path passes keeps formed))
 
--- rows that have one were read
-read_some : (s : Status) (rows : Rows) (path : List ℕ) (row : FileRow) → row_of rows path ≡ Some row → IsManifest s rows → WasRead s (Ok rows)
+-- rows that have one were read, for a parent that isn't null
+read_some : (s : Status) (rows : Rows) (path : List ℕ) (row : FileRow) → row_of rows path ≡ Some row → IsManifest s rows → (is_null s.id.0 ≡ false) × WasRead s (Ok rows)
 read_some s rows path row has is = by (is_null s.id.0) is
   where
-    by : (b : Bool) → MatchBool b (rows ≡ []) (WasRead s (Ok rows)) → WasRead s (Ok rows)
+    never : row_of [] path ≡ Some row → ⊥
+    never is = absurd (cc (is))
+
+    by : (b : Bool) → MatchBool b (rows ≡ []) (WasRead s (Ok rows)) → (b ≡ false) × WasRead s (Ok rows)
     by true none = absurd (never (sym (ap (λ (r : Rows). row_of r path) none) ∙ has))
-      where
-        never : row_of [] path ≡ Some row → ⊥
-        never is = absurd (cc (is))
-    by false read = read
+    by false read = (refl, read)
 
 pub met_in : (s : Status) (later : trees.History) (old new : shelves.History) (rows : Rows) (path : List ℕ) (before : Stat) (fault : StatusFault) → shelves.Passes s.shelf_old old → IsManifest (upto s later new) rows
     → LacksIn old new (row_of rows path) before fault → MetBy (upto s later new) path before fault
@@ -210,8 +210,9 @@ met_in s later old new rows path before (a_fault.ManifestTooLarge size) first is
 met_in s later old new rows path before (a_fault.ManifestLine line) first is lacks = absurd lacks
 met_in s later old new rows path before (a_fault.ManifestOrder line) first is lacks = absurd lacks
 met_in s later old new rows path before (a_fault.NoContents gone) first is (row, has, file) = record {
+  committed = (read_some (upto s later new) rows path row has is).0;
   rows = rows;
-  read = read_some (upto s later new) rows path row has is;
+  read = (read_some (upto s later new) rows path row has is).1;
   row = row;
   is = has;
   file = record {

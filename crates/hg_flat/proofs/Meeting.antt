@@ -50,4 +50,5 @@ module _ (s : Status) (copy later : trees.History) (new : shelves.History) (path
     names = met.file.names;
     alike = shows (λ moment. (stat : Stat) × (stat_at moment path ≡ Some stat) × IsTrue (is_alike met.row stat)) (λ told. (there, shown told, met.file.alike));
     absent = met.file.absent;
+    committed = met.committed;
   }

@@ -100,6 +100,7 @@ pub record IsFound (files : shelves.Files) (id : Id20) (moment : Moment) (path :
 
 -- the manifest has a row of the path, whose contents weren't there
 pub record LacksParentRow (s : Status) (path : List ℕ) (before : Stat) (gone : Id20) : Type 0 where
+  pub committed : is_null s.id.0 ≡ false
   pub rows : Rows
   pub read : WasRead s (Ok rows)
   pub row : FileRow

@@ -8,5 +8,4 @@ pub mod Met
 pub mod Order
 pub mod Parent
 pub mod Recorded
-pub mod Unborn
 pub mod Shown
