@@ -3,6 +3,10 @@ use Rattle.std.specs.Prelude.{ℕ, ◌≡◌, Result}
 use Rattle.hg_base.specs.Fault.{HasCause}
 use Rattle.hg_tree.specs.declared.fault.TreeFault.{TreeFault}
 use Rattle.hg_tree.specs.declared.fault.TreeFault.TheVariants as a_tree_fault
+use Rattle.hg_manifest.specs.declared.fault.ManifestFault.{ManifestFault}
+use Rattle.hg_manifest.specs.declared.fault.ManifestFault.TheVariants as a_manifest_fault
+use Rattle.hg_compare.specs.declared.fault.CompareFault.{CompareFault}
+use Rattle.hg_compare.specs.declared.fault.CompareFault.TheVariants as a_compare_fault
 use Rattle.hg_flat.specs.declared.fault.StatusFault.{StatusFault}
 use Rattle.hg_flat.specs.declared.fault.StatusFault.TheVariants as a_fault
 
@@ -11,6 +15,29 @@ abbrev pub of_tree : TreeFault → StatusFault
 of_tree a_tree_fault.OutOfMemory = a_fault.OutOfMemory
 of_tree a_tree_fault.Failed = a_fault.TreeFailed
 
+-- a fault of a manifest, under the same name
+abbrev pub of_manifest : ManifestFault → StatusFault
+of_manifest a_manifest_fault.OutOfMemory = a_fault.OutOfMemory
+of_manifest a_manifest_fault.Failed = a_fault.ShelfFailed
+of_manifest (a_manifest_fault.NoManifest id) = a_fault.NoManifest id
+of_manifest (a_manifest_fault.ManifestTooLarge size) = a_fault.ManifestTooLarge size
+of_manifest (a_manifest_fault.ManifestLine line) = a_fault.ManifestLine line
+of_manifest (a_manifest_fault.ManifestOrder line) = a_fault.ManifestOrder line
+
+-- a fault of a comparison, under the same name
+abbrev pub of_compare : CompareFault → StatusFault
+of_compare (a_compare_fault.NoContents id) = a_fault.NoContents id
+of_compare a_compare_fault.TreeFailed = a_fault.TreeFailed
+of_compare a_compare_fault.ShelfFailed = a_fault.ShelfFailed
+
+-- the tree's count rose where a listing failed, and stands still without a fault
+abbrev pub HasListingCause : {T : Type 0} → ℕ → ℕ → Result T TreeFault → Type 0
+HasListingCause before now result = HasCause before now result (λ e. e ≡ a_tree_fault.Failed)
+
 -- the tree's count rose wherever it is named as the cause, and stands still without a fault
 abbrev pub HasStatusCause : {T : Type 0} → ℕ → ℕ → Result T StatusFault → Type 0
 HasStatusCause before now result = HasCause before now result (λ e. e ≡ a_fault.TreeFailed)
+
+-- and so did the count of the files below `.hg`
+abbrev pub HasShelfCause : {T : Type 0} → ℕ → ℕ → Result T StatusFault → Type 0
+HasShelfCause before now result = HasCause before now result (λ e. e ≡ a_fault.ShelfFailed)

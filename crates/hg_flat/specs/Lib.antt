@@ -1,9 +1,11 @@
 pub mod Asked
 pub mod Cause
+pub mod Course
 pub mod Full
 pub mod Kept
 pub mod Listing
+pub mod Met
 pub mod Order
+pub mod Parent
 pub mod Recorded
-pub mod Unborn
 pub mod Shown

@@ -1,14 +1,30 @@
 //! Why a status could not be listed.
 
-use hg_base::{Failed, OutOfMemory};
+use hg_base::{Failed, Id20, OutOfMemory};
+use hg_compare::CompareFault;
+use hg_manifest::ManifestFault;
 use hg_tree::TreeFault;
 use std::alloc::{AllocError, AllocFailed};
 
-/// Why a status could not be listed: no memory, or the working copy failed, whose count of failures rose.
+/// Why a status could not be listed.
 #[derive(Clone, Copy, Debug, PartialEq, Eq)]
 pub enum StatusFault {
+    /// There was no memory.
     OutOfMemory,
+    /// The working copy failed, and its count of failures rose.
     TreeFailed,
+    /// The files below `.hg` failed, and their count of failures rose.
+    ShelfFailed,
+    /// The manifest of the first parent is absent.
+    NoManifest { id: Id20 },
+    /// It has so many bytes, over 67,108,864.
+    ManifestTooLarge { size: u64 },
+    /// Its line of that number, from 1, has not the form of one.
+    ManifestLine { line: u32 },
+    /// The path of that line, from 1, is not greater than that of the line before.
+    ManifestOrder { line: u32 },
+    /// The file of a row's contents is absent.
+    NoContents { id: Id20 },
 }
 
 impl From<OutOfMemory> for StatusFault {
@@ -65,6 +81,39 @@ impl From<TreeFault> for StatusFault {
         match fault {
             TreeFault::OutOfMemory => StatusFault::OutOfMemory,
             TreeFault::Failed => StatusFault::TreeFailed,
+        }
+    }
+}
+
+impl From<ManifestFault> for StatusFault {
+    ghost use Rattle.std.specs.Prelude.{◌≡◌};
+    ghost use Rattle.hg_flat.specs.Cause.{of_manifest};
+
+    ghost from_gives = { λ f e. e ≡ of_manifest f };
+
+    fn from(fault: ManifestFault) -> StatusFault {
+        match fault {
+            ManifestFault::OutOfMemory => StatusFault::OutOfMemory,
+            ManifestFault::Failed => StatusFault::ShelfFailed,
+            ManifestFault::NoManifest { id } => StatusFault::NoManifest { id },
+            ManifestFault::ManifestTooLarge { size } => StatusFault::ManifestTooLarge { size },
+            ManifestFault::ManifestLine { line } => StatusFault::ManifestLine { line },
+            ManifestFault::ManifestOrder { line } => StatusFault::ManifestOrder { line },
+        }
+    }
+}
+
+impl From<CompareFault> for StatusFault {
+    ghost use Rattle.std.specs.Prelude.{◌≡◌};
+    ghost use Rattle.hg_flat.specs.Cause.{of_compare};
+
+    ghost from_gives = { λ f e. e ≡ of_compare f };
+
+    fn from(fault: CompareFault) -> StatusFault {
+        match fault {
+            CompareFault::NoContents { id } => StatusFault::NoContents { id },
+            CompareFault::TreeFailed => StatusFault::TreeFailed,
+            CompareFault::ShelfFailed => StatusFault::ShelfFailed,
         }
     }
 }

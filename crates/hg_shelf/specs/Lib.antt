@@ -1,3 +1,4 @@
 pub mod History
 pub mod Memory
+pub mod Polite
 pub mod Reads
