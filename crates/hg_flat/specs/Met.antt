@@ -67,6 +67,7 @@ pub record LacksContents (s : Status) (gone : Id20) : Type 0 where
   pub names : row.id ≡ gone
   pub alike : Shows s (λ moment. (stat : Stat) × (stat_at moment path ≡ Some stat) × IsTrue (is_alike row stat))
   pub absent : Holds s (contents_name gone.0) (λ file. file ≡ None)
+  pub committed : is_null s.id.0 ≡ false
 
 -- what stood in the plain store where its fault is answered. Want of memory and a device that fails say nothing of it
 abbrev pub Met : Status → StatusFault → Type 0
