@@ -107,10 +107,10 @@ fn tells_the_letter_of_the_marks(rt: HostRuntime) -> Result<(), Fail> {
     for (flags, copied, words, out) in MARKED {
         let node = Record {
             flags: *flags,
-            copy: if *copied { (0, 1) } else { (0, 0) },
+            copy: if *copied { (1, 1) } else { (0, 0) },
             ..NODE
         };
-        let files = files_of(rt.alloc(), b"f", &[node])?;
+        let files = files_of(rt.alloc(), b"ff", &[node])?;
         let setting = Setting {
             words,
             things: &[("f", What::Text("one\n"))],
@@ -228,7 +228,7 @@ fn lists_copies(rt: HostRuntime) -> Result<(), Fail> {
         },
         Record {
             path: (1, 1),
-            copy: (0, 1),
+            copy: (5, 1),
             ..NODE
         },
         Record {
@@ -241,11 +241,11 @@ fn lists_copies(rt: HostRuntime) -> Result<(), Fail> {
         },
         Record {
             path: (4, 1),
-            copy: (0, 1),
+            copy: (5, 1),
             ..NODE
         },
     ];
-    let files = files_of(rt.alloc(), b"abceg", &nodes)?;
+    let files = files_of(rt.alloc(), b"abcega", &nodes)?;
     for (words, out) in COPIES {
         let setting = Setting {
             words,

@@ -3,6 +3,7 @@ use crate::bytes::{DocketOf, NODE, ONE, Record, data, docket, size};
 use crate::setting::{EMPTY, Files, Plain, Setting, Things, What, both, expect, run_in};
 use hg_tree::Asked;
 use std::alloc::Global;
+use std::process::Abort;
 use std::test::Fail;
 
 // Flags of a node (docs/FORMAT_DATA.md): tracked, in the first parent, marked for the second.
@@ -74,7 +75,7 @@ fn five(alloc: Global) -> Result<Files, Fail> {
         },
         Record {
             path: (3, 1),
-            copy: (0, 1),
+            copy: (5, 1),
             flags: W,
             ..NODE
         },
@@ -84,13 +85,13 @@ fn five(alloc: Global) -> Result<Files, Fail> {
             ..NODE
         },
     ];
-    files_of(alloc, b"abcnr", &nodes)
+    files_of(alloc, b"abcnra", &nodes)
 }
 
 // The words, and what is printed.
 type Case = (&'static [&'static str], &'static str);
 
-fn expect_each(rt: &HostRuntime, cases: &[Case]) -> Result<(), Fail> {
+fn expect_each<R: Abort + AllocGlobal>(rt: &R, cases: &[Case]) -> Result<(), Fail> {
     let files = five(rt.alloc())?;
     for (words, out) in cases {
         let setting = Setting {

@@ -11,22 +11,22 @@ use std::test::Fail;
 
 /// What is placed at a path; a file and a link have the byte `b` where no text is named.
 #[derive(Clone, Copy, Debug)]
-pub(crate) enum What {
+pub(crate) enum What<'a> {
     File,
     Link,
     Dir,
     Other,
-    Text(&'static str),
-    Exec(&'static str),
-    LinkTo(&'static str),
+    Text(&'a str),
+    Exec(&'a str),
+    LinkTo(&'a str),
 }
 
 /// What stands before a run, but for the files. A failing call is counted from 0.
 #[derive(Clone, Copy)]
-pub(crate) struct Setting {
-    pub words: &'static [&'static str],
-    pub things: Things,
-    pub plain: Plain,
+pub(crate) struct Setting<'a> {
+    pub words: &'a [&'a str],
+    pub things: &'a [(&'a str, What<'a>)],
+    pub plain: &'a [(&'a str, &'a str)],
     pub tree_fails: Option<u64>,
     pub shelf_fails: Option<u64>,
     pub out_fails: Option<u64>,
@@ -34,13 +34,13 @@ pub(crate) struct Setting {
 }
 
 /// Things with their paths.
-pub(crate) type Things = &'static [(&'static str, What)];
+pub(crate) type Things = &'static [(&'static str, What<'static>)];
 
 /// Names and texts of files below `.hg`.
 pub(crate) type Plain = &'static [(&'static str, &'static str)];
 
 /// An empty working copy, where no call fails.
-pub(crate) const EMPTY: Setting = Setting {
+pub(crate) const EMPTY: Setting<'static> = Setting {
     words: &["status"],
     things: &[],
     plain: &[],
@@ -86,7 +86,7 @@ fn link_to(alloc: Global, text: &str) -> Result<Thing, OutOfMemory> {
     Ok(Thing::Link { target })
 }
 
-fn thing_of(alloc: Global, what: What) -> Result<Thing, OutOfMemory> {
+fn thing_of(alloc: Global, what: What<'_>) -> Result<Thing, OutOfMemory> {
     match what {
         What::File => file_of(alloc, "b", false),
         What::Text(text) => file_of(alloc, text, false),
@@ -98,14 +98,14 @@ fn thing_of(alloc: Global, what: What) -> Result<Thing, OutOfMemory> {
     }
 }
 
-fn place(alloc: Global, tree: &mut MemTree, path: &str, what: What) -> Result<(), Fail> {
+fn place(alloc: Global, tree: &mut MemTree, path: &str, what: What<'_>) -> Result<(), Fail> {
     let path = PathRef::read(path)?;
     let thing = thing_of(alloc, what)?;
     tree.place(path, thing, NOON)?;
     Ok(())
 }
 
-pub(crate) fn tree_of(alloc: Global, setting: Setting) -> Result<MemTree, Fail> {
+pub(crate) fn tree_of(alloc: Global, setting: Setting<'_>) -> Result<MemTree, Fail> {
     let mut tree = MemTree::new(alloc, NOON)?;
     for (path, what) in setting.things {
         place(alloc, &mut tree, path, *what)?;
@@ -116,7 +116,7 @@ pub(crate) fn tree_of(alloc: Global, setting: Setting) -> Result<MemTree, Fail> 
     Ok(tree)
 }
 
-pub(crate) fn shelf_of(alloc: Global, files: &Files, setting: Setting) -> Result<MemShelf, OutOfMemory> {
+pub(crate) fn shelf_of(alloc: Global, files: &Files, setting: Setting<'_>) -> Result<MemShelf, OutOfMemory> {
     let mut shelf = MemShelf::new(alloc)?;
     if let Some(bytes) = &files.docket {
         shelf.place("dirstate", bytes)?;
@@ -142,7 +142,7 @@ fn sink_of(alloc: Global, fails: Option<u64>) -> Result<MemSink, OutOfMemory> {
     Ok(sink)
 }
 
-fn words_of(alloc: Global, setting: Setting) -> Result<Words, OutOfMemory> {
+fn words_of(alloc: Global, setting: Setting<'_>) -> Result<Words, OutOfMemory> {
     let mut words = Words::new(alloc);
     for word in setting.words {
         words.push(Text::of(alloc, word)?)?;
@@ -160,7 +160,7 @@ pub(crate) struct Left {
 }
 
 /// Runs once.
-pub(crate) fn run_in(alloc: Global, files: &Files, setting: Setting) -> Result<Left, Fail> {
+pub(crate) fn run_in(alloc: Global, files: &Files, setting: Setting<'_>) -> Result<Left, Fail> {
     let shelf = shelf_of(alloc, files, setting)?;
     run_over(alloc, shelf, setting)
 }
@@ -169,7 +169,7 @@ pub(crate) fn run_in(alloc: Global, files: &Files, setting: Setting) -> Result<L
 pub(crate) fn run_over(
     alloc: Global,
     mut shelf: MemShelf,
-    setting: Setting,
+    setting: Setting<'_>,
 ) -> Result<Left, Fail> {
     let words = words_of(alloc, setting)?;
     let mut tree = tree_of(alloc, setting)?;
@@ -200,7 +200,7 @@ pub(crate) fn expect_left<R: Abort + AllocGlobal>(
     rt: &R,
     name: &str,
     files: &Files,
-    setting: Setting,
+    setting: Setting<'_>,
     out: &str,
     err: &str,
     line: &str,
@@ -226,7 +226,7 @@ pub(crate) fn expect<R: Abort + AllocGlobal>(
     rt: &R,
     name: &str,
     files: &Files,
-    setting: Setting,
+    setting: Setting<'_>,
     out: &str,
     err: &str,
 ) -> Result<(), Fail> {
