@@ -1,6 +1,9 @@
+pub mod Causes
 pub mod Commands
 pub mod Listed
 pub mod Loads
+pub mod Parents
 pub mod Records
+pub mod Spellings
 pub mod Texts
 pub mod Ways

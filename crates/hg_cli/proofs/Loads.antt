@@ -335,3 +335,45 @@ pub unstepped_loads : {X : Type 0} (IsOf : Table → X → Type 0) (old new : Hi
 unstepped_loads IsOf old new tries result past none loads =
     subst (λ (ids : List (List ℕ)). Answers IsOf result ids (record_in (now old).files (now old).files)) (same_ids old new tries past none loads.tried.within)
     (subst (Answers IsOf result (map (id_by new) tries)) (unstepped_found old new tries past none loads.tried) loads.answer)
+
+-- ---- over a longer call
+
+found_same : (mid new : History) (tried : Try) → Extends mid new → tried.docket ≤ mid.last → tried.file ≤ mid.last → found_by new tried ≡ found_by mid tried
+found_same mid new tried second docket file = λ i. record_in ((second.stay tried.docket docket).shown i) ((second.stay tried.file file).shown i)
+
+try_longer : (old mid new : History) (tried : Try) → Extends mid new → IsTry old mid tried → IsTry old new tried
+try_longer old mid new tried second is = record {
+  docket = record { from = is.docket.from; to = omega (arith, is.docket.to, second.later) };
+  file = record { from = is.file.from; to = omega (arith, is.file.to, second.later) };
+  order = is.order;
+}
+
+pub within_longer : (old mid new : History) (tries : List Try) → Extends mid new → AllByRecursion (IsTry old mid) tries → AllByRecursion (IsTry old new) tries
+within_longer old mid new [] second within = tt
+within_longer old mid new (one ∷ more) second within = (try_longer old mid new one second within.0, within_longer old mid new more second within.1)
+
+pub front_of : (P : Try → Type 0) (earlier : List Try) (last : Try) → AllByRecursion P (earlier ++ last ∷ []) → AllByRecursion P earlier
+front_of P [] last all = tt
+front_of P (one ∷ earlier) last all = (all.0, front_of P earlier last all.1)
+
+pub gone_longer : (old mid new : History) (tries : List Try) → Extends mid new → AllByRecursion (IsTry old mid) tries → AllByRecursion (λ tried. found_by mid tried ≡ None) tries → AllByRecursion (λ tried. found_by new tried ≡ None) tries
+gone_longer old mid new [] second within gone = tt
+gone_longer old mid new (one ∷ more) second within gone = (found_same mid new one second within.0.docket.to within.0.file.to ∙ gone.0, gone_longer old mid new more second within.1 gone.1)
+
+last_within : (old mid : History) (tries : List Try) (t : Tries old mid tries) → IsTry old mid t.last
+last_within old mid tries t = last_of (IsTry old mid) t.earlier t.last (subst (AllByRecursion (IsTry old mid)) t.whole t.within)
+
+-- the tries of a load, where the shelf is asked more behind it
+abbrev pub tries_longer : (old mid new : History) (tries : List Try) → Extends mid new → Tries old mid tries → Tries old new tries
+tries_longer old mid new tries second t = record {
+  earlier = t.earlier;
+  last = t.last;
+  whole = t.whole;
+  few = t.few;
+  within = within_longer old mid new tries second t.within;
+  order = t.order;
+  gone = gone_longer old mid new t.earlier second (front_of (IsTry old mid) t.earlier t.last (subst (AllByRecursion (IsTry old mid)) t.whole t.within)) t.gone;
+}
+
+pub found_longer : (old mid new : History) (tries : List Try) → Extends mid new → (t : Tries old mid tries) → found_by new t.last ≡ found_by mid t.last
+found_longer old mid new tries second t = let is = last_within old mid tries t in found_same mid new t.last second is.docket.to is.file.to

@@ -93,6 +93,11 @@ module _ (files : Watched shelf.History) (passes : shelf.Passes files.old files.
   reading_expected (a_fault.DataGone ids) met p =
       let m = met_now (a_load.DataGone ids) met in
       (m.1.0, subst (AllByRecursion (λ id. id ≡ id_in there)) (sym m.1.1) (all_same (id_in there) m.0))
+  reading_expected (a_fault.NoManifest id) met p = absurd met
+  reading_expected (a_fault.ManifestTooLarge size) met p = absurd met
+  reading_expected (a_fault.ManifestLine line) met p = absurd met
+  reading_expected (a_fault.ManifestOrder line) met p = absurd met
+  reading_expected (a_fault.NoContents id) met p = absurd met
   reading_expected a_fault.TreeFailed met p = absurd met
   reading_expected a_fault.ShelfFailed met p = absurd (steady_not_rose files.before files.after p met)
   reading_expected a_fault.OutFailed met p = absurd met

@@ -1,12 +1,15 @@
 -- What a status prints is one text: the reading is a function, there is one full listing, and its lines are put behind what stood there.
 use Rattle.std.proofs.Common.{◌≡◌, List, ◌++◌, Option, Some, None, option_map, Result, Ok, Err, sym, ap, ◌∙◌, subst}
 use Rattle.hg_entry.specs.Table.{Table, flat_of}
-use Rattle.hg_flat.specs.Full.{IsFull, default_wanted, nothing_ignored, null_rows}
+use Rattle.hg_flat.specs.Full.{IsFull, nothing_ignored}
+use Rattle.hg_flat.specs.Parent.{parent_rows}
 use Rattle.hg_flat.specs.declared.row.Row.{Row}
 use Rattle.hg_flat.proofs.Alone.{alone}
 use Rattle.hg_image.specs.Reading.{RecordFault}
 use Rattle.hg_report.specs.Status.{text_of}
-use Rattle.hg_cli.specs.Command.{OneText, plain_style}
+use Rattle.hg_cli.specs.Command.{OneText}
+use Rattle.hg_cli.specs.Flags.{style_of, wanted_of}
+use Rattle.hg_cli.specs.Listed.{first_parent}
 use Rattle.hg_cli.specs.Load.{record_in}
 
 table_or : Table → Option (Result Table RecordFault) → Table
@@ -19,11 +22,12 @@ unfolding table_or
 same_table found a b is_a is_b = ap (table_or a) (sym is_a ∙ is_b)
 
 pub same_text : OneText
-same_text files moment old a b is_a is_b =
+same_text words files moment old a b is_a is_b =
     let first = is_a.listing in
     let second = is_b.listing in
     let table : first.table ≡ second.table = same_table (record_in files files) first.table second.table first.recorded second.recorded in
-    let full : IsFull (flat_of second.table) moment null_rows nothing_ignored default_wanted is_a.rows =
-    subst (λ (t : Table). IsFull (flat_of t) moment null_rows nothing_ignored default_wanted is_a.rows) table first.full in
-    let rows : is_a.rows ≡ is_b.rows = alone nothing_ignored (flat_of second.table) moment null_rows default_wanted is_a.rows is_b.rows full second.full in
-    is_a.printed ∙ ap (λ (r : List Row). option_map (λ bytes. bytes ++ text_of plain_style r) old) rows ∙ sym is_b.printed
+    let full : IsFull (flat_of second.table) moment (parent_rows files (first_parent (flat_of second.table))) nothing_ignored (wanted_of words) is_a.rows =
+    subst (λ (t : Table). IsFull (flat_of t) moment (parent_rows files (first_parent (flat_of t))) nothing_ignored (wanted_of words) is_a.rows) table first.full in
+    let rows : is_a.rows ≡ is_b.rows =
+    alone nothing_ignored (flat_of second.table) moment (parent_rows files (first_parent (flat_of second.table))) (wanted_of words) is_a.rows is_b.rows full second.full in
+    is_a.printed ∙ ap (λ (r : List Row). option_map (λ bytes. bytes ++ text_of (style_of words) r) old) rows ∙ sym is_b.printed

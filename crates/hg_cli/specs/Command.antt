@@ -1,79 +1,81 @@
 -- What a command answers, and why.
-use Rattle.std.specs.Prelude.{ℕ, ◌≡◌, ◌⊎◌, Bool, true, false, List, [], ◌∷◌, Option, Some, None, Result, Ok, Err, IfErr, IfSome, OnOk, codes}
+use Rattle.std.specs.Prelude.{ℕ, ◌≡◌, ◌⊎◌, true, false, List, [], Option, Some, None, Result, Ok, Err, IfErr, IfSome, IsTrue, OnOk}
 use Rattle.std.specs.List.{AllByRecursion}
-use Rattle.std.specs.Str.{bytes_eq}
 use Rattle.hg_base.specs.Fault.{Rose}
+use Rattle.hg_base.specs.declared.id.Id20.{Id20}
+use Rattle.hg_base.specs.declared.stat.Stat.{Stat}
+use Rattle.hg_compare.specs.Alike.{contents_name, is_alike}
 use Rattle.hg_entry.specs.Table.{Table, flat_of}
-use Rattle.hg_flat.specs.Unborn.{IsBorn, IsUnborn}
+use Rattle.hg_flat.specs.Parent.{IsAsked, IsServed, manifest_at, row_of}
 use Rattle.hg_flat.specs.declared.row.Row.{Row}
+use Rattle.hg_flat.specs.declared.row.Wanted.{Wanted}
 use Rattle.hg_image.specs.Reading as a_record_fault
+use Rattle.hg_manifest.specs.Rows.{Rows}
+use Rattle.hg_manifest.specs.declared.fault.ManifestFault.{ManifestFault}
+use Rattle.hg_manifest.specs.declared.fault.ManifestFault.TheVariants as a_manifest_fault
+use Rattle.hg_manifest.specs.declared.row.FileRow.{FileRow}
 use Rattle.hg_report.specs.Fault.{line_of}
 use Rattle.hg_report.specs.Status.{text_of}
 use Rattle.hg_report.specs.declared.fault.Fault.{Fault}
 use Rattle.hg_report.specs.declared.fault.Fault.TheVariants as a_fault
-use Rattle.hg_report.specs.declared.status.Style.{Style}
 use Rattle.hg_shelf.specs.History as shelf
 use Rattle.hg_stream.specs.Stream.{Grown, GrownByFront}
 use Rattle.hg_tree.specs.History as tree
-use Rattle.hg_tree.specs.Moment.{Moment}
+use Rattle.hg_tree.specs.Moment.{Moment, stat_at}
 use Rattle.hg_cli.specs.Call.{Call, Fails, Serves}
 use Rattle.hg_cli.specs.Debug.{IsLeftAlone, IsOutFault, PrintsRecord, RanRecord, is_debug}
-use Rattle.hg_cli.specs.Listed.{AsksOnce, IsListable, IsListed, IsListedFor, IsOwn, IsUntouched, ListingCause, has_ignore_file}
+use Rattle.hg_cli.specs.Flags.{is_status, style_of, wanted_of}
+use Rattle.hg_cli.specs.Listed.{AsksLittle, IsListable, IsListed, IsListedFor, IsOwn, ListingCause, first_parent, has_ignore_file, needs_patterns}
 use Rattle.hg_cli.specs.Load.{id_in, record_in}
-
--- the command that lists: `status` without a further word
-abbrev pub is_status : List (List ℕ) → Bool
-is_status [] = false
-is_status (word ∷ []) = bytes_eq word (codes "status")
-is_status (word ∷ next ∷ words) = false
-
--- how a status is printed without options
-abbrev pub plain_style : Style
-plain_style = record { plain = false; nul = false; copies = false }
 
 -- ---- what was printed
 
--- the text of rows that are the full listing for paths that meet S
-pub record IsPrintedFor (S : List ℕ → Type 0) (call : Call) : Type 0 where
+-- the letters that a call asks for
+abbrev pub wanted_in : Call → Wanted
+wanted_in call = wanted_of call.words
+
+-- the text of rows that are the full listing for paths that are left alone
+pub record IsPrintedFor (call : Call) : Type 0 where
   pub rows : List Row
-  pub listing : IsListedFor S call.looked rows
-  pub printed : Grown call.out.old call.out.new (text_of plain_style rows)
+  pub listing : IsListedFor call.looked (wanted_in call) rows
+  pub printed : Grown call.out.old call.out.new (text_of (style_of call.words) rows)
 
 -- a front of it
-pub record IsBegunFor (S : List ℕ → Type 0) (call : Call) : Type 0 where
+pub record IsBegunFor (call : Call) : Type 0 where
   pub rows : List Row
-  pub listing : IsListedFor S call.looked rows
-  pub printed : GrownByFront call.out.old call.out.new (text_of plain_style rows)
+  pub listing : IsListedFor call.looked (wanted_in call) rows
+  pub printed : GrownByFront call.out.old call.out.new (text_of (style_of call.words) rows)
 
--- the full listing
-pub record IsPrinted (files : shelf.Files) (moment : Moment) (old new : Option (List ℕ)) : Type 0 where
+-- the full listing that these words ask for
+pub record IsPrinted (words : List (List ℕ)) (files : shelf.Files) (moment : Moment) (old new : Option (List ℕ)) : Type 0 where
   pub rows : List Row
-  pub listing : IsListed files moment rows
-  pub printed : Grown old new (text_of plain_style rows)
+  pub listing : IsListed files moment (wanted_of words) rows
+  pub printed : Grown old new (text_of (style_of words) rows)
 
--- two results of printing the full listing of the same are equal, so that one may speak of its text
+-- two results of printing the full listing of the same by the same words are equal, so that one may speak of its text
 abbrev pub OneText : Type 0
-OneText = (files : shelf.Files) (moment : Moment) (old a b : Option (List ℕ)) → IsPrinted files moment old a → IsPrinted files moment old b → a ≡ b
+OneText =
+    (words : List (List ℕ)) (files : shelf.Files) (moment : Moment) (old a b : Option (List ℕ)) → IsPrinted words files moment old a → IsPrinted words files moment old b → a ≡ b
 
 -- a front of the full listing
-pub record IsBegun (files : shelf.Files) (moment : Moment) (old new : Option (List ℕ)) : Type 0 where
+pub record IsBegun (words : List (List ℕ)) (files : shelf.Files) (moment : Moment) (old new : Option (List ℕ)) : Type 0 where
   pub rows : List Row
-  pub listing : IsListed files moment rows
-  pub printed : GrownByFront old new (text_of plain_style rows)
+  pub listing : IsListed files moment (wanted_of words) rows
+  pub printed : GrownByFront old new (text_of (style_of words) rows)
 
 -- nothing was printed, or a front of the full listing
-abbrev pub LeavesFront : shelf.Files → Moment → Option (List ℕ) → Option (List ℕ) → Type 0
-LeavesFront files moment old new = (new ≡ old) ⊎ IsBegun files moment old new
+abbrev pub LeavesFront : List (List ℕ) → shelf.Files → Moment → Option (List ℕ) → Option (List ℕ) → Type 0
+LeavesFront words files moment old new = (new ≡ old) ⊎ IsBegun words files moment old new
 
 -- ---- why a command met a fault
 
 -- before anything was printed: the words, or what a listing meets
 abbrev pub MetBefore : Call → Fault → Type 0
-MetBefore call fault = ((is_status call.words ≡ false) × (fault ≡ a_fault.NotBuilt)) ⊎ ListingCause call.looked fault
+MetBefore call fault = ((is_status call.words ≡ false) × (fault ≡ a_fault.NotBuilt)) ⊎ ListingCause call.looked (wanted_in call) fault
 
 -- while it printed: no fault was found before, and standard output failed
 pub record MetPrinting (call : Call) (fault : Fault) : Type 0 where
-  pub listable : IsListable call.looked
+  pub listable : IsListable call.looked (wanted_in call)
   pub failed : Fails call.out
   pub kind : IsOutFault fault
 
@@ -82,21 +84,58 @@ CommandCause call fault = MetBefore call fault ⊎ MetPrinting call fault
 
 -- a fault that is met before printing leaves standard output as it was; one that printing meets leaves a front of the text of rows
 abbrev pub LeavesOut : Call → Fault → Type 0
-LeavesOut call fault =
-    (MetBefore call fault × (call.out.new ≡ call.out.old)) ⊎ (MetPrinting call fault × IsBegunFor (IsUntouched call.looked) call)
+LeavesOut call fault = (MetBefore call fault × (call.out.new ≡ call.out.old)) ⊎ (MetPrinting call fault × IsBegunFor call)
 
 -- ---- what has to be answered
 
+-- the files record a table, and where the file of ignore patterns matters none stands at the root
+pub record IsReady (wanted : Wanted) (files : shelf.Files) (moment : Moment) (table : Table) : Type 0 where
+  pub recorded : record_in files files ≡ Some (Ok table)
+  pub plain_root : needs_patterns wanted ≡ true → has_ignore_file moment ≡ false
+
+-- a status finds all that it asks for: the manifest where a path is compared, and the contents of each such path
+pub record FindsAll (wanted : Wanted) (files : shelf.Files) (moment : Moment) : Type 0 where
+  pub table : Table
+  pub ready : IsReady wanted files moment table
+  pub served : (path : List ℕ) → IsAsked wanted (flat_of table) moment path → IsServed files (first_parent (flat_of table)) moment path
+
+-- a path is compared, and the manifest of the first parent has this fault
+pub record HasBadManifest (wanted : Wanted) (files : shelf.Files) (moment : Moment) (fault : ManifestFault) : Type 0 where
+  pub table : Table
+  pub ready : IsReady wanted files moment table
+  pub path : List ℕ
+  pub asked : IsAsked wanted (flat_of table) moment path
+  pub is : manifest_at files (first_parent (flat_of table)) ≡ Err fault
+
+-- a path is compared whose row in the manifest names contents that aren't there, and a thing of the row's kind and executable bit stands there
+pub record LacksContents (wanted : Wanted) (files : shelf.Files) (moment : Moment) (gone : Id20) : Type 0 where
+  pub table : Table
+  pub ready : IsReady wanted files moment table
+  pub path : List ℕ
+  pub asked : IsAsked wanted (flat_of table) moment path
+  pub rows : Rows
+  pub formed : manifest_at files (first_parent (flat_of table)) ≡ Ok rows
+  pub row : FileRow
+  pub is : row_of rows path ≡ Some row
+  pub names : row.id ≡ gone
+  pub alike : (stat : Stat) × (stat_at moment path ≡ Some stat) × IsTrue (is_alike row stat)
+  pub absent : files (contents_name gone.0) ≡ None
+
 -- the answer to these words where the files and the working copy stand so, nobody else steps and no device fails; want of memory may come at any time
 abbrev pub IsExpected : List (List ℕ) → shelf.Files → Moment → Option Fault → Type 0
-IsExpected words files moment None =
-    (is_status words ≡ true) × ((table : Table) × (record_in files files ≡ Some (Ok table)) × IsUnborn (flat_of table)) × (has_ignore_file moment ≡ false)
+IsExpected words files moment None = (is_status words ≡ true) × FindsAll (wanted_of words) files moment
 IsExpected words files moment (Some a_fault.OutOfMemory) = Unit {0}
 IsExpected words files moment (Some a_fault.NotBuilt) =
-    (is_status words ≡ false) ⊎ ((table : Table) × (record_in files files ≡ Some (Ok table)) × (IsBorn (flat_of table) ⊎ (has_ignore_file moment ≡ true)))
+    (is_status words ≡ false)
+    ⊎ ((needs_patterns (wanted_of words) ≡ true) × ((table : Table) × (record_in files files ≡ Some (Ok table))) × (has_ignore_file moment ≡ true))
 IsExpected words files moment (Some (a_fault.Docket fault)) = record_in files files ≡ Some (Err (a_record_fault.Docket fault))
 IsExpected words files moment (Some (a_fault.Node fault)) = record_in files files ≡ Some (Err (a_record_fault.Node fault))
 IsExpected words files moment (Some (a_fault.DataGone ids)) = (record_in files files ≡ None) × AllByRecursion (λ id. id ≡ id_in files) ids
+IsExpected words files moment (Some (a_fault.NoManifest id)) = HasBadManifest (wanted_of words) files moment (a_manifest_fault.NoManifest id)
+IsExpected words files moment (Some (a_fault.ManifestTooLarge size)) = HasBadManifest (wanted_of words) files moment (a_manifest_fault.ManifestTooLarge size)
+IsExpected words files moment (Some (a_fault.ManifestLine line)) = HasBadManifest (wanted_of words) files moment (a_manifest_fault.ManifestLine line)
+IsExpected words files moment (Some (a_fault.ManifestOrder line)) = HasBadManifest (wanted_of words) files moment (a_manifest_fault.ManifestOrder line)
+IsExpected words files moment (Some (a_fault.NoContents id)) = LacksContents (wanted_of words) files moment id
 IsExpected words files moment (Some a_fault.TreeFailed) = ⊥
 IsExpected words files moment (Some a_fault.ShelfFailed) = ⊥
 IsExpected words files moment (Some a_fault.OutFailed) = ⊥
@@ -130,11 +169,11 @@ Tells call (Some fault) old new before after = TellsLine old new before after fa
 pub record Prints (call : Call) (result : Result Unit Fault) : Type 0 where
   pub tree : tree.Passes call.looked.tree.old call.looked.tree.new
   pub shelf : shelf.Passes call.looked.shelf.old call.looked.shelf.new
-  pub still : OnOk result (IsPrintedFor (IsUntouched call.looked) call)
-  pub listable : OnOk result (IsListable call.looked)
+  pub still : OnOk result (IsPrintedFor call)
+  pub listable : OnOk result (IsListable call.looked (wanted_in call))
   pub left : IfErr result (LeavesOut call)
   pub words : is_status call.words ≡ false → result ≡ Err a_fault.NotBuilt
-  pub asked : AsksOnce call.looked.tree
+  pub asked : AsksLittle call.looked (wanted_in call)
   pub calm_tree : OnOk result (call.looked.tree.after ≡ call.looked.tree.before)
   pub calm_shelf : OnOk result (call.looked.shelf.after ≡ call.looked.shelf.before)
   pub calm_out : OnOk result (call.out.after ≡ call.out.before)
@@ -148,20 +187,21 @@ pub record Does (call : Call) (result : Result Unit Fault) : Type 0 where
 pub record OnlyAsks (call : Call) : Type 0 where
   pub tree : tree.Passes call.looked.tree.old call.looked.tree.new
   pub shelf : shelf.Passes call.looked.shelf.old call.looked.shelf.new
-  pub once : AsksOnce call.looked.tree
+  pub little : AsksLittle call.looked (wanted_in call)
 
 -- what was done for words that don't ask for the record, and ended with this fault, or with none
 pub record RanStatus (call : Call) (fault : Option Fault) : Type 0 where
-  -- without a fault, the rows printed have each path that nobody touched meanwhile exactly under its letter, and no two are of one path
-  pub still : fault ≡ None → IsPrintedFor (IsUntouched call.looked) call
+  -- without a fault, the rows printed have each path that is left alone meanwhile exactly under its letter, and no two are of one path
+  pub still : fault ≡ None → IsPrintedFor call
   -- and where nobody else made a step, they are the full listing
-  pub listed : fault ≡ None → IsOwn call.looked → IsPrinted (shelf.now call.looked.shelf.old).files (tree.now call.looked.tree.old) call.out.old call.out.new
+  pub listed : fault ≡ None → IsOwn call.looked
+      → IsPrinted call.words (shelf.now call.looked.shelf.old).files (tree.now call.looked.tree.old) call.out.old call.out.new
   -- each fault comes only for its cause
   pub cause : IfSome fault (CommandCause call)
   -- other words are answered as such, whatever else holds
   pub words : is_status call.words ≡ false → IsFaultOrMemory fault a_fault.NotBuilt
   -- there is no fault only where none was found
-  pub listable : fault ≡ None → IsListable call.looked
+  pub listable : fault ≡ None → IsListable call.looked (wanted_in call)
   -- where nobody else steps and no count rises, the answer is the expected one, or there was no memory
   pub complete : IsOwn call.looked → Serves call.looked.tree → Serves call.looked.shelf → Serves call.out
       → IsExpected call.words (shelf.now call.looked.shelf.old).files (tree.now call.looked.tree.old) fault
@@ -169,11 +209,13 @@ pub record RanStatus (call : Call) (fault : Option Fault) : Type 0 where
   pub calm_tree : fault ≡ None → call.looked.tree.after ≡ call.looked.tree.before
   pub calm_shelf : fault ≡ None → call.looked.shelf.after ≡ call.looked.shelf.before
   pub calm_out : fault ≡ None → call.out.after ≡ call.out.before
-  -- a status changes nothing, lists no directory twice and reads no file; where nobody else steps it lists visible directories alone
+  -- a status changes nothing, reads only paths whose bytes are compared, and lists directories only where `?` is wanted, each once at most;
+  -- where nobody else steps visible ones alone
   pub asked : is_status call.words ≡ true → OnlyAsks call
   -- what stands in standard output after a fault
   pub left : IfSome fault (LeavesOut call)
-  pub front : IsOwn call.looked → IfSome fault (λ _. LeavesFront (shelf.now call.looked.shelf.old).files (tree.now call.looked.tree.old) call.out.old call.out.new)
+  pub front : IsOwn call.looked
+      → IfSome fault (λ _. LeavesFront call.words (shelf.now call.looked.shelf.old).files (tree.now call.looked.tree.old) call.out.old call.out.new)
 
 -- what a command did that ended with this fault, or with none: the one that prints the record, or a status and all words that are no command
 pub record Ran (call : Call) (fault : Option Fault) : Type 0 where

@@ -1,6 +1,7 @@
 pub mod Call
 pub mod Command
 pub mod Debug
+pub mod Flags
 pub mod Listed
 pub mod Load
 pub mod Loaded

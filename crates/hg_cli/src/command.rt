@@ -1,36 +1,25 @@
 //! The top call: one command over a working copy, the files below `.hg`, and the standard streams.
 
 ghost use Rattle.std.specs.Prelude.{◌≡◌, ◌||◌, true, None, IfSome, MatchOption};
-ghost use Rattle.hg_cli.specs.Command.{Does, IsFaultOrMemory, IsTold, Prints, Ran, Tells, TellsLine, is_status};
+ghost use Rattle.hg_cli.specs.Command.{Does, IsFaultOrMemory, IsTold, Prints, Ran, Tells, TellsLine};
 ghost use Rattle.hg_cli.specs.Debug.{is_debug};
+ghost use Rattle.hg_cli.specs.Flags as words_are;
 
 use crate::debug::print_record;
+use crate::flags::{is_status, style, wanted};
 use crate::listing::list;
 use hg_base::Words;
-use hg_report::{Fault, Style, fault_text, status_text};
+use hg_report::{Fault, fault_text, status_text};
 use hg_shelf::Shelf;
 use hg_stream::{Sink, Source, put_all};
 use hg_tree::Tree;
 use std::alloc::Global;
-
-/// How a status is printed without options.
-const PLAIN: Style = Style {
-    plain: false,
-    nul: false,
-    copies: false,
-};
 
 /// What a command ends with: 0 without a fault, 255 with one.
 #[derive(Drop)]
 pub struct Outcome {
     pub status: u8,
     pub fault: Option<Fault>,
-}
-
-fn is_status_alone(words: &Words) -> bool
-    ensures { result ≡ is_status words.now }
-{
-    words.len() == 1 && words.at(0).as_str() == "status"
 }
 
 fn is_debug_alone(words: &Words) -> bool
@@ -59,11 +48,11 @@ fn status<T: Tree, S: Shelf, O: Sink>(
         })
         result }
 {
-    if !is_status_alone(words) {
+    if !is_status(words) {
         return Err(Fault::NotBuilt);
     }
-    let rows = list(alloc, tree, shelf)?;
-    let text = status_text(alloc, &rows, PLAIN)?;
+    let rows = list(alloc, tree, shelf, wanted(words))?;
+    let text = status_text(alloc, &rows, style(words))?;
     match put_all(out, text.as_slice()) {
         Err(_) => Err(Fault::OutFailed),
         Ok(()) => Ok(()),
@@ -159,7 +148,7 @@ pub fn run<T: Tree, S: Shelf, I: Source, O: Sink, E: Sink>(
         })
         result.fault }
     // Neither command looks at the input.
-    ensures unread { (is_status words.now || is_debug words.now) ≡ true → input.new ≡ input.old }
+    ensures unread { (words_are.is_status words.now || is_debug words.now) ≡ true → input.new ≡ input.old }
     // What stands on the error stream, and with which status it ends.
     ensures told { Tells
         (record {

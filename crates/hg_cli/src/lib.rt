@@ -24,6 +24,7 @@ mod debug;
 mod disk;
 mod entries;
 mod failure;
+mod flags;
 mod listing;
 mod load;
 mod load_fault;

@@ -7,3 +7,9 @@ use Rattle.hg_report.specs.declared.fault.Fault.TheVariants as a_fault
 abbrev pub of_status : StatusFault → Fault
 of_status a_status_fault.OutOfMemory = a_fault.OutOfMemory
 of_status a_status_fault.TreeFailed = a_fault.TreeFailed
+of_status a_status_fault.ShelfFailed = a_fault.ShelfFailed
+of_status (a_status_fault.NoManifest id) = a_fault.NoManifest id
+of_status (a_status_fault.ManifestTooLarge size) = a_fault.ManifestTooLarge size
+of_status (a_status_fault.ManifestLine line) = a_fault.ManifestLine line
+of_status (a_status_fault.ManifestOrder line) = a_fault.ManifestOrder line
+of_status (a_status_fault.NoContents id) = a_fault.NoContents id

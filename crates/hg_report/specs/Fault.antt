@@ -2,6 +2,8 @@
 use Rattle.std.specs.Prelude.{ℕ, List, [], ◌∷◌, ◌++◌, codes}
 use Rattle.std.specs.Fmt.{decimal}
 use Rattle.std.specs.List.{flat_map}
+use Rattle.hex.specs.Hex.{encode_lower}
+use Rattle.hg_base.specs.declared.id.Id20.{Id20}
 use Rattle.hg_docket.specs.declared.fault.DocketFault.{DocketFault}
 use Rattle.hg_docket.specs.declared.fault.DocketFault.TheVariants as a_docket
 use Rattle.hg_image.specs.declared.fault.NodeFault.{NodeFault}
@@ -31,12 +33,21 @@ node_words (a_node.Order node) = at_node node (codes "order")
 node_words (a_node.Copy node) = at_node node (codes "copy")
 node_words (a_node.Times node) = at_node node (codes "time")
 
+-- an identifier in forty lower-case digits behind some words
+abbrev pub with_id : List ℕ → Id20 → List ℕ
+with_id what id = what ++ encode_lower id.0
+
 abbrev pub words_of : Fault → List ℕ
 words_of a_fault.OutOfMemory = codes "out of memory"
 words_of a_fault.NotBuilt = codes "not built yet"
 words_of (a_fault.Docket fault) = docket_words fault
 words_of (a_fault.Node fault) = node_words fault
 words_of (a_fault.DataGone ids) = codes "dirstate data gone:" ++ flat_map (λ id. 32 ∷ id) ids
+words_of (a_fault.NoManifest id) = with_id (codes "no manifest ") id
+words_of (a_fault.ManifestTooLarge size) = codes "manifest of " ++ (decimal size ++ codes " bytes")
+words_of (a_fault.ManifestLine line) = codes "manifest line " ++ decimal line
+words_of (a_fault.ManifestOrder line) = codes "manifest order at line " ++ decimal line
+words_of (a_fault.NoContents id) = with_id (codes "no contents ") id
 words_of a_fault.TreeFailed = codes "working copy failed"
 words_of a_fault.ShelfFailed = codes ".hg failed"
 words_of a_fault.OutFailed = codes "output failed"

@@ -1,6 +1,6 @@
 //! Why a command ended without doing what it was asked for.
 
-use hg_base::OutOfMemory;
+use hg_base::{Id20, OutOfMemory};
 use hg_docket::{DocketFault, Idents};
 use hg_flat::StatusFault;
 use hg_image::NodeFault;
@@ -19,6 +19,16 @@ pub enum Fault {
     Node(NodeFault),
     /// Each docket that was read named a data file that was then absent; these are their identifiers.
     DataGone { ids: Idents },
+    /// The manifest of the first parent is absent.
+    NoManifest { id: Id20 },
+    /// It has so many bytes, over 67,108,864.
+    ManifestTooLarge { size: u64 },
+    /// Its line of that number, from 1, has not the form of one.
+    ManifestLine { line: u32 },
+    /// The path of that line, from 1, is not greater than that of the line before.
+    ManifestOrder { line: u32 },
+    /// The file of a row's contents is absent.
+    NoContents { id: Id20 },
     /// The working copy failed.
     TreeFailed,
     /// The files below `.hg` failed.
@@ -92,6 +102,12 @@ impl From<StatusFault> for Fault {
         match fault {
             StatusFault::OutOfMemory => Fault::OutOfMemory,
             StatusFault::TreeFailed => Fault::TreeFailed,
+            StatusFault::ShelfFailed => Fault::ShelfFailed,
+            StatusFault::NoManifest { id } => Fault::NoManifest { id },
+            StatusFault::ManifestTooLarge { size } => Fault::ManifestTooLarge { size },
+            StatusFault::ManifestLine { line } => Fault::ManifestLine { line },
+            StatusFault::ManifestOrder { line } => Fault::ManifestOrder { line },
+            StatusFault::NoContents { id } => Fault::NoContents { id },
         }
     }
 }

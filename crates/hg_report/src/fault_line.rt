@@ -1,12 +1,13 @@
 //! The line of a fault.
 
 ghost use Rattle.std.specs.Prelude.{◌≡◌, ◌++◌, ◌∷◌, [], IfOk, OnOk, codes};
+ghost use Rattle.std.specs.Fmt.{decimal};
 ghost use Rattle.std.specs.List.{flat_map};
 ghost use Rattle.std.specs.String.{string_bytes};
-ghost use Rattle.hg_report.specs.Fault.{at_node, docket_words, line_of, node_words, words_of};
+ghost use Rattle.hg_report.specs.Fault.{at_node, docket_words, line_of, node_words, with_id, words_of};
 
 use crate::fault::Fault;
-use hg_base::OutOfMemory;
+use hg_base::{Id20, OutOfMemory};
 use hg_docket::{DocketFault, Idents};
 use hg_image::NodeFault;
 use std::alloc::Global;
@@ -65,6 +66,26 @@ fn put_ids(line: &mut Vec<u8>, ids: &Idents) -> Result<(), OutOfMemory>
     Ok(())
 }
 
+fn put_id(alloc: Global, line: &mut Vec<u8>, what: &str, id: Id20) -> Result<(), OutOfMemory>
+    ensures { OnOk result (line.new.items ≡ line.old.items ++ with_id what.now id) }
+{
+    let digits = hex::encode(alloc, id.0)?;
+    put(line, what)?;
+    put(line, digits.as_str())
+}
+
+fn size_text(alloc: Global, size: u64) -> Result<String, OutOfMemory>
+    ensures { IfOk result (λ text. string_bytes text ≡ codes "manifest of " ++ (decimal size ++ codes " bytes")) }
+{
+    Ok(format!(in alloc; "manifest of {size} bytes")?)
+}
+
+fn line_text(alloc: Global, what: &str, line: u32) -> Result<String, OutOfMemory>
+    ensures { IfOk result (λ text. string_bytes text ≡ what.now ++ decimal line) }
+{
+    Ok(format!(in alloc; "{what}{line}")?)
+}
+
 fn put_words(alloc: Global, line: &mut Vec<u8>, fault: &Fault) -> Result<(), OutOfMemory>
     ensures { OnOk result (line.new.items ≡ line.old.items ++ words_of fault.now) }
 {
@@ -77,6 +98,15 @@ fn put_words(alloc: Global, line: &mut Vec<u8>, fault: &Fault) -> Result<(), Out
             put(line, "dirstate data gone:")?;
             put_ids(line, ids)
         }
+        Fault::NoManifest { id } => put_id(alloc, line, "no manifest ", *id),
+        Fault::ManifestTooLarge { size } => put(line, size_text(alloc, *size)?.as_str()),
+        Fault::ManifestLine { line: at } => {
+            put(line, line_text(alloc, "manifest line ", *at)?.as_str())
+        }
+        Fault::ManifestOrder { line: at } => {
+            put(line, line_text(alloc, "manifest order at line ", *at)?.as_str())
+        }
+        Fault::NoContents { id } => put_id(alloc, line, "no contents ", *id),
         Fault::TreeFailed => put(line, "working copy failed"),
         Fault::ShelfFailed => put(line, ".hg failed"),
         Fault::OutFailed => put(line, "output failed"),

@@ -1,7 +1,7 @@
 //! What no clause says: the texts as the program's page of texts has them, and that memory is found.
 
 use super::*;
-use hg_base::Path;
+use hg_base::{Id20, Path};
 use hg_compare::Letter;
 use hg_docket::{DocketFault, Ident, Idents};
 use hg_flat::{Row, Rows};
@@ -222,6 +222,38 @@ fn prints_other_faults(rt: HostRuntime) -> Result<(), Fail> {
         (Fault::TreeFailed, "abort: working copy failed\n"),
         (Fault::ShelfFailed, "abort: .hg failed\n"),
         (Fault::OutFailed, "abort: output failed\n"),
+    ] {
+        let line = fault_text(rt.alloc(), &fault)?;
+        assert_eq!(rt; line.as_slice(), wanted.as_bytes(), "{wanted}");
+    }
+    Ok(())
+}
+
+// What may be wrong with the first parent in the plain store.
+#[test]
+fn prints_faults_of_the_parent(rt: HostRuntime) -> Result<(), Fail> {
+    let mut id = Id20([0x1f; 20]);
+    id.0[19] = 0xa0;
+    for (fault, wanted) in [
+        (
+            Fault::NoManifest { id },
+            "abort: no manifest 1f1f1f1f1f1f1f1f1f1f1f1f1f1f1f1f1f1f1fa0\n",
+        ),
+        (
+            Fault::ManifestTooLarge { size: 67_108_865 },
+            "abort: manifest of 67108865 bytes\n",
+        ),
+        (Fault::ManifestLine { line: 1 }, "abort: manifest line 1\n"),
+        (
+            Fault::ManifestOrder {
+                line: 4_294_967_295,
+            },
+            "abort: manifest order at line 4294967295\n",
+        ),
+        (
+            Fault::NoContents { id },
+            "abort: no contents 1f1f1f1f1f1f1f1f1f1f1f1f1f1f1f1f1f1f1fa0\n",
+        ),
     ] {
         let line = fault_text(rt.alloc(), &fault)?;
         assert_eq!(rt; line.as_slice(), wanted.as_bytes(), "{wanted}");

@@ -57,16 +57,6 @@ const CASES: &[(&str, DocketOf, &str)] = &[
         "abort: dirstate: no identifier for 1 bytes\n",
     ),
     (
-        "a first parent",
-        DocketOf { p1: 0x11, ..ONE },
-        "abort: not built yet\n",
-    ),
-    (
-        "a second parent",
-        DocketOf { p2: 0x11, ..ONE },
-        "abort: not built yet\n",
-    ),
-    (
         "damage before a parent",
         DocketOf {
             p1: 0x11,

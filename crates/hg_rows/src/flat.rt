@@ -3,9 +3,10 @@ use crate::setting::{EMPTY, Setting, What, tree_of};
 use crate::trees::three;
 use hg_base::PathRef;
 use hg_docket::Docket;
-use hg_flat::{Flat, plain_status};
+use hg_flat::{Flat, Wanted, plain_status};
 use hg_image::Image;
 use hg_report::{Style, status_text};
+use hg_shelf::MemShelf;
 use std::test::Fail;
 
 const PATHS: &[(&str, bool)] = &[
@@ -16,6 +17,16 @@ const PATHS: &[(&str, bool)] = &[
     ("d/2", false),
     ("0", false),
 ];
+
+const WANTED: Wanted = Wanted {
+    m: true,
+    a: true,
+    r: true,
+    d: true,
+    u: true,
+    i: false,
+    c: false,
+};
 
 const STYLE: Style = Style {
     plain: false,
@@ -34,9 +45,6 @@ fn lists_over_the_flat_map(rt: HostRuntime) -> Result<(), Fail> {
     let docket = Docket::read(&docket).ok().ok_or("a sound docket")?;
     let image = Image::open(&docket, &data)?;
     let flat = Flat::read(rt.alloc(), &image)?;
-    if !flat.is_unborn() {
-        return Err("a commit".into());
-    }
     for (path, wanted) in PATHS {
         let item = flat.get(PathRef::read(path)?);
         let shown = item.map(|item| (item.entry.w, item.entry.p1, item.entry.p2));
@@ -52,9 +60,17 @@ fn lists_over_the_flat_map(rt: HostRuntime) -> Result<(), Fail> {
     }
     let things = &[("d/0", What::File), ("d/3", What::Link)];
     let mut tree = tree_of(rt.alloc(), Setting { things, ..EMPTY })?;
-    let rows = plain_status(rt.alloc(), &flat, &mut tree)
-        .ok()
-        .ok_or("no failing call")?;
+    let mut shelf = MemShelf::new(rt.alloc())?;
+    let rows = plain_status(
+        rt.alloc(),
+        &flat,
+        &flat.first_parent(),
+        &mut tree,
+        &mut shelf,
+        WANTED,
+    )
+    .ok()
+    .ok_or("no failing call")?;
     let text = status_text(rt.alloc(), &rows, STYLE)?;
     assert_eq!(rt; text.as_slice(), b"A d/0\n! a\n! d/1\n? d/3\n".as_slice());
     Ok(())

@@ -36,6 +36,12 @@ mod identifiers;
 #[cfg(test)]
 mod listings;
 #[cfg(test)]
+mod letters;
+#[cfg(test)]
+mod manifests;
+#[cfg(test)]
+mod parents;
+#[cfg(test)]
 mod records;
 #[cfg(test)]
 mod refusals;

@@ -128,6 +128,20 @@ const TAKEN: &[(&str, DocketOf, Record, &str, &str)] = &[
         "",
     ),
     (
+        "a first parent",
+        DocketOf { p1: 0x11, ..ONE },
+        NODE,
+        "A a\n",
+        "! a\n",
+    ),
+    (
+        "a second parent",
+        DocketOf { p2: 0x11, ..ONE },
+        NODE,
+        "A a\n",
+        "! a\n",
+    ),
+    (
         "bytes that have no meaning",
         DocketOf { spare: 0xff, ..ONE },
         NODE,

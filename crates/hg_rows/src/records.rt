@@ -14,7 +14,7 @@ a - - - a
 ";
 
 // The working copy isn't looked at: its first call fails, and a file of ignore patterns stands there.
-const DEBUG: Setting = Setting {
+const DEBUG: Setting<'static> = Setting {
     words: &["debugdirstate"],
     things: &[("a", What::File), (".hgignore", What::File)],
     tree_fails: Some(0),

@@ -1,11 +1,11 @@
 // What isn't built yet, and in which order the faults are looked for.
-use crate::bytes::{DocketOf, NODE, ONE, Record, data, docket};
+use crate::bytes::{DocketOf, NODE, ONE, data, docket};
 use crate::setting::{EMPTY, Files, NONE, Setting, What, both, expect};
 use std::test::Fail;
 
 const NOT_BUILT: &str = "abort: not built yet\n";
 
-// Words that aren't the one word `status`.
+// Words that aren't `status` and flags.
 const WORDS: &[&[&str]] = &[
     &[],
     &[""],
@@ -15,10 +15,22 @@ const WORDS: &[&[&str]] = &[
     &["status", "x"],
     &["status", "--help"],
     &["--", "status"],
+    &["-m"],
+    &["-m", "status"],
+    &["status", ""],
+    &["status", "-"],
+    &["status", "--"],
+    &["status", "-M"],
+    &["status", "-mc"],
+    &["status", "-m "],
+    &["status", "--clean=1"],
+    &["status", "--Clean"],
+    &["status", "-m", "x"],
+    &["status", "-m", "status"],
 ];
 
 #[test]
-fn wants_the_one_word(rt: HostRuntime) -> Result<(), Fail> {
+fn wants_status_and_flags(rt: HostRuntime) -> Result<(), Fail> {
     let damaged = Files {
         docket: Some(Vec::from_slice(rt.alloc(), b"x")?),
         data: None,
@@ -53,55 +65,40 @@ fn wants_the_one_word(rt: HostRuntime) -> Result<(), Fail> {
     Ok(())
 }
 
-// Flags of an entry that is tracked in a parent.
-const OF_PARENTS: &[(u16, &str)] = &[
-    (3, "tracked in the first parent"),
-    (2, "removed"),
-    (5, "merged"),
-    (4, "of the second parent"),
+// Words that ask which untracked paths there are: the patterns would say whether they are ignored.
+const UNTRACKED: &[&[&str]] = &[
+    &["status"],
+    &["status", "-n"],
+    &["status", "-u"],
+    &["status", "--ignored"],
+    &["status", "-m", "-u"],
+    &["status", "-A"],
+];
+
+// Words that don't.
+const TRACKED: &[(&[&str], &str)] = &[
+    (&["status", "-a"], "A a\n"),
+    (&["status", "-m"], ""),
+    (&["status", "-r", "-d", "-c"], ""),
+    (&["status", "-a", "-n", "-0"], "a\0"),
 ];
 
 #[test]
-fn wants_entries_without_parents(rt: HostRuntime) -> Result<(), Fail> {
-    for (flags, name) in OF_PARENTS {
-        let data = data(
-            rt.alloc(),
-            b"a",
-            &[Record {
-                flags: *flags,
-                ..NODE
-            }],
-        )?;
-        let files = both(docket(rt.alloc(), ONE)?, data);
-        let setting = Setting {
-            things: &[("a", What::File)],
-            ..EMPTY
-        };
-        expect(&rt, name, &files, setting, "", NOT_BUILT)?;
-        expect(
-            &rt,
-            "an entry before the tree",
-            &files,
-            Setting {
-                tree_fails: Some(0),
-                ..setting
-            },
-            "",
-            NOT_BUILT,
-        )?;
-    }
-    Ok(())
-}
-
-#[test]
 fn reads_no_patterns(rt: HostRuntime) -> Result<(), Fail> {
+    let files = both(docket(rt.alloc(), ONE)?, data(rt.alloc(), b"a", &[NODE])?);
     let setting = Setting {
-        things: &[(".hgignore", What::File)],
+        things: &[("a", What::File), (".hgignore", What::File)],
         ..EMPTY
     };
-    expect(&rt, "without a dirstate", &NONE, setting, "", NOT_BUILT)?;
-    let files = both(docket(rt.alloc(), ONE)?, data(rt.alloc(), b"a", &[NODE])?);
-    expect(&rt, "with a dirstate", &files, setting, "", NOT_BUILT)
+    for words in UNTRACKED {
+        let setting = Setting { words, ..setting };
+        expect(&rt, "without a dirstate", &NONE, setting, "", NOT_BUILT)?;
+        expect(&rt, "with a dirstate", &files, setting, "", NOT_BUILT)?;
+    }
+    for (words, out) in TRACKED {
+        expect(&rt, out, &files, Setting { words, ..setting }, out, "")?;
+    }
+    Ok(())
 }
 
 // The case, the docket without a data file, and the line.

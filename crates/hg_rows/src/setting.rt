@@ -9,20 +9,24 @@ use std::alloc::Global;
 use std::process::Abort;
 use std::test::Fail;
 
-/// What is placed at a path.
+/// What is placed at a path; a file and a link have the byte `b` where no text is named.
 #[derive(Clone, Copy, Debug)]
-pub(crate) enum What {
+pub(crate) enum What<'a> {
     File,
     Link,
     Dir,
     Other,
+    Text(&'a str),
+    Exec(&'a str),
+    LinkTo(&'a str),
 }
 
 /// What stands before a run, but for the files. A failing call is counted from 0.
 #[derive(Clone, Copy)]
-pub(crate) struct Setting {
-    pub words: &'static [&'static str],
-    pub things: Things,
+pub(crate) struct Setting<'a> {
+    pub words: &'a [&'a str],
+    pub things: &'a [(&'a str, What<'a>)],
+    pub plain: &'a [(&'a str, &'a str)],
     pub tree_fails: Option<u64>,
     pub shelf_fails: Option<u64>,
     pub out_fails: Option<u64>,
@@ -30,12 +34,16 @@ pub(crate) struct Setting {
 }
 
 /// Things with their paths.
-pub(crate) type Things = &'static [(&'static str, What)];
+pub(crate) type Things = &'static [(&'static str, What<'static>)];
+
+/// Names and texts of files below `.hg`.
+pub(crate) type Plain = &'static [(&'static str, &'static str)];
 
 /// An empty working copy, where no call fails.
-pub(crate) const EMPTY: Setting = Setting {
+pub(crate) const EMPTY: Setting<'static> = Setting {
     words: &["status"],
     things: &[],
+    plain: &[],
     tree_fails: None,
     shelf_fails: None,
     out_fails: None,
@@ -68,19 +76,36 @@ const NOON: Time = Time {
     nanos: 0,
 };
 
-fn place(alloc: Global, tree: &mut MemTree, path: &str, what: What) -> Result<(), Fail> {
-    let path = PathRef::read(path)?;
-    let bytes = Blob::of(alloc, b"b")?;
+fn file_of(alloc: Global, text: &str, exec: bool) -> Result<Thing, OutOfMemory> {
+    let bytes = Blob::of(alloc, text.as_bytes())?;
+    Ok(Thing::File { exec, bytes })
+}
+
+fn link_to(alloc: Global, text: &str) -> Result<Thing, OutOfMemory> {
+    let target = Blob::of(alloc, text.as_bytes())?;
+    Ok(Thing::Link { target })
+}
+
+fn thing_of(alloc: Global, what: What<'_>) -> Result<Thing, OutOfMemory> {
     match what {
-        What::File => tree.place(path, Thing::File { exec: false, bytes }, NOON)?,
-        What::Link => tree.place(path, Thing::Link { target: bytes }, NOON)?,
-        What::Dir => tree.place(path, Thing::Dir, NOON)?,
-        What::Other => tree.place(path, Thing::Other, NOON)?,
+        What::File => file_of(alloc, "b", false),
+        What::Text(text) => file_of(alloc, text, false),
+        What::Exec(text) => file_of(alloc, text, true),
+        What::Link => link_to(alloc, "b"),
+        What::LinkTo(text) => link_to(alloc, text),
+        What::Dir => Ok(Thing::Dir),
+        What::Other => Ok(Thing::Other),
     }
+}
+
+fn place(alloc: Global, tree: &mut MemTree, path: &str, what: What<'_>) -> Result<(), Fail> {
+    let path = PathRef::read(path)?;
+    let thing = thing_of(alloc, what)?;
+    tree.place(path, thing, NOON)?;
     Ok(())
 }
 
-pub(crate) fn tree_of(alloc: Global, setting: Setting) -> Result<MemTree, Fail> {
+pub(crate) fn tree_of(alloc: Global, setting: Setting<'_>) -> Result<MemTree, Fail> {
     let mut tree = MemTree::new(alloc, NOON)?;
     for (path, what) in setting.things {
         place(alloc, &mut tree, path, *what)?;
@@ -91,13 +116,16 @@ pub(crate) fn tree_of(alloc: Global, setting: Setting) -> Result<MemTree, Fail> 
     Ok(tree)
 }
 
-fn shelf_of(alloc: Global, files: &Files, setting: Setting) -> Result<MemShelf, OutOfMemory> {
+pub(crate) fn shelf_of(alloc: Global, files: &Files, setting: Setting<'_>) -> Result<MemShelf, OutOfMemory> {
     let mut shelf = MemShelf::new(alloc)?;
     if let Some(bytes) = &files.docket {
         shelf.place("dirstate", bytes)?;
     }
     if let Some(bytes) = &files.data {
         shelf.place("dirstate.0000000000000000", bytes)?;
+    }
+    for (name, text) in setting.plain {
+        shelf.place(name, text.as_bytes())?;
     }
     if let Some(call) = setting.shelf_fails {
         shelf.fail_at(call)?;
@@ -114,7 +142,7 @@ fn sink_of(alloc: Global, fails: Option<u64>) -> Result<MemSink, OutOfMemory> {
     Ok(sink)
 }
 
-fn words_of(alloc: Global, setting: Setting) -> Result<Words, OutOfMemory> {
+fn words_of(alloc: Global, setting: Setting<'_>) -> Result<Words, OutOfMemory> {
     let mut words = Words::new(alloc);
     for word in setting.words {
         words.push(Text::of(alloc, word)?)?;
@@ -122,26 +150,41 @@ fn words_of(alloc: Global, setting: Setting) -> Result<Words, OutOfMemory> {
     Ok(words)
 }
 
-/// What a run left: its answer, and the bytes on both streams.
+/// What a run left: its answer, the working copy, and the bytes on both streams.
 #[derive(Drop)]
 pub(crate) struct Left {
     pub outcome: Outcome,
+    pub tree: MemTree,
     pub out: MemSink,
     pub err: MemSink,
 }
 
 /// Runs once.
-pub(crate) fn run_in(alloc: Global, files: &Files, setting: Setting) -> Result<Left, Fail> {
+pub(crate) fn run_in(alloc: Global, files: &Files, setting: Setting<'_>) -> Result<Left, Fail> {
+    let shelf = shelf_of(alloc, files, setting)?;
+    run_over(alloc, shelf, setting)
+}
+
+/// Runs once over these files below `.hg`.
+pub(crate) fn run_over(
+    alloc: Global,
+    mut shelf: MemShelf,
+    setting: Setting<'_>,
+) -> Result<Left, Fail> {
     let words = words_of(alloc, setting)?;
     let mut tree = tree_of(alloc, setting)?;
-    let mut shelf = shelf_of(alloc, files, setting)?;
     let mut input = MemSource::new(alloc, b"status\n", 1)?;
     let mut out = sink_of(alloc, setting.out_fails)?;
     let mut err = sink_of(alloc, setting.err_fails)?;
     let outcome = run(
         alloc, &words, &mut tree, &mut shelf, &mut input, &mut out, &mut err,
     );
-    Ok(Left { outcome, out, err })
+    Ok(Left {
+        outcome,
+        tree,
+        out,
+        err,
+    })
 }
 
 /// The line of the fault that a run answers; empty without a fault.
@@ -157,7 +200,7 @@ pub(crate) fn expect_left<R: Abort + AllocGlobal>(
     rt: &R,
     name: &str,
     files: &Files,
-    setting: Setting,
+    setting: Setting<'_>,
     out: &str,
     err: &str,
     line: &str,
@@ -183,7 +226,7 @@ pub(crate) fn expect<R: Abort + AllocGlobal>(
     rt: &R,
     name: &str,
     files: &Files,
-    setting: Setting,
+    setting: Setting<'_>,
     out: &str,
     err: &str,
 ) -> Result<(), Fail> {

@@ -111,12 +111,14 @@ fn lists_what_is_missing_in_a_nested_repository(rt: HostRuntime) -> Result<(), F
             ..ONE
         },
     )?;
-    let things: Things = &[("sub/y", What::File), ("sub/.hg/x", What::File)];
     expect(
         &rt,
         "missing",
         &both(docket, data),
-        Setting { things, ..EMPTY },
+        Setting {
+            things: &[("sub/y", What::File), ("sub/.hg/x", What::File)],
+            ..EMPTY
+        },
         "! sub/t\n",
         "",
     )

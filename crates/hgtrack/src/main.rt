@@ -3,6 +3,7 @@
 //!
 //! ```text
 //! hgtrack status           # anywhere in a working copy
+//! hgtrack status -m -C     # with flags
 //! hgtrack debugdirstate
 //! hgtrack --help
 //! hgtrack --version
@@ -27,12 +28,21 @@ use std::process::ExitCode;
 
 const HELP: &str = "hgtrack: the status of a Mercurial working copy, from its dirstate-v2
 
-Usage: hgtrack status           list what is tracked and what is not, from any folder of a working copy
-       hgtrack debugdirstate    print what the dirstate records of each path
-       hgtrack --help           print this help
-       hgtrack --version        print the version
+Usage: hgtrack status [FLAG ..]  list what is tracked and what is not, from any folder of a working copy
+       hgtrack debugdirstate     print what the dirstate records of each path
+       hgtrack --help            print this help
+       hgtrack --version         print the version
 
-Letters of status: A added, ! missing, ? not tracked. Paths are told from the root of the working copy, which is the nearest folder
+Flags of status, each a word of its own, in any order:
+  -m --modified   M: changed              -A --all         all letters, and copies
+  -a --added      A: added                -n --no-status   names without letters
+  -r --removed    R: removed              -0 --print0      NUL at the end of each line
+  -d --deleted    !: missing              -C --copies      what was copied, and from where
+  -c --clean      C: unchanged
+  -u --unknown    ?: not tracked
+  -i --ignored    I: ignored
+
+Where no letter is asked for, M A R ! ? are listed. Paths are told from the root of the working copy, which is the nearest folder
 with a folder `.hg`. It ends with 0, or with 255 after a line `abort: ...`.
 ";
 
