@@ -29,7 +29,7 @@ CASES = [
         [*TREE, "hg add", "hg commit -m one", "*a another", "hg remove b.c", "-b/c", "+new", "hg add new", "+u", "hg copy b/d/e b/d/g", "hg rename src/k0.c src/k2.c"],
         ["hg commit -m two"],
         ["hg copy a e/a", "*e/a third", "hg forget b/d/f", "-x", "hg remove d/y", "+d/y"],
-        ["hg copy --after --force a x"],
+        ["hg copy --after --force src/k1.c d/y"],
     ]),
     ("what a file is", [
         [*TREE, "hg add", "hg commit -m one"],
@@ -46,7 +46,7 @@ CASES = [
         ["hg update 0", "*b three", "+m", "hg add m", "hg remove d/c", "hg commit -m three"],
         ["hg merge --tool :local 1"],
         ["*d/n other", "+u", "-m"],
-        ["hg commit -m four", "hg copy d/n d/o"],
+        ["+m", "hg commit -m four", "hg copy d/n d/o"],
     ]),
     ("updated back and forth", [
         [*TREE, "hg add", "hg commit -m one", "*a two", "hg remove b/c", "hg commit -m two"],
@@ -88,6 +88,13 @@ def act(tests, root, what, action):
             os.remove(path)
 
 
+def init(root):
+    """A new repository, whose own configuration lets Mercurial without its Rust extensions read the record."""
+    hg(root, "init")
+    with open(f"{root}/.hg/hgrc", "a", encoding="utf-8") as file:
+        file.write("[storage]\ndirstate-v2.slow-path = allow\n")
+
+
 def export(root, *words, **how):
     env = {**os.environ, "HGRCPATH": "", "PYTHONDONTWRITEBYTECODE": "1"}
     return subprocess.run([sys.executable, EXPORT, *words], cwd=root, env=env, stdin=subprocess.DEVNULL, capture_output=True, timeout=300, **how)
@@ -99,7 +106,7 @@ def store(root):
 
 def run_case(tests, what, steps):
     with tests.working_copy() as root:
-        hg(root, "init")
+        init(root)
         for number, step in enumerate(steps, 1):
             for action in step:
                 act(tests, root, what, action)
@@ -114,7 +121,7 @@ def run_case(tests, what, steps):
 def run_store(tests):
     """What the export writes: all contents before the manifest, nothing twice, and what no parent names goes with `--prune`."""
     with tests.working_copy() as root:
-        hg(root, "init")
+        init(root)
         lay_out(root, ["a", "d/b"])
         hg(root, "add")
         hg(root, "commit", "-m", "one")
@@ -141,7 +148,7 @@ def run_refused(tests):
     """A name that isn't text is named, and nothing is written; outside of a repository and without `hg` the reason is told."""
     with tests.working_copy() as root:
         tests.compare("parents: no repository", (export(root).returncode, export(root).stderr), (1, lines("hgtrack-parents: no .hg here or above")))
-        hg(root, "init")
+        init(root)
         name = os.path.join(os.fsencode(root), b"caf\xe9")
         put(name, b"x\n")
         put(f"{root}/a", b"x\n")
@@ -151,7 +158,8 @@ def run_refused(tests):
         tests.compare("parents: a name that isn't text", (told.returncode, told.stderr), (1, lines("hgtrack-parents: the name b'caf\\xe9' isn't UTF-8: nothing was written")))
         tests.compare("parents: nothing was written", store(root), [])
     with tests.working_copy() as root:
-        os.mkdir(f"{root}/.hg")
+        lay_out(root, [".hg/"])
+        put(f"{root}/.hg/requires", b"another\n")
         told = export(root)
         tests.compare("parents: no repository of Mercurial's", (told.returncode, told.stderr.startswith(b"hgtrack-parents: hg log: abort: ")), (1, True))
 
@@ -159,7 +167,7 @@ def run_refused(tests):
 def run_hooks(tests):
     """As hooks of `update` and `commit` the store follows by itself."""
     with tests.working_copy() as root:
-        hg(root, "init")
+        init(root)
         with open(f"{root}/.hg/hgrc", "a", encoding="utf-8") as file:
             file.write(f"[hooks]\nupdate.hgtrack = {sys.executable} {EXPORT}\ncommit.hgtrack = {sys.executable} {EXPORT}\n")
         lay_out(root, ["a", "d/b"])
