@@ -28,6 +28,8 @@ DOCKETS = [
     ("marker before length", b"Dirstate", True, "dirstate: marker differs at byte 0"),
     ("length before identifier", docket(45, (1, 1), identifier=b"a/b")[:-1], True, "dirstate: 127 bytes where 128 are needed"),
     ("docket before parents", docket(45, (1, 1), p1=PARENT, identifier=b"/"), True, "dirstate: identifier byte 125"),
+    ("a first parent", docket(45, (1, 1), p1=PARENT), True, NOT_BUILT),
+    ("a second parent", docket(45, (1, 1), p2=PARENT), True, NOT_BUILT),
     ("the data file before parents", docket(45, (1, 1), p1=PARENT), False, GONE),
     ("the data before parents", docket(46, (1, 1), p1=PARENT), True, "dirstate data: 45 bytes where 46 are used"),
     ("no data file", GOOD, False, GONE),
@@ -81,18 +83,16 @@ NODES = [
     ("children before the next sibling", b"ac" + record(0, 1, children=(90, 1)) + record(1, 1, 1), (2, 2), "list at 90 of 1 nodes"),
 ]
 
-# an entry of a parent, where there is no commit: the data, the place and the number of the root list, the lines with a file `a`
-OF_PARENTS = [
-    ("tracked in the first parent", b"a" + record(0, 1, flags=WDIR_TRACKED | P1_TRACKED), (1, 1), ["M a"]),
-    ("removed", b"a" + record(0, 1, flags=P1_TRACKED), (1, 1), ["R a"]),
-    ("of a merge", b"a" + record(0, 1, flags=WDIR_TRACKED | P2_INFO), (1, 1), ["M a"]),
-    ("below a directory", b"a/b" + record(0, 3, 2, flags=P2_INFO) + record(0, 1, children=(3, 1), flags=0), (47, 1), ["R a/b", "? a"]),
+# what is not built yet, the data, the place and the number of the root list
+NOT_BUILT_YET = [
+    ("tracked in the first parent", b"a" + record(0, 1, flags=WDIR_TRACKED | P1_TRACKED), (1, 1)),
+    ("removed", b"a" + record(0, 1, flags=P1_TRACKED), (1, 1)),
+    ("of a merge", b"a" + record(0, 1, flags=WDIR_TRACKED | P2_INFO), (1, 1)),
+    ("below a directory", b"a/b" + record(0, 3, 2, flags=P2_INFO) + record(0, 1, children=(3, 1), flags=0), (47, 1)),
 ]
 
 # what is taken all the same, the docket, the data, the lines with the file `a` and those without it
 TAKEN = [
-    ("a first parent", docket(45, (1, 1), p1=PARENT), DATA, ["A a"], ["! a"]),
-    ("a second parent", docket(45, (1, 1), p2=PARENT), DATA, ["A a"], ["! a"]),
     ("an empty docket", b"", None, ["? a"], []),
     ("padding that is not zero", docket(45, (1, 1), spare=0xFF), DATA, ["A a"], ["! a"]),
     ("bytes behind the identifier", GOOD + b"\0 more", DATA, ["A a"], ["! a"]),
@@ -136,10 +136,10 @@ def run(tests):
     check(tests, "data: an empty file", GOOD, b"", aborted(short.format(0)))
     for what, data, root_list, line in NODES:
         check(tests, f"data: {what}", docket(len(data), root_list), data, aborted(f"dirstate data: {line}"))
-    for what, data, root_list, told in OF_PARENTS:
-        check(tests, f"entries: {what}", docket(len(data), root_list), data, out=lines(*told))
+    for what, data, root_list in NOT_BUILT_YET:
+        check(tests, f"not built: {what}", docket(len(data), root_list), data, aborted(NOT_BUILT))
     late = b"ab" + record(0, 1, flags=P1_TRACKED) + record(1, 1, flags=TIMED, nanos=10**9)
-    check(tests, "damage before an entry of a parent", docket(len(late), (2, 2)), late, aborted("dirstate data: node 46: time"))
+    check(tests, "damage before what is not built", docket(len(late), (2, 2)), late, aborted("dirstate data: node 46: time"))
     check(tests, "not built: a file .hgignore", GOOD, DATA, aborted(NOT_BUILT), ("a", ".hgignore"))
     check(tests, "damage before .hgignore", GOOD, DATA[:-1], aborted(short.format(44)), ("a", ".hgignore"))
     for what, docket_bytes, data, with_file, without in TAKEN:

@@ -4,7 +4,7 @@ import os
 import subprocess
 import sys
 
-from dirstate import written
+from dirstate import docket, written
 from folder import NO_HG, aborted, as_nobody, because, lay_out, lines, put, put_record
 
 GOOD, DATA = written([b"a"])
@@ -25,7 +25,7 @@ def shelf(name, reason="permission denied"):
 
 # words that are not built yet
 WORDS = [
-    [], ["stat"], ["status", "x"], ["status", ""], ["status", "-mc"], ["status", "-m", "x"], ["status", "--"], ["--", "status"], [""], ["Status"], ["status "],
+    [], ["stat"], ["status", "x"], ["status", ""], ["status", "-m"], ["status", "--"], ["--", "status"], [""], ["Status"], ["status "],
     ["add", "a"], ["debugdirstate", "--all"], ["debugstate"], ["help"], ["-h"], ["-V"], ["--help", "status"], ["status", "--help"], ["--version", "--version"],
     [b"\xff"], [b"status", b"\xff"], ["s" * 100_000],
 ]
@@ -159,6 +159,10 @@ def run_names(tests):
         with tests.working_copy() as root:
             lay_out(root, things)
             tests.check(what, root, out, err)
+    with tests.working_copy() as root:
+        lay_out(root, [os.fsdecode(b"b\xff")])
+        put_record(root, docket(45, (1, 1), p1=b"\x11" * 20), DATA)
+        tests.check("parents before the working copy", root, b"", NOT_BUILT)
 
 
 def run(tests):

@@ -203,21 +203,25 @@ module _ (looked : Looked) (wanted : Wanted) (mid : tree.History) (behind : shel
   pub asks_later : AsksNothing looked.tree.old mid
       → AsksBoth (λ path. IsTrue (is_compared wanted flat path)) (λ dir. IsTrue wanted.u × (tree.IsOurs mid looked.tree.new → IsVisibleDir (tree.now mid) dir)) mid looked.tree.new
       → AsksNothing looked.tree.old looked.tree.new ⊎ ((f : plain.Flat) × IsLoaded looked.shelf f × AsksOver f wanted looked.tree)
-  asks_later none asks = inr (flat, loaded, record {
-    paths = asks.paths;
-    dirs = asks.dirs;
-    asked = asks.asked ∙ ap (λ (l : List Asked). l ++ map an_ask.Read asks.paths ++ map an_ask.List asks.dirs) none;
-    compared = asks.compared;
-    once = asks.once;
-    within = λ dir has.
-        let within = asks.within dir has in (
-          within.0,
-          λ ours.
-              subst (λ (m : Moment). IsVisibleDir m dir)
-              (now_same looked.tree.old mid first (ours_first looked.tree.old mid looked.tree.new second.past ours))
-              (within.1 (ours_second looked.tree.old mid looked.tree.new first.past ours)),
-        );
-  })
+  asks_later none asks = inr (
+    flat,
+    loaded,
+    record {
+      paths = asks.paths;
+      dirs = asks.dirs;
+      asked = asks.asked ∙ ap (λ (l : List Asked). l ++ map an_ask.Read asks.paths ++ map an_ask.List asks.dirs) none;
+      compared = asks.compared;
+      once = asks.once;
+      within = λ dir has.
+          let within = asks.within dir has in (
+            within.0,
+            λ ours.
+                subst (λ (m : Moment). IsVisibleDir m dir)
+                (now_same looked.tree.old mid first (ours_first looked.tree.old mid looked.tree.new second.past ours))
+                (within.1 (ours_second looked.tree.old mid looked.tree.new first.past ours)),
+          );
+    },
+  )
 
 -- what a record that was found says, where the shelf made no step
 recorded_now : (old new : shelf.History) (flat : plain.Flat) → shelf.Extends old new → new.last ≡ old.last → (r : IsRecorded old new flat) → record_in (shelf.now old).files (shelf.now old).files ≡ Some (Ok r.table)
@@ -292,7 +296,7 @@ module _ (call : Call) (copy : tree.Passes call.looked.tree.old call.looked.tree
   lacks_contents flat loaded lacks gone met =
       let t = recorded_table flat loaded in
       let alike = shows_now (over flat) copy.past files.past still_tree still_shelf own.tree.told own.shelf.told
-        (λ moment. (stat : Stat) × (stat_at moment met.path ≡ Some stat) × IsTrue (is_alike met.row stat)) met.alike in record {
+      (λ moment. (stat : Stat) × (stat_at moment met.path ≡ Some stat) × IsTrue (is_alike met.row stat)) met.alike in record {
         table = t.0;
         ready = ready_now t.0 t.1 lacks;
         path = met.path;
