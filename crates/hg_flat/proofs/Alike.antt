@@ -10,7 +10,7 @@ use Rattle.hg_tree.specs.Still.{AreAlike, hg_in, kind_at}
 use Rattle.hg_tree.proofs.Stillness.{same_kind}
 use Rattle.hg_compare.specs.Tracked.{is_file_or_link, is_file_or_link_thing}
 use Rattle.hg_flat.specs.Kept.{Kept}
-use Rattle.hg_flat.specs.Listing.{IsUnknownAmong, IsUnknownFrom, IsUnknownIn, IsUntracked, IsVisibleFrom, is_dir_kind, is_file_or_link_kind, added_letter}
+use Rattle.hg_flat.specs.Listing.{IsUnknownAmong, IsUnknownFrom, IsUnknownIn, IsUntracked, IsVisibleFrom, is_dir_kind, is_file_or_link_kind}
 
 -- ---- what follows from the kind
 
@@ -67,9 +67,6 @@ alike_on m n o path first second = record {
   above = λ dir below. first.above dir below ∙ second.above dir below;
   hg = λ dir below. first.hg dir below ∙ second.hg dir below;
 }
-
-pub letter_alike : (m n : Moment) (path : List ℕ) → AreAlike m n path → added_letter m path ≡ added_letter n path
-letter_alike m n path alike = rw (file_alike m n path (same_kind m n path alike.seen)) refl
 
 module _ (kept : Kept) (m n : Moment) (path : List ℕ) (alike : AreAlike m n path) where
   untracked_moved : IsUntracked kept m path → IsUntracked kept n path

@@ -1,5 +1,5 @@
 -- What a listing asks the tree: each directory once, and where nothing changes only those that are visible.
-use Rattle.std.proofs.Common.{ℕ, zero, suc, ◌≡◌, ◌+◌, ◌<◌, Bool, true, false, List, [], ◌∷◌, ◌++◌, length, map, take, drop, get_or, Option, Some, None, IsTrue, refl, sym, ap, ◌∙◌, subst, inl, inr, ◌⊎◌, arith}
+use Rattle.std.proofs.Common.{ℕ, zero, suc, ◌≡◌, ◌+◌, ◌<◌, Bool, true, false, List, [], ◌∷◌, ◌++◌, length, map, take, drop, replicate, get_or, Option, Some, None, IsTrue, refl, sym, ap, ◌∙◌, subst, inl, inr, ◌⊎◌, arith}
 use Rattle.std.specs.List.{AllByRecursion, Contains, IsDistinct}
 use Rattle.std.specs.Str.{bytes_eq}
 use Rattle.std.proofs.lemmas.Bool.{cases_Bool, or_cases, or_left, or_right}
@@ -18,7 +18,8 @@ use Rattle.hg_tree.specs.declared.asked.Asked.TheVariants as an_ask
 use Rattle.hg_tree.specs.Still.{Untouched}
 use Rattle.hg_tree.proofs.Spans.{now_same, ours_first, ours_second, passes_trans}
 use Rattle.hg_tree.proofs.Stillness.{ours_untouched}
-use Rattle.hg_flat.specs.Asked.{AsksFor, AsksNothing, IsDirAmong, IsDirBelow, IsDirFrom, IsDirIn, IsVisibleDir}
+use Rattle.hg_compare.specs.Same.{Reads}
+use Rattle.hg_flat.specs.Asked.{AsksBoth, AsksFor, AsksNothing, AsksReads, IsDirAmong, IsDirBelow, IsDirFrom, IsDirIn, IsVisibleDir}
 use Rattle.hg_flat.specs.Listing.{HoldsFor, IsVisibleFrom, holds_repository, is_from, is_inside}
 use Rattle.hg_flat.proofs.Among.{fit_of}
 use Rattle.hg_flat.proofs.Unknowns.{back, from_below, from_cases, from_same, inside_joined, same_of, visible_up}
@@ -308,18 +309,65 @@ visit_asks old mid later new first second third dir names again holds fit same f
     apart : (x y : Option (List ℕ)) → x ≡ dir → IsDirAmong later new dir names y → is_same_dir x y ≡ false
     apart x y is (name, among, f) = rw (is, f.is) (not_inside dir f.path (inside_joined dir name f.path f.inside))
 
+-- ---- paths that are read
+
+pub reads_none : (C : List ℕ → Type 0) (old new : History) → AsksNothing old new → AsksReads C old new
+reads_none C old new none = record { paths = []; asked = none ∙ sym (append-nil old.asked); compared = λ path (k, below, is). absurd (omega (arith, below)) }
+
+reads_map : (n : ℕ) (path : List ℕ) → map an_ask.Read (replicate n path) ≡ replicate n (an_ask.Read path)
+reads_map zero path = refl
+reads_map (suc n) path = ap (λ (l : List Asked). an_ask.Read path ∷ l) (reads_map n path)
+
+reads_same : (n : ℕ) (path other : List ℕ) → Contains (replicate n path) other → other ≡ path
+reads_same zero path other (k, below, is) = absurd (omega (arith, below))
+reads_same (suc n) path other has =
+    elim (Contains-append_cases (path ∷ []) (replicate n path) other has) [
+      | inl one ↦ elim (Contains-push_cases [] path other one) [ inl (k, below, is) ↦ absurd (omega (arith, below)) | inr same ↦ sym same ]
+      | inr later ↦ reads_same n path other later
+    ]
+
+-- one path that is read piece by piece
+pub reads_pieces : (C : List ℕ → Type 0) (size : ℕ) (path : List ℕ) (old new : History) → C path → Reads size path old new → AsksReads C old new
+reads_pieces C size path old new compared reads = record {
+  paths = replicate reads.pieces path;
+  asked = reads.asked ∙ ap (λ (l : List Asked). old.asked ++ l) (sym (reads_map reads.pieces path));
+  compared = λ other has. subst C (sym (reads_same reads.pieces path other has)) compared;
+}
+
+pub reads_weaker : (C D : List ℕ → Type 0) (old new : History) → ((path : List ℕ) → C path → D path) → AsksReads C old new → AsksReads D old new
+reads_weaker C D old new weaker reads = record { paths = reads.paths; asked = reads.asked; compared = λ path has. weaker path (reads.compared path has) }
+
+pub reads_trans : (C : List ℕ → Type 0) (a b c : History) → AsksReads C a b → AsksReads C b c → AsksReads C a c
+reads_trans C a b c first second = record {
+  paths = first.paths ++ second.paths;
+  asked =
+      second.asked ∙ ap (λ (l : List Asked). l ++ map an_ask.Read second.paths) first.asked ∙ append_assoc a.asked (map an_ask.Read first.paths) (map an_ask.Read second.paths)
+      ∙ ap (λ (l : List Asked). a.asked ++ l) (sym (map-append an_ask.Read first.paths second.paths));
+  compared = λ path has.
+      elim (Contains-append_cases first.paths second.paths path has) [ inl left ↦ first.compared path left | inr right ↦ second.compared path right ];
+}
+
+-- paths that are read, and then directories that are listed
+pub asks_both : (C : List ℕ → Type 0) (W V : Option (List ℕ) → Type 0) (a b c : History) → AsksReads C a b → AsksFor W b c → ((dir : Option (List ℕ)) → W dir → V dir) → AsksBoth C V a c
+asks_both C W V a b c reads lists weaker = record {
+  paths = reads.paths;
+  dirs = lists.dirs;
+  asked = lists.asked ∙ ap (λ (l : List Asked). l ++ map an_ask.List lists.dirs) reads.asked;
+  compared = reads.compared;
+  once = lists.once;
+  within = λ dir has. weaker dir (lists.within dir has);
+}
+
 -- ---- the whole listing
 
-pub status_asks : (old mid new : History) → Passes old mid → Passes mid new → AsksNothing old mid → AsksFor (IsDirIn mid new None) mid new
-    → AsksFor (λ dir. IsOurs old new → IsVisibleDir (now old) dir) old new
-status_asks old mid new first second none asks =
-    asks_then (λ dir. IsOurs old new → IsVisibleDir (now old) dir) old mid new none
-    (asks_weaker (IsDirIn mid new None) (λ dir. IsOurs old new → IsVisibleDir (now old) dir) mid new
-    (λ dir. elim [
-      | inl is ↦ λ ours. subst (IsVisibleDir (now old)) (sym is) tt
-      | inr below ↦ visible dir (below_later old mid new first second.past None dir below)
-    ])
-    asks)
-  where
-    visible : (dir : Option (List ℕ)) → IsDirBelow old new None dir → IsOurs old new → IsVisibleDir (now old) dir
-    visible dir d ours = subst (IsVisibleDir (now old)) (sym d.is) (d.stands ours, λ above below. d.visible ours above refl below)
+visible_in : (old mid new : History) → Passes old mid → Passes mid new → (dir : Option (List ℕ)) → IsDirIn mid new None dir → IsOurs old new → IsVisibleDir (now old) dir
+visible_in old mid new first second dir (inl is) ours = subst (IsVisibleDir (now old)) (sym is) tt
+visible_in old mid new first second dir (inr below) ours =
+    let d : IsDirBelow old new None dir = below_later old mid new first second.past None dir below in
+    subst (IsVisibleDir (now old)) (sym d.is) (d.stands ours, λ above under. d.visible ours above refl under)
+
+pub status_asks : (C : List ℕ → Type 0) (u : Bool) (old mid new : History) → Passes old mid → Passes mid new → AsksReads C old mid → AsksFor (λ dir. IsTrue u × IsDirIn mid new None dir) mid new
+    → AsksBoth C (λ dir. IsTrue u × (IsOurs old new → IsVisibleDir (now old) dir)) old new
+status_asks C u old mid new first second reads lists =
+    asks_both C (λ dir. IsTrue u × IsDirIn mid new None dir) (λ dir. IsTrue u × (IsOurs old new → IsVisibleDir (now old) dir)) old mid new reads lists
+    (λ dir both. (both.0, visible_in old mid new first second dir both.1))

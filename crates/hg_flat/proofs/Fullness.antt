@@ -1,26 +1,30 @@
 -- That the rows of the paths with an entry and of what else stands in the working copy are the full listing.
-use Rattle.std.proofs.Common.{ℕ, ◌≡◌, Bool, true, false, not, cond, List, [], ◌∷◌, map, Option, Some, None, is_some, option_map, IfSome, refl, sym, ap, ◌∙◌, subst, inl, inr, ◌⊎◌, arith}
-use Rattle.std.specs.List.{AllByRecursion, AllZip, Contains, IsDistinct, dedup}
+use Rattle.std.proofs.Common.{ℕ, ◌≡◌, Bool, true, false, ◌&&◌, ◌||◌, List, [], ◌∷◌, map, Option, Some, None, is_some, option_map, refl, sym, ap, ◌∙◌, subst, inl, inr, ◌⊎◌, arith}
+use Rattle.std.specs.Prelude.{IsTrue}
+use Rattle.std.specs.List.{AllByRecursion, Contains, IsDistinct, dedup}
 use Rattle.std.specs.List.Sorted.{IsPermutation, IsSorted, IsStrictlySortedBy}
 use Rattle.std.specs.Ordering.{eq_by_cmp}
 use Rattle.std.specs.Str.{bytes_eq}
 use Rattle.std.proofs.lemmas.Slice.Eq.{bytes_eq-Decides}
 use Rattle.std.proofs.lemmas.List.Elements.{Contains-append_cases, Contains-append_left, Contains-append_right, Contains-push_cases, Contains-push}
+use Rattle.hg_base.specs.declared.id.Id20.{Id20}
 use Rattle.hg_entry.specs.Entry.{view}
-use Rattle.hg_entry.specs.Table.{Flat, Marks, marks_of}
+use Rattle.hg_entry.specs.Table.{Flat, marks_of}
+use Rattle.hg_shelf.specs.History as shelves
 use Rattle.hg_tree.specs.Moment.{Moment}
 use Rattle.hg_compare.specs.Tracked.{ParentRow, is_file_or_link, tracked_letter}
 use Rattle.hg_compare.specs.declared.letter.Letter.{Letter}
 use Rattle.hg_compare.specs.declared.letter.Letter.TheVariants as a_letter
-use Rattle.hg_flat.specs.Full.{HasLetterBy, IsFull, IsFullFor, IsTold, default_wanted, nothing_ignored, null_rows, wants}
-use Rattle.hg_flat.specs.Kept.{AreAdded, AreNamed, HaveOwnPaths, Kept, flat_from, source_of}
-use Rattle.hg_flat.specs.Listing.{AddsTracked, IsTrackedRow, IsUnknownIn, Lists, added_row, unknown_row}
+use Rattle.hg_flat.specs.Full.{HasLetter, HasLetterBy, IsFull, IsFullFor, IsTold, nothing_ignored, wants}
+use Rattle.hg_flat.specs.Kept.{AreNamed, HaveOwnPaths, Kept, flat_from, source_of}
+use Rattle.hg_flat.specs.Listing.{AddsTracked, ArePutFor, IsPutFor, IsUnknownIn, Lists, letter_at, row_under, rows_under, unknown_row}
 use Rattle.hg_flat.specs.Order.{row_order, whole_order}
+use Rattle.hg_flat.specs.Parent.{IsAsked, IsServed, is_plain_entry, parent_rows}
 use Rattle.hg_flat.specs.declared.kept.FlatRow.{FlatRow}
 use Rattle.hg_flat.specs.declared.row.Row.{Row}
 use Rattle.hg_flat.specs.declared.row.Wanted.{Wanted}
-use Rattle.hg_flat.proofs.Alone.{first_or_later}
 use Rattle.hg_flat.proofs.Ascending.{ascending, distinct_paths, kept_by, kept_of, same_row}
+use Rattle.hg_flat.proofs.Tracking.{from_put, in_put, under_has, under_one}
 
 -- these rows are what is kept, and no others
 pub record Holds (kept : Kept) (rows : List FlatRow) : Type 0 where
@@ -35,143 +39,105 @@ each_of P (row ∷ rows) all r has =
       | inr later ↦ each_of P rows all.1 r later
     ]
 
--- ---- the letters of paths that are tracked and in neither parent
+module _ (p1 p2 : List ℕ) (kept : Kept) (files : shelves.Files) (id : Id20) (moment : Moment) (wanted : Wanted) (named : AreNamed kept) where
+  abbrev flat : Flat
+  flat = flat_from p1 p2 kept
 
-added_marks : Marks
-added_marks = record { w = true; p1 = false; p2 = false }
-
-letter_is : (b : Bool) → Some (cond (not b) a_letter.Gone a_letter.A) ≡ Some (cond b a_letter.A a_letter.Gone)
-letter_is true = refl
-letter_is false = refl
-
-wanted_is : (b : Bool) → wants default_wanted (cond b a_letter.A a_letter.Gone) ≡ true
-wanted_is true = refl
-wanted_is false = refl
-
-module _ (p1 p2 : List ℕ) (kept : Kept) (moment : Moment) (added : AreAdded kept) (named : AreNamed kept) where
-  -- what is told of a path, by what is kept of it
-  Told : Option FlatRow → List ℕ → Letter → Type 0
-  Told o path letter =
-      HasLetterBy (option_map (λ row. marks_of (view row.entry)) o) (flat_from p1 p2 kept) moment null_rows nothing_ignored path letter
-
-  marks_at : (path : List ℕ) (row : FlatRow) → kept path ≡ Some row → marks_of (view row.entry) ≡ record { w = true; p1 = false; p2 = false }
-  marks_at path row is = subst (λ (o : Option FlatRow). IfSome o (λ r. marks_of (view r.entry) ≡ record { w = true; p1 = false; p2 = false })) is (added path)
-
-  letter_at : (path : List ℕ) (row : FlatRow) → kept path ≡ Some row
-      → tracked_letter None (marks_of (view row.entry)) (is_some (source_of (kept path))) (moment.things path) ≡ Some (cond (is_file_or_link (moment.things path)) a_letter.A a_letter.Gone)
-  letter_at path row is =
-      ap (λ (marks : Marks). tracked_letter None marks (is_some (source_of (kept path))) (moment.things path)) (marks_at path row is)
-      ∙ letter_is (is_file_or_link (moment.things path))
-
-  told_added : (row : FlatRow) → kept row.path ≡ Some row → IsTold (flat_from p1 p2 kept) moment null_rows nothing_ignored default_wanted (added_row moment row)
-  told_added row is = (
-    wanted_is (is_file_or_link (moment.things row.path)),
-    subst (λ (o : Option FlatRow).
-        HasLetterBy (option_map (λ r. marks_of (view r.entry)) o) (flat_from p1 p2 kept) moment null_rows nothing_ignored row.path (added_row moment row).letter)
-        (sym is) (letter_at row.path row is),
-    sym (ap source_of is),
-  )
-
-  told_unknown : (path : List ℕ) → IsUnknownIn kept moment None path → IsTold (flat_from p1 p2 kept) moment null_rows nothing_ignored default_wanted (unknown_row path)
-  told_unknown path u = (
-    refl,
-    subst (λ (o : Option FlatRow).
-        HasLetterBy (option_map (λ r. marks_of (view r.entry)) o) (flat_from p1 p2 kept) moment null_rows nothing_ignored path a_letter.Unknown)
-        (sym u.untracked.1) (u.untracked.0, λ d below. u.visible d refl below, inr (refl, λ h. h)),
-    sym (ap source_of u.untracked.1),
-  )
+  -- what is told of a path
+  abbrev Tells : Row → Type 0
+  Tells row = IsTold flat moment (parent_rows files id) nothing_ignored wanted row
 
   path_is : (path : List ℕ) (row : FlatRow) → kept path ≡ Some row → row.path ≡ path
   path_is path row is =
       let both = subst (λ (o : Option FlatRow). option_map (λ r. r.path) o ≡ option_map (λ r. path) o) is (named path) in cc (both)
 
+  -- the letter of an entry is that of its path
+  has_letter : (path : List ℕ) (k : FlatRow) (letter : Letter) → kept path ≡ Some k → k.path ≡ path → letter_at files id moment k ≡ Some letter → HasLetter flat moment (parent_rows files id) nothing_ignored path letter
+  has_letter path k letter is at has =
+      subst (λ (o : Option FlatRow). HasLetterBy (option_map (λ r. marks_of (view r.entry)) o) flat moment (parent_rows files id) nothing_ignored path letter) (sym is)
+      (subst (λ (p : List ℕ). tracked_letter (parent_rows files id p) (marks_of (view k.entry)) (is_some (source_of (kept path))) (moment.things p) ≡ Some letter) at
+      (ap (λ (o : Option FlatRow). tracked_letter (parent_rows files id k.path) (marks_of (view k.entry)) (is_some (source_of o)) (moment.things k.path)) is ∙ has))
+
+  letter_back : (path : List ℕ) (k : FlatRow) (letter : Letter) → kept path ≡ Some k → k.path ≡ path → HasLetter flat moment (parent_rows files id) nothing_ignored path letter → letter_at files id moment k ≡ Some letter
+  letter_back path k letter is at has =
+      sym (ap (λ (o : Option FlatRow). tracked_letter (parent_rows files id k.path) (marks_of (view k.entry)) (is_some (source_of o)) (moment.things k.path)) is)
+      ∙ subst (λ (p : List ℕ). tracked_letter (parent_rows files id p) (marks_of (view k.entry)) (is_some (source_of (kept path))) (moment.things p) ≡ Some letter) (sym at)
+      (subst (λ (o : Option FlatRow). HasLetterBy (option_map (λ r. marks_of (view r.entry)) o) flat moment (parent_rows files id) nothing_ignored path letter) is has)
+
+  told_tracked : (k : FlatRow) (letter : Letter) → kept k.path ≡ Some k → letter_at files id moment k ≡ Some letter → wants wanted letter ≡ true → Tells (row_under k letter)
+  told_tracked k letter is has wants = (wants, has_letter k.path k letter is refl has, sym (ap source_of is))
+
+  told_unknown : (path : List ℕ) → IsTrue wanted.u → IsUnknownIn kept moment None path → Tells (unknown_row path)
+  told_unknown path wants u = (
+    wants,
+    subst (λ (o : Option FlatRow). HasLetterBy (option_map (λ r. marks_of (view r.entry)) o) flat moment (parent_rows files id) nothing_ignored path a_letter.Unknown) (sym u.untracked.1)
+        (u.untracked.0, λ d below. u.visible d refl below, inr (refl, λ h. h)),
+    sym (ap source_of u.untracked.1),
+  )
+
   -- a row that is told is that of an entry, or of a path without one
-  row_of : (row : Row) (o : Option FlatRow) → kept row.path ≡ o
-      → HasLetterBy (option_map (λ r. marks_of (view r.entry)) o) (flat_from p1 p2 kept) moment null_rows nothing_ignored row.path row.letter
-      → row.source ≡ source_of (kept row.path) → ((k : FlatRow) × (kept row.path ≡ Some k) × (row ≡ added_row moment k)) ⊎ (IsUnknownIn kept moment None row.path × (row ≡ unknown_row row.path))
-  row_of row None is letter source =
+  told_row : (row : Row) (o : Option FlatRow) → kept row.path ≡ o → Tells row
+      → ((k : FlatRow) × (kept row.path ≡ Some k) × (letter_at files id moment k ≡ Some row.letter) × (row ≡ row_under k row.letter))
+      ⊎ ((IsTrue wanted.u × IsUnknownIn kept moment None row.path) × (row ≡ unknown_row row.path))
+  told_row row None is tells =
+      let letter = subst (λ (o : Option FlatRow). HasLetterBy (option_map (λ r. marks_of (view r.entry)) o) flat moment (parent_rows files id) nothing_ignored row.path row.letter) is tells.1 in
       elim letter.2 [
         | inl ignored ↦ absurd ignored.1
         | inr unknown ↦
             inr (
-              record { inside = refl; untracked = (letter.0, is); visible = λ d from below. letter.1 d below },
-              same_row row (unknown_row row.path) unknown.0 refl (source ∙ ap source_of is),
+              (ap (wants wanted) (sym unknown.0) ∙ tells.0, record { inside = refl; untracked = (letter.0, is); visible = λ d from below. letter.1 d below }),
+              same_row row (unknown_row row.path) unknown.0 refl (tells.2 ∙ ap source_of is),
             )
       ]
-  row_of row (Some k) is letter source =
-      let at = letter_at row.path k is in
+  told_row row (Some k) is tells =
       let same = path_is row.path k is in
-      let letters : row.letter ≡ cond (is_file_or_link (moment.things row.path)) a_letter.A a_letter.Gone = cc (letter, at) in
-      inl (
-        k,
-        is,
-        same_row row (added_row moment k) (letters ∙ ap (λ (p : List ℕ). cond (is_file_or_link (moment.things p)) a_letter.A a_letter.Gone) (sym same)) (sym same) (source ∙ ap source_of is),
-      )
+      inl (k, is, letter_back row.path k row.letter is same tells.1, same_row row (row_under k row.letter) refl (sym same) (tells.2 ∙ ap source_of is))
 
-  -- ---- the rows, by the paths that meet S
+  module _ (S : List ℕ → Type 0) (Left : FlatRow → Type 0) (rows : List FlatRow) (own : HaveOwnPaths rows) (holds : Holds kept rows) (left : (k : FlatRow) → Contains rows k → S k.path → Left k) (a b : List Row)
+      (tracked : AddsTracked Left files id moment wanted rows [] a) (lists : Lists kept S (λ path. IsTrue wanted.u × IsUnknownIn kept moment None path) a b) where
+    abbrev Put : FlatRow → List Row → Type 0
+    Put = IsPutFor Left files id moment wanted
 
-  tracked_is : (S : List ℕ → Type 0) (k : FlatRow) (row : Row) → IsTrackedRow S moment k row → S k.path → row ≡ added_row moment k
-  tracked_is S k row is meets = same_row row (added_row moment k) (is.letter meets) is.path is.source
-
-  -- a row among those of the entries is that of an entry
-  from_zip : (S : List ℕ → Type 0) (all : List FlatRow) (more : List Row) → AllZip (IsTrackedRow S moment) all more → (row : Row) → Contains more row → (k : FlatRow) × Contains all k × IsTrackedRow S moment k row
-  from_zip S [] [] zip row (n, below, is) = absurd (omega (arith, below))
-  from_zip S [] (r ∷ more) zip row has = absurd zip
-  from_zip S (k ∷ all) [] zip row has = absurd zip
-  from_zip S (k ∷ all) (r ∷ more) zip row has =
-      elim (Contains-append_cases (r ∷ []) more row has) [
-        | inl one ↦
-            elim (Contains-push_cases [] r row one) [
-              | inl (n, below, is) ↦ absurd (omega (arith, below))
-              | inr same ↦ (k, Contains-append_left (k ∷ []) all k (Contains-push [] k), subst (IsTrackedRow S moment k) same zip.0)
-            ]
-        | inr later ↦ let from = from_zip S all more zip.1 row later in (from.0, Contains-append_right (k ∷ []) all from.0 from.1, from.2)
-      ]
-
-  -- each entry has its row among them
-  in_zip : (S : List ℕ → Type 0) (all : List FlatRow) (more : List Row) → AllZip (IsTrackedRow S moment) all more → (k : FlatRow) → Contains all k → (row : Row) × Contains more row × IsTrackedRow S moment k row
-  in_zip S [] [] zip k (n, below, is) = absurd (omega (arith, below))
-  in_zip S [] (r ∷ more) zip k has = absurd zip
-  in_zip S (first ∷ all) [] zip k has = absurd zip
-  in_zip S (first ∷ all) (r ∷ more) zip k has =
-      elim (Contains-append_cases (first ∷ []) all k has) [
-        | inl one ↦
-            elim (Contains-push_cases [] first k one) [
-              | inl (n, below, is) ↦ absurd (omega (arith, below))
-              | inr same ↦ (r, Contains-append_left (r ∷ []) more r (Contains-push [] r), subst (λ (q : FlatRow). IsTrackedRow S moment q r) same zip.0)
-            ]
-        | inr later ↦ let from = in_zip S all more zip.1 k later in (from.0, Contains-append_right (r ∷ []) more from.0 from.1, from.2)
-      ]
-
-  module _ (S : List ℕ → Type 0) (rows : List FlatRow) (own : HaveOwnPaths rows) (holds : Holds kept rows) (a b : List Row) (tracked : AddsTracked S moment rows [] a) (lists : Lists kept S (IsUnknownIn kept moment None) a b) where
     -- a row is that of an entry, or of a path without one
-    cases : (row : Row) → Contains b row → ((k : FlatRow) × Contains rows k × IsTrackedRow S moment k row) ⊎ Contains lists.0 row
+    cases : (row : Row) → Contains b row → ((k : FlatRow) × (more : List Row) × Contains rows k × Put k more × Contains more row) ⊎ Contains lists.0 row
     cases row has =
         elim (Contains-append_cases a lists.0 row (subst (λ (l : List Row). Contains l row) lists.1 has)) [
-          | inl first ↦ inl (from_zip S rows tracked.0 tracked.2 row (subst (λ (l : List Row). Contains l row) tracked.1 first))
+          | inl first ↦ inl (from_put Put rows tracked.0 tracked.2 row (subst (λ (l : List Row). Contains l row) tracked.1 first))
           | inr second ↦ inr second
         ]
 
-    told : (row : Row) → Contains b row → S row.path → IsTold (flat_from p1 p2 kept) moment null_rows nothing_ignored default_wanted row
+    -- what is put for an entry
+    put_row : (k : FlatRow) (more : List Row) → Put k more → (row : Row) → Contains more row → (wants wanted row.letter ≡ true) × (row ≡ row_under k row.letter)
+    put_row k more put row has = let one = under_one wanted k put.letter row (subst (λ (l : List Row). Contains l row) put.one has) in (one.1, one.2)
+
+    put_letter : (k : FlatRow) (more : List Row) → Put k more → Left k → (row : Row) → Contains more row → letter_at files id moment k ≡ Some row.letter
+    put_letter k more put here row has =
+        let one = under_one wanted k (letter_at files id moment k) row (subst (λ (l : List Row). Contains l row) (put.one ∙ put.found.right here) has) in one.0
+
+    told : (row : Row) → Contains b row → S row.path → Tells row
     told row has meets =
         elim (cases row has) [
-          | inl (k, of, is) ↦
-              subst (IsTold (flat_from p1 p2 kept) moment null_rows nothing_ignored default_wanted) (sym (tracked_is S k row is (subst S is.path meets)))
-              (told_added k (holds.found k of))
+          | inl (k, more, of, put, within) ↦
+              let is = put_row k more put row within in
+              let here : Left k = left k of (subst S (ap (λ (r : Row). r.path) is.1) meets) in
+              subst Tells (sym is.1) (told_tracked k row.letter (holds.found k of) (put_letter k more put here row within) is.0)
           | inr second ↦
               let e = lists.2.each row second in
-              subst (IsTold (flat_from p1 p2 kept) moment null_rows nothing_ignored default_wanted) (sym e.0) (told_unknown row.path (lists.2.sound row second meets))
+              let s = lists.2.sound row second meets in subst Tells (sym e.0) (told_unknown row.path s.0 s.1)
         ]
 
-    has_told : (row : Row) → S row.path → IsTold (flat_from p1 p2 kept) moment null_rows nothing_ignored default_wanted row → Contains b row
+    has_told : (row : Row) → S row.path → Tells row → Contains b row
     has_told row meets tells =
         subst (λ (l : List Row). Contains l row) (sym lists.1)
-        (elim (row_of row (kept row.path) refl tells.1 tells.2) [
-          | inl (k, is, same) ↦
-              let from = in_zip S rows tracked.0 tracked.2 k (holds.all row.path k is) in
-              let at : S k.path = subst S (sym (path_is row.path k is)) meets in
+        (elim (told_row row (kept row.path) refl tells) [
+          | inl (k, is, letter, same) ↦
+              let of : Contains rows k = holds.all row.path k is in
+              let from = in_put Put rows tracked.0 tracked.2 k of in
+              let here : Left k = left k of (subst S (sym (path_is row.path k is)) meets) in
+              let put : Contains (rows_under wanted k (Some row.letter)) row = subst (Contains (rows_under wanted k (Some row.letter))) (sym same) (under_has wanted k row.letter tells.0) in
               Contains-append_left a lists.0 row
-              (subst (λ (l : List Row). Contains l row) (sym tracked.1) (subst (Contains tracked.0) (tracked_is S k from.0 from.2 at ∙ sym same) from.1))
+              (subst (λ (l : List Row). Contains l row) (sym tracked.1)
+              (from.2 row (subst (λ (l : List Row). Contains l row) (sym (from.1.one ∙ from.1.found.right here ∙ ap (rows_under wanted k) letter)) put)))
           | inr (unknown, same) ↦ Contains-append_right a lists.0 row (subst (Contains lists.0) (sym same) (lists.2.all row.path meets unknown))
         ])
 
@@ -179,31 +145,44 @@ module _ (p1 p2 : List ℕ) (kept : Kept) (moment : Moment) (added : AreAdded ke
     sourced : (row : Row) → Contains b row → row.source ≡ source_of (kept row.path)
     sourced row has =
         elim (cases row has) [
-          | inl (k, of, is) ↦ is.source ∙ sym (ap source_of (ap kept is.path ∙ holds.found k of))
+          | inl (k, more, of, put, within) ↦
+              let is : row ≡ row_under k row.letter = (put_row k more put row within).1 in
+              ap (λ (r : Row). r.source) is ∙ sym (ap source_of (ap (λ (r : Row). kept r.path) is ∙ holds.found k of))
           | inr second ↦ let e = lists.2.each row second in ap (λ (r : Row). r.source) e.0 ∙ sym (ap source_of e.1)
         ]
 
+    one_row : (k : FlatRow) (more : List Row) → Put k more → (x y : Row) → Contains more x → Contains more y → x ≡ y
+    one_row k more put x y left right =
+        let a = under_one wanted k put.letter x (subst (λ (l : List Row). Contains l x) put.one left) in
+        let b = under_one wanted k put.letter y (subst (λ (l : List Row). Contains l y) put.one right) in
+        let letters : x.letter ≡ y.letter = let p = a.0 in let q = b.0 in cc (p, q) in
+        a.2 ∙ ap (row_under k) letters ∙ sym b.2
+
     -- an entry's row is the only one of its path, and so is that of a path without one
-    one_each : (rest : List FlatRow) (more : List Row) → HaveOwnPaths rest → AllZip (IsTrackedRow S moment) rest more → (x y : Row) → Contains more x → Contains more y → x.path ≡ y.path → x ≡ y
+    one_each : (rest : List FlatRow) (more : List Row) → HaveOwnPaths rest → ArePutFor Put rest more → (x y : Row) → Contains more x → Contains more y → x.path ≡ y.path → x ≡ y
     unfolding IsDistinct
-    one_each [] [] distinct zip x y (n, below, is) has same = absurd (omega (arith, below))
-    one_each [] (r ∷ more) distinct zip x y left right same = absurd zip
-    one_each (k ∷ rest) [] distinct zip x y left right same = absurd zip
-    one_each (k ∷ rest) (r ∷ more) distinct zip x y left right same =
-        elim (first_or_later r more x left) [
-          | inl is_x ↦ elim (first_or_later r more y right) [ inl is_y ↦ sym is_x ∙ is_y | inr later_y ↦ absurd (clash y later_y (ap (λ (q : Row). q.path) is_x ∙ same)) ]
+    one_each [] more distinct none x y left right same = let (n, below, is) = subst (λ (l : List Row). Contains l x) none left in absurd (omega (arith, below))
+    one_each (k ∷ rest) more distinct (here, later, is, put, puts) x y left right same =
+        elim (Contains-append_cases here later x (subst (λ (l : List Row). Contains l x) is left)) [
+          | inl here_x ↦
+              elim (Contains-append_cases here later y (subst (λ (l : List Row). Contains l y) is right)) [
+                | inl here_y ↦ one_row k here put x y here_x here_y
+                | inr later_y ↦ absurd (clash x y here_x later_y same)
+              ]
           | inr later_x ↦
-              elim (first_or_later r more y right) [
-                | inl is_y ↦ absurd (clash x later_x (ap (λ (q : Row). q.path) is_y ∙ sym same))
-                | inr later_y ↦ one_each rest more distinct.1 zip.1 x y later_x later_y same
+              elim (Contains-append_cases here later y (subst (λ (l : List Row). Contains l y) is right)) [
+                | inl here_y ↦ absurd (clash y x here_y later_x (sym same))
+                | inr later_y ↦ one_each rest later distinct.1 puts x y later_x later_y same
               ]
         ]
       where
-        clash : (z : Row) → Contains more z → r.path ≡ z.path → ⊥
-        clash z later at =
-            let from = from_zip S rest more zip.1 z later in
-            let never : bytes_eq k.path from.0.path ≡ false = each_of (λ path. bytes_eq k.path path ≡ false) rest distinct.0 from.0 from.1 in
-            let is : bytes_eq k.path from.0.path ≡ true = (bytes_eq-Decides k.path from.0.path).1 (sym zip.0.path ∙ at ∙ from.2.path) in
+        clash : (p q : Row) → Contains here p → Contains later q → p.path ≡ q.path → ⊥
+        clash p q first second at =
+            let from = from_put Put rest later puts q second in
+            let never : bytes_eq k.path from.0.path ≡ false = each_of (λ path. bytes_eq k.path path ≡ false) rest distinct.0 from.0 from.2 in
+            let mine : p.path ≡ k.path = ap (λ (r : Row). r.path) (put_row k here put p first).1 in
+            let other : q.path ≡ from.0.path = ap (λ (r : Row). r.path) (put_row from.0 from.1 from.3 q from.4).1 in
+            let is : bytes_eq k.path from.0.path ≡ true = (bytes_eq-Decides k.path from.0.path).1 (sym mine ∙ at ∙ other) in
             absurd (cc (never, is))
 
     one_of_path : (x y : Row) → Contains b x → Contains b y → x.path ≡ y.path → x ≡ y
@@ -224,12 +203,34 @@ module _ (p1 p2 : List ℕ) (kept : Kept) (moment : Moment) (added : AreAdded ke
       where
         apart : (p q : Row) → Contains a p → Contains lists.0 q → p.path ≡ q.path → ⊥
         apart p q first second at =
-            let from = from_zip S rows tracked.0 tracked.2 p (subst (λ (l : List Row). Contains l p) tracked.1 first) in
-            let there : kept q.path ≡ Some from.0 = ap kept (sym at ∙ from.2.path) ∙ holds.found from.0 from.1 in
+            let from = from_put Put rows tracked.0 tracked.2 p (subst (λ (l : List Row). Contains l p) tracked.1 first) in
+            let mine : p.path ≡ from.0.path = ap (λ (r : Row). r.path) (put_row from.0 from.1 from.3 p from.4).1 in
+            let there : kept q.path ≡ Some from.0 = ap kept (sym at ∙ mine) ∙ holds.found from.0 from.2 in
             let none = (lists.2.each q second).1 in absurd (cc (there, none))
 
+    -- what a comparison asked for was there
+    pub served_path : (path : List ℕ) → S path → IsAsked wanted flat moment path → IsServed files id moment path
+    served_path path meets asked = by (kept path) refl
+      where
+        test : Option FlatRow → Bool
+        test o = (wanted.m || wanted.c) && is_plain_entry (option_map (λ r. marks_of (view r.entry)) o) (is_some (source_of o))
+
+        by : (o : Option FlatRow) → kept path ≡ o → IsServed files id moment path
+        by None is = absurd (never (wanted.m || wanted.c) (sym (ap test is) ∙ asked.compared))
+          where
+            never : (b : Bool) → (b && false) ≡ true → ⊥
+            never true same = absurd (cc (same))
+            never false same = absurd (cc (same))
+        by (Some k) is =
+            let same : k.path ≡ path = path_is path k is in
+            let of : Contains rows k = holds.all path k is in
+            let from = in_put Put rows tracked.0 tracked.2 k of in
+            subst (IsServed files id moment) same
+            (from.1.found.served (left k of (subst S (sym same) meets))
+            (record { compared = sym (ap test is) ∙ asked.compared; there = ap (λ (p : List ℕ). is_file_or_link (moment.things p)) same ∙ asked.there }))
+
     -- these rows put in order without doubles are the full listing of the paths that meet S
-    pub full_for : (c d : List Row) → IsPermutation b c → IsSorted whole_order c → d ≡ dedup (eq_by_cmp whole_order) c → IsFullFor S (flat_from p1 p2 kept) moment null_rows nothing_ignored default_wanted d
+    pub full_for : (c d : List Row) → IsPermutation b c → IsSorted whole_order c → d ≡ dedup (eq_by_cmp whole_order) c → IsFullFor S flat moment (parent_rows files id) nothing_ignored wanted d
     full_for c d moved sorted once =
         let up : IsStrictlySortedBy row_order d = ascending (λ path. source_of (kept path)) b c d moved sorted once sourced in record {
           sound = λ row has meets. told row (kept_of b c d row moved once has) meets;

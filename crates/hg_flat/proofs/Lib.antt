@@ -3,11 +3,16 @@ pub mod Alone
 pub mod Among
 pub mod Ascending
 pub mod Asks
+pub mod Faces
 pub mod Fullness
 pub mod Holding
+pub mod Leaving
+pub mod Letters
+pub mod Manifests
+pub mod Meeting
 pub mod Moved
-pub mod Parents
 pub mod Recording
 pub mod Rooms
 pub mod Steps
+pub mod Tracking
 pub mod Unknowns

@@ -61,7 +61,7 @@ chain_is : (row : Option ParentRow) (marks : Marks) (copied : Bool) (o : Option 
 unfolding chain
 chain_is row marks copied o = refl
 
-letter_moved : (m n : Moment) (path : List ℕ) (row : Option ParentRow) (marks : Marks) (copied : Bool) → AreAlike m n path → tracked_letter row marks copied (m.things path) ≡ tracked_letter row marks copied (n.things path)
+pub letter_moved : (m n : Moment) (path : List ℕ) (row : Option ParentRow) (marks : Marks) (copied : Bool) → AreAlike m n path → tracked_letter row marks copied (m.things path) ≡ tracked_letter row marks copied (n.things path)
 letter_moved m n path row marks copied alike =
     sym (chain_is row marks copied (m.things path))
     ∙ (λ i. chain marks copied (file_alike m n path (same_kind m n path alike.seen) i) (unchanged_alike m n path row alike i))

@@ -1,8 +1,6 @@
 -- The steps of a listing, for the paths that nobody touches meanwhile, in the words of the moment at its start.
 use Rattle.std.proofs.Common.{ℕ, ◌≡◌, ◌+◌, ◌<◌, Bool, true, false, cond, List, length, take, get_or, Option, Some, None, is_some, option_map, IsTrue, refl, sym, ap, ◌∙◌, subst, inl, inr, ◌⊎◌, arith, ◌++◌, ◌∷◌, []}
-use Rattle.std.specs.List.{AllZip}
 use Rattle.std.proofs.lemmas.Bool.{and_parts}
-use Rattle.std.proofs.lemmas.List.{append-nil, append_assoc, take_more}
 use Rattle.hg_base.specs.declared.stat.Stat.{Stat}
 use Rattle.hg_base.specs.declared.stat.Kind.TheVariants as a_kind
 use Rattle.hg_base.specs.PathText.{joined}
@@ -17,12 +15,11 @@ use Rattle.hg_tree.specs.declared.thing.Thing.TheVariants as a_thing
 use Rattle.hg_tree.proofs.Histories.{extends_same, extends_trans}
 use Rattle.hg_tree.proofs.Stillness.{alike_between, untouched_first, untouched_second}
 use Rattle.hg_compare.specs.Tracked.{is_file_or_link, is_file_or_link_thing}
-use Rattle.hg_compare.specs.declared.letter.Letter.{Letter}
 use Rattle.hg_flat.specs.Kept.{Kept}
-use Rattle.hg_flat.specs.Listing.{AddsTracked, HoldsFor, IsTrackedRow, IsUnknownAmong, IsUnknownFrom, IsUnknownIn, Lists, added_letter, unknown_row}
+use Rattle.hg_flat.specs.Listing.{HoldsFor, IsUnknownAmong, IsUnknownFrom, IsUnknownIn, Lists, unknown_row}
 use Rattle.hg_flat.specs.declared.row.Row.{Row}
 use Rattle.hg_flat.specs.declared.kept.FlatRow.{FlatRow}
-use Rattle.hg_flat.proofs.Alike.{alike_back, among_moved, from_moved, in_moved, letter_alike}
+use Rattle.hg_flat.proofs.Alike.{alike_back, among_moved, from_moved, in_moved}
 use Rattle.hg_flat.proofs.Unknowns.{among_more, backward, forward, from_in, here_from, in_from, inside_joined, lists_moved, lists_none, lists_one, nested_in, no_dir_in, not_dir, nothing_from, only_here}
 
 -- a path of a well-formed moment, and what a stat shows there
@@ -245,81 +242,14 @@ each_more kept old mid new first second dir names i name text path a b c below i
     (λ p meets u. from_moved kept (now old) (now mid) p (alike_then old mid new first second p meets) (joined dir name) u)
     (subst (λ (q : List ℕ). Lists kept (Untouched new mid.last) (IsUnknownFrom kept (now mid) q) b c) (at ∙ ap (joined dir) same) one))
 
--- ---- the rows of paths with an entry
+-- ---- over the whole span
 
-zip_append : {A B : Type 0} (R : A → B → Type 0) (xs : List A) (ys : List B) (more : List A) (again : List B) → AllZip R xs ys → AllZip R more again → AllZip R (xs ++ more) (ys ++ again)
-zip_append R [] [] more again first second = second
-zip_append R [] (y ∷ ys) more again first second = absurd first
-zip_append R (x ∷ xs) [] more again first second = absurd first
-zip_append R (x ∷ xs) (y ∷ ys) more again first second = (first.0, zip_append R xs ys more again first.1 second)
-
-zip_weaker : {A B : Type 0} (R Q : A → B → Type 0) (xs : List A) (ys : List B) → ((x : A) (y : B) → R x y → Q x y) → AllZip R xs ys → AllZip Q xs ys
-zip_weaker R Q [] [] weaker zip = tt
-zip_weaker R Q [] (y ∷ ys) weaker zip = absurd zip
-zip_weaker R Q (x ∷ xs) [] weaker zip = absurd zip
-zip_weaker R Q (x ∷ xs) (y ∷ ys) weaker zip = (weaker x y zip.0, zip_weaker R Q xs ys weaker zip.1)
-
--- the row of one entry, whose letter is that of a moment behind the stat
-pub tracked_one : (old mid : History) → Extends old mid → (kept : FlatRow) (letter : Letter) (path : List ℕ) (source : Option (List ℕ)) (a b : List Row)
-    → (IsTrue old.told → letter ≡ added_letter (now mid) kept.path) → path ≡ kept.path → source ≡ kept.source → b ≡ a ++ record { letter = letter; path = path; source = source } ∷ []
-    → AddsTracked (Untouched mid old.last) (now old) (kept ∷ []) a b
-tracked_one old mid first kept letter path source a b is at from put = (
-  record { letter = letter; path = path; source = source } ∷ [],
-  put,
-  (
-    record {
-      path = at;
-      source = from;
-      letter = λ meets.
-          is (told_then old mid mid first (extends_same mid) kept.path meets) ∙ letter_alike (now mid) (now old) kept.path (alike_now old mid mid first (extends_same mid) kept.path meets);
-    },
-    tt,
-  ),
-)
-
-pub tracked_none : (S : List ℕ → Type 0) (m : Moment) (rows : List Row) → AddsTracked S m [] rows rows
-tracked_none S m rows = ([], sym (append-nil rows), tt)
-
-pub tracked_weaker : (S T : List ℕ → Type 0) (m n : Moment) (all : List FlatRow) (a b : List Row) → ((p : List ℕ) → T p → S p) → ((p : List ℕ) → T p → AreAlike m n p) → AddsTracked S m all a b → AddsTracked T n all a b
-tracked_weaker S T m n all a b meets alike (more, is, zip) = (
-  more,
-  is,
-  zip_weaker (IsTrackedRow S m) (IsTrackedRow T n) all more
-      (λ kept row tracked. record {
-        path = tracked.path;
-        source = tracked.source;
-        letter = λ t. tracked.letter (meets kept.path t) ∙ letter_alike m n kept.path (alike kept.path t);
-      })
-      zip,
-)
-
-tracked_trans : (S : List ℕ → Type 0) (m : Moment) (xs ys : List FlatRow) (a b c : List Row) → AddsTracked S m xs a b → AddsTracked S m ys b c → AddsTracked S m (xs ++ ys) a c
-tracked_trans S m xs ys a b c (more, is, zip) (again, also, zips) =
-    (more ++ again, also ∙ ap (λ (l : List Row). l ++ again) is ∙ append_assoc a more again, zip_append (IsTrackedRow S m) xs more ys again zip zips)
-
-pub alike_same : (m : Moment) (p : List ℕ) → AreAlike m m p
-alike_same m p = record { seen = refl; exec = refl; above = λ dir below. refl; hg = λ dir below. refl }
-
-pub tracked_more : (old mid new : History) → Extends old mid → Extends mid new → (all : List FlatRow) (i : ℕ) (kept : FlatRow) (a b c : List Row) → i < length all → get_or all i kept ≡ kept
-    → AddsTracked (Untouched mid old.last) (now old) (take i all) a b → AddsTracked (Untouched new mid.last) (now mid) (kept ∷ []) b c
-    → AddsTracked (Untouched new old.last) (now old) (take (i + 1) all) a c
-tracked_more old mid new first second all i kept a b c below is before one =
-    subst (λ (l : List FlatRow). AddsTracked (Untouched new old.last) (now old) l a c) (sym (take_more all i kept below ∙ ap (λ (r : FlatRow). take i all ++ r ∷ []) is))
-    (tracked_trans (Untouched new old.last) (now old) (take i all) (kept ∷ []) a b c
-    (tracked_weaker (Untouched mid old.last) (Untouched new old.last) (now old) (now old) (take i all) a b (first_part old mid new first second) (λ p meets. alike_same (now old) p) before)
-    (tracked_weaker (Untouched new mid.last) (Untouched new old.last) (now mid) (now old) (kept ∷ []) b c (second_part old mid new first second) (alike_now old mid new first second) one))
-
--- ---- both, over the whole span
-
-pub tracked_first : (old mid new : History) → Extends old mid → Extends mid new → (all : List FlatRow) (a : List Row) → AddsTracked (Untouched mid old.last) (now old) all [] a → AddsTracked (Untouched new old.last) (now old) all [] a
-tracked_first old mid new first second all a added =
-    tracked_weaker (Untouched mid old.last) (Untouched new old.last) (now old) (now old) all [] a (first_part old mid new first second) (λ p meets. alike_same (now old) p) added
-
-pub lists_later : (old mid new : History) → Extends old mid → Extends mid new → (kept : Kept) (dir : Option (List ℕ)) (a b : List Row)
-    → Lists kept (Untouched new mid.last) (IsUnknownIn kept (now mid) dir) a b → Lists kept (Untouched new old.last) (IsUnknownIn kept (now old) dir) a b
-lists_later old mid new first second kept dir a b lists =
-    lists_moved kept (Untouched new mid.last) (Untouched new old.last) (IsUnknownIn kept (now mid) dir) (IsUnknownIn kept (now old) dir) a b
-    (second_part old mid new first second)
-    (λ p meets u. in_moved kept (now mid) (now old) p (alike_now old mid new first second p meets) dir u)
-    (λ p meets u. in_moved kept (now old) (now mid) p (alike_then old mid new first second p meets) dir u)
+-- what was listed behind a span is so over the whole, for paths that nobody touches over it
+pub lists_later : (old mid new : History) → Extends old mid → Extends mid new → (kept : Kept) (u : Bool) (S : List ℕ → Type 0) → ((p : List ℕ) → S p → Untouched new old.last p) → (a b : List Row)
+    → Lists kept (Untouched new mid.last) (λ p. IsTrue u × IsUnknownIn kept (now mid) None p) a b → Lists kept S (λ p. IsTrue u × IsUnknownIn kept (now old) None p) a b
+lists_later old mid new first second kept u S own a b lists =
+    lists_moved kept (Untouched new mid.last) S (λ p. IsTrue u × IsUnknownIn kept (now mid) None p) (λ p. IsTrue u × IsUnknownIn kept (now old) None p) a b
+    (λ p meets. second_part old mid new first second p (own p meets))
+    (λ p meets both. (both.0, in_moved kept (now mid) (now old) p (alike_now old mid new first second p (own p meets)) None both.1))
+    (λ p meets both. (both.0, in_moved kept (now old) (now mid) p (alike_then old mid new first second p (own p meets)) None both.1))
     lists

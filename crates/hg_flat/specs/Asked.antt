@@ -48,6 +48,12 @@ IsDirIn old new dir asked = (asked ≡ dir) ⊎ IsDirBelow old new dir asked
 abbrev pub AsksNothing : History → History → Type 0
 AsksNothing old new = new.asked ≡ old.asked
 
+-- these paths were read besides
+pub record AsksReads (Compared : List ℕ → Type 0) (old new : History) : Type 0 where
+  pub paths : List (List ℕ)
+  pub asked : new.asked ≡ old.asked ++ map an_ask.Read paths
+  pub compared : (path : List ℕ) → Contains paths path → Compared path
+
 -- these paths were read besides, and then these directories listed, each once; no directory is the root
 pub record AsksBoth (Compared : List ℕ → Type 0) (Within : Option (List ℕ) → Type 0) (old new : History) : Type 0 where
   pub paths : List (List ℕ)

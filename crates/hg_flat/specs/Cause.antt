@@ -30,6 +30,10 @@ of_compare (a_compare_fault.NoContents id) = a_fault.NoContents id
 of_compare a_compare_fault.TreeFailed = a_fault.TreeFailed
 of_compare a_compare_fault.ShelfFailed = a_fault.ShelfFailed
 
+-- the tree's count rose where a listing failed, and stands still without a fault
+abbrev pub HasListingCause : {T : Type 0} → ℕ → ℕ → Result T TreeFault → Type 0
+HasListingCause before now result = HasCause before now result (λ e. e ≡ a_tree_fault.Failed)
+
 -- the tree's count rose wherever it is named as the cause, and stands still without a fault
 abbrev pub HasStatusCause : {T : Type 0} → ℕ → ℕ → Result T StatusFault → Type 0
 HasStatusCause before now result = HasCause before now result (λ e. e ≡ a_fault.TreeFailed)

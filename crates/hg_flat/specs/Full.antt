@@ -53,10 +53,6 @@ wants wanted a_letter.C = wanted.c
 abbrev pub default_wanted : Wanted
 default_wanted = record { m = true; a = true; r = true; d = true; u = true; i = false; c = false }
 
--- the null parent has no file
-abbrev pub null_rows : List ℕ → Option ParentRow
-null_rows path = None
-
 -- where there is no ignore pattern, no path is ignored
 abbrev pub nothing_ignored : List ℕ → Type 0
 nothing_ignored path = ⊥

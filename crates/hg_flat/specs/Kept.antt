@@ -1,12 +1,12 @@
 -- The rows that a dirstate keeps, and the maps that they stand for.
-use Rattle.std.specs.Prelude.{ℕ, ◌≡◌, true, false, List, map, replicate, Option, Some, None, option_map, IfSome}
+use Rattle.std.specs.Prelude.{ℕ, ◌≡◌, List, map, replicate, Option, Some, None, option_map}
 use Rattle.std.specs.List.{IsDistinct, find}
 use Rattle.std.specs.List.Sorted.{IsSortedBy}
 use Rattle.std.specs.Ordering.{is_lt, nat_cmp}
 use Rattle.std.specs.Cmp.Lexicographic.{slice_cmp}
 use Rattle.std.specs.Str.{bytes_eq}
 use Rattle.hg_entry.specs.Entry.{EntryData, view}
-use Rattle.hg_entry.specs.Table.{Marks, marks_of}
+use Rattle.hg_entry.specs.Table.{marks_of}
 use Rattle.hg_entry.specs.Table as plain
 use Rattle.hg_entry.specs.declared.entry.Item.{Item}
 use Rattle.hg_flat.specs.declared.kept.FlatRow.{FlatRow}
@@ -44,10 +44,6 @@ flat_from p1 p2 kept =
 -- each row stands at its own path
 abbrev pub AreNamed : Kept → Type 0
 AreNamed kept = (path : List ℕ) → option_map (λ row. row.path) (kept path) ≡ option_map (λ row. path) (kept path)
-
--- each entry is of a path that is tracked and in neither parent
-abbrev pub AreAdded : Kept → Type 0
-AreAdded kept = (path : List ℕ) → IfSome (kept path) (λ row. marks_of (view row.entry) ≡ record { w = true; p1 = false; p2 = false })
 
 -- an item shows an entry and its source
 abbrev pub shown_item : Item → EntryData × Option (List ℕ)

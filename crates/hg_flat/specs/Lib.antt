@@ -1,5 +1,6 @@
 pub mod Asked
 pub mod Cause
+pub mod Course
 pub mod Full
 pub mod Kept
 pub mod Listing
@@ -7,5 +8,4 @@ pub mod Met
 pub mod Order
 pub mod Parent
 pub mod Recorded
-pub mod Unborn
 pub mod Shown

@@ -1,18 +1,26 @@
 -- The rows of a plain status while it is made: those of tracked paths, and those of what else stands below a directory.
-use Rattle.std.specs.Prelude.{ℕ, ◌≡◌, Bool, true, false, ◌||◌, if◌then◌else◌, List, ◌++◌, Option, Some, None, IsTrue}
-use Rattle.std.specs.List.{AllZip, Contains}
+use Rattle.std.specs.Prelude.{ℕ, ◌≡◌, Bool, true, false, ◌||◌, ◌&&◌, not, if◌then◌else◌, List, [], ◌∷◌, ◌++◌, Option, Some, None, IsTrue, is_some}
+use Rattle.std.specs.List.{Contains}
 use Rattle.std.specs.Str.{bytes_eq}
 use Rattle.hg_base.specs.PathText.{is_below, joined}
 use Rattle.hg_base.specs.declared.stat.Stat.{Stat}
 use Rattle.hg_base.specs.declared.stat.Kind.{Kind}
 use Rattle.hg_base.specs.declared.stat.Kind.TheVariants as a_kind
+use Rattle.hg_base.specs.declared.id.Id20.{Id20}
+use Rattle.hg_entry.specs.Entry.{view}
+use Rattle.hg_entry.specs.Table.{marks_of}
+use Rattle.hg_tree.specs.History as trees
 use Rattle.hg_tree.specs.Moment.{Moment, is_among}
-use Rattle.hg_compare.specs.Tracked.{is_file_or_link}
+use Rattle.hg_tree.specs.Still.{Untouched}
+use Rattle.hg_shelf.specs.History as shelves
+use Rattle.hg_compare.specs.Tracked.{is_file_or_link, tracked_letter}
 use Rattle.hg_compare.specs.declared.letter.Letter.{Letter}
 use Rattle.hg_compare.specs.declared.letter.Letter.TheVariants as a_letter
-use Rattle.hg_flat.specs.Full.{is_repository}
+use Rattle.hg_flat.specs.Full.{is_repository, wants}
 use Rattle.hg_flat.specs.Kept.{Kept}
+use Rattle.hg_flat.specs.Parent.{IsServed, KeepsRow, is_plain_entry, parent_rows}
 use Rattle.hg_flat.specs.declared.row.Row.{Row}
+use Rattle.hg_flat.specs.declared.row.Wanted.{Wanted}
 use Rattle.hg_flat.specs.declared.kept.FlatRow.{FlatRow}
 
 abbrev pub is_file_or_link_kind : Kind → Bool
@@ -27,32 +35,80 @@ is_dir_kind a_kind.Link = false
 is_dir_kind a_kind.Dir = true
 is_dir_kind a_kind.Other = false
 
--- the letter of a tracked path that is in neither parent
-abbrev pub added_letter : Moment → List ℕ → Letter
-added_letter moment path = if is_file_or_link (moment.things path) then a_letter.A else a_letter.Gone
+-- the letter of an entry at a moment, by what the first parent has of its path
+abbrev pub letter_at : shelves.Files → Id20 → Moment → FlatRow → Option Letter
+letter_at files id moment kept = tracked_letter (parent_rows files id kept.path) (marks_of (view kept.entry)) (is_some kept.source) (moment.things kept.path)
 
--- the row of such a path
-abbrev pub added_row : Moment → FlatRow → Row
-added_row moment row = record { letter = added_letter moment row.path; path = row.path; source = row.source }
+-- the row of an entry under a letter
+abbrev pub row_under : FlatRow → Letter → Row
+row_under kept letter = record { letter = letter; path = kept.path; source = kept.source }
 
--- the row of a path with an entry; where the path meets S its letter is that of the moment
-pub record IsTrackedRow (S : List ℕ → Type 0) (moment : Moment) (kept : FlatRow) (row : Row) : Type 0 where
-  pub path : row.path ≡ kept.path
-  pub source : row.source ≡ kept.source
-  pub letter : S kept.path → row.letter ≡ added_letter moment kept.path
+abbrev pub rows_if : Bool → Row → List Row
+rows_if true row = row ∷ []
+rows_if false row = []
 
--- a row for each of these entries, in their order, was put behind the rows so far
-abbrev pub AddsTracked : (List ℕ → Type 0) → Moment → List FlatRow → List Row → List Row → Type 0
-AddsTracked S moment all old new = (more : List Row) × (new ≡ old ++ more) × AllZip (IsTrackedRow S moment) all more
+-- the row of an entry, where it has a letter and that is wanted
+abbrev pub rows_under : Wanted → FlatRow → Option Letter → List Row
+rows_under wanted kept None = []
+rows_under wanted kept (Some letter) = rows_if (wants wanted letter) (row_under kept letter)
+
+-- whether the bytes of an entry's path are compared where a file or a link stands there
+abbrev pub is_compared_row : Wanted → FlatRow → Bool
+is_compared_row wanted kept = (wanted.m || wanted.c) && is_plain_entry (Some (marks_of (view kept.entry))) (is_some kept.source)
+
+-- a letter is asked for that takes a look at a tracked path, or a comparison of its bytes
+abbrev pub wants_tracked : Wanted → Bool
+wants_tracked wanted = wanted.m || wanted.a || wanted.d || wanted.c
+
+abbrev pub wants_bytes : Wanted → Bool
+wants_bytes wanted = wanted.m || wanted.c
+
+-- the letter of a tracked path where a look shows this, unless its bytes decide
+abbrev pub marked_letter : FlatRow → Stat → Option Letter
+marked_letter kept there =
+    if not (is_file_or_link_kind there.kind) then Some a_letter.Gone else (
+    if kept.entry.p2 then Some a_letter.M else (
+    if not kept.entry.p1 then Some a_letter.A else (
+    if is_some kept.source then Some a_letter.M else None)))
+
+-- the path of an entry whose bytes are compared
+abbrev pub IsComparedAs : Wanted → FlatRow → List ℕ → Type 0
+IsComparedAs wanted kept path = (path ≡ kept.path) × IsTrue (is_compared_row wanted kept)
+
+-- an entry whose bytes are compared at a moment
+pub record IsAskedRow (wanted : Wanted) (moment : Moment) (kept : FlatRow) : Type 0 where
+  pub compared : IsTrue (is_compared_row wanted kept)
+  pub there : IsTrue (is_file_or_link (moment.things kept.path))
+
+-- nobody touches an entry's path, nor what the first parent has of it where its bytes are compared
+pub record IsLeftRow (wanted : Wanted) (id : Id20) (copy : trees.History) (from : ℕ) (files : shelves.History) (since : ℕ) (kept : FlatRow) : Type 0 where
+  pub own : Untouched copy from kept.path
+  pub row : IsTrue (is_compared_row wanted kept) → KeepsRow files since id kept.path
+
+-- a letter that is found of an entry, or none: where the entry meets S the letter at a moment, as far as it is wanted, and what a
+-- comparison asks for is there
+pub record IsLetterFor (S : FlatRow → Type 0) (files : shelves.Files) (id : Id20) (moment : Moment) (wanted : Wanted) (kept : FlatRow) (letter : Option Letter) : Type 0 where
+  pub right : S kept → rows_under wanted kept letter ≡ rows_under wanted kept (letter_at files id moment kept)
+  pub served : S kept → IsAskedRow wanted moment kept → IsServed files id moment kept.path
+
+-- the rows that are put for an entry: those of a letter that is found of it
+pub record IsPutFor (S : FlatRow → Type 0) (files : shelves.Files) (id : Id20) (moment : Moment) (wanted : Wanted) (kept : FlatRow) (rows : List Row) : Type 0 where
+  pub letter : Option Letter
+  pub one : rows ≡ rows_under wanted kept letter
+  pub found : IsLetterFor S files id moment wanted kept letter
+
+-- the rows that are put for some entries, one entry behind another
+abbrev pub ArePutFor : (FlatRow → List Row → Type 0) → List FlatRow → List Row → Type 0
+ArePutFor Put [] rows = rows ≡ []
+ArePutFor Put (kept ∷ all) rows = (own : List Row) × (rest : List Row) × (rows ≡ own ++ rest) × Put kept own × ArePutFor Put all rest
+
+-- they were put behind the rows so far
+abbrev pub AddsTracked : (FlatRow → Type 0) → shelves.Files → Id20 → Moment → Wanted → List FlatRow → List Row → List Row → Type 0
+AddsTracked S files id moment wanted all old new = (more : List Row) × (new ≡ old ++ more) × ArePutFor (IsPutFor S files id moment wanted) all more
 
 -- the row of a path without an entry
 abbrev pub unknown_row : List ℕ → Row
 unknown_row path = record { letter = a_letter.Unknown; path = path; source = None }
-
--- a stat shows a file or a link
-abbrev pub shows_file_or_link : Option Stat → Bool
-shows_file_or_link None = false
-shows_file_or_link (Some stat) = is_file_or_link_kind stat.kind
 
 -- a stat shows a directory
 abbrev pub shows_dir : Option Stat → Bool

@@ -1,29 +1,12 @@
 //! What a dirstate says of its paths.
 
-ghost use Rattle.std.specs.Prelude.{◌≡◌, ◌||◌, ℕ, List, not, option_map};
-ghost use Rattle.std.specs.List.{list_all};
-ghost use Rattle.std.specs.Str.{bytes_eq};
 ghost use Rattle.std.proofs.Props.{props};
-ghost use Rattle.hg_flat.specs.Kept.{AreAscending, HaveOwnPaths, null_parent};
+ghost use Rattle.hg_flat.specs.Kept.{AreAscending, HaveOwnPaths};
 
 use crate::kept::{FlatRow, item_of};
 use hg_base::{Id20, OutOfMemory, PathRef};
 use hg_entry::Item;
 use std::alloc::Global;
-
-// Whether a parent is none.
-fn is_null(parent: Id20) -> bool
-    ensures { result ≡ bytes_eq parent.0 null_parent }
-{
-    parent == Id20([0; 20])
-}
-
-// Whether no entry of these rows is of a parent.
-fn are_added(rows: &[FlatRow]) -> bool
-    ensures { result ≡ list_all (λ row. not (row.entry.p1 || row.entry.p2)) rows.now }
-{
-    rows.iter().all(|row| !(row.entry.p1 || row.entry.p2))
-}
 
 /// The parents, and the paths with an entry, in order.
 #[derive(Drop)]
@@ -36,14 +19,14 @@ pub struct Flat {
 }
 
 impl Flat {
-    ghost use Rattle.std.specs.Prelude.{◌≡◌, ℕ, List, None, IfOk, IsTrue, true, false, is_some, option_map};
-    ghost use Rattle.hg_flat.specs.Kept.{HaveOwnPaths, row_at, shown_item, shown_row};
+    ghost use Rattle.std.specs.Prelude.{◌≡◌, ℕ, List, None, IfOk, IsTrue, true, is_some, option_map};
+    ghost use Rattle.hg_flat.specs.Kept.{HaveOwnPaths, null_parent, row_at, shown_item, shown_row};
     ghost use Rattle.hg_flat.specs.Shown.{flat_in, kept_of};
-    ghost use Rattle.hg_flat.specs.Unborn.{IsBorn, IsUnborn};
 
     /// Null parents and no paths.
     pub fn new(alloc: Global) -> Flat
-        ensures unborn { IsUnborn (flat_in result) }
+        ensures first { (flat_in result).p1 ≡ null_parent }
+        ensures second { (flat_in result).p2 ≡ null_parent }
         ensures none { (path : List ℕ) → kept_of result path ≡ None }
     {
         Flat {
@@ -62,20 +45,6 @@ impl Flat {
     {
         rows.sort_by(|a, b| a.path.cmp(&b.path))?;
         Ok(Flat { p1, p2, rows })
-    }
-
-    /// Whether nothing was committed yet: neither parent is a commit, and no entry is of a parent.
-    pub fn is_unborn(&self) -> bool
-        ensures unborn { result ≡ true → IsUnborn (flat_in self.now) }
-        ensures born { result ≡ false → IsBorn (flat_in self.now) }
-    {
-        if !is_null(self.p1) {
-            return false;
-        }
-        if !is_null(self.p2) {
-            return false;
-        }
-        are_added(&self.rows)
     }
 
     /// The first parent.

@@ -1,43 +1,187 @@
 //! The row of one path.
 
-ghost use Rattle.std.specs.Prelude.{◌≡◌, ◌++◌, ◌∷◌, [], OnOk, IfErr, IfOk, IsTrue, if◌then◌else◌, is_some, option_map};
-ghost use Rattle.hg_compare.specs.declared.letter.Letter.TheVariants as a_letter;
-ghost use Rattle.hg_tree.specs.History.{Passes, now};
-ghost use Rattle.hg_tree.specs.Still.{Untouched};
+ghost use Rattle.std.specs.Prelude.{◌≡◌, ◌++◌, ◌∷◌, [], Some, None, false, true, OnOk, IfErr, IfOk, IsTrue, if◌then◌else◌, is_some, ◌||◌};
+ghost use Rattle.hg_shelf.specs.History as shelves;
+ghost use Rattle.hg_tree.specs.History as trees;
 ghost use Rattle.hg_tree.specs.Moment.{stat_at};
-ghost use Rattle.hg_flat.specs.Cause.{HasStatusCause};
-ghost use Rattle.hg_flat.specs.declared.fault.StatusFault.TheVariants as a_fault;
-ghost use Rattle.hg_flat.specs.Asked.{AsksNothing};
-ghost use Rattle.hg_flat.specs.Listing.{AddsTracked, shows_file_or_link, unknown_row};
+ghost use Rattle.hg_tree.specs.declared.fault.TreeFault.TheVariants as a_tree_fault;
+ghost use Rattle.hg_flat.specs.Asked.{AsksReads};
+ghost use Rattle.hg_flat.specs.Cause.{HasShelfCause, HasStatusCause};
+ghost use Rattle.hg_flat.specs.Course.{Goes, upto};
+ghost use Rattle.hg_flat.specs.Full.{wants};
+ghost use Rattle.hg_flat.specs.Listing.{AddsTracked, IsComparedAs, IsLeftRow, IsLetterFor, is_compared_row, is_file_or_link_kind, marked_letter, row_under, rows_under, unknown_row, wants_bytes, wants_tracked};
+ghost use Rattle.hg_flat.specs.Met.{Met, Status};
+ghost use Rattle.hg_flat.specs.Parent.{is_compared};
 ghost use Rattle.hg_flat.specs.Shown.{kept_of};
 
+use crate::comparing::compared_letter;
 use crate::fault::StatusFault;
 use crate::flat::Flat;
 use crate::kept::FlatRow;
-use crate::row::Row;
+use crate::parent::Parent;
+use crate::row::{Row, Wanted};
 use hg_base::{Kind, OutOfMemory, Path, Stat};
 use hg_compare::Letter;
-use hg_tree::Tree;
+use hg_shelf::Shelf;
+use hg_tree::{Tree, TreeFault};
 use std::alloc::Global;
 
-fn is_file_or_link(found: Option<Stat>) -> bool
-    ensures { result ≡ shows_file_or_link found }
+// Whether a letter is asked for.
+fn wants(wanted: Wanted, letter: Letter) -> bool
+    ensures { result ≡ wants wanted letter }
 {
-    match found {
-        None => false,
-        Some(stat) => matches!(stat.kind, Kind::File | Kind::Link),
+    match letter {
+        Letter::M => wanted.m,
+        Letter::A => wanted.a,
+        Letter::R => wanted.r,
+        Letter::Gone => wanted.d,
+        Letter::Unknown => wanted.u,
+        Letter::I => wanted.i,
+        Letter::C => wanted.c,
     }
 }
 
-// The letter of a tracked path that is in neither parent, by what a stat shows there.
-fn added_letter(found: Option<Stat>) -> Letter
-    ensures { result ≡ (if shows_file_or_link found then a_letter.A else a_letter.Gone) }
+// Whether a letter is asked for that takes a look at a tracked path.
+fn wants_tracked(wanted: Wanted) -> bool
+    ensures { result ≡ wants_tracked wanted }
 {
-    if is_file_or_link(found) {
-        Letter::A
-    } else {
-        Letter::Gone
+    wanted.m || wanted.a || wanted.d || wanted.c
+}
+
+// Whether a letter is asked for that takes a comparison.
+fn wants_bytes(wanted: Wanted) -> bool
+    ensures { result ≡ wants_bytes wanted }
+{
+    wanted.m || wanted.c
+}
+
+// The letter that the marks and the source of a tracked path give it where a look shows this, or none where its bytes decide.
+fn marked_letter(kept: &FlatRow, there: &Stat) -> Option<Letter>
+    ensures { result ≡ marked_letter kept.now there.now }
+{
+    if !matches!(there.kind, Kind::File | Kind::Link) {
+        return Some(Letter::Gone);
     }
+    if kept.entry.p2 {
+        return Some(Letter::M);
+    }
+    if !kept.entry.p1 {
+        return Some(Letter::A);
+    }
+    if kept.source.is_some() {
+        return Some(Letter::M);
+    }
+    None
+}
+
+// The letter of a tracked path where a look shows something, or none where it isn't wanted.
+fn letter_there<T: Tree, S: Shelf>(
+    alloc: Global,
+    tree: &mut T,
+    shelf: &mut S,
+    kept: &FlatRow,
+    there: &Stat,
+    parent: &mut Parent,
+    wanted: Wanted,
+) -> Result<Option<Letter>, StatusFault>
+    requires { kept.now.entry.w ≡ true }
+    ensures tree_passes { trees.Passes (T.history tree.old) (T.history tree.new) }
+    ensures shelf_passes { shelves.Passes (S.history shelf.old) (S.history shelf.new) }
+    ensures goes { OnOk
+        result
+        ((s : Status) → Goes (upto s (T.history tree.old) (S.history shelf.old)) parent.old
+        → Goes (upto s (T.history tree.new) (S.history shelf.new)) parent.new) }
+    ensures found { IfOk
+        result
+        (λ letter. (s : Status) → Goes (upto s (T.history tree.old) (S.history shelf.old)) parent.old
+        → (IsTrue (T.history tree.old).told → stat_at (trees.now (T.history tree.old)) kept.now.path ≡ Some there.now)
+        → IsLetterFor
+        (IsLeftRow
+        wanted
+        s.id
+        (T.history tree.new)
+        (T.history tree.old).last
+        (S.history shelf.new)
+        s.shelf_old.last)
+        (shelves.now s.shelf_old).files
+        s.id
+        (trees.now (T.history tree.old))
+        wanted
+        kept.now
+        letter) }
+    ensures met { IfErr
+        result
+        (λ fault. (s : Status) → Goes (upto s (T.history tree.old) (S.history shelf.old)) parent.old
+        → is_compared s.wanted s.flat kept.now.path ≡ is_compared_row wanted kept.now
+        → (IsTrue (T.history tree.old).told → stat_at (trees.now (T.history tree.old)) kept.now.path ≡ Some there.now)
+        → Met (upto s (T.history tree.new) (S.history shelf.new)) fault) }
+    ensures asked { IsTrue (T.history tree.old).told → AsksReads (IsComparedAs wanted kept.now) (T.history tree.old) (T.history tree.new) }
+    ensures unasked { is_compared_row wanted kept.now ≡ false → shelf.new ≡ shelf.old }
+    ensures cause { HasStatusCause (T.faults tree.old) (T.faults tree.new) result }
+    ensures cause_shelf { HasShelfCause (S.faults shelf.old) (S.faults shelf.new) result }
+{
+    if let Some(letter) = marked_letter(kept, there) {
+        return Ok(Some(letter));
+    }
+    if !wants_bytes(wanted) {
+        return Ok(None);
+    }
+    let letter = compared_letter(alloc, tree, shelf, kept.path.as_ref(), there, parent)?;
+    Ok(Some(letter))
+}
+
+// The letter of a path with an entry, or none where it isn't wanted.
+fn find_letter<T: Tree, S: Shelf>(
+    alloc: Global,
+    tree: &mut T,
+    shelf: &mut S,
+    kept: &FlatRow,
+    parent: &mut Parent,
+    wanted: Wanted,
+) -> Result<Option<Letter>, StatusFault>
+    ensures tree_passes { trees.Passes (T.history tree.old) (T.history tree.new) }
+    ensures shelf_passes { shelves.Passes (S.history shelf.old) (S.history shelf.new) }
+    ensures goes { OnOk
+        result
+        ((s : Status) → Goes (upto s (T.history tree.old) (S.history shelf.old)) parent.old
+        → Goes (upto s (T.history tree.new) (S.history shelf.new)) parent.new) }
+    ensures found { IfOk
+        result
+        (λ letter. (s : Status) → Goes (upto s (T.history tree.old) (S.history shelf.old)) parent.old
+        → IsLetterFor
+        (IsLeftRow
+        wanted
+        s.id
+        (T.history tree.new)
+        (T.history tree.old).last
+        (S.history shelf.new)
+        s.shelf_old.last)
+        (shelves.now s.shelf_old).files
+        s.id
+        (trees.now (T.history tree.old))
+        wanted
+        kept.now
+        letter) }
+    ensures met { IfErr
+        result
+        (λ fault. (s : Status) → Goes (upto s (T.history tree.old) (S.history shelf.old)) parent.old
+        → is_compared s.wanted s.flat kept.now.path ≡ is_compared_row wanted kept.now
+        → Met (upto s (T.history tree.new) (S.history shelf.new)) fault) }
+    ensures asked { IsTrue (T.history tree.old).told → AsksReads (IsComparedAs wanted kept.now) (T.history tree.old) (T.history tree.new) }
+    ensures unasked { is_compared_row wanted kept.now ≡ false → shelf.new ≡ shelf.old }
+    ensures cause { HasStatusCause (T.faults tree.old) (T.faults tree.new) result }
+    ensures cause_shelf { HasShelfCause (S.faults shelf.old) (S.faults shelf.new) result }
+{
+    if !kept.entry.w {
+        return Ok(Some(Letter::R));
+    }
+    if !wants_tracked(wanted) {
+        return Ok(None);
+    }
+    let Some(there) = tree.stat(kept.path.as_ref())? else {
+        return Ok(Some(Letter::Gone));
+    };
+    letter_there(alloc, tree, shelf, kept, &there, parent, wanted)
 }
 
 fn copy_of(alloc: Global, path: &Option<Path>) -> Result<Option<Path>, OutOfMemory>
@@ -49,26 +193,15 @@ fn copy_of(alloc: Global, path: &Option<Path>) -> Result<Option<Path>, OutOfMemo
     }
 }
 
-/// Puts the row of a tracked path that is in neither parent, after a stat of it.
-pub(crate) fn add_tracked<T: Tree>(
+// Puts the row of an entry under a letter.
+fn put_under(
     alloc: Global,
-    tree: &mut T,
     kept: &FlatRow,
+    letter: Letter,
     rows: &mut Vec<Row>,
-) -> Result<(), StatusFault>
-    ensures passes { Passes (T.history tree.old) (T.history tree.new) }
-    ensures row { OnOk
-        result
-        (AddsTracked
-        (Untouched (T.history tree.new) (T.history tree.old).last)
-        (now (T.history tree.old))
-        (kept.now ∷ [])
-        rows.old.items
-        rows.new.items) }
-    ensures asked { IsTrue (T.history tree.old).told → AsksNothing (T.history tree.old) (T.history tree.new) }
-    ensures cause { HasStatusCause (T.faults tree.old) (T.faults tree.new) result }
+) -> Result<(), OutOfMemory>
+    ensures { OnOk result (rows.new.items ≡ rows.old.items ++ (row_under kept.now letter) ∷ []) }
 {
-    let letter = added_letter(tree.stat(kept.path.as_ref())?);
     let path = Path::of(alloc, kept.path.as_ref())?;
     let source = copy_of(alloc, &kept.source)?;
     rows.push(Row {
@@ -79,18 +212,87 @@ pub(crate) fn add_tracked<T: Tree>(
     Ok(())
 }
 
+// Puts it where there is a letter and it is wanted.
+fn put_wanted(
+    alloc: Global,
+    kept: &FlatRow,
+    letter: Option<Letter>,
+    wanted: Wanted,
+    rows: &mut Vec<Row>,
+) -> Result<(), OutOfMemory>
+    ensures { OnOk result (rows.new.items ≡ rows.old.items ++ rows_under wanted kept.now letter) }
+{
+    match letter {
+        None => Ok(()),
+        Some(letter) => if wants(wanted, letter) {
+            put_under(alloc, kept, letter, rows)
+        } else {
+            Ok(())
+        },
+    }
+}
+
+/// Puts the row of a path with an entry, where its letter is wanted.
+pub(crate) fn add_tracked<T: Tree, S: Shelf>(
+    alloc: Global,
+    tree: &mut T,
+    shelf: &mut S,
+    kept: &FlatRow,
+    parent: &mut Parent,
+    wanted: Wanted,
+    rows: &mut Vec<Row>,
+) -> Result<(), StatusFault>
+    ensures tree_passes { trees.Passes (T.history tree.old) (T.history tree.new) }
+    ensures shelf_passes { shelves.Passes (S.history shelf.old) (S.history shelf.new) }
+    ensures goes { OnOk
+        result
+        ((s : Status) → Goes (upto s (T.history tree.old) (S.history shelf.old)) parent.old
+        → Goes (upto s (T.history tree.new) (S.history shelf.new)) parent.new) }
+    ensures row { OnOk
+        result
+        ((s : Status) → Goes (upto s (T.history tree.old) (S.history shelf.old)) parent.old
+        → AddsTracked
+        (IsLeftRow
+        wanted
+        s.id
+        (T.history tree.new)
+        (T.history tree.old).last
+        (S.history shelf.new)
+        s.shelf_old.last)
+        (shelves.now s.shelf_old).files
+        s.id
+        (trees.now (T.history tree.old))
+        wanted
+        (kept.now ∷ [])
+        rows.old.items
+        rows.new.items) }
+    ensures met { IfErr
+        result
+        (λ fault. (s : Status) → Goes (upto s (T.history tree.old) (S.history shelf.old)) parent.old
+        → is_compared s.wanted s.flat kept.now.path ≡ is_compared_row wanted kept.now
+        → Met (upto s (T.history tree.new) (S.history shelf.new)) fault) }
+    ensures asked { IsTrue (T.history tree.old).told → AsksReads (IsComparedAs wanted kept.now) (T.history tree.old) (T.history tree.new) }
+    ensures unasked { is_compared_row wanted kept.now ≡ false → shelf.new ≡ shelf.old }
+    ensures cause { HasStatusCause (T.faults tree.old) (T.faults tree.new) result }
+    ensures cause_shelf { HasShelfCause (S.faults shelf.old) (S.faults shelf.new) result }
+{
+    let letter = find_letter(alloc, tree, shelf, kept, parent, wanted)?;
+    put_wanted(alloc, kept, letter, wanted, rows)?;
+    Ok(())
+}
+
 /// Puts the row of a path, unless it has an entry, for which the search begins at `next`.
 pub(crate) fn add_unknown(
     flat: &Flat,
     path: Path,
     next: &mut usize,
     rows: &mut Vec<Row>,
-) -> Result<(), StatusFault>
+) -> Result<(), TreeFault>
     ensures row { OnOk
         result
         (rows.new.items
         ≡ (if is_some (kept_of flat.now path) then rows.old.items else rows.old.items ++ (unknown_row path) ∷ [])) }
-    ensures cause { IfErr result (λ e. e ≡ a_fault.OutOfMemory) }
+    ensures cause { IfErr result (λ e. e ≡ a_tree_fault.OutOfMemory) }
 {
     if flat.has(path.as_str(), next) {
         return Ok(());

@@ -14,6 +14,7 @@
 //! ```
 #![tactic(auto)]
 
+mod comparing;
 mod fault;
 mod flat;
 mod full;
@@ -21,6 +22,7 @@ mod kept;
 mod letter;
 mod listing;
 mod order;
+mod parent;
 mod reading;
 mod row;
 mod status;

@@ -5,17 +5,16 @@ ghost use Rattle.hg_base.specs.PathText.{is_path, joined};
 ghost use Rattle.hg_tree.specs.History.{Passes, now};
 ghost use Rattle.hg_tree.specs.Still.{Untouched};
 ghost use Rattle.hg_tree.specs.Moment.{AreFit, AreNames, has_dir, is_among, is_dir, stat_at};
-ghost use Rattle.hg_flat.specs.Cause.{HasStatusCause};
+ghost use Rattle.hg_flat.specs.Cause.{HasListingCause};
 ghost use Rattle.hg_flat.specs.Asked.{AsksFor, AsksNothing, IsDirAmong, IsDirFrom, IsDirIn};
 ghost use Rattle.hg_flat.specs.Listing.{HoldsFor, IsUnknownAmong, IsUnknownFrom, IsUnknownIn, Lists, holds_repository, shows_dir};
 ghost use Rattle.hg_flat.specs.Shown.{kept_of};
 
-use crate::fault::StatusFault;
 use crate::flat::Flat;
 use crate::letter::add_unknown;
 use crate::row::Row;
 use hg_base::{Kind, Path, PathRef, Stat};
-use hg_tree::{Name, Tree};
+use hg_tree::{Name, Tree, TreeFault};
 use std::alloc::Global;
 
 fn is_dir_stat(found: Option<Stat>) -> bool
@@ -34,14 +33,14 @@ fn has_name(names: &[Name], wanted: &str) -> bool
 }
 
 // A directory `.hg` makes its directory a repository of its own.
-fn holds_hg<T: Tree>(alloc: Global, tree: &mut T, dir: PathRef<'_>) -> Result<bool, StatusFault>
+fn holds_hg<T: Tree>(alloc: Global, tree: &mut T, dir: PathRef<'_>) -> Result<bool, TreeFault>
     requires { IsTrue (is_path (joined (Some dir.text.now) (codes ".hg"))) }
     ensures passes { Passes (T.history tree.old) (T.history tree.new) }
     ensures found { IfOk
         result
         (HoldsFor (Untouched (T.history tree.new) (T.history tree.old).last) (now (T.history tree.old)) (Some dir.entry.text.now)) }
     ensures asked { IsTrue (T.history tree.old).told → AsksNothing (T.history tree.old) (T.history tree.new) }
-    ensures cause { HasStatusCause (T.faults tree.old) (T.faults tree.new) result }
+    ensures cause { HasListingCause (T.faults tree.old) (T.faults tree.new) result }
 {
     let path = Path::within(alloc, Some(dir), ".hg")?;
     let found = tree.stat(path.as_ref())?;
@@ -53,7 +52,7 @@ fn is_nested<T: Tree>(
     tree: &mut T,
     dir: Option<PathRef<'_>>,
     names: &[Name],
-) -> Result<bool, StatusFault>
+) -> Result<bool, TreeFault>
     requires { AreFit (option_map (λ d. d.text.now) dir) names.now }
     ensures passes { Passes (T.history tree.old) (T.history tree.new) }
     ensures found { AreNames (now (T.history tree.old)) (option_map (λ d. d.text.now) dir.entry) names.now
@@ -64,7 +63,7 @@ fn is_nested<T: Tree>(
         (now (T.history tree.old))
         (option_map (λ d. d.text.now) dir.entry)) }
     ensures asked { IsTrue (T.history tree.old).told → AsksNothing (T.history tree.old) (T.history tree.new) }
-    ensures cause { HasStatusCause (T.faults tree.old) (T.faults tree.new) result }
+    ensures cause { HasListingCause (T.faults tree.old) (T.faults tree.new) result }
 {
     let Some(dir) = dir else {
         return Ok(false);
@@ -84,7 +83,7 @@ fn look<T: Tree>(
     path: Path,
     next: &mut usize,
     rows: &mut Vec<Row>,
-) -> Result<(), StatusFault>
+) -> Result<(), TreeFault>
     ensures passes { Passes (T.history tree.old) (T.history tree.new) }
     ensures listed { OnOk
         result
@@ -96,7 +95,7 @@ fn look<T: Tree>(
         rows.new.items) }
     ensures asked { IsTrue (T.history tree.old).told
         → AsksFor (IsDirFrom (T.history tree.old) (T.history tree.new) path) (T.history tree.old) (T.history tree.new) }
-    ensures cause { HasStatusCause (T.faults tree.old) (T.faults tree.new) result }
+    ensures cause { HasListingCause (T.faults tree.old) (T.faults tree.new) result }
 {
     let Some(stat) = tree.stat(path.as_ref())? else {
         return Ok(());
@@ -117,7 +116,7 @@ fn look_each<T: Tree>(
     names: &[Name],
     next: &mut usize,
     rows: &mut Vec<Row>,
-) -> Result<(), StatusFault>
+) -> Result<(), TreeFault>
     requires { AreFit (option_map (λ d. d.text.now) dir) names.now }
     ensures passes { Passes (T.history tree.old) (T.history tree.new) }
     ensures listed { OnOk
@@ -133,7 +132,7 @@ fn look_each<T: Tree>(
         (IsDirAmong (T.history tree.old) (T.history tree.new) (option_map (λ d. d.text.now) dir.entry) names.now)
         (T.history tree.old)
         (T.history tree.new) }
-    ensures cause { HasStatusCause (T.faults tree.old) (T.faults tree.new) result }
+    ensures cause { HasListingCause (T.faults tree.old) (T.faults tree.new) result }
 {
     for name in names {
         let path = Path::within(alloc, dir, name.as_str())?;
@@ -153,7 +152,7 @@ pub(crate) fn visit<T: Tree>(
     dir: Option<PathRef<'_>>,
     next: &mut usize,
     rows: &mut Vec<Row>,
-) -> Result<(), StatusFault>
+) -> Result<(), TreeFault>
     ensures passes { Passes (T.history tree.old) (T.history tree.new) }
     ensures listed { OnOk
         result
@@ -168,7 +167,7 @@ pub(crate) fn visit<T: Tree>(
         (IsDirIn (T.history tree.old) (T.history tree.new) (option_map (λ d. d.text.now) dir.entry))
         (T.history tree.old)
         (T.history tree.new) }
-    ensures cause { HasStatusCause (T.faults tree.old) (T.faults tree.new) result }
+    ensures cause { HasListingCause (T.faults tree.old) (T.faults tree.new) result }
 {
     let Some(names) = tree.list(alloc, dir)? else {
         return Ok(());

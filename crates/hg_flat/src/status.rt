@@ -1,52 +1,115 @@
 //! The plain status of a working copy.
 
-ghost use Rattle.std.specs.Prelude.{◌≡◌, false, ℕ, List, IsTrue, IfErr, IfOk, OnOk};
+ghost use Rattle.std.specs.Prelude.{◌≡◌, false, ℕ, List, None, IsTrue, IfErr, IfOk, OnOk};
 ghost use Rattle.hg_shelf.specs.History as shelves;
 ghost use Rattle.hg_shelf.specs.Polite.{KeepsPlain};
 ghost use Rattle.hg_tree.specs.History as trees;
-ghost use Rattle.hg_tree.specs.History.{IsOurs, Passes, now};
 ghost use Rattle.hg_tree.specs.Still.{Untouched};
-ghost use Rattle.hg_flat.specs.Asked.{AsksBoth, AsksNothing, IsVisibleDir};
-ghost use Rattle.hg_flat.specs.Cause.{HasShelfCause, HasStatusCause};
+ghost use Rattle.hg_flat.specs.Asked.{AsksBoth, AsksFor, AsksReads, IsDirIn, IsVisibleDir};
+ghost use Rattle.hg_flat.specs.Cause.{HasListingCause, HasShelfCause, HasStatusCause};
 ghost use Rattle.hg_flat.specs.Full.{IsFull, IsFullFor, nothing_ignored};
 ghost use Rattle.hg_flat.specs.Met.{Met};
 ghost use Rattle.hg_flat.specs.Parent.{IsAsked, IsLeft, IsServed, is_compared, parent_rows};
-ghost use Rattle.hg_flat.specs.Listing.{AddsTracked};
+ghost use Rattle.hg_flat.specs.Listing.{AddsTracked, IsLeftRow, IsUnknownIn, Lists};
 ghost use Rattle.hg_flat.specs.Shown.{flat_in, kept_of};
 
 use crate::fault::StatusFault;
 use crate::flat::Flat;
 use crate::letter::add_tracked;
 use crate::listing::visit;
+use crate::parent::Parent;
 use crate::row::{Row, Rows, Wanted};
 use hg_base::Id20;
 use hg_shelf::Shelf;
-use hg_tree::Tree;
+use hg_tree::{Tree, TreeFault};
 use std::alloc::Global;
 
 // Looks at each path with an entry, in order.
-fn add_each<T: Tree>(
+fn add_each<T: Tree, S: Shelf>(
     alloc: Global,
-    tree: &mut T,
     flat: &Flat,
+    p1: &Id20,
+    tree: &mut T,
+    shelf: &mut S,
+    wanted: Wanted,
     rows: &mut Vec<Row>,
 ) -> Result<(), StatusFault>
-    ensures passes { Passes (T.history tree.old) (T.history tree.new) }
+    ensures passes { trees.Passes (T.history tree.old) (T.history tree.new) }
+    ensures passes_shelf { shelves.Passes (S.history shelf.old) (S.history shelf.new) }
     ensures added { OnOk
         result
         (AddsTracked
-        (Untouched (T.history tree.new) (T.history tree.old).last)
-        (now (T.history tree.old))
+        (IsLeftRow
+        wanted
+        p1.now
+        (T.history tree.new)
+        (T.history tree.old).last
+        (S.history shelf.new)
+        (S.history shelf.old).last)
+        (shelves.now (S.history shelf.old)).files
+        p1.now
+        (trees.now (T.history tree.old))
+        wanted
         flat.now.rows.items
         rows.old.items
         rows.new.items) }
-    ensures asked { IsTrue (T.history tree.old).told → AsksNothing (T.history tree.old) (T.history tree.new) }
+    ensures met { IfErr
+        result
+        (Met
+        (record {
+          wanted = wanted;
+          flat = flat_in flat.now;
+          id = p1.now;
+          tree_old = T.history tree.old;
+          tree_new = T.history tree.new;
+          shelf_old = S.history shelf.old;
+          shelf_new = S.history shelf.new;
+        })) }
+    ensures asked { IsTrue (T.history tree.old).told
+        → AsksReads (λ path. IsTrue (is_compared wanted (flat_in flat.now) path)) (T.history tree.old) (T.history tree.new) }
+    ensures unasked { ((path : List ℕ) → is_compared wanted (flat_in flat.now) path ≡ false) → shelf.new ≡ shelf.old }
     ensures cause { HasStatusCause (T.faults tree.old) (T.faults tree.new) result }
+    ensures cause_shelf { HasShelfCause (S.faults shelf.old) (S.faults shelf.new) result }
 {
+    let mut parent = Parent {
+        id: *p1,
+        loaded: None,
+    };
     for kept in &flat.rows {
-        add_tracked(alloc, tree, kept, rows)?;
+        add_tracked(alloc, tree, shelf, kept, &mut parent, wanted, rows)?;
     }
     Ok(())
+}
+
+// Looks at what else stands in the working copy, where that is wanted.
+fn add_others<T: Tree>(
+    alloc: Global,
+    flat: &Flat,
+    tree: &mut T,
+    wanted: Wanted,
+    rows: &mut Vec<Row>,
+) -> Result<(), TreeFault>
+    ensures passes { trees.Passes (T.history tree.old) (T.history tree.new) }
+    ensures listed { OnOk
+        result
+        (Lists
+        (kept_of flat.now)
+        (Untouched (T.history tree.new) (T.history tree.old).last)
+        (λ path. IsTrue wanted.u × IsUnknownIn (kept_of flat.now) (trees.now (T.history tree.old)) None path)
+        rows.old.items
+        rows.new.items) }
+    ensures asked { IsTrue (T.history tree.old).told
+        → AsksFor
+        (λ dir. IsTrue wanted.u × IsDirIn (T.history tree.old) (T.history tree.new) None dir)
+        (T.history tree.old)
+        (T.history tree.new) }
+    ensures cause { HasListingCause (T.faults tree.old) (T.faults tree.new) result }
+{
+    if !wanted.u {
+        return Ok(());
+    }
+    let mut next = 0;
+    visit(alloc, tree, flat, None, &mut next, rows)
 }
 
 /// Lists each path with a wanted letter: first each path with an entry, in order, then, where `?` is wanted, everything that stands in
@@ -128,5 +191,10 @@ pub fn plain_status<T: Tree, S: Shelf>(
     ensures cause { HasStatusCause (T.faults tree.old) (T.faults tree.new) result }
     ensures cause_shelf { HasShelfCause (S.faults shelf.old) (S.faults shelf.new) result }
 {
-    Err(StatusFault::OutOfMemory)
+    let mut rows = Vec::new(alloc);
+    add_each(alloc, flat, p1, tree, shelf, wanted, &mut rows)?;
+    add_others(alloc, flat, tree, wanted, &mut rows)?;
+    rows.sort()?;
+    rows.dedup();
+    Ok(Rows::of(rows))
 }

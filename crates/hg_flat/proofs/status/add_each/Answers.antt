@@ -1,15 +1,92 @@
-use Rattle.std.proofs.Common.{◌∙◌, sym}
-use Rattle.hg_tree.proofs.Spans.{passes_trans}
-use Rattle.hg_flat.proofs.Steps.{tracked_more}
+use Rattle.std.proofs.Common.{List, ℕ, ◌<◌, length, sym, ◌∙◌, subst}
+use Rattle.std.specs.Prelude.{IsTrue}
+use Rattle.std.specs.List.{Contains}
+use Rattle.std.proofs.lemmas.Result.{err_from_is_err_and}
+use Rattle.hg_shelf.specs.History as shelves
+use Rattle.hg_flat.specs.Listing.{IsComparedAs}
+use Rattle.hg_flat.specs.Parent.{is_compared}
+use Rattle.hg_flat.specs.Shown.{flat_in}
+use Rattle.hg_flat.proofs.Asks.{reads_trans, reads_weaker}
+use Rattle.hg_flat.proofs.Leaving.{compared_same}
+use Rattle.hg_flat.proofs.Tracking.{tracked_more}
 use Rattle.hg_flat.proofs.status.add_each.Goals as goal
 
+pub returns-in_err-add_tracked-clause-met : goal.returns-in_err-add_tracked-clause-met
+returns-in_err-add_tracked-clause-met g c =
+    let p = err_from_is_err_and c.from_residual.result c.from_residual.ensures.1 in
+    let below : c.loop-kept.kept-index < length c.args.flat.now.rows.items = rw c.deref-kept-items.ensures.value at c.loop-kept-test.true in
+    let has : Contains c.args.flat.now.rows.items c.kept-item.result = (c.loop-kept.kept-index, below, sym (rw c.deref-kept-items.ensures.value at c.kept-item.is)) in
+    rw (p.1, p.2)
+    (c.in_err-add_tracked.ensures.met
+    (record {
+      wanted = c.args.wanted;
+      flat = flat_in c.args.flat.now;
+      id = c.args.p1.now;
+      tree_old = g.T.Tree.history c.args.tree.now;
+      tree_new = g.T.Tree.history c.loop-kept.tree;
+      shelf_old = g.S.Shelf.history c.args.shelf.now;
+      shelf_new = g.S.Shelf.history c.loop-kept.shelf;
+    })
+    c.loop-kept.invariant.goes (compared_same c.args.flat.now c.args.wanted c.kept-item.result has))
+
+pub returns-in_err-add_tracked-clause-asked : goal.returns-in_err-add_tracked-clause-asked
+returns-in_err-add_tracked-clause-asked g c = λ told.
+    let below : c.loop-kept.kept-index < length c.args.flat.now.rows.items = rw c.deref-kept-items.ensures.value at c.loop-kept-test.true in
+    let has : Contains c.args.flat.now.rows.items c.kept-item.result = (c.loop-kept.kept-index, below, sym (rw c.deref-kept-items.ensures.value at c.kept-item.is)) in
+    reads_trans (λ (path : List ℕ). IsTrue (is_compared c.args.wanted (flat_in c.args.flat.now) path)) (g.T.Tree.history c.args.tree.now) (g.T.Tree.history c.loop-kept.tree) (g.T.Tree.history c.add_tracked.new.tree)
+    (c.loop-kept.invariant.asked told)
+    (reads_weaker (IsComparedAs c.args.wanted c.kept-item.result) (λ (path : List ℕ). IsTrue (is_compared c.args.wanted (flat_in c.args.flat.now) path)) (g.T.Tree.history c.loop-kept.tree) (g.T.Tree.history c.add_tracked.new.tree)
+    (λ path both. subst (λ (p : List ℕ). IsTrue (is_compared c.args.wanted (flat_in c.args.flat.now) p)) (sym both.0) (compared_same c.args.flat.now c.args.wanted c.kept-item.result has ∙ both.1))
+    (c.add_tracked.ensures.asked (c.loop-kept.invariant.goes.tree.past.told ∙ told)))
+
+pub returns-in_err-add_tracked-clause-unasked : goal.returns-in_err-add_tracked-clause-unasked
+returns-in_err-add_tracked-clause-unasked g c = λ none.
+    let below : c.loop-kept.kept-index < length c.args.flat.now.rows.items = rw c.deref-kept-items.ensures.value at c.loop-kept-test.true in
+    let has : Contains c.args.flat.now.rows.items c.kept-item.result = (c.loop-kept.kept-index, below, sym (rw c.deref-kept-items.ensures.value at c.kept-item.is)) in
+    c.add_tracked.ensures.unasked (sym (compared_same c.args.flat.now c.args.wanted c.kept-item.result has) ∙ none c.kept-item.result.path) ∙ c.loop-kept.invariant.unasked none
+
 pub loop-kept-preserved : goal.loop-kept-preserved
-loop-kept-preserved g c = record {
-  passes = passes_trans _ _ _ c.loop-kept.invariant.passes c.add_tracked.ensures.passes;
-  added = tracked_more (g.T.Tree.history c.args.tree.now) (g.T.Tree.history c.loop-kept.tree) (g.T.Tree.history c.add_tracked.new.tree) c.loop-kept.invariant.passes.past c.add_tracked.ensures.passes.past
-      c.args.flat.now.rows.items c.loop-kept.kept-index c.kept-item.result c.args.rows.now.items c.loop-kept.rows.items c.add_tracked.new.rows.items
-      (rw c.deref-kept-items.ensures.value at c.loop-kept-test.true) (sym (rw c.deref-kept-items.ensures.value at c.kept-item.is))
-      c.loop-kept.invariant.added c.in_ok-add_tracked.ensures.row;
-  asked = λ told. c.add_tracked.ensures.asked (c.loop-kept.invariant.passes.past.told ∙ told) ∙ c.loop-kept.invariant.asked told;
-  still = c.in_ok-add_tracked.ensures.cause.quiet ∙ c.loop-kept.invariant.still;
-}
+loop-kept-preserved g c =
+    let below : c.loop-kept.kept-index < length c.args.flat.now.rows.items = rw c.deref-kept-items.ensures.value at c.loop-kept-test.true in
+    let has : Contains c.args.flat.now.rows.items c.kept-item.result = (c.loop-kept.kept-index, below, sym (rw c.deref-kept-items.ensures.value at c.kept-item.is)) in
+    record {
+      goes =
+          c.in_ok-add_tracked.ensures.goes
+          (record {
+            wanted = c.args.wanted;
+            flat = flat_in c.args.flat.now;
+            id = c.args.p1.now;
+            tree_old = g.T.Tree.history c.args.tree.now;
+            tree_new = g.T.Tree.history c.loop-kept.tree;
+            shelf_old = g.S.Shelf.history c.args.shelf.now;
+            shelf_new = g.S.Shelf.history c.loop-kept.shelf;
+          })
+          c.loop-kept.invariant.goes;
+      added =
+          tracked_more c.args.wanted c.args.p1.now (g.T.Tree.history c.args.tree.now) (g.T.Tree.history c.loop-kept.tree) (g.T.Tree.history c.add_tracked.new.tree) c.loop-kept.invariant.goes.tree.past
+          c.add_tracked.ensures.tree_passes.past (g.S.Shelf.history c.loop-kept.shelf) (g.S.Shelf.history c.add_tracked.new.shelf) (g.S.Shelf.history c.args.shelf.now).last c.add_tracked.ensures.shelf_passes.past
+          c.loop-kept.invariant.goes.shelf.past.later (shelves.now (g.S.Shelf.history c.args.shelf.now)).files c.args.flat.now.rows.items c.loop-kept.kept-index c.kept-item.result c.args.rows.now.items
+          c.loop-kept.rows.items c.add_tracked.new.rows.items below (sym (rw c.deref-kept-items.ensures.value at c.kept-item.is)) c.loop-kept.invariant.added
+          (c.in_ok-add_tracked.ensures.row
+          (record {
+            wanted = c.args.wanted;
+            flat = flat_in c.args.flat.now;
+            id = c.args.p1.now;
+            tree_old = g.T.Tree.history c.args.tree.now;
+            tree_new = g.T.Tree.history c.loop-kept.tree;
+            shelf_old = g.S.Shelf.history c.args.shelf.now;
+            shelf_new = g.S.Shelf.history c.loop-kept.shelf;
+          })
+          c.loop-kept.invariant.goes);
+      asked = λ told.
+          reads_trans (λ (path : List ℕ). IsTrue (is_compared c.args.wanted (flat_in c.args.flat.now) path)) (g.T.Tree.history c.args.tree.now) (g.T.Tree.history c.loop-kept.tree) (g.T.Tree.history c.add_tracked.new.tree)
+          (c.loop-kept.invariant.asked told)
+          (reads_weaker (IsComparedAs c.args.wanted c.kept-item.result) (λ (path : List ℕ). IsTrue (is_compared c.args.wanted (flat_in c.args.flat.now) path)) (g.T.Tree.history c.loop-kept.tree)
+          (g.T.Tree.history c.add_tracked.new.tree)
+          (λ path both. subst (λ (p : List ℕ). IsTrue (is_compared c.args.wanted (flat_in c.args.flat.now) p)) (sym both.0) (compared_same c.args.flat.now c.args.wanted c.kept-item.result has ∙ both.1))
+          (c.add_tracked.ensures.asked (c.loop-kept.invariant.goes.tree.past.told ∙ told)));
+      unasked = λ none.
+          c.add_tracked.ensures.unasked (sym (compared_same c.args.flat.now c.args.wanted c.kept-item.result has) ∙ none c.kept-item.result.path) ∙ c.loop-kept.invariant.unasked none;
+      still = c.in_ok-add_tracked.ensures.cause.quiet ∙ c.loop-kept.invariant.still;
+      shelf_still = c.in_ok-add_tracked.ensures.cause_shelf.quiet ∙ c.loop-kept.invariant.shelf_still;
+    }

@@ -1,0 +1,272 @@
+-- What is known of the first parent in the course of a status.
+use Rattle.std.proofs.Common.{ℕ, ◌≡◌, ◌<◌, ◌≤◌, Bool, true, false, cond, List, [], length, Option, Some, None, Result, Ok, Err, option_map, refl, sym, ap, ◌∙◌, subst, arith, inl, inr}
+use Rattle.std.specs.Prelude.{IsTrue, IfErr, IfOk, IfSome, OnOk, MatchBool, is_some}
+use Rattle.std.proofs.lemmas.Bool.{cases_Bool}
+use Rattle.hg_base.specs.declared.id.Id20.{Id20}
+use Rattle.hg_base.specs.declared.stat.Stat.{Stat}
+use Rattle.hg_tree.specs.History as trees
+use Rattle.hg_tree.specs.Moment.{Moment, stat_at}
+use Rattle.hg_tree.specs.declared.thing.Placed.{Placed}
+use Rattle.hg_tree.proofs.Spans as tree
+use Rattle.hg_shelf.specs.History as shelves
+use Rattle.hg_shelf.specs.Polite.{KeepsFile, KeepsPlain}
+use Rattle.hg_shelf.specs.Reads.{size_of}
+use Rattle.hg_shelf.proofs.Histories as shelf
+use Rattle.hg_manifest.specs.Load.{Finds, IsFrontOf, Reads, Stays, Was, file_at, file_manifest, manifest_in}
+use Rattle.hg_manifest.specs.Plain.{is_null, plain_name}
+use Rattle.hg_manifest.specs.Rows.{Rows}
+use Rattle.hg_manifest.specs.declared.fault.ManifestFault.{ManifestFault}
+use Rattle.hg_manifest.specs.declared.fault.ManifestFault.TheVariants as a_manifest_fault
+use Rattle.hg_manifest.specs.declared.row.FileRow.{FileRow}
+use Rattle.hg_manifest.proofs.Loads.{complete}
+use Rattle.hg_compare.specs.Alike.{contents_name, is_alike}
+use Rattle.hg_compare.specs.Same.{Compares, Decides, IsOther, parent_row}
+use Rattle.hg_compare.specs.Seen.{Compared, HasPiece, Holds}
+use Rattle.hg_compare.specs.Tracked.{is_unchanged}
+use Rattle.hg_compare.specs.declared.fault.CompareFault.{CompareFault}
+use Rattle.hg_compare.specs.declared.fault.CompareFault.TheVariants as a_compare_fault
+use Rattle.hg_compare.specs.declared.letter.Letter.{Letter}
+use Rattle.hg_compare.specs.declared.letter.Letter.TheVariants as a_letter
+use Rattle.hg_compare.specs.declared.looked.Looked.{Looked}
+use Rattle.hg_compare.specs.declared.looked.Looked.TheVariants as a_look
+use Rattle.hg_flat.specs.Cause.{of_compare, of_manifest}
+use Rattle.hg_flat.specs.Course.{Goes, IsFound, IsJudged, IsKeptManifest, IsManifest, LacksFile, LacksIn, LacksManifest, LacksParentRow, LoadsParent, MetBy, compared_letter, letter_of, upto}
+use Rattle.hg_flat.specs.Met.{Status, WasRead}
+use Rattle.hg_flat.specs.Parent.{HasContents, IsServed, KeepsRow, manifest_at, parent_rows, row_among, row_of}
+use Rattle.hg_flat.specs.declared.fault.StatusFault.{StatusFault}
+use Rattle.hg_flat.specs.declared.fault.StatusFault.TheVariants as a_fault
+use Rattle.hg_flat.specs.declared.parent.Loaded.{Loaded}
+use Rattle.hg_flat.specs.declared.parent.Parent.{Parent}
+
+-- ---- moments of the shelf
+
+pub was_longer : (old mid new : shelves.History) (name : List ℕ) (P : Option (List ℕ) → Type 0) → shelves.Passes old mid → shelves.Passes mid new → Was old mid name P → Was old new name P
+was_longer old mid new name P first second was = record {
+  at = was.at;
+  during = λ told. let during = was.during told in record { from = during.from; to = omega (arith, during.to, second.past.later) };
+  so = λ told. subst P (sym (ap (λ (f : shelves.Files). f name) (second.past.stay was.at (was.during told).to).shown)) (was.so told);
+}
+
+pub was_later : (old mid new : shelves.History) (name : List ℕ) (P : Option (List ℕ) → Type 0) → shelves.Passes old mid → Was mid new name P → Was old new name P
+was_later old mid new name P first was = record {
+  at = was.at;
+  during = λ told. let during = was.during (first.past.told ∙ told) in record { from = omega (arith, first.past.later, during.from); to = during.to };
+  so = λ told. was.so (first.past.told ∙ told);
+}
+
+-- the files of a moment stay
+pub files_then : (start new : shelves.History) → shelves.Passes start new → (new.at start.last).files ≡ (shelves.now start).files
+files_then start new passes = (passes.past.stay start.last (omega arith)).shown
+
+-- a file that is kept from the start of a status stays over a part of it
+pub keeps_stays : (start old new : shelves.History) (name : List ℕ) → shelves.Passes start old → shelves.Passes old new → KeepsFile new start.last name → Stays old new name ((shelves.now start).files name)
+keeps_stays start old new name first second keeps k during =
+    keeps k (omega (arith, first.past.later, during.from)) during.to
+    ∙ ap (λ (f : shelves.Files). f name) (files_then start new (shelf.passes_trans start old new first second))
+
+-- ---- what was read of a manifest
+
+read_moved : (s : Status) (copy : trees.History) (old new : shelves.History) (answer : Result Rows ManifestFault) → shelves.Passes s.shelf_old old → shelves.Passes old new → WasRead (upto s copy old) answer → WasRead (upto s copy new) answer
+read_moved s copy old new answer first second read = record {
+  size = read.size;
+  bytes = read.bytes;
+  few = read.few;
+  short = read.short;
+  sized = was_longer s.shelf_old old new (plain_name s.id.0) (λ file. size_of file ≡ Some read.size) first second read.sized;
+  front = was_longer s.shelf_old old new (plain_name s.id.0) (IsFrontOf read.size read.bytes) first second read.front;
+  found = read.found;
+}
+
+-- a tree that is looked at meanwhile says nothing of the manifest
+read_copy : (s : Status) (copy later : trees.History) (files : shelves.History) (answer : Result Rows ManifestFault) → WasRead (upto s copy files) answer → WasRead (upto s later files) answer
+read_copy s copy later files answer read =
+    record { size = read.size; bytes = read.bytes; few = read.few; short = read.short; sized = read.sized; front = read.front; found = read.found }
+
+by_null : (P Q R : Type 0) (b : Bool) → (Q → R) → MatchBool b P Q → MatchBool b P R
+by_null P Q R true goes is = is
+by_null P Q R false goes is = goes is
+
+pub manifest_later : (s : Status) (copy later : trees.History) (old new : shelves.History) (rows : Rows) → shelves.Passes s.shelf_old old → shelves.Passes old new → IsManifest (upto s copy old) rows → IsManifest (upto s later new) rows
+manifest_later s copy later old new rows first second is =
+    by_null (rows ≡ []) (WasRead (upto s copy old) (Ok rows)) (WasRead (upto s later new) (Ok rows)) (is_null s.id.0)
+    (λ read. read_copy s copy later new (Ok rows) (read_moved s copy old new (Ok rows) first second read)) is
+
+-- what a load read
+reads_was : (s : Status) (copy : trees.History) (old new : shelves.History) (answer : Result Rows ManifestFault) → shelves.Passes s.shelf_old old → shelves.Passes old new → Reads old new (plain_name s.id.0) answer → WasRead (upto s copy new) answer
+reads_was s copy old new answer first second reads = record {
+  size = reads.took.size;
+  bytes = reads.bytes;
+  few = reads.took.few;
+  short = reads.took.short;
+  sized = was_later s.shelf_old old new (plain_name s.id.0) (λ file. size_of file ≡ Some reads.took.size) first reads.took.sized;
+  front =
+      was_later s.shelf_old old new (plain_name s.id.0) (IsFrontOf reads.took.size reads.bytes) first
+      (record { at = new.last; during = λ told. record { from = second.past.later; to = omega arith }; so = λ told. reads.took.front told });
+  found = reads.found;
+}
+
+-- ---- a load
+
+if_null : (P Q : Type 0) (b : Bool) → (b ≡ true → P) → (b ≡ false → Q) → MatchBool b P Q
+if_null P Q true first second = first refl
+if_null P Q false first second = second refl
+
+pub load_done : (s : Status) (old new : shelves.History) (id : Id20) (rows : Rows) (answer : Result Rows ManifestFault) → answer ≡ Ok rows → shelves.Passes s.shelf_old old → shelves.Passes old new → id ≡ s.id
+    → (IsTrue (is_null id.0) → answer ≡ Ok []) → (is_null id.0 ≡ false → Finds old new (plain_name id.0) id (Ok rows)) → IsManifest (upto s s.tree_new new) rows
+load_done s old new id rows answer done first second same null found =
+    subst (λ (i : Id20). MatchBool (is_null i.0) (rows ≡ []) (WasRead (upto s s.tree_new new) (Ok rows))) same
+    (if_null (rows ≡ []) (WasRead (upto s s.tree_new new) (Ok rows)) (is_null id.0) (λ is. cc (done, null is))
+    (λ is. reads_was s s.tree_new old new (Ok rows) first second (subst (λ (i : Id20). Reads old new (plain_name i.0) (Ok rows)) same (found is))))
+
+-- ---- a comparison with the parent
+
+-- the manifest that is kept is that of the start
+pub manifest_then : (s : Status) (rows : Rows) (path : List ℕ) → shelves.Passes s.shelf_old s.shelf_new → KeepsRow s.shelf_new s.shelf_old.last s.id path → IsManifest s rows → manifest_at (shelves.now s.shelf_old).files s.id ≡ Ok rows
+manifest_then s rows path passes keeps is = by (is_null s.id.0) refl is
+  where
+    name : List ℕ
+    name = plain_name s.id.0
+
+    file : Option (List ℕ)
+    file = (shelves.now s.shelf_old).files name
+
+    by : (b : Bool) → is_null s.id.0 ≡ b → MatchBool b (rows ≡ []) (WasRead s (Ok rows)) → manifest_in s.id file ≡ Ok rows
+    by true null none = ap (λ (t : Bool). cond t (Ok []) (file_manifest s.id file)) null ∙ ap Ok (sym none)
+    by false some read =
+        let told : IsTrue s.shelf_old.told = sym passes.past.told ∙ keeps.told in
+        let stays : Stays s.shelf_old s.shelf_new name file = keeps_stays s.shelf_old s.shelf_old s.shelf_new name (shelf.passes_same s.shelf_old) passes (keeps.manifest some) in
+        let last : file_at s.shelf_new name read.front.at ≡ file_at s.shelf_new name s.shelf_new.last =
+        stays read.front.at (read.front.during told) ∙ sym (stays s.shelf_new.last (record { from = passes.past.later; to = omega arith })) in
+        let reads : Reads s.shelf_old s.shelf_new name (Ok rows) =
+        record {
+          bytes = read.bytes;
+          took = record {
+            size = read.size;
+            few = read.few;
+            short = read.short;
+            sized = read.sized;
+            front = λ known. subst (IsFrontOf read.size read.bytes) last (read.front.so told);
+          };
+          found = read.found;
+        }
+        in complete s.shelf_old s.shelf_new 0 0 name s.id (Ok rows) passes some reads refl file told stays (refl, omega arith)
+
+if_some_map : {A : Type 0} (o : Option A) (P Q : A → Type 0) → ((a : A) → P a → Q a) → IfSome o P → IfSome o Q
+if_some_map None P Q goes is = tt
+if_some_map (Some a) P Q goes is = goes a is
+
+-- the contents of its row are kept
+contents_kept : (s : Status) (rows : Rows) (path : List ℕ) → shelves.Passes s.shelf_old s.shelf_new → KeepsRow s.shelf_new s.shelf_old.last s.id path → manifest_at (shelves.now s.shelf_old).files s.id ≡ Ok rows
+    → IfSome (row_of rows path) (λ row. KeepsFile s.shelf_new s.shelf_old.last (contents_name row.id.0))
+contents_kept s rows path passes keeps formed =
+    subst (λ (r : Result Rows ManifestFault). IfSome (row_among r path) (λ row. KeepsFile s.shelf_new s.shelf_old.last (contents_name row.id.0))) formed
+    (subst (λ (f : shelves.Files). IfSome (row_among (manifest_at f s.id) path) (λ row. KeepsFile s.shelf_new s.shelf_old.last (contents_name row.id.0))) (files_then s.shelf_old s.shelf_new passes) keeps.contents)
+
+-- the letter by a manifest is that by the parent
+pub found_letter : (s : Status) (copy later : trees.History) (old new : shelves.History) (rows : Rows) (path : List ℕ) (before : Stat) (result : Result Letter StatusFault)
+    → shelves.Passes s.shelf_old old → shelves.Passes old new → IsManifest (upto s later new) rows → KeepsRow new s.shelf_old.last s.id path
+    → ((files : shelves.Files) → IsTrue old.told → IfSome (row_of rows path) (λ row. Stays old new (contents_name row.id.0) (files (contents_name row.id.0)))
+      → IfOk result (IsJudged files (row_of rows path) (trees.now copy) path))
+    → IfOk result (IsFound (shelves.now s.shelf_old).files s.id (trees.now copy) path)
+found_letter s copy later old new rows path before (Err fault) first second is keeps judged = tt
+found_letter s copy later old new rows path before (Ok letter) first second is keeps judged = record {
+  letter_is =
+      j.letter_is
+      ∙ ap (λ (r : Result Rows ManifestFault). compared_letter (option_map (λ row. parent_row row ((shelves.now s.shelf_old).files (contents_name row.id.0))) (row_among r path)) ((trees.now copy).things path)) (sym formed);
+  served = record { rows = rows; formed = formed; contents = j.contents };
+}
+  where
+    passes : shelves.Passes s.shelf_old new
+    passes = shelf.passes_trans s.shelf_old old new first second
+
+    formed : manifest_at (shelves.now s.shelf_old).files s.id ≡ Ok rows
+    formed = manifest_then (upto s later new) rows path passes keeps is
+
+    j : IsJudged (shelves.now s.shelf_old).files (row_of rows path) (trees.now copy) path letter
+    j =
+        judged (shelves.now s.shelf_old).files (sym second.past.told ∙ keeps.told)
+        (if_some_map (row_of rows path) (λ row. KeepsFile new s.shelf_old.last (contents_name row.id.0)) (λ row. Stays old new (contents_name row.id.0) ((shelves.now s.shelf_old).files (contents_name row.id.0)))
+        (λ row kept. keeps_stays s.shelf_old old new (contents_name row.id.0) first second kept)
+        (contents_kept (upto s later new) rows path passes keeps formed))
+
+-- rows that have one were read, for a parent that isn't null
+read_some : (s : Status) (rows : Rows) (path : List ℕ) (row : FileRow) → row_of rows path ≡ Some row → IsManifest s rows → (is_null s.id.0 ≡ false) × WasRead s (Ok rows)
+read_some s rows path row has is = by (is_null s.id.0) is
+  where
+    never : row_of [] path ≡ Some row → ⊥
+    never is = absurd (cc (is))
+
+    by : (b : Bool) → MatchBool b (rows ≡ []) (WasRead s (Ok rows)) → (b ≡ false) × WasRead s (Ok rows)
+    by true none = absurd (never (sym (ap (λ (r : Rows). row_of r path) none) ∙ has))
+    by false read = (refl, read)
+
+pub met_in : (s : Status) (later : trees.History) (old new : shelves.History) (rows : Rows) (path : List ℕ) (before : Stat) (fault : StatusFault) → shelves.Passes s.shelf_old old → IsManifest (upto s later new) rows
+    → LacksIn old new (row_of rows path) before fault → MetBy (upto s later new) path before fault
+met_in s later old new rows path before a_fault.OutOfMemory first is lacks = tt
+met_in s later old new rows path before a_fault.TreeFailed first is lacks = tt
+met_in s later old new rows path before a_fault.ShelfFailed first is lacks = tt
+met_in s later old new rows path before (a_fault.NoManifest gone) first is lacks = absurd lacks
+met_in s later old new rows path before (a_fault.ManifestTooLarge size) first is lacks = absurd lacks
+met_in s later old new rows path before (a_fault.ManifestLine line) first is lacks = absurd lacks
+met_in s later old new rows path before (a_fault.ManifestOrder line) first is lacks = absurd lacks
+met_in s later old new rows path before (a_fault.NoContents gone) first is (row, has, file) = record {
+  committed = (read_some (upto s later new) rows path row has is).0;
+  rows = rows;
+  read = (read_some (upto s later new) rows path row has is).1;
+  row = row;
+  is = has;
+  file = record {
+    names = file.names;
+    alike = file.alike;
+    absent = was_later s.shelf_old old new (contents_name gone.0) (λ f. f ≡ None) first file.absent;
+  };
+}
+
+pub met_load : (s : Status) (path : List ℕ) (before : Stat) (fault : StatusFault) → LacksManifest s fault → MetBy s path before fault
+met_load s path before a_fault.OutOfMemory lacks = tt
+met_load s path before a_fault.TreeFailed lacks = absurd lacks
+met_load s path before a_fault.ShelfFailed lacks = tt
+met_load s path before (a_fault.NoManifest gone) lacks = lacks
+met_load s path before (a_fault.ManifestTooLarge size) lacks = lacks
+met_load s path before (a_fault.ManifestLine line) lacks = lacks
+met_load s path before (a_fault.ManifestOrder line) lacks = lacks
+met_load s path before (a_fault.NoContents gone) lacks = absurd lacks
+
+-- ---- a status goes on
+
+kept_later : (s : Status) (copy later : trees.History) (old new : shelves.History) (loaded : Option Loaded) → shelves.Passes s.shelf_old old → shelves.Passes old new → IsKeptManifest (upto s copy old) loaded → IsKeptManifest (upto s later new) loaded
+kept_later s copy later old new None first second is = tt
+kept_later s copy later old new (Some loaded) first second is = manifest_later s copy later old new loaded.manifest first second is
+
+pub goes_on : (s : Status) (copy later : trees.History) (old new : shelves.History) (parent : Parent) → trees.Passes copy later → shelves.Passes old new → Goes (upto s copy old) parent → Goes (upto s later new) parent
+goes_on s copy later old new parent first second goes = record {
+  tree = tree.passes_trans s.tree_old copy later goes.tree first;
+  shelf = shelf.passes_trans s.shelf_old old new goes.shelf second;
+  same = goes.same;
+  read = kept_later s copy later old new parent.loaded goes.shelf second goes.read;
+}
+
+-- with a manifest that is loaded
+pub goes_loaded : (s : Status) (copy later : trees.History) (old new : shelves.History) (parent : Parent) (loaded : Loaded) → trees.Passes copy later → shelves.Passes old new → Goes (upto s copy old) parent
+    → IsManifest (upto s later new) loaded.manifest → Goes (upto s later new) (record { id = parent.id; loaded = Some loaded })
+goes_loaded s copy later old new parent loaded first second goes is = record {
+  tree = tree.passes_trans s.tree_old copy later goes.tree first;
+  shelf = shelf.passes_trans s.shelf_old old new goes.shelf second;
+  same = goes.same;
+  read = is;
+}
+
+-- ---- at the ends of the calls
+
+pub loads_room : (s : Status) (rows : Rows) (result : Result Loaded StatusFault) → IfOk result (λ loaded. loaded.manifest ≡ rows) → IfErr result (λ fault. fault ≡ a_fault.OutOfMemory) → IsManifest s rows → LoadsParent s result
+loads_room s rows (Ok loaded) same kind is = subst (IsManifest s) (sym same) is
+loads_room s rows (Err fault) same kind is = subst (LacksManifest s) (sym kind) tt
+
+pub always : {T E : Type 0} (r : Result T E) (P : Type 0) → P → OnOk r P
+always (Ok x) P is = is
+always (Err e) P is = tt
+
+pub ok_each : (r : Result Letter StatusFault) (A B C D E : Status → Type 0) (Q : Status → Letter → Type 0) → ((s : Status) → A s → B s → C s → D s → E s → IfOk r (Q s))
+    → IfOk r (λ letter. (s : Status) → A s → B s → C s → D s → E s → Q s letter)
+ok_each (Ok letter) A B C D E Q each = each
+ok_each (Err fault) A B C D E Q each = tt

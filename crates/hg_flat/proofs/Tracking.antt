@@ -1,0 +1,189 @@
+-- The rows of paths with an entry: one entry behind another, and over longer spans.
+use Rattle.std.proofs.Common.{ℕ, ◌≡◌, ◌+◌, ◌<◌, ◌≤◌, Bool, true, false, cond, List, [], ◌∷◌, ◌++◌, length, take, get_or, Option, Some, None, refl, sym, ap, ◌∙◌, subst, inl, inr, ◌⊎◌, arith}
+use Rattle.std.specs.Prelude.{IsTrue, IfSome, is_some}
+use Rattle.std.specs.List.{Contains}
+use Rattle.std.proofs.lemmas.List.{append-nil, append_assoc, take_more}
+use Rattle.std.proofs.lemmas.List.Elements.{Contains-append_cases, Contains-append_left, Contains-append_right, Contains-push, Contains-push_cases}
+use Rattle.hg_base.specs.declared.id.Id20.{Id20}
+use Rattle.hg_base.specs.declared.stat.Stat.{Stat}
+use Rattle.hg_entry.specs.Entry.{view}
+use Rattle.hg_entry.specs.Table.{marks_of}
+use Rattle.hg_tree.specs.History as trees
+use Rattle.hg_tree.specs.Moment.{Moment, stat_at}
+use Rattle.hg_tree.specs.Still.{AreAlike, Untouched}
+use Rattle.hg_tree.proofs.Stillness.{alike_between, same_kind, untouched_first, untouched_second}
+use Rattle.hg_shelf.specs.History as shelves
+use Rattle.hg_shelf.specs.Polite.{KeepsFile}
+use Rattle.hg_manifest.specs.Plain.{is_null, plain_name}
+use Rattle.hg_manifest.specs.declared.row.FileRow.{FileRow}
+use Rattle.hg_compare.specs.Alike.{contents_name, is_alike}
+use Rattle.hg_compare.specs.declared.letter.Letter.{Letter}
+use Rattle.hg_flat.specs.Full.{wants}
+use Rattle.hg_flat.specs.Listing.{AddsTracked, ArePutFor, IsAskedRow, IsLeftRow, IsLetterFor, IsPutFor, letter_at, row_under, rows_if, rows_under}
+use Rattle.hg_flat.specs.Parent.{HasContents, IsServed, KeepsRow, manifest_at, parent_rows, row_among, row_of}
+use Rattle.hg_flat.specs.declared.kept.FlatRow.{FlatRow}
+use Rattle.hg_flat.specs.declared.row.Row.{Row}
+use Rattle.hg_flat.specs.declared.row.Wanted.{Wanted}
+use Rattle.hg_flat.proofs.Alike.{file_alike}
+use Rattle.hg_flat.proofs.Faces.{stat_alike}
+use Rattle.hg_flat.proofs.Moved.{letter_moved}
+
+-- ---- one entry behind another
+
+put_append : (Put : FlatRow → List Row → Type 0) (xs ys : List FlatRow) (a b : List Row) → ArePutFor Put xs a → ArePutFor Put ys b → ArePutFor Put (xs ++ ys) (a ++ b)
+put_append Put [] ys a b first second = subst (λ (l : List Row). ArePutFor Put ys (l ++ b)) (sym first) second
+put_append Put (x ∷ xs) ys a b (own, rest, is, put, more) second =
+    (own, rest ++ b, ap (λ (l : List Row). l ++ b) is ∙ append_assoc own rest b, put, put_append Put xs ys rest b more second)
+
+put_weaker : (P Q : FlatRow → List Row → Type 0) (all : List FlatRow) (rows : List Row) → ((kept : FlatRow) (own : List Row) → P kept own → Q kept own) → ArePutFor P all rows → ArePutFor Q all rows
+put_weaker P Q [] rows weaker is = is
+put_weaker P Q (x ∷ all) rows weaker (own, rest, is, put, more) = (own, rest, is, weaker x own put, put_weaker P Q all rest weaker more)
+
+none_there : {A : Type 0} (x : A) → Contains [] x → ⊥
+none_there x (n, below, is) = absurd (omega (arith, below))
+
+-- a row is of one of the entries
+pub from_put : (Put : FlatRow → List Row → Type 0) (all : List FlatRow) (rows : List Row) → ArePutFor Put all rows → (row : Row) → Contains rows row
+    → (k : FlatRow) × (own : List Row) × Contains all k × Put k own × Contains own row
+from_put Put [] rows is row has = absurd (none_there row (subst (λ (l : List Row). Contains l row) is has))
+from_put Put (x ∷ all) rows (own, rest, is, put, more) row has =
+    elim (Contains-append_cases own rest row (subst (λ (l : List Row). Contains l row) is has)) [
+      | inl here ↦ (x, own, Contains-append_left (x ∷ []) all x (Contains-push [] x), put, here)
+      | inr later ↦ let from = from_put Put all rest more row later in (from.0, from.1, Contains-append_right (x ∷ []) all from.0 from.2, from.3, from.4)
+    ]
+
+-- each entry has its rows among them
+pub in_put : (Put : FlatRow → List Row → Type 0) (all : List FlatRow) (rows : List Row) → ArePutFor Put all rows → (k : FlatRow) → Contains all k
+    → (own : List Row) × Put k own × ((row : Row) → Contains own row → Contains rows row)
+in_put Put [] rows is k has = absurd (none_there k has)
+in_put Put (x ∷ all) rows (own, rest, is, put, more) k has =
+    elim (Contains-append_cases (x ∷ []) all k has) [
+      | inl one ↦
+          elim (Contains-push_cases [] x k one) [
+            | inl none ↦ absurd (none_there k none)
+            | inr same ↦
+                (own, subst (λ (q : FlatRow). Put q own) same put, λ row there. subst (λ (l : List Row). Contains l row) (sym is) (Contains-append_left own rest row there))
+          ]
+      | inr later ↦
+          let from = in_put Put all rest more k later in
+          (from.0, from.1, λ row there. subst (λ (l : List Row). Contains l row) (sym is) (Contains-append_right own rest row (from.2 row there)))
+    ]
+
+-- ---- the rows of one entry
+
+if_one : (b : Bool) (row other : Row) → Contains (rows_if b row) other → (b ≡ true) × (row ≡ other)
+if_one true row other has = elim (Contains-push_cases [] row other has) [ inl none ↦ absurd (none_there other none) | inr same ↦ (refl, same) ]
+if_one false row other has = absurd (none_there other has)
+
+-- a row that is put is that of the entry, under a letter that is wanted
+pub under_one : (wanted : Wanted) (kept : FlatRow) (letter : Option Letter) (row : Row) → Contains (rows_under wanted kept letter) row → (letter ≡ Some row.letter) × (wants wanted row.letter ≡ true) × (row ≡ row_under kept row.letter)
+under_one wanted kept None row has = absurd (none_there row has)
+under_one wanted kept (Some letter) row has =
+    let one = if_one (wants wanted letter) (row_under kept letter) row has in
+    let same : letter ≡ row.letter = ap (λ (r : Row). r.letter) one.1 in
+    (ap Some same, ap (wants wanted) (sym same) ∙ one.0, sym one.1 ∙ ap (row_under kept) same)
+
+-- the row under a letter that is wanted is put
+pub under_has : (wanted : Wanted) (kept : FlatRow) (letter : Letter) → wants wanted letter ≡ true → Contains (rows_under wanted kept (Some letter)) (row_under kept letter)
+under_has wanted kept letter is = subst (λ (b : Bool). Contains (rows_if b (row_under kept letter)) (row_under kept letter)) (sym is) (Contains-push [] (row_under kept letter))
+
+-- ---- what is left over a span is left over its parts
+
+keeps_earlier : (mid new : shelves.History) (from : ℕ) (name : List ℕ) → shelves.Extends mid new → from ≤ mid.last → KeepsFile new from name → KeepsFile mid from name
+keeps_earlier mid new from name past within keeps k above upto =
+    sym (ap (λ (f : shelves.Files). f name) (past.stay k upto).shown) ∙ keeps k above (omega (arith, upto, past.later)) ∙ ap (λ (f : shelves.Files). f name) (past.stay from within).shown
+
+some_weaker : {A : Type 0} (o : Option A) (P Q : A → Type 0) → ((a : A) → P a → Q a) → IfSome o P → IfSome o Q
+some_weaker None P Q goes is = tt
+some_weaker (Some a) P Q goes is = goes a is
+
+pub row_earlier : (mid new : shelves.History) (from : ℕ) (id : Id20) (path : List ℕ) → shelves.Extends mid new → from ≤ mid.last → KeepsRow new from id path → KeepsRow mid from id path
+row_earlier mid new from id path past within keeps = record {
+  told = sym past.told ∙ keeps.told;
+  manifest = λ some. keeps_earlier mid new from (plain_name id.0) past within (keeps.manifest some);
+  contents =
+      subst (λ (f : shelves.Files). IfSome (row_among (manifest_at f id) path) (λ row. KeepsFile mid from (contents_name row.id.0))) (past.stay from within).shown
+      (some_weaker (row_among (manifest_at (new.at from).files id) path) (λ (row : FileRow). KeepsFile new from (contents_name row.id.0)) (λ (row : FileRow). KeepsFile mid from (contents_name row.id.0))
+      (λ row kept. keeps_earlier mid new from (contents_name row.id.0) past within kept) keeps.contents);
+}
+
+module _ (wanted : Wanted) (id : Id20) (old mid new : trees.History) (first : trees.Extends old mid) (second : trees.Extends mid new) (files later : shelves.History) (since : ℕ) (past : shelves.Extends files later) (within : since ≤ files.last) where
+  pub left_first : (k : FlatRow) → IsLeftRow wanted id new old.last later since k → IsLeftRow wanted id mid old.last files since k
+  left_first k is = record {
+    own = untouched_first mid new old.last k.path second first.later is.own;
+    row = λ compared. row_earlier files later since id k.path past within (is.row compared);
+  }
+
+pub left_second : (wanted : Wanted) (id : Id20) (old mid new : trees.History) → trees.Extends old mid → trees.Extends mid new → (later : shelves.History) (since : ℕ) (k : FlatRow) → IsLeftRow wanted id new old.last later since k → IsLeftRow wanted id new mid.last later since k
+left_second wanted id old mid new first second later since k is =
+    record { own = untouched_second new old.last mid.last k.path first.later second.later is.own; row = is.row }
+
+-- ---- what is found at one moment is so at another at which the path is alike
+
+contents_moved : (files : shelves.Files) (m n : Moment) (path : List ℕ) (row : Option FileRow) → AreAlike m n path → HasContents files m path row → HasContents files n path row
+contents_moved files m n path None alike has = tt
+contents_moved files m n path (Some row) alike has =
+    subst (λ (o : Option Stat). IfSome o (λ stat. IsTrue (is_alike row stat) → IsTrue (is_some (files (contents_name row.id.0))))) (stat_alike m n path alike) has
+
+pub served_moved : (files : shelves.Files) (id : Id20) (m n : Moment) (path : List ℕ) → AreAlike m n path → IsServed files id m path → IsServed files id n path
+served_moved files id m n path alike is =
+    record { rows = is.rows; formed = is.formed; contents = contents_moved files m n path (row_of is.rows path) alike is.contents }
+
+pub found_moved : (S T : FlatRow → Type 0) (files : shelves.Files) (id : Id20) (m n : Moment) (wanted : Wanted) (kept : FlatRow) (letter : Option Letter) → (T kept → S kept) → (T kept → AreAlike m n kept.path)
+    → IsLetterFor S files id m wanted kept letter → IsLetterFor T files id n wanted kept letter
+found_moved S T files id m n wanted kept letter meets alike is = record {
+  right = λ t.
+      is.right (meets t)
+      ∙ ap (rows_under wanted kept) (letter_moved m n kept.path (parent_rows files id kept.path) (marks_of (view kept.entry)) (is_some kept.source) (alike t));
+  served = λ t asked.
+      served_moved files id m n kept.path (alike t)
+      (is.served (meets t) (record { compared = asked.compared; there = file_alike m n kept.path (same_kind m n kept.path (alike t).seen) ∙ asked.there }));
+}
+
+put_moved : (S T : FlatRow → Type 0) (files : shelves.Files) (id : Id20) (m n : Moment) (wanted : Wanted) (kept : FlatRow) (rows : List Row) → (T kept → S kept) → (T kept → AreAlike m n kept.path)
+    → IsPutFor S files id m wanted kept rows → IsPutFor T files id n wanted kept rows
+put_moved S T files id m n wanted kept rows meets alike is =
+    record { letter = is.letter; one = is.one; found = found_moved S T files id m n wanted kept is.letter meets alike is.found }
+
+pub tracked_moved : (S T : FlatRow → Type 0) (files : shelves.Files) (id : Id20) (m n : Moment) (wanted : Wanted) (all : List FlatRow) (a b : List Row) → ((k : FlatRow) → T k → S k) → ((k : FlatRow) → T k → AreAlike m n k.path)
+    → AddsTracked S files id m wanted all a b → AddsTracked T files id n wanted all a b
+tracked_moved S T files id m n wanted all a b meets alike (more, is, put) = (
+  more,
+  is,
+  put_weaker (IsPutFor S files id m wanted) (IsPutFor T files id n wanted) all more (λ kept own one. put_moved S T files id m n wanted kept own (meets kept) (alike kept) one) put,
+)
+
+-- ---- the steps
+
+pub tracked_none : (S : FlatRow → Type 0) (files : shelves.Files) (id : Id20) (m : Moment) (wanted : Wanted) (rows : List Row) → AddsTracked S files id m wanted [] rows rows
+tracked_none S files id m wanted rows = ([], sym (append-nil rows), refl)
+
+-- the rows of one entry
+pub tracked_one : (S : FlatRow → Type 0) (files : shelves.Files) (id : Id20) (m : Moment) (wanted : Wanted) (kept : FlatRow) (letter : Option Letter) (a b : List Row) → IsLetterFor S files id m wanted kept letter
+    → b ≡ a ++ rows_under wanted kept letter → AddsTracked S files id m wanted (kept ∷ []) a b
+tracked_one S files id m wanted kept letter a b found put =
+    (rows_under wanted kept letter, put, (rows_under wanted kept letter, [], sym (append-nil (rows_under wanted kept letter)), record { letter = letter; one = refl; found = found }, refl))
+
+tracked_trans : (S : FlatRow → Type 0) (files : shelves.Files) (id : Id20) (m : Moment) (wanted : Wanted) (xs ys : List FlatRow) (a b c : List Row) → AddsTracked S files id m wanted xs a b → AddsTracked S files id m wanted ys b c
+    → AddsTracked S files id m wanted (xs ++ ys) a c
+tracked_trans S files id m wanted xs ys a b c (more, is, put) (again, also, puts) = (
+  more ++ again,
+  also ∙ ap (λ (l : List Row). l ++ again) is ∙ append_assoc a more again,
+  put_append (IsPutFor S files id m wanted) xs ys more again put puts,
+)
+
+alike_same : (m : Moment) (p : List ℕ) → AreAlike m m p
+alike_same m p = record { seen = refl; exec = refl; above = λ dir below. refl; hg = λ dir below. refl }
+
+pub tracked_more : (wanted : Wanted) (id : Id20) (old mid new : trees.History) → trees.Extends old mid → trees.Extends mid new → (files later : shelves.History) (since : ℕ) → shelves.Extends files later → since ≤ files.last → (start : shelves.Files)
+    → (all : List FlatRow) (i : ℕ) (kept : FlatRow) (a b c : List Row) → i < length all → get_or all i kept ≡ kept
+    → AddsTracked (IsLeftRow wanted id mid old.last files since) start id (trees.now old) wanted (take i all) a b
+    → AddsTracked (IsLeftRow wanted id new mid.last later since) start id (trees.now mid) wanted (kept ∷ []) b c
+    → AddsTracked (IsLeftRow wanted id new old.last later since) start id (trees.now old) wanted (take (i + 1) all) a c
+tracked_more wanted id old mid new first second files later since past within start all i kept a b c below is before one =
+    subst (λ (l : List FlatRow). AddsTracked (IsLeftRow wanted id new old.last later since) start id (trees.now old) wanted l a c) (sym (take_more all i kept below ∙ ap (λ (r : FlatRow). take i all ++ r ∷ []) is))
+    (tracked_trans (IsLeftRow wanted id new old.last later since) start id (trees.now old) wanted (take i all) (kept ∷ []) a b c
+    (tracked_moved (IsLeftRow wanted id mid old.last files since) (IsLeftRow wanted id new old.last later since) start id (trees.now old) (trees.now old) wanted (take i all) a b
+    (left_first wanted id old mid new first second files later since past within) (λ k t. alike_same (trees.now old) k.path) before)
+    (tracked_moved (IsLeftRow wanted id new mid.last later since) (IsLeftRow wanted id new old.last later since) start id (trees.now mid) (trees.now old) wanted (kept ∷ []) b c
+    (left_second wanted id old mid new first second later since) (λ k t. alike_between old mid new k.path first second t.own) one))

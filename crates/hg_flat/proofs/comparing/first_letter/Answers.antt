@@ -1,0 +1,49 @@
+use Rattle.std.proofs.Common.{Ok, sym, subst}
+use Rattle.std.proofs.lemmas.Result.{err_from_is_err_and}
+use Rattle.hg_shelf.proofs.Histories as shelves
+use Rattle.hg_flat.specs.Course.{IsManifest, upto}
+use Rattle.hg_flat.proofs.Manifests.{found_letter, goes_loaded, manifest_later, met_in, met_load}
+use Rattle.hg_flat.proofs.comparing.first_letter.Goals as goal
+
+pub returns-in_err-loaded-clause-met : goal.returns-in_err-loaded-clause-met
+returns-in_err-loaded-clause-met g c =
+    let p = err_from_is_err_and c.from_residual.result c.from_residual.ensures.1 in
+    rw (p.1, p.2)
+    (λ s goes.
+    met_load (upto s (g.T.Tree.history c.args.tree.now) (g.S.Shelf.history c.load.new.shelf)) c.args.path.text.now c.args.before.now c.in_err-loaded.field-0.0
+    (c.in_err-loaded.ensures.found (upto s (g.T.Tree.history c.args.tree.now) (g.S.Shelf.history c.args.shelf.now)) goes.shelf goes.same))
+
+pub returns-in_err-letter-clause-met : goal.returns-in_err-letter-clause-met
+returns-in_err-letter-clause-met g c =
+    let p = err_from_is_err_and c.from_residual-in_err-letter.result c.from_residual-in_err-letter.ensures.1 in
+    rw (p.1, p.2)
+    (λ s goes.
+    let first = shelves.passes_trans s.shelf_old (g.S.Shelf.history c.args.shelf.now) (g.S.Shelf.history c.load.new.shelf) goes.shelf c.load.ensures.passes in
+    met_in s (g.T.Tree.history c.letter_in.new.tree) (g.S.Shelf.history c.load.new.shelf) (g.S.Shelf.history c.letter_in.new.shelf) c.in_ok-loaded.loaded.manifest c.args.path.text.now c.args.before.now
+    c.in_err-letter.field-0.0 first
+    (manifest_later s (g.T.Tree.history c.args.tree.now) (g.T.Tree.history c.letter_in.new.tree) (g.S.Shelf.history c.load.new.shelf) (g.S.Shelf.history c.letter_in.new.shelf) c.in_ok-loaded.loaded.manifest first
+    c.letter_in.ensures.shelf_passes
+    (c.in_ok-loaded.ensures.found (upto s (g.T.Tree.history c.args.tree.now) (g.S.Shelf.history c.args.shelf.now)) goes.shelf goes.same))
+    c.in_err-letter.ensures.lacks)
+
+pub returns-clause-goes : goal.returns-clause-goes
+returns-clause-goes g c = λ s goes.
+    let first = shelves.passes_trans s.shelf_old (g.S.Shelf.history c.args.shelf.now) (g.S.Shelf.history c.load.new.shelf) goes.shelf c.load.ensures.passes in
+    goes_loaded s (g.T.Tree.history c.args.tree.now) (g.T.Tree.history c.letter_in.new.tree) (g.S.Shelf.history c.args.shelf.now) (g.S.Shelf.history c.letter_in.new.shelf) c.args.parent.now c.letter_in.new.loaded
+    c.letter_in.ensures.tree_passes
+    (shelves.passes_trans (g.S.Shelf.history c.args.shelf.now) (g.S.Shelf.history c.load.new.shelf) (g.S.Shelf.history c.letter_in.new.shelf) c.load.ensures.passes c.letter_in.ensures.shelf_passes)
+    goes
+    (subst (IsManifest (upto s (g.T.Tree.history c.letter_in.new.tree) (g.S.Shelf.history c.letter_in.new.shelf))) (sym c.letter_in.ensures.kept)
+    (manifest_later s (g.T.Tree.history c.args.tree.now) (g.T.Tree.history c.letter_in.new.tree) (g.S.Shelf.history c.load.new.shelf) (g.S.Shelf.history c.letter_in.new.shelf) c.in_ok-loaded.loaded.manifest first
+    c.letter_in.ensures.shelf_passes
+    (c.in_ok-loaded.ensures.found (upto s (g.T.Tree.history c.args.tree.now) (g.S.Shelf.history c.args.shelf.now)) goes.shelf goes.same)))
+
+pub returns-clause-found : goal.returns-clause-found
+returns-clause-found g c = λ s goes told stays keeps shown.
+    let first = shelves.passes_trans s.shelf_old (g.S.Shelf.history c.args.shelf.now) (g.S.Shelf.history c.load.new.shelf) goes.shelf c.load.ensures.passes in
+    found_letter s (g.T.Tree.history c.args.tree.now) (g.T.Tree.history c.letter_in.new.tree) (g.S.Shelf.history c.load.new.shelf) (g.S.Shelf.history c.letter_in.new.shelf) c.in_ok-loaded.loaded.manifest c.args.path.text.now
+    c.args.before.now (Ok c.in_ok-letter.letter) first c.letter_in.ensures.shelf_passes
+    (manifest_later s (g.T.Tree.history c.args.tree.now) (g.T.Tree.history c.letter_in.new.tree) (g.S.Shelf.history c.load.new.shelf) (g.S.Shelf.history c.letter_in.new.shelf) c.in_ok-loaded.loaded.manifest first
+    c.letter_in.ensures.shelf_passes
+    (c.in_ok-loaded.ensures.found (upto s (g.T.Tree.history c.args.tree.now) (g.S.Shelf.history c.args.shelf.now)) goes.shelf goes.same))
+    keeps (λ files held kept. c.in_ok-letter.ensures.judged files told held stays kept shown)

@@ -1,0 +1,119 @@
+-- A status in its course: what it knows of the first parent so far, and what a comparison with it finds.
+use Rattle.std.specs.Prelude.{ℕ, ◌≡◌, ◌<◌, true, false, if◌then◌else◌, List, [], Option, Some, None, Result, Ok, Err, IsTrue, IfSome, MatchBool, is_some, option_map}
+use Rattle.hg_base.specs.declared.id.Id20.{Id20}
+use Rattle.hg_base.specs.declared.stat.Stat.{Stat}
+use Rattle.hg_tree.specs.History as trees
+use Rattle.hg_tree.specs.Moment.{Moment, stat_at}
+use Rattle.hg_tree.specs.declared.thing.Placed.{Placed}
+use Rattle.hg_shelf.specs.History as shelves
+use Rattle.hg_shelf.specs.Reads.{size_of}
+use Rattle.hg_manifest.specs.Load.{Was}
+use Rattle.hg_manifest.specs.Plain.{is_null, most, plain_name}
+use Rattle.hg_manifest.specs.Rows.{Rows}
+use Rattle.hg_manifest.specs.declared.fault.ManifestFault.TheVariants as a_manifest_fault
+use Rattle.hg_manifest.specs.declared.row.FileRow.{FileRow}
+use Rattle.hg_compare.specs.Alike.{contents_name, is_alike}
+use Rattle.hg_compare.specs.Same.{parent_row}
+use Rattle.hg_compare.specs.Tracked.{ParentRow, is_unchanged}
+use Rattle.hg_compare.specs.declared.letter.Letter.{Letter}
+use Rattle.hg_compare.specs.declared.letter.Letter.TheVariants as a_letter
+use Rattle.hg_compare.specs.declared.looked.Looked.{Looked}
+use Rattle.hg_compare.specs.declared.looked.Looked.TheVariants as a_look
+use Rattle.hg_flat.specs.Met.{Holds, Status, WasRead}
+use Rattle.hg_flat.specs.Parent.{HasContents, IsServed, KeepsRow, parent_rows, row_of}
+use Rattle.hg_flat.specs.declared.fault.StatusFault.{StatusFault}
+use Rattle.hg_flat.specs.declared.fault.StatusFault.TheVariants as a_fault
+use Rattle.hg_flat.specs.declared.parent.Loaded.{Loaded}
+use Rattle.hg_flat.specs.declared.parent.Parent.{Parent}
+
+-- a status up to there
+abbrev pub upto : Status → trees.History → shelves.History → Status
+upto s copy files = record s { tree_new = copy; shelf_new = files }
+
+-- rows that were read for the first parent; the null parent has none
+abbrev pub IsManifest : Status → Rows → Type 0
+IsManifest s rows = MatchBool (is_null s.id.0) (rows ≡ []) (WasRead s (Ok rows))
+
+-- what is kept of the manifest, once it is loaded
+abbrev pub IsKeptManifest : Status → Option Loaded → Type 0
+IsKeptManifest s None = Unit {0}
+IsKeptManifest s (Some loaded) = IsManifest s loaded.manifest
+
+-- a status that has come so far, with what it keeps of its parent
+pub record Goes (s : Status) (parent : Parent) : Type 0 where
+  pub tree : trees.Passes s.tree_old s.tree_new
+  pub shelf : shelves.Passes s.shelf_old s.shelf_new
+  pub same : parent.id ≡ s.id
+  pub read : IsKeptManifest s parent.loaded
+
+-- why a manifest could not be loaded
+abbrev pub LacksManifest : Status → StatusFault → Type 0
+LacksManifest s a_fault.OutOfMemory = Unit {0}
+LacksManifest s a_fault.TreeFailed = ⊥
+LacksManifest s a_fault.ShelfFailed = Unit {0}
+LacksManifest s (a_fault.NoManifest gone) = (is_null s.id.0 ≡ false) × (gone ≡ s.id) × Holds s (plain_name s.id.0) (λ file. file ≡ None)
+LacksManifest s (a_fault.ManifestTooLarge size) = (is_null s.id.0 ≡ false) × (most < size) × Holds s (plain_name s.id.0) (λ file. size_of file ≡ Some size)
+LacksManifest s (a_fault.ManifestLine line) = (is_null s.id.0 ≡ false) × WasRead s (Err (a_manifest_fault.ManifestLine line))
+LacksManifest s (a_fault.ManifestOrder line) = (is_null s.id.0 ≡ false) × WasRead s (Err (a_manifest_fault.ManifestOrder line))
+LacksManifest s (a_fault.NoContents gone) = ⊥
+
+-- what a load answers
+abbrev pub LoadsParent : Status → Result Loaded StatusFault → Type 0
+LoadsParent s (Ok loaded) = IsManifest s loaded.manifest
+LoadsParent s (Err fault) = LacksManifest s fault
+
+-- the letter of a path whose bytes are compared
+abbrev pub compared_letter : Option ParentRow → Option Placed → Letter
+compared_letter row placed = if is_unchanged row placed then a_letter.C else a_letter.M
+
+abbrev pub letter_of : Looked → Letter
+letter_of (a_look.Same settled) = a_letter.C
+letter_of a_look.Differs = a_letter.M
+letter_of a_look.Gone = a_letter.Gone
+
+-- the contents of a row weren't there, though a look showed a thing of its kind and executable bit
+pub record LacksFile (old new : shelves.History) (row : FileRow) (before : Stat) (gone : Id20) : Type 0 where
+  pub names : row.id ≡ gone
+  pub alike : IsTrue (is_alike row before)
+  pub absent : Was old new (contents_name gone.0) (λ file. file ≡ None)
+
+-- a fault of a comparison with a row
+abbrev pub LacksIn : shelves.History → shelves.History → Option FileRow → Stat → StatusFault → Type 0
+LacksIn old new found before a_fault.OutOfMemory = ⊥
+LacksIn old new found before a_fault.TreeFailed = Unit {0}
+LacksIn old new found before a_fault.ShelfFailed = Unit {0}
+LacksIn old new found before (a_fault.NoManifest id) = ⊥
+LacksIn old new found before (a_fault.ManifestTooLarge size) = ⊥
+LacksIn old new found before (a_fault.ManifestLine line) = ⊥
+LacksIn old new found before (a_fault.ManifestOrder line) = ⊥
+LacksIn old new found before (a_fault.NoContents gone) = (row : FileRow) × (found ≡ Some row) × LacksFile old new row before gone
+
+-- the letter of a path by what a manifest has of it, and that the row's contents were there
+pub record IsJudged (files : shelves.Files) (found : Option FileRow) (moment : Moment) (path : List ℕ) (letter : Letter) : Type 0 where
+  pub letter_is : letter ≡ compared_letter (option_map (λ row. parent_row row (files (contents_name row.id.0))) found) (moment.things path)
+  pub contents : HasContents files moment path found
+
+-- the letter of a path by what the first parent has of it
+pub record IsFound (files : shelves.Files) (id : Id20) (moment : Moment) (path : List ℕ) (letter : Letter) : Type 0 where
+  pub letter_is : letter ≡ compared_letter (parent_rows files id path) (moment.things path)
+  pub served : IsServed files id moment path
+
+-- the manifest has a row of the path, whose contents weren't there
+pub record LacksParentRow (s : Status) (path : List ℕ) (before : Stat) (gone : Id20) : Type 0 where
+  pub committed : is_null s.id.0 ≡ false
+  pub rows : Rows
+  pub read : WasRead s (Ok rows)
+  pub row : FileRow
+  pub is : row_of rows path ≡ Some row
+  pub file : LacksFile s.shelf_old s.shelf_new row before gone
+
+-- what a comparison of a path met, behind a look that showed something there
+abbrev pub MetBy : Status → List ℕ → Stat → StatusFault → Type 0
+MetBy s path before a_fault.OutOfMemory = Unit {0}
+MetBy s path before a_fault.TreeFailed = Unit {0}
+MetBy s path before a_fault.ShelfFailed = Unit {0}
+MetBy s path before (a_fault.NoManifest gone) = LacksManifest s (a_fault.NoManifest gone)
+MetBy s path before (a_fault.ManifestTooLarge size) = LacksManifest s (a_fault.ManifestTooLarge size)
+MetBy s path before (a_fault.ManifestLine line) = LacksManifest s (a_fault.ManifestLine line)
+MetBy s path before (a_fault.ManifestOrder line) = LacksManifest s (a_fault.ManifestOrder line)
+MetBy s path before (a_fault.NoContents gone) = LacksParentRow s path before gone

@@ -1,0 +1,202 @@
+//! The letter of a path whose bytes are compared with the first parent's.
+
+ghost use Rattle.std.specs.Prelude.{◌≡◌, List, Option, Some, ℕ, IsTrue, IfErr, IfOk, IfSome, OnOk, is_some};
+ghost use Rattle.hg_compare.specs.Alike.{contents_name, is_alike};
+ghost use Rattle.hg_compare.specs.Same.{Reads, StaysShown, parent_row};
+ghost use Rattle.hg_manifest.specs.Load.{Stays};
+ghost use Rattle.hg_shelf.specs.History as shelves;
+ghost use Rattle.hg_tree.specs.History as trees;
+ghost use Rattle.hg_tree.specs.Moment.{stat_at};
+ghost use Rattle.hg_flat.specs.Cause.{HasShelfCause, HasStatusCause};
+ghost use Rattle.hg_flat.specs.Course.{Goes, IsFound, IsJudged, LacksIn, LoadsParent, MetBy, compared_letter, letter_of, upto};
+ghost use Rattle.hg_flat.specs.Met.{Status};
+ghost use Rattle.hg_flat.specs.Parent.{KeepsRow, row_of};
+ghost use Rattle.hg_flat.specs.declared.fault.StatusFault.TheVariants as a_fault;
+
+use crate::fault::StatusFault;
+use crate::parent::{Loaded, Parent};
+use hg_base::{Id20, PathRef, Stat};
+use hg_compare::{Letter, Looked, Room, same};
+use hg_manifest::{FileRow, Manifest};
+use hg_shelf::Shelf;
+use hg_tree::Tree;
+use std::alloc::Global;
+
+// Loads the manifest of a parent.
+fn load<S: Shelf>(alloc: Global, shelf: &mut S, id: &Id20) -> Result<Loaded, StatusFault>
+    ensures passes { shelves.Passes (S.history shelf.old) (S.history shelf.new) }
+    ensures found { (s : Status) → shelves.Passes s.shelf_old (S.history shelf.old)
+        → id.now ≡ s.id
+        → LoadsParent (upto s s.tree_new (S.history shelf.new)) result }
+    ensures kind { IfErr result (λ fault. fault ≡ a_fault.TreeFailed → ⊥) }
+    ensures cause { HasShelfCause (S.faults shelf.old) (S.faults shelf.new) result }
+{
+    match Manifest::load(alloc, shelf, id) {
+        Err(fault) => Err(StatusFault::from(fault)),
+        Ok(manifest) => with_room(alloc, manifest),
+    }
+}
+
+fn with_room(alloc: Global, manifest: Manifest) -> Result<Loaded, StatusFault>
+    ensures manifest { IfOk result (λ loaded. loaded.manifest ≡ manifest) }
+    ensures kind { IfErr result (λ fault. fault ≡ a_fault.OutOfMemory) }
+{
+    let room = Room::new(alloc)?;
+    Ok(Loaded { manifest, room })
+}
+
+fn letter_of(looked: Looked) -> Letter
+    ensures { result ≡ letter_of looked }
+{
+    match looked {
+        Looked::Same { .. } => Letter::C,
+        Looked::Differs => Letter::M,
+        Looked::Gone => Letter::Gone,
+    }
+}
+
+// The letter of a path by its row.
+fn letter_by_row<T: Tree, S: Shelf>(
+    tree: &mut T,
+    shelf: &mut S,
+    path: PathRef<'_>,
+    row: &FileRow,
+    before: &Stat,
+    room: &mut Room,
+) -> Result<Letter, StatusFault>
+    ensures tree_passes { trees.Passes (T.history tree.old) (T.history tree.new) }
+    ensures shelf_passes { shelves.Passes (S.history shelf.old) (S.history shelf.new) }
+    ensures judged { (files : shelves.Files) → IsTrue (T.history tree.old).told
+        → IsTrue (S.history shelf.old).told
+        → StaysShown (T.history tree.old) (T.history tree.new) path.entry.text.now
+        → Stays (S.history shelf.old) (S.history shelf.new) (contents_name row.now.id.0) (files (contents_name row.now.id.0))
+        → stat_at (trees.now (T.history tree.old)) path.entry.text.now ≡ Some before.now
+        → IfOk result (IsJudged files (Some row.now) (trees.now (T.history tree.old)) path.entry.text.now) }
+    ensures lacks { IfErr result (LacksIn (S.history shelf.old) (S.history shelf.new) (Some row.now) before.now) }
+    ensures asked { IsTrue (T.history tree.old).told → Reads before.now.size path.entry.text.now (T.history tree.old) (T.history tree.new) }
+    ensures cause { HasStatusCause (T.faults tree.old) (T.faults tree.new) result }
+    ensures cause_shelf { HasShelfCause (S.faults shelf.old) (S.faults shelf.new) result }
+{
+    match same(tree, shelf, path, row, before, room) {
+        Err(fault) => Err(StatusFault::from(fault)),
+        Ok(looked) => Ok(letter_of(looked)),
+    }
+}
+
+// The letter of a path by what a manifest has of it; what it hasn't is modified.
+fn letter_in<T: Tree, S: Shelf>(
+    tree: &mut T,
+    shelf: &mut S,
+    path: PathRef<'_>,
+    before: &Stat,
+    loaded: &mut Loaded,
+) -> Result<Letter, StatusFault>
+    ensures tree_passes { trees.Passes (T.history tree.old) (T.history tree.new) }
+    ensures shelf_passes { shelves.Passes (S.history shelf.old) (S.history shelf.new) }
+    ensures kept { loaded.new.manifest ≡ loaded.old.manifest }
+    ensures judged { (files : shelves.Files) → IsTrue (T.history tree.old).told
+        → IsTrue (S.history shelf.old).told
+        → StaysShown (T.history tree.old) (T.history tree.new) path.entry.text.now
+        → IfSome
+        (row_of loaded.old.manifest path.entry.text.now)
+        (λ row. Stays (S.history shelf.old) (S.history shelf.new) (contents_name row.id.0) (files (contents_name row.id.0)))
+        → stat_at (trees.now (T.history tree.old)) path.entry.text.now ≡ Some before.now
+        → IfOk
+        result
+        (IsJudged
+        files
+        (row_of loaded.old.manifest path.entry.text.now)
+        (trees.now (T.history tree.old))
+        path.entry.text.now) }
+    ensures lacks { IfErr
+        result
+        (LacksIn
+        (S.history shelf.old)
+        (S.history shelf.new)
+        (row_of loaded.old.manifest path.entry.text.now)
+        before.now) }
+    ensures asked { IsTrue (T.history tree.old).told → Reads before.now.size path.entry.text.now (T.history tree.old) (T.history tree.new) }
+    ensures cause { HasStatusCause (T.faults tree.old) (T.faults tree.new) result }
+    ensures cause_shelf { HasShelfCause (S.faults shelf.old) (S.faults shelf.new) result }
+{
+    match loaded.manifest.get(path) {
+        None => Ok(Letter::M),
+        Some(row) => letter_by_row(tree, shelf, path, &row, before, &mut loaded.room),
+    }
+}
+
+// The same where the manifest has to be loaded first.
+fn first_letter<T: Tree, S: Shelf>(
+    alloc: Global,
+    tree: &mut T,
+    shelf: &mut S,
+    path: PathRef<'_>,
+    before: &Stat,
+    parent: &mut Parent,
+) -> Result<Letter, StatusFault>
+    ensures tree_passes { trees.Passes (T.history tree.old) (T.history tree.new) }
+    ensures shelf_passes { shelves.Passes (S.history shelf.old) (S.history shelf.new) }
+    ensures goes { OnOk
+        result
+        ((s : Status) → Goes (upto s (T.history tree.old) (S.history shelf.old)) parent.old
+        → Goes (upto s (T.history tree.new) (S.history shelf.new)) parent.new) }
+    // Where nobody touches the path and what the parent has of it, it is the letter of that.
+    ensures found { IfOk
+        result
+        (λ letter. (s : Status) → Goes (upto s (T.history tree.old) (S.history shelf.old)) parent.old
+        → IsTrue (T.history tree.old).told
+        → StaysShown (T.history tree.old) (T.history tree.new) path.entry.text.now
+        → KeepsRow (S.history shelf.new) s.shelf_old.last s.id path.entry.text.now
+        → stat_at (trees.now (T.history tree.old)) path.entry.text.now ≡ Some before.now
+        → IsFound (shelves.now s.shelf_old).files s.id (trees.now (T.history tree.old)) path.entry.text.now letter) }
+    ensures met { IfErr
+        result
+        (λ fault. (s : Status) → Goes (upto s (T.history tree.old) (S.history shelf.old)) parent.old
+        → MetBy (upto s (T.history tree.new) (S.history shelf.new)) path.entry.text.now before.now fault) }
+    ensures asked { IsTrue (T.history tree.old).told → Reads before.now.size path.entry.text.now (T.history tree.old) (T.history tree.new) }
+    ensures cause { HasStatusCause (T.faults tree.old) (T.faults tree.new) result }
+    ensures cause_shelf { HasShelfCause (S.faults shelf.old) (S.faults shelf.new) result }
+{
+    let mut loaded = load(alloc, shelf, &parent.id)?;
+    let letter = letter_in(tree, shelf, path, before, &mut loaded)?;
+    parent.loaded = Some(loaded);
+    Ok(letter)
+}
+
+/// The letter of a path, C or M, by a comparison of what stands there with what the parent has of it. A look showed `before` there.
+pub(crate) fn compared_letter<T: Tree, S: Shelf>(
+    alloc: Global,
+    tree: &mut T,
+    shelf: &mut S,
+    path: PathRef<'_>,
+    before: &Stat,
+    parent: &mut Parent,
+) -> Result<Letter, StatusFault>
+    ensures tree_passes { trees.Passes (T.history tree.old) (T.history tree.new) }
+    ensures shelf_passes { shelves.Passes (S.history shelf.old) (S.history shelf.new) }
+    ensures goes { OnOk
+        result
+        ((s : Status) → Goes (upto s (T.history tree.old) (S.history shelf.old)) parent.old
+        → Goes (upto s (T.history tree.new) (S.history shelf.new)) parent.new) }
+    // Where nobody touches the path and what the parent has of it, it is the letter of that.
+    ensures found { IfOk
+        result
+        (λ letter. (s : Status) → Goes (upto s (T.history tree.old) (S.history shelf.old)) parent.old
+        → IsTrue (T.history tree.old).told
+        → StaysShown (T.history tree.old) (T.history tree.new) path.entry.text.now
+        → KeepsRow (S.history shelf.new) s.shelf_old.last s.id path.entry.text.now
+        → stat_at (trees.now (T.history tree.old)) path.entry.text.now ≡ Some before.now
+        → IsFound (shelves.now s.shelf_old).files s.id (trees.now (T.history tree.old)) path.entry.text.now letter) }
+    ensures met { IfErr
+        result
+        (λ fault. (s : Status) → Goes (upto s (T.history tree.old) (S.history shelf.old)) parent.old
+        → MetBy (upto s (T.history tree.new) (S.history shelf.new)) path.entry.text.now before.now fault) }
+    ensures asked { IsTrue (T.history tree.old).told → Reads before.now.size path.entry.text.now (T.history tree.old) (T.history tree.new) }
+    ensures cause { HasStatusCause (T.faults tree.old) (T.faults tree.new) result }
+    ensures cause_shelf { HasShelfCause (S.faults shelf.old) (S.faults shelf.new) result }
+{
+    match &mut parent.loaded {
+        None => first_letter(alloc, tree, shelf, path, before, parent),
+        Some(loaded) => letter_in(tree, shelf, path, before, loaded),
+    }
+}
