@@ -41,9 +41,9 @@ use Rattle.hg_tree.specs.declared.thing.Thing.TheVariants as a_thing
 use Rattle.hg_tree.proofs.Spans.{now_same, ours_first, ours_second, ours_unstepped}
 use Rattle.hg_tree.proofs.Stillness.{ours_untouched}
 use Rattle.hg_cli.specs.Call.{Call, Fails, Looked, Serves, Watched}
-use Rattle.hg_cli.specs.Command.{CommandCause, FindsAll, HasBadManifest, IsBegunFor, IsExpected, IsFaultOrMemory, IsPrintedFor, IsReady, LacksContents, LeavesFront, LeavesOut, MetBefore, Prints, RanStatus, wanted_in}
+use Rattle.hg_cli.specs.Command.{CommandCause, HasBadManifest, IsBegunFor, IsExpected, IsFaultOrMemory, IsPrintedFor, IsReady, LacksContents, LeavesFront, LeavesOut, MetBefore, Prints, RanStatus, wanted_in}
 use Rattle.hg_cli.specs.Flags.{is_status, style_of, wanted_of}
-use Rattle.hg_cli.specs.Listed.{AsksLittle, AsksOver, IgnoreCause, IgnoreSeen, IsListable, IsListed, IsListedFor, IsLoaded, IsOwn, IsRecorded, IsServedFor, IsUntouched, LacksPatterns, ListingCause, Lists, LoadMet, Loaded, LooksFor, ParentMet, first_parent, has_ignore_file, is_file_kind, needs_patterns, shows_file, status_over}
+use Rattle.hg_cli.specs.Listed.{AsksOver, IgnoreCause, IgnoreSeen, IsListable, IsListed, IsListedFor, IsLoaded, IsOwn, IsRecorded, IsUntouched, LacksPatterns, ListingCause, Lists, LoadMet, Loaded, ParentMet, first_parent, has_ignore_file, is_file_kind, shows_file, status_over}
 use Rattle.hg_cli.specs.Load.{id_in, of_load, record_in}
 use Rattle.hg_cli.specs.Loaded.{Answers, IsFlatOf, Loads, Try}
 use Rattle.hg_cli.specs.declared.load_fault.LoadFault.{LoadFault}

@@ -1,5 +1,5 @@
 -- The rows of a status: the load, the look for ignore patterns, the listing.
-use Rattle.std.proofs.Common.{ap, false, inl, refl, sym, ◌∙◌}
+use Rattle.std.proofs.Common.{inl, refl, sym, ◌∙◌}
 use Rattle.std.proofs.lemmas.Result.{err_from_is_err_and}
 use Rattle.hg_flat.specs.Shown.{flat_in}
 use Rattle.hg_shelf.specs.History.{History}
