@@ -1,6 +1,6 @@
 -- Entries and their paths: which are compared, and which nobody touches.
-use Rattle.std.proofs.Common.{ℕ, ◌≡◌, Bool, false, ◌&&◌, ◌||◌, List, Option, Some, None, option_map, refl, sym, ap, ◌∙◌}
-use Rattle.std.specs.Prelude.{IsTrue, IfSome, is_some}
+use Rattle.std.proofs.Common.{ℕ, ◌≡◌, ◌&&◌, ◌||◌, List, Option, Some, None, option_map, refl, ap, ◌∙◌}
+use Rattle.std.specs.Prelude.{IfSome, is_some}
 use Rattle.std.specs.List.{Contains}
 use Rattle.hg_base.specs.declared.id.Id20.{Id20}
 use Rattle.hg_entry.specs.Entry.{view}
@@ -16,7 +16,7 @@ use Rattle.hg_compare.specs.Alike.{contents_name}
 use Rattle.hg_flat.specs.Kept.{source_of}
 use Rattle.hg_flat.specs.Listing.{IsLeftRow, is_compared_row}
 use Rattle.hg_flat.specs.Parent.{IsLeft, is_compared, is_plain_entry, manifest_at, row_among}
-use Rattle.hg_flat.specs.Shown.{flat_in, kept_of}
+use Rattle.hg_flat.specs.Shown.{flat_in}
 use Rattle.hg_flat.specs.declared.flat.Flat.{Flat}
 use Rattle.hg_flat.specs.declared.kept.FlatRow.{FlatRow}
 use Rattle.hg_flat.specs.declared.row.Wanted.{Wanted}

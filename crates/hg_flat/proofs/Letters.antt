@@ -1,5 +1,5 @@
 -- The letter of an entry, by what its marks say and a look or a comparison shows.
-use Rattle.std.proofs.Common.{ℕ, ◌≡◌, Bool, true, false, not, ◌&&◌, ◌||◌, cond, List, [], Option, Some, None, option_map, refl, sym, ap, ◌∙◌, subst, inl, inr}
+use Rattle.std.proofs.Common.{ℕ, ◌≡◌, Bool, true, false, not, ◌&&◌, ◌||◌, cond, List, Option, Some, None, option_map, refl, sym, ap, ◌∙◌}
 use Rattle.std.specs.Prelude.{IsTrue, is_some}
 use Rattle.std.proofs.lemmas.Bool.{and_parts, or_parts}
 use Rattle.hg_base.specs.declared.id.Id20.{Id20}
@@ -11,15 +11,14 @@ use Rattle.hg_tree.specs.declared.thing.Placed.{Placed}
 use Rattle.hg_tree.specs.declared.thing.Thing.{Thing}
 use Rattle.hg_tree.specs.declared.thing.Thing.TheVariants as a_thing
 use Rattle.hg_shelf.specs.History as shelves
-use Rattle.hg_compare.specs.Tracked.{ParentRow, is_file_or_link, is_file_or_link_thing, is_unchanged, tracked_letter}
+use Rattle.hg_compare.specs.Tracked.{is_file_or_link, is_file_or_link_thing, is_unchanged}
 use Rattle.hg_compare.specs.declared.letter.Letter.{Letter}
 use Rattle.hg_compare.specs.declared.letter.Letter.TheVariants as a_letter
 use Rattle.hg_flat.specs.Course.{IsFound, compared_letter}
 use Rattle.hg_flat.specs.Full.{wants}
-use Rattle.hg_flat.specs.Listing.{IsAskedRow, IsLetterFor, is_compared_row, is_file_or_link_kind, letter_at, marked_letter, row_under, rows_if, rows_under, wants_bytes, wants_tracked}
-use Rattle.hg_flat.specs.Parent.{IsServed, is_plain_entry, parent_rows}
+use Rattle.hg_flat.specs.Listing.{IsLetterFor, is_compared_row, is_file_or_link_kind, letter_at, marked_letter, row_under, rows_if, rows_under, wants_bytes, wants_tracked}
+use Rattle.hg_flat.specs.Parent.{is_plain_entry, parent_rows}
 use Rattle.hg_flat.specs.declared.kept.FlatRow.{FlatRow}
-use Rattle.hg_flat.specs.declared.row.Row.{Row}
 use Rattle.hg_flat.specs.declared.row.Wanted.{Wanted}
 
 -- ---- what a look shows

@@ -1,38 +1,26 @@
 -- What is known of the first parent in the course of a status.
-use Rattle.std.proofs.Common.{ℕ, ◌≡◌, ◌<◌, ◌≤◌, Bool, true, false, cond, List, [], length, Option, Some, None, Result, Ok, Err, option_map, refl, sym, ap, ◌∙◌, subst, arith, inl, inr}
-use Rattle.std.specs.Prelude.{IsTrue, IfErr, IfOk, IfSome, OnOk, MatchBool, is_some}
-use Rattle.std.proofs.lemmas.Bool.{cases_Bool}
+use Rattle.std.proofs.Common.{ℕ, ◌≡◌, Bool, true, false, cond, List, [], Option, Some, None, Result, Ok, Err, option_map, refl, sym, ap, ◌∙◌, subst, arith}
+use Rattle.std.specs.Prelude.{IsTrue, IfErr, IfOk, IfSome, OnOk, MatchBool}
 use Rattle.hg_base.specs.declared.id.Id20.{Id20}
 use Rattle.hg_base.specs.declared.stat.Stat.{Stat}
 use Rattle.hg_tree.specs.History as trees
-use Rattle.hg_tree.specs.Moment.{Moment, stat_at}
-use Rattle.hg_tree.specs.declared.thing.Placed.{Placed}
 use Rattle.hg_tree.proofs.Spans as tree
 use Rattle.hg_shelf.specs.History as shelves
-use Rattle.hg_shelf.specs.Polite.{KeepsFile, KeepsPlain}
+use Rattle.hg_shelf.specs.Polite.{KeepsFile}
 use Rattle.hg_shelf.specs.Reads.{size_of}
 use Rattle.hg_shelf.proofs.Histories as shelf
 use Rattle.hg_manifest.specs.Load.{Finds, IsFrontOf, Reads, Stays, Was, file_at, file_manifest, manifest_in}
 use Rattle.hg_manifest.specs.Plain.{is_null, plain_name}
 use Rattle.hg_manifest.specs.Rows.{Rows}
 use Rattle.hg_manifest.specs.declared.fault.ManifestFault.{ManifestFault}
-use Rattle.hg_manifest.specs.declared.fault.ManifestFault.TheVariants as a_manifest_fault
 use Rattle.hg_manifest.specs.declared.row.FileRow.{FileRow}
 use Rattle.hg_manifest.proofs.Loads.{complete}
-use Rattle.hg_compare.specs.Alike.{contents_name, is_alike}
-use Rattle.hg_compare.specs.Same.{Compares, Decides, IsOther, parent_row}
-use Rattle.hg_compare.specs.Seen.{Compared, HasPiece, Holds}
-use Rattle.hg_compare.specs.Tracked.{is_unchanged}
-use Rattle.hg_compare.specs.declared.fault.CompareFault.{CompareFault}
-use Rattle.hg_compare.specs.declared.fault.CompareFault.TheVariants as a_compare_fault
+use Rattle.hg_compare.specs.Alike.{contents_name}
+use Rattle.hg_compare.specs.Same.{parent_row}
 use Rattle.hg_compare.specs.declared.letter.Letter.{Letter}
-use Rattle.hg_compare.specs.declared.letter.Letter.TheVariants as a_letter
-use Rattle.hg_compare.specs.declared.looked.Looked.{Looked}
-use Rattle.hg_compare.specs.declared.looked.Looked.TheVariants as a_look
-use Rattle.hg_flat.specs.Cause.{of_compare, of_manifest}
-use Rattle.hg_flat.specs.Course.{Goes, IsFound, IsJudged, IsKeptManifest, IsManifest, LacksFile, LacksIn, LacksManifest, LacksParentRow, LoadsParent, MetBy, compared_letter, letter_of, upto}
+use Rattle.hg_flat.specs.Course.{Goes, IsFound, IsJudged, IsKeptManifest, IsManifest, LacksIn, LacksManifest, LoadsParent, MetBy, compared_letter, upto}
 use Rattle.hg_flat.specs.Met.{Status, WasRead}
-use Rattle.hg_flat.specs.Parent.{HasContents, IsServed, KeepsRow, manifest_at, parent_rows, row_among, row_of}
+use Rattle.hg_flat.specs.Parent.{KeepsRow, manifest_at, row_among, row_of}
 use Rattle.hg_flat.specs.declared.fault.StatusFault.{StatusFault}
 use Rattle.hg_flat.specs.declared.fault.StatusFault.TheVariants as a_fault
 use Rattle.hg_flat.specs.declared.parent.Loaded.{Loaded}
@@ -166,7 +154,7 @@ contents_kept s rows path passes keeps formed =
 pub found_letter : (s : Status) (copy later : trees.History) (old new : shelves.History) (rows : Rows) (path : List ℕ) (before : Stat) (result : Result Letter StatusFault)
     → shelves.Passes s.shelf_old old → shelves.Passes old new → IsManifest (upto s later new) rows → KeepsRow new s.shelf_old.last s.id path
     → ((files : shelves.Files) → IsTrue old.told → IfSome (row_of rows path) (λ row. Stays old new (contents_name row.id.0) (files (contents_name row.id.0)))
-      → IfOk result (IsJudged files (row_of rows path) (trees.now copy) path))
+    → IfOk result (IsJudged files (row_of rows path) (trees.now copy) path))
     → IfOk result (IsFound (shelves.now s.shelf_old).files s.id (trees.now copy) path)
 found_letter s copy later old new rows path before (Err fault) first second is keeps judged = tt
 found_letter s copy later old new rows path before (Ok letter) first second is keeps judged = record {

@@ -1,9 +1,9 @@
 -- A status in its course: what it knows of the first parent so far, and what a comparison with it finds.
-use Rattle.std.specs.Prelude.{ℕ, ◌≡◌, ◌<◌, true, false, if◌then◌else◌, List, [], Option, Some, None, Result, Ok, Err, IsTrue, IfSome, MatchBool, is_some, option_map}
+use Rattle.std.specs.Prelude.{ℕ, ◌≡◌, ◌<◌, false, if◌then◌else◌, List, [], Option, Some, None, Result, Ok, Err, IsTrue, MatchBool, option_map}
 use Rattle.hg_base.specs.declared.id.Id20.{Id20}
 use Rattle.hg_base.specs.declared.stat.Stat.{Stat}
 use Rattle.hg_tree.specs.History as trees
-use Rattle.hg_tree.specs.Moment.{Moment, stat_at}
+use Rattle.hg_tree.specs.Moment.{Moment}
 use Rattle.hg_tree.specs.declared.thing.Placed.{Placed}
 use Rattle.hg_shelf.specs.History as shelves
 use Rattle.hg_shelf.specs.Reads.{size_of}
@@ -20,7 +20,7 @@ use Rattle.hg_compare.specs.declared.letter.Letter.TheVariants as a_letter
 use Rattle.hg_compare.specs.declared.looked.Looked.{Looked}
 use Rattle.hg_compare.specs.declared.looked.Looked.TheVariants as a_look
 use Rattle.hg_flat.specs.Met.{Holds, Status, WasRead}
-use Rattle.hg_flat.specs.Parent.{HasContents, IsServed, KeepsRow, parent_rows, row_of}
+use Rattle.hg_flat.specs.Parent.{HasContents, IsServed, parent_rows, row_of}
 use Rattle.hg_flat.specs.declared.fault.StatusFault.{StatusFault}
 use Rattle.hg_flat.specs.declared.fault.StatusFault.TheVariants as a_fault
 use Rattle.hg_flat.specs.declared.parent.Loaded.{Loaded}

@@ -1,5 +1,5 @@
 -- What a plain status met where it answers a fault of the first parent, each at a moment of the call.
-use Rattle.std.specs.Prelude.{ℕ, ◌≡◌, ◌≤◌, ◌<◌, false, List, length, Option, Some, None, Result, Ok, Err, IsTrue, is_some}
+use Rattle.std.specs.Prelude.{ℕ, ◌≡◌, ◌≤◌, ◌<◌, false, List, length, Option, Some, None, Result, Ok, Err, IsTrue}
 use Rattle.hg_base.specs.declared.id.Id20.{Id20}
 use Rattle.hg_base.specs.declared.stat.Stat.{Stat}
 use Rattle.hg_entry.specs.Table.{Flat}

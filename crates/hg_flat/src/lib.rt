@@ -1,17 +1,18 @@
 //! The record of a dirstate as one map from path to entry, and the plain status over it.
 //!
-//! A status tells of each path whether it is tracked and what became of it (help topic `status`): `A` added, `!` tracked but missing,
-//! `?` not tracked, and so on for a parent with files. The plain status looks at every tracked path and at everything that stands in
-//! the working copy; it trusts no recorded time and passes no directory over. `Flat` is the map, read from an `Image` by
-//! `Flat::read`; `plain_status` gives the rows, and its contract says that they are the full listing.
+//! A status tells of each path whether it is tracked and what became of it since the first parent (help topic `status`): `M` modified, `A` added, `R`
+//! removed, `!` tracked but missing, `C` clean, `?` not tracked. The plain status looks at every tracked path and at everything that stands in
+//! the working copy, and compares all bytes with the first parent's, as the plain store below `.hg` has them; it trusts no recorded time and passes no
+//! directory over. `Flat` is the map, read from an `Image` by `Flat::read`; `plain_status` gives the rows, and its contract says that they are the
+//! full listing.
 //!
 //! ```text
 //! let flat = Flat::read(alloc, &image)?;
-//! if flat.is_unborn() {
-//!     let rows = plain_status(alloc, &flat, &mut tree)?;
-//!     rows.at(0);  // letter `A`, path `src/main.c`, no source
-//! }
+//! let rows = plain_status(alloc, &flat, &flat.first_parent(), &mut tree, &mut shelf, wanted)?;
+//! rows.at(0);  // letter `M`, path `src/main.c`, no source
 //! ```
+//!
+//! What the first parent has of a path, and which paths are compared, stands in `specs/Parent.antt`; what a fault of it comes from in `specs/Met.antt`.
 #![tactic(auto)]
 
 mod comparing;

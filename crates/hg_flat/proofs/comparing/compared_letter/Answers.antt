@@ -42,7 +42,7 @@ pub returns-in-Some-clause-met : goal.returns-in-Some-clause-met
 returns-in-Some-clause-met g c =
     IfErr-weaker c.letter_in.result (LacksIn (g.S.Shelf.history c.args.shelf.now) (g.S.Shelf.history c.letter_in.new.shelf) (row_of c.in-Some.loaded.manifest c.args.path.text.now) c.args.before.now)
     (λ fault. (s : Status) → Goes (upto s (g.T.Tree.history c.args.tree.now) (g.S.Shelf.history c.args.shelf.now)) c.args.parent.now
-        → MetBy (upto s (g.T.Tree.history c.letter_in.new.tree) (g.S.Shelf.history c.letter_in.new.shelf)) c.args.path.text.now c.args.before.now fault)
+    → MetBy (upto s (g.T.Tree.history c.letter_in.new.tree) (g.S.Shelf.history c.letter_in.new.shelf)) c.args.path.text.now c.args.before.now fault)
     (λ fault lacks s goes.
     met_in s (g.T.Tree.history c.letter_in.new.tree) (g.S.Shelf.history c.args.shelf.now) (g.S.Shelf.history c.letter_in.new.shelf) c.in-Some.loaded.manifest c.args.path.text.now c.args.before.now fault goes.shelf
     (manifest_later s (g.T.Tree.history c.args.tree.now) (g.T.Tree.history c.letter_in.new.tree) (g.S.Shelf.history c.args.shelf.now) (g.S.Shelf.history c.letter_in.new.shelf) c.in-Some.loaded.manifest goes.shelf

@@ -1,4 +1,4 @@
-use Rattle.std.proofs.Common.{ℕ, ◌≡◌, Option, Some, sym, ap, ◌∙◌}
+use Rattle.std.proofs.Common.{◌≡◌, Option, Some, sym, ap, ◌∙◌}
 use Rattle.std.specs.Prelude.{IsTrue}
 use Rattle.std.proofs.lemmas.Result.{IfOk-weaker, on_ok_weaker}
 use Rattle.hg_compare.specs.declared.letter.Letter.{Letter}
@@ -31,9 +31,9 @@ returns-clause-found g c =
     let files = g.S.Shelf.history c.letter_there.new.shelf in
     IfOk-weaker c.letter_there.result
     (λ (letter : Option Letter). (s : Status) → Goes (upto s mid (g.S.Shelf.history c.args.shelf.now)) c.args.parent.now → (IsTrue mid.told → stat_at (trees.now mid) c.args.kept.now.path ≡ Some c.in-Some.there)
-        → IsLetterFor (IsLeftRow c.args.wanted s.id new mid.last files s.shelf_old.last) (shelves.now s.shelf_old).files s.id (trees.now mid) c.args.wanted c.args.kept.now letter)
+    → IsLetterFor (IsLeftRow c.args.wanted s.id new mid.last files s.shelf_old.last) (shelves.now s.shelf_old).files s.id (trees.now mid) c.args.wanted c.args.kept.now letter)
     (λ (letter : Option Letter). (s : Status) → Goes (upto s old (g.S.Shelf.history c.args.shelf.now)) c.args.parent.now
-        → IsLetterFor (IsLeftRow c.args.wanted s.id new old.last files s.shelf_old.last) (shelves.now s.shelf_old).files s.id (trees.now old) c.args.wanted c.args.kept.now letter)
+    → IsLetterFor (IsLeftRow c.args.wanted s.id new old.last files s.shelf_old.last) (shelves.now s.shelf_old).files s.id (trees.now old) c.args.wanted c.args.kept.now letter)
     (λ letter found s goes.
     found_moved (IsLeftRow c.args.wanted s.id new mid.last files s.shelf_old.last) (IsLeftRow c.args.wanted s.id new old.last files s.shelf_old.last) (shelves.now s.shelf_old).files s.id (trees.now mid) (trees.now old)
     c.args.wanted c.args.kept.now letter

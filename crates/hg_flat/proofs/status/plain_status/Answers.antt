@@ -1,4 +1,4 @@
-use Rattle.std.proofs.Common.{List, ℕ, None, Option, refl, ◌∙◌}
+use Rattle.std.proofs.Common.{List, ℕ, refl, ◌∙◌}
 use Rattle.std.specs.Prelude.{IsTrue}
 use Rattle.std.specs.Ordering.{eq_by_cmp}
 use Rattle.std.proofs.lemmas.List.Filters.{dedup_is}
