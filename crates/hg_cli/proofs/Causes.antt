@@ -147,7 +147,7 @@ module _ (s : Status) (copy : tree.Extends s.tree_old s.tree_new) (files : shelf
   pub read_now : (answer : Result Rows ManifestFault) → is_null s.id.0 ≡ false → WasRead s answer → manifest_at there s.id ≡ answer
   read_now answer committed read =
       let all = taken read.size read.bytes (there (plain_name s.id.0)) (holds_now (plain_name s.id.0) (λ file. size_of file ≡ Some read.size) read.sized)
-        (holds_now (plain_name s.id.0) (IsFrontOf read.size read.bytes) read.front) in
+      (holds_now (plain_name s.id.0) (IsFrontOf read.size read.bytes) read.front) in
       not_null s.id (there (plain_name s.id.0)) committed ∙ ap (file_manifest s.id) all.0 ∙ text_found s.id read.bytes (omega (arith, all.1, read.few)) ∙ read.found
 
   pub gone_now : (gone : Id20) → is_null s.id.0 ≡ false → gone ≡ s.id → Was s.shelf_old s.shelf_new (plain_name s.id.0) (λ file. file ≡ None) → manifest_at there s.id ≡ Err (a_manifest_fault.NoManifest gone)

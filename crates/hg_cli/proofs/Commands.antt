@@ -41,9 +41,9 @@ use Rattle.hg_tree.specs.declared.thing.Thing.TheVariants as a_thing
 use Rattle.hg_tree.proofs.Spans.{now_same, ours_first, ours_second, ours_unstepped}
 use Rattle.hg_tree.proofs.Stillness.{ours_untouched}
 use Rattle.hg_cli.specs.Call.{Call, Fails, Looked, Serves, Watched}
-use Rattle.hg_cli.specs.Command.{CommandCause, FindsAll, HasBadManifest, IsBegunFor, IsExpected, IsFaultOrMemory, IsPrintedFor, IsReady, LacksContents, LeavesFront, LeavesOut, MetBefore, Prints, RanStatus, wanted_in}
+use Rattle.hg_cli.specs.Command.{CommandCause, HasBadManifest, IsBegunFor, IsExpected, IsFaultOrMemory, IsPrintedFor, IsReady, LacksContents, LeavesFront, LeavesOut, MetBefore, Prints, RanStatus, wanted_in}
 use Rattle.hg_cli.specs.Flags.{is_status, style_of, wanted_of}
-use Rattle.hg_cli.specs.Listed.{AsksLittle, AsksOver, IgnoreCause, IgnoreSeen, IsListable, IsListed, IsListedFor, IsLoaded, IsOwn, IsRecorded, IsServedFor, IsUntouched, LacksPatterns, ListingCause, Lists, LoadMet, Loaded, LooksFor, ParentMet, first_parent, has_ignore_file, is_file_kind, needs_patterns, shows_file, status_over}
+use Rattle.hg_cli.specs.Listed.{AsksOver, IgnoreCause, IgnoreSeen, IsListable, IsListed, IsListedFor, IsLoaded, IsOwn, IsRecorded, IsUntouched, LacksPatterns, ListingCause, Lists, LoadMet, Loaded, ParentMet, first_parent, has_ignore_file, is_file_kind, shows_file, status_over}
 use Rattle.hg_cli.specs.Load.{id_in, of_load, record_in}
 use Rattle.hg_cli.specs.Loaded.{Answers, IsFlatOf, Loads, Try}
 use Rattle.hg_cli.specs.declared.load_fault.LoadFault.{LoadFault}
@@ -203,21 +203,25 @@ module _ (looked : Looked) (wanted : Wanted) (mid : tree.History) (behind : shel
   pub asks_later : AsksNothing looked.tree.old mid
       → AsksBoth (λ path. IsTrue (is_compared wanted flat path)) (λ dir. IsTrue wanted.u × (tree.IsOurs mid looked.tree.new → IsVisibleDir (tree.now mid) dir)) mid looked.tree.new
       → AsksNothing looked.tree.old looked.tree.new ⊎ ((f : plain.Flat) × IsLoaded looked.shelf f × AsksOver f wanted looked.tree)
-  asks_later none asks = inr (flat, loaded, record {
-    paths = asks.paths;
-    dirs = asks.dirs;
-    asked = asks.asked ∙ ap (λ (l : List Asked). l ++ map an_ask.Read asks.paths ++ map an_ask.List asks.dirs) none;
-    compared = asks.compared;
-    once = asks.once;
-    within = λ dir has.
-        let within = asks.within dir has in (
-          within.0,
-          λ ours.
-              subst (λ (m : Moment). IsVisibleDir m dir)
-              (now_same looked.tree.old mid first (ours_first looked.tree.old mid looked.tree.new second.past ours))
-              (within.1 (ours_second looked.tree.old mid looked.tree.new first.past ours)),
-        );
-  })
+  asks_later none asks = inr (
+    flat,
+    loaded,
+    record {
+      paths = asks.paths;
+      dirs = asks.dirs;
+      asked = asks.asked ∙ ap (λ (l : List Asked). l ++ map an_ask.Read asks.paths ++ map an_ask.List asks.dirs) none;
+      compared = asks.compared;
+      once = asks.once;
+      within = λ dir has.
+          let within = asks.within dir has in (
+            within.0,
+            λ ours.
+                subst (λ (m : Moment). IsVisibleDir m dir)
+                (now_same looked.tree.old mid first (ours_first looked.tree.old mid looked.tree.new second.past ours))
+                (within.1 (ours_second looked.tree.old mid looked.tree.new first.past ours)),
+          );
+    },
+  )
 
 -- what a record that was found says, where the shelf made no step
 recorded_now : (old new : shelf.History) (flat : plain.Flat) → shelf.Extends old new → new.last ≡ old.last → (r : IsRecorded old new flat) → record_in (shelf.now old).files (shelf.now old).files ≡ Some (Ok r.table)
@@ -292,7 +296,7 @@ module _ (call : Call) (copy : tree.Passes call.looked.tree.old call.looked.tree
   lacks_contents flat loaded lacks gone met =
       let t = recorded_table flat loaded in
       let alike = shows_now (over flat) copy.past files.past still_tree still_shelf own.tree.told own.shelf.told
-        (λ moment. (stat : Stat) × (stat_at moment met.path ≡ Some stat) × IsTrue (is_alike met.row stat)) met.alike in record {
+      (λ moment. (stat : Stat) × (stat_at moment met.path ≡ Some stat) × IsTrue (is_alike met.row stat)) met.alike in record {
         table = t.0;
         ready = ready_now t.0 t.1 lacks;
         path = met.path;

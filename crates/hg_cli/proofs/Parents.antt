@@ -1,5 +1,5 @@
 -- What a listing says of the first parent, begun behind a load, moved to the start of the call.
-use Rattle.std.proofs.Common.{ℕ, ◌≡◌, ◌≤◌, Bool, true, false, not, ◌&&◌, ◌||◌, cond, List, [], Option, Some, None, option_map, Result, Ok, Err, IsTrue, IfSome, is_some, refl, sym, ap, ◌∙◌, subst, inl, inr, arith}
+use Rattle.std.proofs.Common.{ℕ, ◌≡◌, ◌≤◌, Bool, true, false, not, ◌&&◌, ◌||◌, cond, List, [], Option, Some, None, option_map, Result, Ok, IsTrue, IfSome, is_some, refl, sym, ap, ◌∙◌, subst, inl, inr, arith}
 use Rattle.std.proofs.lemmas.Bool.{cases_Bool, or_left, or_right}
 use Rattle.hg_base.specs.declared.id.Id20.{Id20}
 use Rattle.hg_base.specs.declared.stat.Kind.{Kind}
@@ -26,7 +26,7 @@ use Rattle.hg_shelf.specs.History as shelf
 use Rattle.hg_shelf.specs.Polite.{KeepsFile}
 use Rattle.hg_tree.specs.History as tree
 use Rattle.hg_tree.specs.Moment.{Moment, kind_of, stat_at, stat_of}
-use Rattle.hg_tree.specs.Still.{AreAlike, is_exec, is_exec_thing, kind_at}
+use Rattle.hg_tree.specs.Still.{AreAlike, is_exec, is_exec_thing}
 use Rattle.hg_tree.specs.declared.thing.Placed.{Placed}
 use Rattle.hg_tree.specs.declared.thing.Thing.{Thing}
 use Rattle.hg_tree.specs.declared.thing.Thing.TheVariants as a_thing

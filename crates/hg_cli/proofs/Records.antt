@@ -12,11 +12,10 @@ use Rattle.hg_report.specs.declared.fault.Fault.TheVariants as a_fault
 use Rattle.hg_report.proofs.Recorded.{one_text}
 use Rattle.hg_shelf.specs.History as shelf
 use Rattle.hg_shelf.proofs.Histories as shelves
-use Rattle.hg_stream.specs.Stream.{Grown, GrownByFront}
 use Rattle.hg_tree.specs.History as tree
 use Rattle.hg_cli.specs.Call.{Call, Fails, Serves, Watched}
-use Rattle.hg_cli.specs.Command.{Does, IsFaultOrMemory, Prints, Ran, RanStatus}
-use Rattle.hg_cli.specs.Debug.{HasText, IsExpectedOf, IsLeftAlone, IsRead, IsReadable, IsRecordBegun, IsRecordPrinted, IsTextBegun, IsTextIn, IsTextPrinted, LeavesRecord, LeavesText, MetReading, OneRecord, PrintsRecord, RanRecord, RecordCause, is_debug}
+use Rattle.hg_cli.specs.Command.{Does, IsFaultOrMemory, Prints, Ran}
+use Rattle.hg_cli.specs.Debug.{HasText, IsExpectedOf, IsLeftAlone, IsRead, IsReadable, IsTextIn, LeavesRecord, LeavesText, MetReading, OneRecord, PrintsRecord, RanRecord, RecordCause, is_debug}
 use Rattle.hg_cli.specs.Listed.{LoadMet}
 use Rattle.hg_cli.specs.Load.{id_in, of_load, record_in}
 use Rattle.hg_cli.specs.Loaded.{Answers, IsBytesOf, IsFlatOf, Loads, Try}

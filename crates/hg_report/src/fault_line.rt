@@ -104,7 +104,10 @@ fn put_words(alloc: Global, line: &mut Vec<u8>, fault: &Fault) -> Result<(), Out
             put(line, line_text(alloc, "manifest line ", *at)?.as_str())
         }
         Fault::ManifestOrder { line: at } => {
-            put(line, line_text(alloc, "manifest order at line ", *at)?.as_str())
+            put(
+                line,
+                line_text(alloc, "manifest order at line ", *at)?.as_str(),
+            )
         }
         Fault::NoContents { id } => put_id(alloc, line, "no contents ", *id),
         Fault::TreeFailed => put(line, "working copy failed"),

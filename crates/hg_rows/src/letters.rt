@@ -10,10 +10,7 @@ const FILE: Plain = &[
         "plain/m-1111111111111111111111111111111111111111",
         "f\0aaaaaaaaaaaaaaaaaaaaaaaaaaaaaaaaaaaaaaaa\n",
     ),
-    (
-        "plain/f-aaaaaaaaaaaaaaaaaaaaaaaaaaaaaaaaaaaaaaaa",
-        "one\n",
-    ),
+    ("plain/f-aaaaaaaaaaaaaaaaaaaaaaaaaaaaaaaaaaaaaaaa", "one\n"),
 ];
 
 // An executable file.
@@ -22,10 +19,7 @@ const EXEC: Plain = &[
         "plain/m-1111111111111111111111111111111111111111",
         "f\0aaaaaaaaaaaaaaaaaaaaaaaaaaaaaaaaaaaaaaaax\n",
     ),
-    (
-        "plain/f-aaaaaaaaaaaaaaaaaaaaaaaaaaaaaaaaaaaaaaaa",
-        "one\n",
-    ),
+    ("plain/f-aaaaaaaaaaaaaaaaaaaaaaaaaaaaaaaaaaaaaaaa", "one\n"),
 ];
 
 // A link.
@@ -34,10 +28,7 @@ const LINK: Plain = &[
         "plain/m-1111111111111111111111111111111111111111",
         "f\0aaaaaaaaaaaaaaaaaaaaaaaaaaaaaaaaaaaaaaaal\n",
     ),
-    (
-        "plain/f-aaaaaaaaaaaaaaaaaaaaaaaaaaaaaaaaaaaaaaaa",
-        "one\n",
-    ),
+    ("plain/f-aaaaaaaaaaaaaaaaaaaaaaaaaaaaaaaaaaaaaaaa", "one\n"),
 ];
 
 // Another path, and none.
@@ -168,10 +159,7 @@ fn lists_a_merge(rt: HostRuntime) -> Result<(), Fail> {
 b\0bbbbbbbbbbbbbbbbbbbbbbbbbbbbbbbbbbbbbbbb
 ",
             ),
-            (
-                "plain/f-bbbbbbbbbbbbbbbbbbbbbbbbbbbbbbbbbbbbbbbb",
-                "two\n",
-            ),
+            ("plain/f-bbbbbbbbbbbbbbbbbbbbbbbbbbbbbbbbbbbbbbbb", "two\n"),
         ],
         ..EMPTY
     };
@@ -215,7 +203,10 @@ b\0bbbbbbbbbbbbbbbbbbbbbbbbbbbbbbbbbbbbbbbb
 const COPIES: &[(&[&str], &str)] = &[
     (&["status", "-C"], "A b\n  a\nA c\nA e\nA g\n  a\n"),
     (&["status", "-n", "-C"], "b\nc\ne\ng\n"),
-    (&["status", "-0", "-C", "-a"], "A b\0  a\0A c\0A e\0A g\0  a\0"),
+    (
+        &["status", "-0", "-C", "-a"],
+        "A b\0  a\0A c\0A e\0A g\0  a\0",
+    ),
     (&["status"], "A b\nA c\nA e\nA g\n"),
 ];
 
@@ -261,10 +252,7 @@ fn lists_copies(rt: HostRuntime) -> Result<(), Fail> {
                     "plain/m-1111111111111111111111111111111111111111",
                     "a\0aaaaaaaaaaaaaaaaaaaaaaaaaaaaaaaaaaaaaaaa\n",
                 ),
-                (
-                    "plain/f-aaaaaaaaaaaaaaaaaaaaaaaaaaaaaaaaaaaaaaaa",
-                    "one\n",
-                ),
+                ("plain/f-aaaaaaaaaaaaaaaaaaaaaaaaaaaaaaaaaaaaaaaa", "one\n"),
             ],
             ..EMPTY
         };

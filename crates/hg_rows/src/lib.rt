@@ -34,9 +34,9 @@ mod great_count;
 #[cfg(test)]
 mod identifiers;
 #[cfg(test)]
-mod listings;
-#[cfg(test)]
 mod letters;
+#[cfg(test)]
+mod listings;
 #[cfg(test)]
 mod manifests;
 #[cfg(test)]

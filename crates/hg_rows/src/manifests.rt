@@ -151,7 +151,10 @@ fn refuses_a_manifest_that_is_too_large(rt: HostRuntime) -> Result<(), Fail> {
     let bytes = zeros(rt.alloc(), 67_108_865)?;
     shelf.place("plain/m-1111111111111111111111111111111111111111", &bytes)?;
     let left = run_over(rt.alloc(), shelf, setting)?;
-    assert_eq!(rt; left.err.bytes(), b"abort: manifest of 67108865 bytes\n".as_slice());
+    assert_eq!(rt;
+        left.err.bytes(),
+        b"abort: manifest of 67108865 bytes\n".as_slice()
+    );
     assert_eq!(rt; left.out.bytes().len(), 0);
     Ok(())
 }

@@ -38,14 +38,8 @@ c\0aaaaaaaaaaaaaaaaaaaaaaaaaaaaaaaaaaaaaaaa
 r\0aaaaaaaaaaaaaaaaaaaaaaaaaaaaaaaaaaaaaaaa
 ",
     ),
-    (
-        "plain/f-aaaaaaaaaaaaaaaaaaaaaaaaaaaaaaaaaaaaaaaa",
-        "one\n",
-    ),
-    (
-        "plain/f-bbbbbbbbbbbbbbbbbbbbbbbbbbbbbbbbbbbbbbbb",
-        "two\n",
-    ),
+    ("plain/f-aaaaaaaaaaaaaaaaaaaaaaaaaaaaaaaaaaaaaaaa", "one\n"),
+    ("plain/f-bbbbbbbbbbbbbbbbbbbbbbbbbbbbbbbbbbbbbbbb", "two\n"),
 ];
 
 const THINGS: Things = &[
@@ -200,7 +194,11 @@ fn reads_what_is_compared(rt: HostRuntime) -> Result<(), Fail> {
         };
         let left = run_in(rt.alloc(), &files, setting)?;
         let asked = left.tree.asked();
-        assert_eq!(rt; asked.len(), read.len().saturating_add(*listed), "{words:?}");
+        assert_eq!(rt;
+            asked.len(),
+            read.len().saturating_add(*listed),
+            "{words:?}"
+        );
         for (one, path) in asked.iter().zip(read.iter()) {
             assert!(rt; is_read_of(one, path), "{words:?}: {path}");
         }

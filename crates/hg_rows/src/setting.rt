@@ -76,33 +76,43 @@ const NOON: Time = Time {
     nanos: 0,
 };
 
-fn file_of(alloc: Global, text: &str, exec: bool) -> Result<Thing, OutOfMemory> {
+fn place_file(
+    alloc: Global,
+    tree: &mut MemTree,
+    path: PathRef<'_>,
+    text: &str,
+    exec: bool,
+) -> Result<(), Fail> {
     let bytes = Blob::of(alloc, text.as_bytes())?;
-    Ok(Thing::File { exec, bytes })
+    tree.place(path, Thing::File { exec, bytes }, NOON)?;
+    Ok(())
 }
 
-fn link_to(alloc: Global, text: &str) -> Result<Thing, OutOfMemory> {
-    let target = Blob::of(alloc, text.as_bytes())?;
-    Ok(Thing::Link { target })
-}
-
-fn thing_of(alloc: Global, what: What<'_>) -> Result<Thing, OutOfMemory> {
-    match what {
-        What::File => file_of(alloc, "b", false),
-        What::Text(text) => file_of(alloc, text, false),
-        What::Exec(text) => file_of(alloc, text, true),
-        What::Link => link_to(alloc, "b"),
-        What::LinkTo(text) => link_to(alloc, text),
-        What::Dir => Ok(Thing::Dir),
-        What::Other => Ok(Thing::Other),
+fn place_link(
+    alloc: Global,
+    tree: &mut MemTree,
+    path: PathRef<'_>,
+    text: &str,
+) -> Result<(), Fail> {
+    if text.len() > 4_095 {
+        return Err("a target that is too long".into());
     }
+    let target = Blob::of(alloc, text.as_bytes())?;
+    tree.place(path, Thing::Link { target }, NOON)?;
+    Ok(())
 }
 
 fn place(alloc: Global, tree: &mut MemTree, path: &str, what: What<'_>) -> Result<(), Fail> {
     let path = PathRef::read(path)?;
-    let thing = thing_of(alloc, what)?;
-    tree.place(path, thing, NOON)?;
-    Ok(())
+    match what {
+        What::File => place_file(alloc, tree, path, "b", false),
+        What::Text(text) => place_file(alloc, tree, path, text, false),
+        What::Exec(text) => place_file(alloc, tree, path, text, true),
+        What::Link => place_link(alloc, tree, path, "b"),
+        What::LinkTo(text) => place_link(alloc, tree, path, text),
+        What::Dir => Ok(tree.place(path, Thing::Dir, NOON)?),
+        What::Other => Ok(tree.place(path, Thing::Other, NOON)?),
+    }
 }
 
 pub(crate) fn tree_of(alloc: Global, setting: Setting<'_>) -> Result<MemTree, Fail> {
@@ -116,7 +126,11 @@ pub(crate) fn tree_of(alloc: Global, setting: Setting<'_>) -> Result<MemTree, Fa
     Ok(tree)
 }
 
-pub(crate) fn shelf_of(alloc: Global, files: &Files, setting: Setting<'_>) -> Result<MemShelf, OutOfMemory> {
+pub(crate) fn shelf_of(
+    alloc: Global,
+    files: &Files,
+    setting: Setting<'_>,
+) -> Result<MemShelf, OutOfMemory> {
     let mut shelf = MemShelf::new(alloc)?;
     if let Some(bytes) = &files.docket {
         shelf.place("dirstate", bytes)?;

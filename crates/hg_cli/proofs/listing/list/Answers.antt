@@ -1,5 +1,5 @@
 -- The rows of a status: the load, the look for ignore patterns, the listing.
-use Rattle.std.proofs.Common.{ap, false, inl, refl, sym, ◌∙◌}
+use Rattle.std.proofs.Common.{inl, refl, sym, ◌∙◌}
 use Rattle.std.proofs.lemmas.Result.{err_from_is_err_and}
 use Rattle.hg_flat.specs.Shown.{flat_in}
 use Rattle.hg_shelf.specs.History.{History}
@@ -61,12 +61,12 @@ returns-in_err-rows g c =
       still = tt;
       listable = tt;
       cause = cause_status looked c.args.wanted tree_mid shelf_mid flat c.first_parent-parent.result c.no_patterns.ensures.passes c.plain_status.ensures.passes c.load.ensures.passes c.plain_status.ensures.passes_shelf id loaded
-        c.in_err-rows.field-0.0 p.0 p.2 lacks
-        (λ failed. rw (sym c.in_ok-no_patterns.ensures.calm) (c.in_err-rows.ensures.cause.rose failed))
-        (λ failed. rw (sym c.in_ok-flat.ensures.cause.quiet) (c.in_err-rows.ensures.cause_shelf.rose failed))
-        c.in_err-rows.ensures.met;
+          c.in_err-rows.field-0.0 p.0 p.2 lacks
+          (λ failed. rw (sym c.in_ok-no_patterns.ensures.calm) (c.in_err-rows.ensures.cause.rose failed))
+          (λ failed. rw (sym c.in_ok-flat.ensures.cause.quiet) (c.in_err-rows.ensures.cause_shelf.rose failed))
+          c.in_err-rows.ensures.met;
       asked = λ told. asks_later looked c.args.wanted tree_mid shelf_mid flat c.first_parent-parent.result c.no_patterns.ensures.passes c.plain_status.ensures.passes c.load.ensures.passes c.plain_status.ensures.passes_shelf id loaded
-        (c.no_patterns.ensures.asked told) (c.plain_status.ensures.asked (c.no_patterns.ensures.passes.past.told ∙ told));
+          (c.no_patterns.ensures.asked told) (c.plain_status.ensures.asked (c.no_patterns.ensures.passes.past.told ∙ told));
       calm_tree = tt;
       calm_shelf = tt;
     }
@@ -91,12 +91,12 @@ returns g c =
       tree = passes_trans tree_start tree_mid tree_end c.no_patterns.ensures.passes c.plain_status.ensures.passes;
       shelf = shelves.passes_trans shelf_start shelf_mid shelf_end c.load.ensures.passes c.plain_status.ensures.passes_shelf;
       still = listed_for looked c.args.wanted tree_mid shelf_mid flat c.first_parent-parent.result c.no_patterns.ensures.passes c.plain_status.ensures.passes c.load.ensures.passes c.plain_status.ensures.passes_shelf id loaded
-        c.in_ok-rows.rows c.in_ok-rows.ensures.still;
+          c.in_ok-rows.rows c.in_ok-rows.ensures.still;
       listable = listable_by looked c.args.wanted tree_mid shelf_mid flat c.first_parent-parent.result c.no_patterns.ensures.passes c.plain_status.ensures.passes c.load.ensures.passes c.plain_status.ensures.passes_shelf id loaded
-        lacks c.in_ok-rows.ensures.served;
+          lacks c.in_ok-rows.ensures.served;
       cause = tt;
       asked = λ told. asks_later looked c.args.wanted tree_mid shelf_mid flat c.first_parent-parent.result c.no_patterns.ensures.passes c.plain_status.ensures.passes c.load.ensures.passes c.plain_status.ensures.passes_shelf id loaded
-        (c.no_patterns.ensures.asked told) (c.plain_status.ensures.asked (c.no_patterns.ensures.passes.past.told ∙ told));
+          (c.no_patterns.ensures.asked told) (c.plain_status.ensures.asked (c.no_patterns.ensures.passes.past.told ∙ told));
       calm_tree = c.in_ok-rows.ensures.cause.quiet ∙ c.in_ok-no_patterns.ensures.calm;
       calm_shelf = c.in_ok-rows.ensures.cause_shelf.quiet ∙ c.in_ok-flat.ensures.cause.quiet;
     }
