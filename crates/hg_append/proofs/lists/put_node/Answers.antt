@@ -12,5 +12,5 @@ returns-then-sums-gt-LAST-clause-sound c =
       path = c.path_bytes-path.ensures.path;
       text = c.path_bytes-path.ensures.utf8;
       source = c.source_bytes-source.ensures.sound;
-      fields = subst (AreFields (shown_child c.args.child.now)) c.fields-fields.ensures.is c.fields-fields.ensures;
+      fields = subst (AreFields (shown_child c.args.child.now)) c.requires.fields.is c.requires.fields;
     }
