@@ -1,7 +1,6 @@
 -- What is left of a directory's nodes, before the next directory that has nodes.
-use Rattle.std.proofs.Common.{ℕ, ◌≡◌, ◌<◌, ◌&&◌, Bool, true, false, true≢false, cond, eqb, eqb-true, length, arith, List, [], ◌∷◌, Option, Some, None, refl, sym, ap, ◌∙◌, subst, nat_cmp, ◌⊎◌, inl, inr, Less}
+use Rattle.std.proofs.Common.{ℕ, ◌≡◌, ◌<◌, ◌&&◌, Bool, true, false, true≢false, cond, eqb, eqb-true, length, arith, List, [], ◌∷◌, Option, Some, None, refl, sym, ap, ◌∙◌, subst, nat_cmp, inl, inr, Less}
 use Rattle.std.specs.List.{AllByRecursion}
-use Rattle.std.specs.List.Sorted.{IsStrictlySortedBy}
 use Rattle.std.specs.Map.{keys_of}
 use Rattle.std.specs.FinMap.{nat_cmp-IsAntisymmetric}
 use Rattle.std.specs.Ordering.{is_gt, is_lt, ordering_then}

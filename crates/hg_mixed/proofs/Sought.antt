@@ -1,7 +1,7 @@
 -- The first directory from one on that has a list.
-use Rattle.std.proofs.Common.{ℕ, ◌≡◌, Bool, true, false, not, ◌&&◌, ◌||◌, cond, eqb, length, List, [], ◌∷◌, Option, Some, None, String, refl, sym, ap, ◌∙◌, subst, true≢false, nat_cmp}
+use Rattle.std.proofs.Common.{ℕ, ◌≡◌, Bool, true, false, not, ◌&&◌, cond, eqb, length, List, [], ◌∷◌, Option, Some, None, String, refl, sym, ap, ◌∙◌, subst, true≢false, nat_cmp}
 use Rattle.std.specs.Prelude.{IsSome, is_some}
-use Rattle.std.specs.Map.{lookup, keys_of}
+use Rattle.std.specs.Map.{lookup}
 use Rattle.std.specs.BTreeMap.{BTreeMap, get, is_at}
 use Rattle.std.specs.BTreeMap.Range.{IsEntryInRange, IsRangeOf}
 use Rattle.std.specs.declared.ops.Bound.TheVariants.{Included, Unbounded}

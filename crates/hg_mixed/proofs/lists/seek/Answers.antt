@@ -1,6 +1,5 @@
 use Rattle.std.proofs.Common.{◌∙◌, ℕ, List, ◌&&◌, not, eqb, length, ap}
 use Rattle.std.specs.Str.{bytes_eq}
-use Rattle.std.specs.String.{string_bytes}
 use Rattle.hg_mixed.proofs.Sought.{sought_none, sought_some}
 use Rattle.hg_mixed.proofs.lists.seek.Goals as goal
 
