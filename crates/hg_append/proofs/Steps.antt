@@ -13,12 +13,11 @@ use Rattle.hg_node.specs.Node.{bytes_of}
 use Rattle.hg_node.specs.declared.record.Rec.{Rec}
 use Rattle.hg_mixed.specs.Children.{AreChildren, ChildData, IsChild}
 use Rattle.hg_mixed.specs.Held.{Held, table}
-use Rattle.hg_mixed.specs.Kids.{Takes}
 use Rattle.hg_append.specs.declared.sums.Sums.{Sums}
 use Rattle.hg_append.specs.declared.lists.Put.{Put}
 use Rattle.hg_append.specs.Tree.{AreBelow, IsTreeOf, Tree, Nothing, Node, count_in, has_entry, has_source, heads, is_tracked}
 use Rattle.hg_append.specs.Layout.{copy_start, fields_for, front_of, front_size, list_start, put_of, rec_of, records_of, size_of, source_text}
-use Rattle.hg_append.specs.Put.{AreSound, AreSums, IsDone, IsFew, IsPut, IsPutPart, IsSound, Puts, base_in, ended, kept, one_if, rec_with, start_with, with_next, with_node}
+use Rattle.hg_append.specs.Put.{AreSound, AreSums, IsFew, IsPut, IsPutPart, IsSound, Puts, base_in, ended, kept, one_if, rec_with, start_with, with_node}
 use Rattle.hg_append.proofs.Sizes.{counted_few, front_length, kept_back, kept_both, kept_more, kept_small, kept_times, records_length, size_is}
 use Rattle.hg_append.proofs.Snoc.{below_snoc, count_snoc, front_snoc, heads_snoc, records_snoc, size_snoc, snoc, sound_snoc}
 
@@ -100,15 +99,6 @@ three a b c d = simp append_assoc
 each_at : {X : Type 0} (P : X → Type 0) (before behind : List X) (x : X) → AllByRecursion P (before ++ x ∷ behind) → P x
 each_at P [] behind x all = all.0
 each_at P (b ∷ before) behind x all = each_at P before behind x all.1
-
--- what was taken is read ahead
-pub taken_ahead : (old new : List ChildData) (next : Option ChildData) → Takes old new next → old ≡ with_next next new
-taken_ahead old new None takes = takes.0 ∙ sym takes.1
-taken_ahead old new (Some child) takes = takes
-
-pub taken_done : (old new : List ChildData) (next : Option ChildData) → Takes old new next → IsDone next new
-taken_done old new None takes = takes.1
-taken_done old new (Some child) takes = tt
 
 -- what is left first is a child of the directory
 pub left_child : (held : Held) (dir : Option (List ℕ)) (at : ℕ) (children left : List ChildData) (child : ChildData) (sums : Sums) (old new old_records new_records : List ℕ)

@@ -137,13 +137,3 @@ pub record HasPut (held : Held) (child : ChildData) (base_at : ℕ) (sums now : 
   pub sound : IsSound child
   pub texts : Puts now.end (child.path ++ source_text child.source) mid new
   pub records : Puts now.end (bytes_of (rec_with child base_at under)) mid_records new_records
-
--- what is left, where the first of it was read already
-abbrev pub with_next : Option ChildData → List ChildData → List ChildData
-with_next None left = left
-with_next (Some child) left = child ∷ left
-
--- where nothing was read, nothing is left
-abbrev pub IsDone : Option ChildData → List ChildData → Type 0
-IsDone None left = left ≡ []
-IsDone (Some child) left = Unit {0}

@@ -207,17 +207,16 @@ fn base_at(dir: Option<PathRef<'_>>) -> usize
 fn put_child(
     mixed: &Mixed<'_>,
     child: &Child<'_>,
-    fields: Fields,
     base_at: usize,
     sums: Sums,
     bytes: &mut Vec<u8>,
     records: &mut Vec<u8>,
 ) -> Result<Sums, OutOfMemory>
     requires child { IsChild mixed.now (parent_of child.now.path.text.now) (shown_child child.now) }
-    requires fields { AreFields (shown_child child.now) fields }
     requires base { base_at ≤ length child.now.path.text.now }
     ensures { IfOk result (λ s. HasPut mixed.now (shown_child child.now) base_at sums s bytes.old.items bytes.new.items records.old.items records.new.items) }
 {
+    let fields = fields(child);
     if !child.has_kids {
         let under = Put {
             start: 0,
@@ -247,12 +246,8 @@ pub fn put_list(
     let base_at = base_at(dir);
     let mut sums = none(at);
     let mut children = mixed.children(dir);
-    // (Each child is read while the one before it is put, so that nothing waits for its memory.)
-    let mut next = children.next();
-    while let Some(child) = next {
-        let fields = fields(&child);
-        next = children.next();
-        sums = put_child(mixed, &child, fields, base_at, sums, bytes, records)?;
+    while let Some(child) = children.next() {
+        sums = put_child(mixed, &child, base_at, sums, bytes, records)?;
     }
     let put = put_records(sums, from, bytes, records)?;
     Ok(put)

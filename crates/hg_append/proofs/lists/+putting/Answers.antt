@@ -1,13 +1,12 @@
-use Rattle.std.proofs.Common.{◌≡◌, ℕ, ◌<◌, ◌≤◌, ◌^◌, ◌++◌, List, ◌∷◌, Option, None, length, take, drop, arith, rules, refl, sym, ap, subst, ◌∙◌}
+use Rattle.std.proofs.Common.{◌≡◌, ℕ, ◌<◌, ◌≤◌, ◌^◌, ◌++◌, List, length, take, drop, arith, rules, refl, sym, ap, subst, ◌∙◌}
 use Rattle.std.specs.Option.{option_map}
 use Rattle.hg_base.specs.PathText.{parent_of}
 use Rattle.hg_node.specs.Node.{bytes_of}
 use Rattle.hg_mixed.specs.Child.{shown_child}
-use Rattle.hg_mixed.specs.declared.child.Child.{Child}
 use Rattle.hg_mixed.specs.Children.{ChildData, IsChild}
 use Rattle.hg_append.specs.declared.lists.Put.{Put}
-use Rattle.hg_append.specs.Put.{HasPut, IsDone, IsPutPart, Puts, with_next}
-use Rattle.hg_append.proofs.Steps.{base_inside, below_none, child_longer, dir_length, in_parent, kept_inside, left_child, part_done, part_more, part_none, path_short, put_few, taken_ahead, taken_done}
+use Rattle.hg_append.specs.Put.{HasPut, Puts, rec_with}
+use Rattle.hg_append.proofs.Steps.{base_inside, below_none, child_longer, dir_length, in_parent, kept_inside, left_child, part_done, part_more, part_none, path_short, put_few}
 use Rattle.hg_append.proofs.lists.+putting.Goals as goal
 
 pub put_child-returns-then-not-child : goal.put_child-returns-then-not-child
@@ -32,56 +31,35 @@ put_child-put_node-requires-2-clause-few t c = put_few _ _ _ _ _ _ _ _ c.in_ok-u
 pub put_list-put_child-requires : goal.put_list-put_child-requires
 put_list-put_child-requires t c =
     let dir = option_map (λ d. d.text.now) c.args.dir in
-    let part = subst (λ (n : Option ChildData). IsPutPart c.args.mixed.now dir c.args.at (with_next n c.loop-next.children) c.loop-next.sums c.args.bytes.now.items c.loop-next.bytes.items c.args.records.now.items c.loop-next.records.items)
-        (ap (option_map shown_child) c.in-Some.is) c.loop-next.invariant.part in
     let is : IsChild c.args.mixed.now dir (shown_child c.in-Some.child) =
-    left_child c.args.mixed.now dir c.args.at (shown_child c.in-Some.child ∷ c.loop-next.children) c.loop-next.children (shown_child c.in-Some.child) c.loop-next.sums _ _ _ _ refl part in
+    left_child c.args.mixed.now dir c.args.at c.loop-child.children c.next.new.self (shown_child c.in-Some.child) c.loop-child.sums _ _ _ _ c.in-Some.ensures c.loop-child.invariant.part in
     let longer : dir_length dir < length c.in-Some.child.path.text.now = child_longer dir c.in-Some.child.path.text.now c.in-Some.child.path.is_path is.parent in
     let short : length c.in-Some.child.path.text.now ≤ 65535 = path_short c.in-Some.child.path.text.now c.in-Some.child.path.is_path in
     (
       omega (arith, c.decreases, longer, short),
       (
         in_parent c.args.mixed.now dir (shown_child c.in-Some.child) is,
-        (c.fields-fields.ensures,
-        subst (λ (n : ℕ). n ≤ length c.in-Some.child.path.text.now) (sym c.base_at-base_at.ensures) (base_inside dir c.in-Some.child.path.text.now is.parent)),
+        subst (λ (n : ℕ). n ≤ length c.in-Some.child.path.text.now) (sym c.base_at-base_at.ensures) (base_inside dir c.in-Some.child.path.text.now is.parent),
       ),
     )
 
-pub put_list-loop-next-preserved : goal.put_list-loop-next-preserved
-put_list-loop-next-preserved t c =
+pub put_list-loop-child-preserved : goal.put_list-loop-child-preserved
+put_list-loop-child-preserved t c =
     let dir = option_map (λ d. d.text.now) c.args.dir in
-    let part = subst (λ (n : Option ChildData). IsPutPart c.args.mixed.now dir c.args.at (with_next n c.loop-next.children) c.loop-next.sums c.args.bytes.now.items c.loop-next.bytes.items c.args.records.now.items c.loop-next.records.items)
-        (ap (option_map shown_child) c.in-Some.is) c.loop-next.invariant.part in
     let is : IsChild c.args.mixed.now dir (shown_child c.in-Some.child) =
-    left_child c.args.mixed.now dir c.args.at (shown_child c.in-Some.child ∷ c.loop-next.children) c.loop-next.children (shown_child c.in-Some.child) c.loop-next.sums _ _ _ _ refl part in
-    let put = subst (λ (n : ℕ). HasPut c.args.mixed.now (shown_child c.in-Some.child) n c.loop-next.sums c.in_ok-sums.sums c.loop-next.bytes.items c.put_child.new.bytes.items c.loop-next.records.items c.put_child.new.records.items)
+    left_child c.args.mixed.now dir c.args.at c.loop-child.children c.next.new.self (shown_child c.in-Some.child) c.loop-child.sums _ _ _ _ c.in-Some.ensures c.loop-child.invariant.part in
+    let put = subst (λ (n : ℕ). HasPut c.args.mixed.now (shown_child c.in-Some.child) n c.loop-child.sums c.in_ok-sums.sums c.loop-child.bytes.items c.put_child.new.bytes.items c.loop-child.records.items c.put_child.new.records.items)
         c.base_at-base_at.ensures c.in_ok-sums.ensures in
     record {
-      part = subst (λ (l : List ChildData). IsPutPart c.args.mixed.now dir c.args.at l c.in_ok-sums.sums c.args.bytes.now.items c.put_child.new.bytes.items c.args.records.now.items c.put_child.new.records.items)
-          (taken_ahead _ _ _ c.next-next-in-Some.ensures)
-          (part_more c.args.mixed.now dir c.args.at (shown_child c.in-Some.child ∷ c.loop-next.children) (shown_child c.in-Some.child) c.loop-next.children refl c.loop-next.sums c.in_ok-sums.sums
-          _ _ put.mid _ _ _ put.mid_records _ put.under part put.below put.is put.sound put.texts put.records is);
-      done = taken_done _ _ _ c.next-next-in-Some.ensures;
+      part = part_more c.args.mixed.now dir c.args.at c.loop-child.children (shown_child c.in-Some.child) c.next.new.self c.in-Some.ensures c.loop-child.sums c.in_ok-sums.sums
+          _ _ put.mid _ _ _ put.mid_records _ put.under c.loop-child.invariant.part put.below put.is put.sound put.texts put.records is;
       base = c.base_at-base_at.ensures;
-      from = c.loop-next.invariant.from;
+      from = c.loop-child.invariant.from;
     }
-
-pub put_list-loop-next-smaller : goal.put_list-loop-next-smaller
-put_list-loop-next-smaller t c =
-    let was : with_next (option_map shown_child c.loop-next.next) c.loop-next.children ≡ shown_child c.in-Some.child ∷ c.loop-next.children =
-        ap (λ (n : Option Child). with_next (option_map shown_child n) c.loop-next.children) c.in-Some.is in
-    let now : c.loop-next.children ≡ with_next (option_map shown_child c.next-next-in-Some.result) c.next-next-in-Some.new.self = taken_ahead _ _ _ c.next-next-in-Some.ensures in
-    let longer : length (with_next (option_map shown_child c.loop-next.next) c.loop-next.children) ≡ length (shown_child c.in-Some.child ∷ c.loop-next.children) = ap length was in
-    let same : length c.loop-next.children ≡ length (with_next (option_map shown_child c.next-next-in-Some.result) c.next-next-in-Some.new.self) = ap length now in
-    omega (arith, longer, same)
 
 pub put_list-returns : goal.put_list-returns
 put_list-returns t c =
-    let dir = option_map (λ d. d.text.now) c.args.dir in
-    let none : option_map shown_child c.loop-next.next ≡ None = ap (option_map shown_child) c.in_default.is in
-    let part = subst (λ (n : Option ChildData). IsPutPart c.args.mixed.now dir c.args.at (with_next n c.loop-next.children) c.loop-next.sums c.args.bytes.now.items c.loop-next.bytes.items c.args.records.now.items c.loop-next.records.items)
-        none c.loop-next.invariant.part in
-    part_done c.args.mixed.now dir c.args.at c.loop-next.children c.loop-next.sums c.in_ok-put.put _ c.loop-next.bytes.items c.put_records.new.bytes.items
-    c.args.records.now.items c.loop-next.records.items c.put_records.new.records.items part (subst (λ (n : Option ChildData). IsDone n c.loop-next.children) none c.loop-next.invariant.done) c.in_ok-put.ensures.sums c.in_ok-put.ensures.start
-    (subst (λ (n : ℕ). Puts c.in_ok-put.put.sums.end (drop n c.loop-next.records.items) c.loop-next.bytes.items c.put_records.new.bytes.items) c.loop-next.invariant.from c.in_ok-put.ensures.bytes)
-    (λ small. c.in_ok-put.ensures.records small ∙ ap (λ (n : ℕ). take n c.loop-next.records.items) c.loop-next.invariant.from)
+    part_done c.args.mixed.now (option_map (λ d. d.text.now) c.args.dir) c.args.at c.loop-child.children c.loop-child.sums c.in_ok-put.put _ c.loop-child.bytes.items c.put_records.new.bytes.items
+    c.args.records.now.items c.loop-child.records.items c.put_records.new.records.items c.loop-child.invariant.part c.in_default.ensures.0 c.in_ok-put.ensures.sums c.in_ok-put.ensures.start
+    (subst (λ (n : ℕ). Puts c.in_ok-put.put.sums.end (drop n c.loop-child.records.items) c.loop-child.bytes.items c.put_records.new.bytes.items) c.loop-child.invariant.from c.in_ok-put.ensures.bytes)
+    (λ small. c.in_ok-put.ensures.records small ∙ ap (λ (n : ℕ). take n c.loop-child.records.items) c.loop-child.invariant.from)
