@@ -1,12 +1,10 @@
-use Rattle.std.proofs.Common.{◌≡◌, ℕ, ◌<◌, ◌≤◌, ◌^◌, ◌++◌, List, length, take, drop, arith, rules, refl, sym, ap, subst, ◌∙◌}
+use Rattle.std.proofs.Common.{ℕ, ◌<◌, ◌≤◌, ◌^◌, length, take, drop, arith, rules, refl, sym, ap, subst, ◌∙◌}
 use Rattle.std.specs.Option.{option_map}
-use Rattle.hg_base.specs.PathText.{parent_of}
-use Rattle.hg_node.specs.Node.{bytes_of}
 use Rattle.hg_mixed.specs.Child.{shown_child}
-use Rattle.hg_mixed.specs.Children.{ChildData, IsChild}
+use Rattle.hg_mixed.specs.Children.{IsChild}
 use Rattle.hg_append.specs.declared.lists.Put.{Put}
-use Rattle.hg_append.specs.Put.{HasPut, Puts, rec_with}
-use Rattle.hg_append.proofs.Steps.{base_inside, below_none, child_longer, dir_length, in_parent, kept_inside, left_child, part_done, part_more, part_none, path_short, put_few}
+use Rattle.hg_append.specs.Put.{HasPut, Puts}
+use Rattle.hg_append.proofs.Steps.{base_inside, below_none, child_longer, dir_length, in_parent, left_child, part_done, part_more, path_short, put_few}
 use Rattle.hg_append.proofs.lists.+putting.Goals as goal
 
 pub put_child-returns-then-not-child : goal.put_child-returns-then-not-child
@@ -34,8 +32,7 @@ put_list-put_child-requires t c =
     let is : IsChild c.args.mixed.now dir (shown_child c.in-Some.child) =
     left_child c.args.mixed.now dir c.args.at c.loop-child.children c.next.new.self (shown_child c.in-Some.child) c.loop-child.sums _ _ _ _ c.in-Some.ensures c.loop-child.invariant.part in
     let longer : dir_length dir < length c.in-Some.child.path.text.now = child_longer dir c.in-Some.child.path.text.now c.in-Some.child.path.is_path is.parent in
-    let short : length c.in-Some.child.path.text.now ≤ 65535 = path_short c.in-Some.child.path.text.now c.in-Some.child.path.is_path in
-    (
+    let short : length c.in-Some.child.path.text.now ≤ 65535 = path_short c.in-Some.child.path.text.now c.in-Some.child.path.is_path in (
       omega (arith, c.decreases, longer, short),
       (
         in_parent c.args.mixed.now dir (shown_child c.in-Some.child) is,
@@ -49,7 +46,7 @@ put_list-loop-child-preserved t c =
     let is : IsChild c.args.mixed.now dir (shown_child c.in-Some.child) =
     left_child c.args.mixed.now dir c.args.at c.loop-child.children c.next.new.self (shown_child c.in-Some.child) c.loop-child.sums _ _ _ _ c.in-Some.ensures c.loop-child.invariant.part in
     let put = subst (λ (n : ℕ). HasPut c.args.mixed.now (shown_child c.in-Some.child) n c.loop-child.sums c.in_ok-sums.sums c.loop-child.bytes.items c.put_child.new.bytes.items c.loop-child.records.items c.put_child.new.records.items)
-        c.base_at-base_at.ensures c.in_ok-sums.ensures in
+    c.base_at-base_at.ensures c.in_ok-sums.ensures in
     record {
       part = part_more c.args.mixed.now dir c.args.at c.loop-child.children (shown_child c.in-Some.child) c.next.new.self c.in-Some.ensures c.loop-child.sums c.in_ok-sums.sums
           _ _ put.mid _ _ _ put.mid_records _ put.under c.loop-child.invariant.part put.below put.is put.sound put.texts put.records is;

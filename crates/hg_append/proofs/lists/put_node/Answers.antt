@@ -1,7 +1,4 @@
-use Rattle.std.proofs.Common.{◌≡◌, ℕ, ◌++◌, List, sym, ap, subst, ◌∙◌}
-use Rattle.hg_node.specs.Node.{bytes_of}
-use Rattle.hg_node.specs.declared.record.Rec.{Rec}
-use Rattle.hg_entry.specs.declared.entry.Fields.{Fields}
+use Rattle.std.proofs.Common.{subst}
 use Rattle.hg_mixed.specs.Child.{shown_child}
 use Rattle.hg_append.specs.Put.{AreFields}
 use Rattle.hg_append.proofs.lists.put_node.Goals as goal
