@@ -1,5 +1,5 @@
 -- What is no identifier is no number either.
-use Rattle.std.proofs.Common.{◌≡◌, ℕ, Bool, true, false, ◌&&◌, ◌||◌, ◌∙◌, sym, ap, cond, List, [], ◌∷◌, length, Option, Some, None, inl, inr, ◌^◌, refl, leb, eqb, arith, true≢false}
+use Rattle.std.proofs.Common.{◌≡◌, ℕ, Bool, true, false, ◌∙◌, sym, ap, cond, List, [], ◌∷◌, length, Option, Some, None, inl, inr, ◌^◌, refl, leb, eqb, arith, true≢false}
 use Rattle.std.specs.List.{list_all}
 use Rattle.std.proofs.lemmas.Bool.{and_parts, and_from, cases_Bool}
 use Rattle.std.proofs.lemmas.Bool.Decides.{nat_tests}

@@ -1,6 +1,6 @@
 -- A table that was encoded is read again.
-use Rattle.std.proofs.Common.{◌≡◌, ℕ, ◌+◌, ◌-◌, ◌*◌, ◌<◌, ◌≤◌, ◌^◌, Bool, true, false, not, ◌&&◌, ◌||◌, cond, ◌⊎◌, inl, inr, List, [], ◌∷◌, ◌++◌, length, take, drop, map, Option, Some, None, Ok, refl, sym, ap, subst, ◌∙◌, arith, eqb, ltb, leb, eq-eqb, le-leb, append-nil}
-use Rattle.std.specs.Prelude.{count_by, is_some}
+use Rattle.std.proofs.Common.{◌≡◌, ℕ, ◌+◌, ◌-◌, ◌*◌, ◌<◌, ◌≤◌, ◌^◌, Bool, true, false, not, ◌&&◌, ◌||◌, cond, ◌⊎◌, inl, inr, List, [], ◌∷◌, ◌++◌, length, take, Option, Some, None, refl, sym, ap, subst, ◌∙◌, arith, eqb, ltb, eq-eqb, le-leb}
+use Rattle.std.specs.Prelude.{is_some}
 use Rattle.std.specs.Option.{option_and_then}
 use Rattle.std.specs.List.{AllByRecursion, list_any, sum_by}
 use Rattle.std.specs.Str.{bytes_eq}
@@ -11,37 +11,33 @@ use Rattle.std.proofs.lemmas.List.Sums.{sum_by-append, sum_by-cons}
 use Rattle.hg_base.specs.PathText.{has_slash, is_below, joined, parent_of}
 use Rattle.hg_base.specs.Within.{is_within}
 use Rattle.hg_base.proofs.Children.{below_through, path_through}
-use Rattle.hg_base.proofs.Below.{below_joined}
 use Rattle.hg_base.proofs.Components.{parent_joined}
 use Rattle.hg_base.proofs.Within.{equal_bytes, same_bytes, within_below, within_itself, within_split}
-use Rattle.hg_docket.specs.Docket.{Contents, docket_of, docket_refusal}
+use Rattle.hg_docket.specs.Docket.{Contents, docket_of}
 use Rattle.hg_docket.specs.declared.fault.DocketFault.{DocketFault}
-use Rattle.hg_docket.specs.Written as written
 use Rattle.hg_entry.specs.Flags as bits
 use Rattle.hg_entry.specs.Flags.{has}
 use Rattle.hg_entry.specs.Entry.{EntryData, StampData, time_of, cache_of, entry_of, has_entry}
 use Rattle.hg_entry.specs.declared.entry.Fields.{Fields}
 use Rattle.hg_entry.specs.Table.{Table}
-use Rattle.hg_node.specs.declared.record.Rec.{Rec}
-use Rattle.hg_image.specs.Counts.{are_counted, is_copy, is_counted, is_entry}
+use Rattle.hg_image.specs.Counts.{are_counted, is_counted}
 use Rattle.hg_image.specs.Node.{fields_of}
-use Rattle.hg_image.specs.Reading.{RecordFault, data_reading, docket_reading, of_data, reading_of, row_at, sound_reading, table_of}
+use Rattle.hg_image.specs.Reading.{data_reading, docket_reading, of_data, reading_of, row_at, sound_reading, table_of}
 use Rattle.hg_image.specs.Rows.{Row, list_rows, rows_of}
 use Rattle.hg_image.specs.Walk.{image_fault, levels, list_fault}
 use Rattle.hg_image.specs.declared.fault.NodeFault.{NodeFault}
 use Rattle.hg_image.specs.declared.fault.NodeFault.TheVariants as a_fault
 use Rattle.hg_base.proofs.Paths.{path_some}
-use Rattle.hg_mixed.specs.Children.{AreChildren, ChildData, IsChild}
+use Rattle.hg_mixed.specs.Children.{ChildData, IsChild}
 use Rattle.hg_mixed.specs.Edits.{IsFormed, IsSame}
 use Rattle.hg_mixed.specs.Held.{Held, table}
 use Rattle.hg_append.specs.declared.encoding.Encoded.{Encoded}
-use Rattle.hg_append.specs.Tree.{AreBelow, IsTreeOf, Nothing, Node, Tree, count_in, heads, has_source}
-use Rattle.hg_append.specs.Tree as tree
-use Rattle.hg_append.specs.Layout.{behind_node, fields_for, front_size, list_start, put_of, rec_of, size_of, source_text}
+use Rattle.hg_append.specs.Tree.{AreBelow, IsTreeOf, Nothing, Node, Tree, heads}
+use Rattle.hg_append.specs.Layout.{behind_node, fields_for, front_size, list_start, rec_of, size_of, source_text}
 use Rattle.hg_append.specs.Lost.{named_length, reached, waste}
 use Rattle.hg_append.specs.Put.{AreSound, IsSound}
 use Rattle.hg_append.specs.Encoded.{IsSoundly, ReadsAs, contents_of}
-use Rattle.hg_append.proofs.Sizes.{put_length, size_is}
+use Rattle.hg_append.proofs.Sizes.{put_length}
 use Rattle.hg_append.proofs.Snoc.{sound_behind, sound_below}
 use Rattle.hg_append.proofs.Walked.{copies_counted, entries_counted, has_by_entry, rows_at, whole_walk}
 

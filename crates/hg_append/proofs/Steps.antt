@@ -1,5 +1,5 @@
 -- The steps that put a list: nothing yet, one node more, and its records.
-use Rattle.std.proofs.Common.{◌≡◌, ℕ, zero, suc, ◌+◌, ◌-◌, ◌*◌, ◌<◌, ◌≤◌, ◌^◌, Bool, true, false, MatchBool, cond, List, [], ◌∷◌, ◌++◌, length, take, drop, map, Option, Some, None, refl, sym, ap, subst, ◌∙◌, arith, append_assoc, append-nil, eqb, min}
+use Rattle.std.proofs.Common.{◌≡◌, ℕ, ◌+◌, ◌-◌, ◌*◌, ◌<◌, ◌≤◌, ◌^◌, Bool, true, false, MatchBool, cond, List, [], ◌∷◌, ◌++◌, length, take, drop, Option, Some, None, refl, sym, ap, subst, ◌∙◌, arith, append_assoc, append-nil, eqb}
 use Rattle.std.specs.List.{AllByRecursion}
 use Rattle.std.specs.List.Sorted.{IsStrictlySortedBy}
 use Rattle.std.proofs.lemmas.List.{length-append}
@@ -15,10 +15,10 @@ use Rattle.hg_mixed.specs.Children.{AreChildren, ChildData, IsChild}
 use Rattle.hg_mixed.specs.Held.{Held, table}
 use Rattle.hg_append.specs.declared.sums.Sums.{Sums}
 use Rattle.hg_append.specs.declared.lists.Put.{Put}
-use Rattle.hg_append.specs.Tree.{AreBelow, IsTreeOf, Tree, Nothing, Node, count_in, has_entry, has_source, heads, is_tracked}
+use Rattle.hg_append.specs.Tree.{Tree, Nothing, Node, count_in, has_entry, has_source, heads, is_tracked}
 use Rattle.hg_append.specs.Layout.{copy_start, fields_for, front_of, front_size, list_start, put_of, rec_of, records_of, size_of, source_text}
-use Rattle.hg_append.specs.Put.{AreSound, AreSums, IsFew, IsPut, IsPutPart, IsSound, Puts, base_in, ended, kept, one_if, rec_with, start_with, with_node}
-use Rattle.hg_append.proofs.Sizes.{counted_few, front_length, kept_back, kept_both, kept_more, kept_small, kept_times, records_length, size_is}
+use Rattle.hg_append.specs.Put.{AreSums, IsFew, IsPut, IsPutPart, IsSound, Puts, base_in, ended, kept, rec_with, start_with, with_node}
+use Rattle.hg_append.proofs.Sizes.{counted_few, kept_back, size_is}
 use Rattle.hg_append.proofs.Snoc.{below_snoc, count_snoc, front_snoc, heads_snoc, records_snoc, size_snoc, snoc, sound_snoc}
 
 -- where the last component of a path begins

@@ -1,5 +1,5 @@
 -- What was put is read again: the walk finds no fault, and the rows of the tree.
-use Rattle.std.proofs.Common.{◌≡◌, ℕ, zero, suc, ◌+◌, ◌-◌, ◌*◌, ◌<◌, ◌≤◌, ◌^◌, ◌/◌, Bool, true, false, not, ◌&&◌, ◌||◌, cond, List, [], ◌∷◌, ◌++◌, length, take, drop, map, Option, Some, None, refl, sym, ap, subst, ◌∙◌, arith, eqb, eq-eqb, leb, le-leb, nat_cmp, Less}
+use Rattle.std.proofs.Common.{◌≡◌, ℕ, zero, suc, ◌+◌, ◌-◌, ◌*◌, ◌<◌, ◌≤◌, ◌^◌, Bool, true, false, not, ◌&&◌, ◌||◌, cond, List, [], ◌∷◌, ◌++◌, length, map, Option, Some, None, refl, sym, ap, subst, ◌∙◌, arith, eqb, eq-eqb, leb, le-leb, nat_cmp, Less}
 use Rattle.std.specs.List.{AllByRecursion}
 use Rattle.std.specs.List.Sorted.{IsStrictlySortedBy}
 use Rattle.std.specs.Ordering.{is_lt}
@@ -31,7 +31,7 @@ use Rattle.std.specs.Prelude.{count_by, is_some}
 use Rattle.hg_image.specs.Rows.{AreParted, Row, list_rows, nodes_rows, row_of}
 use Rattle.hg_image.specs.Walk.{levels, list_fault, nodes_fault}
 use Rattle.hg_image.proofs.Walk.{below, list_empty, list_inside}
-use Rattle.hg_mixed.specs.Children.{AreChildren, ChildData, IsChild}
+use Rattle.hg_mixed.specs.Children.{ChildData, IsChild}
 use Rattle.hg_mixed.specs.Edits.{IsFormed}
 use Rattle.hg_mixed.specs.Held.{Held, table}
 use Rattle.hg_append.specs.Tree.{AreBelow, IsTreeOf, Nothing, Node, Tree, count_in, heads, is_tracked, nodes}

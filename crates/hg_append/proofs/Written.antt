@@ -1,5 +1,5 @@
 -- A table that was put whole is written, or too large.
-use Rattle.std.proofs.Common.{◌≡◌, ℕ, ◌+◌, ◌*◌, ◌<◌, ◌≤◌, ◌^◌, List, [], ◌++◌, length, Option, Some, None, Result, Ok, Err, ◌⊎◌, inl, inr, true, true≢false, refl, sym, ap, subst, ◌∙◌, arith, append-nil, min}
+use Rattle.std.proofs.Common.{◌≡◌, ℕ, ◌+◌, ◌*◌, ◌<◌, ◌≤◌, ◌^◌, List, [], ◌++◌, length, Some, None, Result, Ok, Err, inl, inr, true, true≢false, refl, sym, ap, subst, ◌∙◌, arith, append-nil}
 use Rattle.std.specs.Prelude.{IfErr, IfOk, is_some}
 use Rattle.hg_docket.specs.Docket.{Contents}
 use Rattle.hg_docket.specs.Number.{next_name}
@@ -12,9 +12,9 @@ use Rattle.hg_append.specs.declared.lists.Put.{Put}
 use Rattle.hg_append.specs.Tree.{IsTreeOf, Nothing, Node, Tree, count_in, has_entry, has_source, heads}
 use Rattle.hg_append.specs.Layout.{front_size, list_start, put_of, size_of}
 use Rattle.hg_append.specs.Put.{IsPut, kept}
-use Rattle.hg_append.specs.Encoded.{HasCause, IsFit, IsSoundly, IsTooLarge, Yields, contents_of, contents_with}
+use Rattle.hg_append.specs.Encoded.{HasCause, IsFit, IsSoundly, Yields, contents_of, contents_with}
 use Rattle.hg_append.proofs.OneTree.{one_tree}
-use Rattle.hg_append.proofs.Sizes.{counted_few, kept_back, size_is}
+use Rattle.hg_append.proofs.Sizes.{counted_few, size_is}
 
 -- the docket reads back
 pub back_is : (items old front : List ℕ) (d e : Contents) → items ≡ old ++ docket.bytes_of d → old ≡ [] → ((rest : List ℕ) → docket.ReadsAs (docket.bytes_of d ++ rest) d) → d ≡ e → docket.ReadsAs items e

@@ -1,12 +1,12 @@
 -- What a table is encoded as.
-use Rattle.std.specs.Prelude.{ℕ, ◌≡◌, ◌<◌, ◌≤◌, ◌+◌, ◌^◌, if◌then◌else◌, nat_lt, List, length, Option, Some, None, Result, Ok, Err, ◌⊎◌}
+use Rattle.std.specs.Prelude.{ℕ, ◌≡◌, ◌<◌, ◌≤◌, ◌+◌, ◌^◌, if◌then◌else◌, nat_lt, List, length, Some, None, Result, Ok, Err, ◌⊎◌}
 use Rattle.hg_docket.specs.Docket.{Contents}
 use Rattle.hg_docket.specs.Number.{next_name}
 use Rattle.hg_docket.specs.Written as docket
 use Rattle.hg_entry.specs.Table.{Table}
-use Rattle.hg_image.specs.Reading.{RecordFault, reading_of}
+use Rattle.hg_image.specs.Reading.{RecordFault}
 use Rattle.hg_mixed.specs.Edits.{IsSame}
-use Rattle.hg_mixed.specs.Held.{Held, table}
+use Rattle.hg_mixed.specs.Held.{Held}
 use Rattle.hg_append.specs.declared.encoding.Encoded.{Encoded}
 use Rattle.hg_append.specs.declared.fault.EncodeFault.{EncodeFault}
 use Rattle.hg_append.specs.declared.fault.EncodeFault.TheVariants as a_fault

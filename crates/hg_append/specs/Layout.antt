@@ -1,6 +1,6 @@
 -- How a tree of nodes is laid out in a data file. Of a list each node comes with all that belongs to it: first the list of its children, then its
 -- path, then its copy source. Behind the last stand the records of the list, in order.
-use Rattle.std.specs.Prelude.{ℕ, ◌+◌, ◌-◌, List, [], ◌∷◌, ◌++◌, length, Option, Some, None}
+use Rattle.std.specs.Prelude.{ℕ, ◌+◌, ◌-◌, List, [], ◌++◌, length, Option, Some, None}
 use Rattle.hg_base.specs.PathText.{base_of}
 use Rattle.hg_entry.specs.declared.entry.Fields.{Fields}
 use Rattle.hg_entry.specs.Entry.{EntryData, StampData}

@@ -1,10 +1,11 @@
 -- What was put of a tree.
-use Rattle.std.specs.Prelude.{ℕ, ◌≡◌, ◌<◌, ◌≤◌, ◌+◌, ◌-◌, ◌*◌, ◌==◌, ◌^◌, Bool, true, if◌then◌else◌, List, [], ◌∷◌, ◌++◌, length, Option, Some, None, min}
+use Rattle.std.specs.Prelude.{ℕ, ◌≡◌, ◌<◌, ◌+◌, ◌-◌, ◌*◌, ◌==◌, ◌^◌, Bool, true, if◌then◌else◌, List, [], ◌++◌, length, Option, Some, None, min}
 use Rattle.std.specs.Str.{is_utf8}
 use Rattle.std.specs.List.{AllByRecursion}
 use Rattle.hg_base.specs.PathText.{is_path}
 use Rattle.hg_entry.specs.declared.entry.Fields.{Fields}
 use Rattle.hg_entry.specs.Entry.{cache_of, entry_of, is_timely}
+use Rattle.hg_node.specs.Node.{bytes_of}
 use Rattle.hg_node.specs.declared.record.Rec.{Rec}
 use Rattle.hg_mixed.specs.Children.{AreChildren, ChildData}
 use Rattle.hg_mixed.specs.Held.{Held}
@@ -125,3 +126,14 @@ pub record IsPut (held : Held) (dir : Option (List ℕ)) (at : ℕ) (put : Put) 
   pub start : at + size_of tree < 2 ^ 32 → put.start ≡ list_start at tree
   pub bytes : Puts (at + size_of tree) (put_of at tree) old new
   pub records : Puts (at + size_of tree) [] old_records new_records
+
+-- a node was put behind the list of its children
+pub record HasPut (held : Held) (child : ChildData) (base_at : ℕ) (sums now : Sums) (old new old_records new_records : List ℕ) : Type 0 where
+  pub under : Put
+  pub mid : List ℕ
+  pub mid_records : List ℕ
+  pub below : IsPut held (Some child.path) sums.end under old mid old_records mid_records
+  pub is : now ≡ with_node child under.sums sums
+  pub sound : IsSound child
+  pub texts : Puts now.end (child.path ++ source_text child.source) mid new
+  pub records : Puts now.end (bytes_of (rec_with child base_at under)) mid_records new_records

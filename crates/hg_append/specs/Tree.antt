@@ -1,5 +1,5 @@
 -- The nodes of a table as a tree.
-use Rattle.std.specs.Prelude.{ℕ, ◌+◌, Bool, if◌then◌else◌, List, [], ◌∷◌, ◌++◌, length, Option, Some, None, is_some}
+use Rattle.std.specs.Prelude.{ℕ, ◌+◌, Bool, if◌then◌else◌, List, [], ◌∷◌, ◌++◌, Option, Some, is_some}
 use Rattle.hg_mixed.specs.Children.{AreChildren, ChildData}
 use Rattle.hg_mixed.specs.Clash.{is_tracked_entry}
 use Rattle.hg_mixed.specs.Held.{Held}

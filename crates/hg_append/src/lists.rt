@@ -8,7 +8,7 @@ ghost use Rattle.std.specs.Str.{is_utf8};
 ghost use Rattle.hg_base.specs.PathText.{is_path, parent_of};
 ghost use Rattle.hg_append.specs.Layout as layout;
 ghost use Rattle.hg_append.specs.Put as puts;
-ghost use Rattle.hg_append.specs.Put.{AreFields, IsFew, IsPut, IsSound, Puts, rec_with};
+ghost use Rattle.hg_append.specs.Put.{AreFields, HasPut, IsFew, IsPut, IsSound, Puts, rec_with};
 
 use crate::sums::{Sums, ended, none, with_node};
 use hg_base::{OutOfMemory, PathRef};
@@ -118,15 +118,29 @@ fn keep(rec: Rec, records: &mut Vec<u8>) -> Result<(), OutOfMemory>
     Ok(())
 }
 
+// Puts a text behind. (most nodes have no copy source)
+fn put_text(text: &[u8], bytes: &mut Vec<u8>) -> Result<(), OutOfMemory>
+    ensures { OnOk result (bytes.new.items ≡ bytes.old.items ++ text.now) }
+{
+    if text.is_empty() {
+        return Ok(());
+    }
+    bytes.extend_from_slice(text)?;
+    Ok(())
+}
+
 // Puts the texts of a node, and keeps its record. Where they would end behind the last place, it only counts.
+#[inline(always)]
 fn put_node(
     child: &Child<'_>,
+    fields: Fields,
     base_at: usize,
     under: Put,
     sums: Sums,
     bytes: &mut Vec<u8>,
     records: &mut Vec<u8>,
 ) -> Result<Sums, OutOfMemory>
+    requires fields { AreFields (shown_child child.now) fields }
     requires few { IsFew under }
     requires base { base_at ≤ length child.now.path.text.now }
     ensures sums { IfOk result (λ s. s ≡ puts.with_node (shown_child child.now) under.sums sums) }
@@ -136,13 +150,12 @@ fn put_node(
 {
     let path = path_bytes(child.path);
     let source = source_bytes(child.source);
-    let fields = fields(child);
     let sums = with_node(child, under.sums, sums);
     if sums.end > LAST {
         return Ok(sums);
     }
     bytes.extend_from_slice(path)?;
-    bytes.extend_from_slice(source)?;
+    put_text(source, bytes)?;
     keep(rec_of(child, fields, base_at, under), records)?;
     Ok(sums)
 }
@@ -187,25 +200,34 @@ fn base_at(dir: Option<PathRef<'_>>) -> usize
     }
 }
 
-// Puts the list of a node's children at a place, where it has any.
+// Puts a node, and before it the list of its children, where it has any. (A node without children, as most are, goes a way of its own, on which
+// there is nothing to add up.)
 #[cycle(putting)]
-fn put_below(
+#[inline(always)]
+fn put_child(
     mixed: &Mixed<'_>,
     child: &Child<'_>,
-    at: u64,
+    base_at: usize,
+    sums: Sums,
     bytes: &mut Vec<u8>,
     records: &mut Vec<u8>,
-) -> Result<Put, OutOfMemory>
-    requires { IsChild mixed.now (parent_of child.now.path.text.now) (shown_child child.now) }
-    ensures { IfOk result (λ p. IsPut mixed.now (Some child.now.path.text.now) at p bytes.old.items bytes.new.items records.old.items records.new.items) }
+) -> Result<Sums, OutOfMemory>
+    requires child { IsChild mixed.now (parent_of child.now.path.text.now) (shown_child child.now) }
+    requires base { base_at ≤ length child.now.path.text.now }
+    ensures { IfOk result (λ s. HasPut mixed.now (shown_child child.now) base_at sums s bytes.old.items bytes.new.items records.old.items records.new.items) }
 {
+    let fields = fields(child);
     if !child.has_kids {
-        return Ok(Put {
+        let under = Put {
             start: 0,
-            sums: none(at),
-        });
+            sums: none(sums.end),
+        };
+        let now = put_node(child, fields, base_at, under, sums, bytes, records)?;
+        return Ok(now);
     }
-    put_list(mixed, Some(child.path), at, bytes, records)
+    let under = put_list(mixed, Some(child.path), sums.end, bytes, records)?;
+    let now = put_node(child, fields, base_at, under, sums, bytes, records)?;
+    Ok(now)
 }
 
 /// Puts the list of a directory's children at a place, none for the root, with all that stands below; `records` keeps the records of lists
@@ -225,8 +247,7 @@ pub fn put_list(
     let mut sums = none(at);
     let mut children = mixed.children(dir);
     while let Some(child) = children.next() {
-        let under = put_below(mixed, &child, sums.end, bytes, records)?;
-        sums = put_node(&child, base_at, under, sums, bytes, records)?;
+        sums = put_child(mixed, &child, base_at, sums, bytes, records)?;
     }
     let put = put_records(sums, from, bytes, records)?;
     Ok(put)

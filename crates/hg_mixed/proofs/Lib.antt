@@ -1,5 +1,4 @@
 pub mod Adding
-pub mod Behind
 pub mod ChildrenOf
 pub mod Dropped
 pub mod Edited
@@ -10,4 +9,5 @@ pub mod Planted
 pub mod Pruned
 pub mod Rows
 pub mod Searched
+pub mod Sought
 pub mod Timed

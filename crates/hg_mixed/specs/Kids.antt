@@ -1,11 +1,12 @@
 -- The nodes that stand right in a directory, one after the other.
-use Rattle.std.specs.Prelude.{ℕ, ◌≡◌, Bool, true, false, List, [], ◌∷◌, Option, Some, None, is_some}
+use Rattle.std.specs.Prelude.{ℕ, ◌≡◌, if◌then◌else◌, Bool, true, false, List, [], ◌∷◌, Option, Some, None, is_some}
 use Rattle.std.specs.List.{AllByRecursion, list_any}
 use Rattle.std.specs.List.Sorted.{IsStrictlySortedBy}
 use Rattle.std.specs.Map.{keys_of}
-use Rattle.std.specs.Ordering.{is_lt, nat_cmp}
+use Rattle.std.specs.Ordering.{is_gt, is_lt, nat_cmp}
 use Rattle.std.specs.Cmp.Lexicographic.{slice_cmp}
 use Rattle.std.specs.Str.{bytes_eq}
+use Rattle.hg_base.specs.PathText.{is_below, parent_of}
 use Rattle.hg_mixed.specs.Node.{NodeData, node_at}
 use Rattle.hg_mixed.specs.Lists.{dir_text, has_rows_in}
 
@@ -25,16 +26,38 @@ abbrev pub is_before : Option (List ℕ) → List ℕ → Bool
 is_before None path = true
 is_before (Some next) path = is_lt (slice_cmp nat_cmp path next)
 
--- in no directory behind one, but before the next, a node stands
-abbrev pub IsBehind : List (List ℕ × NodeData) → List ℕ → Option (List ℕ) → Type 0
-IsBehind rows dir next = (at : List ℕ) → is_lt (slice_cmp nat_cmp dir at) ≡ true → is_before next at ≡ true → has_rows_in rows at ≡ false
+-- a directory isn't greater than the next one, where there is one
+abbrev pub IsFrom : List ℕ → Option (List ℕ) → Type 0
+IsFrom dir None = Unit {0}
+IsFrom dir (Some next) = is_gt (slice_cmp nat_cmp dir next) ≡ false
 
--- what is left of a directory's nodes ascends, and those before the next directory that has nodes have none
+-- what a search among the directories finds: whether a node stands right in one, and the first from it on in which one may stand
+pub record Seeks (rows : List (List ℕ × NodeData)) (dir : List ℕ) (has : Bool) (next : Option (List ℕ)) : Type 0 where
+  pub here : has ≡ has_rows_in rows dir
+  pub from : IsFrom dir next
+  pub quiet : (at : List ℕ) → is_lt (slice_cmp nat_cmp dir at) ≡ true → is_before next at ≡ true → has_rows_in rows at ≡ false
+
+-- the next directory, none where it stands behind all that stands beside a path
+abbrev pub below_dir : Option (List ℕ) → Option (List ℕ) → Option (List ℕ)
+below_dir None next = next
+below_dir (Some dir) None = None
+below_dir (Some dir) (Some next) = if is_below dir next then Some next else None
+
+abbrev pub beside : List ℕ → Option (List ℕ) → Option (List ℕ)
+beside path next = below_dir (parent_of path) next
+
+-- what is left of the nodes of one directory ascends, and those before the next directory that has nodes have none
 pub record AreLeftBefore (rows : List (List ℕ × NodeData)) (next : Option (List ℕ)) (kids : List (List ℕ × NodeData)) : Type 0 where
+  pub dir : List ℕ
+  pub placed : AllByRecursion (λ kid. dir_text kid.0 ≡ dir) kids
   pub sorted : IsStrictlySortedBy (slice_cmp nat_cmp) (keys_of kids)
   pub quiet : AllByRecursion (λ kid. is_before next kid.0 ≡ true → has_rows_in rows kid.0 ≡ false) kids
+
+-- beside a path, behind it, but before the next directory, stands no directory that has nodes
+abbrev pub IsQuiet : List (List ℕ × NodeData) → List ℕ → Option (List ℕ) → Type 0
+IsQuiet rows path next = (at : List ℕ) → dir_text at ≡ dir_text path → is_lt (slice_cmp nat_cmp path at) ≡ true → is_before next at ≡ true → has_rows_in rows at ≡ false
 
 -- a look for a directory's nodes: where the directory stands before the next that has any, it has none and that stays the next
 pub record Looks (rows : List (List ℕ × NodeData)) (known : Option (List ℕ)) (dir : List ℕ) (has : Bool) (next : Option (List ℕ)) : Type 0 where
   pub early : is_before known dir ≡ true → (has ≡ false) × (next ≡ known)
-  pub late : is_before known dir ≡ false → (has ≡ has_rows_in rows dir) × IsBehind rows dir next
+  pub late : is_before known dir ≡ false → (has ≡ has_rows_in rows dir) × IsQuiet rows dir next

@@ -1,10 +1,11 @@
 //! The children of a directory, one after the other.
 
-ghost use Rattle.std.specs.Prelude.{◌≡◌, option_map};
+ghost use Rattle.std.specs.Prelude.{◌≡◌, true, option_map};
+ghost use Rattle.hg_base.specs.PathText.{is_path};
 ghost use Rattle.hg_mixed.specs.Child.{shown_child};
 ghost use Rattle.hg_mixed.specs.Children.{AreChildren};
 ghost use Rattle.std.specs.String.{string_bytes};
-ghost use Rattle.hg_mixed.specs.Kids.{Looks, Takes, is_before};
+ghost use Rattle.hg_mixed.specs.Kids.{Looks, Takes, beside, is_before};
 ghost use Rattle.hg_mixed.specs.Lists.{data_of, or_root};
 
 use crate::child::Child;
@@ -13,7 +14,7 @@ use crate::mixed::Mixed;
 use crate::node::Node;
 use crate::nodes::Nodes;
 use crate::times::Times;
-use hg_base::PathRef;
+use hg_base::{PathRef, is_below};
 use std::marker::Model;
 
 /// What is left of a directory's children.
@@ -60,14 +61,34 @@ fn is_before(next: Option<&str>, path: &str) -> bool
     }
 }
 
+// The next directory that has nodes, none where it stands behind all that stands beside a path.
+fn beside<'t>(path: PathRef<'_>, next: Option<&'t str>) -> Option<&'t str>
+    ensures { option_map (λ n. n.now) result ≡ beside path.entry.text.now (option_map (λ n. n.now) next.entry) }
+{
+    let Some(dir) = path.parent() else {
+        return next;
+    };
+    match next {
+        None => None,
+        Some(found) => if is_below(dir.text, found) {
+            next
+        } else {
+            None
+        },
+    }
+}
+
 // Whether nodes stand in a directory, and the next one that has any; `next` is the one that was known.
 fn look<'t>(nodes: &'t Nodes, next: Option<&'t str>, dir: &String) -> (bool, Option<&'t str>)
+    requires { is_path (string_bytes dir.now) ≡ true }
     ensures { Looks nodes.entry.now (option_map (λ n. n.now) next.entry) (string_bytes dir.now) result.0 (option_map (λ n. n.now) result.1) }
 {
-    if is_before(next, dir.as_str()) {
+    let path = PathRef { text: dir.as_str() };
+    if is_before(next, path.text) {
         return (false, next);
     }
-    (nodes.has_kids(dir.as_str()), nodes.behind(dir))
+    let (has, next) = nodes.seek(dir);
+    (has, beside(path, next))
 }
 
 impl<'t> Children<'t> {

@@ -1,9 +1,10 @@
 //! Lists of nodes, one for each directory that has any.
 
-ghost use Rattle.std.specs.Prelude.{◌≡◌, Some, None, OnOk, OnErr, IsSome, option_map};
+ghost use Rattle.std.specs.Prelude.{◌≡◌, ◌&&◌, not, ◌==◌, length, Some, None, OnOk, OnErr, IsSome, option_map};
+ghost use Rattle.std.specs.Str.{bytes_eq};
 ghost use Rattle.std.specs.BTreeMap.{get_by_text};
 ghost use Rattle.std.specs.String.{string_bytes};
-ghost use Rattle.hg_mixed.specs.Kids.{IsBehind};
+ghost use Rattle.hg_mixed.specs.Kids.{Seeks};
 ghost use Rattle.hg_mixed.specs.Lists.{AreChanged, AreKept, AreListed, IsChanged, dir_text, has_rows_in, look, rows_of};
 
 use crate::node::Node;
@@ -141,18 +142,31 @@ pub fn has_kids(lists: &BTreeMap<String, BTreeMap<String, Node>>, dir: &str) -> 
     }
 }
 
-/// The first directory behind one that has a list.
-pub fn behind<'t>(
+/// Whether a directory has a list with a node in it, and the first directory from it on that has a list, in one search.
+pub fn seek<'t>(
     lists: &'t BTreeMap<String, BTreeMap<String, Node>>,
     dir: &String,
-) -> Option<&'t str>
+) -> (bool, Option<&'t str>)
     requires { AreListed lists.now.entries }
-    ensures { IsBehind (rows_of lists.now.entries) (string_bytes dir.now) (option_map (λ d. d.now) result) }
+    ensures { Seeks (rows_of lists.now.entries) (string_bytes dir.now) result.0 (option_map (λ d. d.now) result.1) }
 {
-    match lists.range((Bound::Excluded(dir), Bound::Unbounded)).next() {
-        None => None,
-        Some((dir, _)) => Some(dir.as_str()),
+    match lists.range((Bound::Included(dir), Bound::Unbounded)).next() {
+        None => (false, None),
+        Some((first, list)) => {
+            let (first, dir) = (first.as_str(), dir.as_str());
+            (is_list_of(first, dir, list), Some(first))
+        }
     }
+}
+
+// Whether a list is that of a directory, and a node is in it.
+fn is_list_of(found: &str, dir: &str, list: &BTreeMap<String, Node>) -> bool
+    ensures { result ≡ (bytes_eq found.now dir.now && not (length list.now.entries == 0)) }
+{
+    if found != dir {
+        return false;
+    }
+    list.len() != 0
 }
 
 // Takes out the list of a directory, where no node is in it.

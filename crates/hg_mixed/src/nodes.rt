@@ -2,7 +2,7 @@
 
 ghost use Rattle.std.specs.Prelude.{◌≡◌, ℕ, true, List, Some, None, is_some, option_map, OnOk, OnErr};
 ghost use Rattle.std.specs.String.{string_bytes};
-ghost use Rattle.hg_mixed.specs.Kids.{AreKids, IsBehind};
+ghost use Rattle.hg_mixed.specs.Kids.{AreKids, Seeks};
 ghost use Rattle.hg_mixed.specs.Lists.{data_of, has_rows_in};
 ghost use Rattle.hg_mixed.specs.Node.{AreSame, IsPut, node_at};
 
@@ -79,11 +79,11 @@ impl Nodes {
         lists::has_kids(&self.lists, dir)
     }
 
-    /// The first directory behind one in which a node may stand: in none between them one does.
-    pub fn behind(&self, dir: &String) -> Option<&str>
-        ensures { IsBehind self.now (string_bytes dir.now) (option_map (λ d. d.now) result) }
+    /// Whether a node stands right in a directory, and the first directory from it on in which one may stand.
+    pub fn seek(&self, dir: &String) -> (bool, Option<&str>)
+        ensures { Seeks self.now (string_bytes dir.now) result.0 (option_map (λ d. d.now) result.1) }
     {
-        lists::behind(&self.lists, dir)
+        lists::seek(&self.lists, dir)
     }
 
     /// The nodes that stand right in a directory, of which the text is empty for the root.

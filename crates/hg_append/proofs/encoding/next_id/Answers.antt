@@ -1,6 +1,5 @@
 use Rattle.std.proofs.Common.{sym, ◌∙◌}
 use Rattle.hg_append.proofs.Names.{next_of_none}
-use Rattle.hg_append.proofs.Read.{IsRight}
 use Rattle.hg_append.proofs.encoding.next_id.Goals as goal
 
 pub returns-in-None-clause-next : goal.returns-in-None-clause-next

@@ -1,47 +1,55 @@
-use Rattle.std.proofs.Common.{◌≡◌, ℕ, ◌<◌, ◌≤◌, ◌++◌, List, length, take, drop, arith, rules, refl, sym, ap, subst, ◌∙◌}
+use Rattle.std.proofs.Common.{ℕ, ◌<◌, ◌≤◌, ◌^◌, length, take, drop, arith, rules, refl, sym, ap, subst, ◌∙◌}
 use Rattle.std.specs.Option.{option_map}
-use Rattle.hg_base.specs.PathText.{parent_of}
-use Rattle.hg_node.specs.Node.{bytes_of}
 use Rattle.hg_mixed.specs.Child.{shown_child}
-use Rattle.hg_mixed.specs.Children.{ChildData, IsChild}
-use Rattle.hg_append.specs.Put.{Puts, rec_with}
-use Rattle.hg_append.proofs.Steps.{base_inside, below_none, child_longer, dir_length, in_parent, kept_inside, left_child, part_done, part_more, part_none, path_short, put_few}
+use Rattle.hg_mixed.specs.Children.{IsChild}
+use Rattle.hg_append.specs.declared.lists.Put.{Put}
+use Rattle.hg_append.specs.Put.{HasPut, Puts}
+use Rattle.hg_append.proofs.Steps.{base_inside, below_none, child_longer, dir_length, in_parent, left_child, part_done, part_more, path_short, put_few}
 use Rattle.hg_append.proofs.lists.+putting.Goals as goal
 
-pub put_below-returns-then-not-child : goal.put_below-returns-then-not-child
-put_below-returns-then-not-child t c =
-    below_none c.args.mixed.now (shown_child c.args.child.now) c.args.at _ c.args.bytes.now.items c.args.records.now.items (omega (arith, c.ranges.at.fits)) c.requires c.if-not-child.true
-    refl c.none.ensures.end c.none.ensures.count c.none.ensures.entries c.none.ensures.tracked c.none.ensures.copies
+pub put_child-returns-then-not-child : goal.put_child-returns-then-not-child
+put_child-returns-then-not-child t c =
+    let fits : c.args.sums.end < 2 ^ 64 = search rules in
+    let under : Put = record { start = 0; sums = c.none.result } in
+    record {
+      under = under;
+      mid = c.args.bytes.now.items;
+      mid_records = c.args.records.now.items;
+      below = below_none c.args.mixed.now (shown_child c.args.child.now) c.args.sums.end under c.args.bytes.now.items c.args.records.now.items fits c.requires.child c.if-not-child.true
+          refl c.none.ensures.end c.none.ensures.count c.none.ensures.entries c.none.ensures.tracked c.none.ensures.copies;
+      is = c.in_ok-now.ensures.sums;
+      sound = c.in_ok-now.ensures.sound;
+      texts = c.in_ok-now.ensures.bytes;
+      records = c.in_ok-now.ensures.records;
+    }
 
-pub put_list-put_below-requires : goal.put_list-put_below-requires
-put_list-put_below-requires t c =
+pub put_child-put_node-requires-2-clause-few : goal.put_child-put_node-requires-2-clause-few
+put_child-put_node-requires-2-clause-few t c = put_few _ _ _ _ _ _ _ _ c.in_ok-under.ensures
+
+pub put_list-put_child-requires : goal.put_list-put_child-requires
+put_list-put_child-requires t c =
     let dir = option_map (λ d. d.text.now) c.args.dir in
     let is : IsChild c.args.mixed.now dir (shown_child c.in-Some.child) =
     left_child c.args.mixed.now dir c.args.at c.loop-child.children c.next.new.self (shown_child c.in-Some.child) c.loop-child.sums _ _ _ _ c.in-Some.ensures c.loop-child.invariant.part in
     let longer : dir_length dir < length c.in-Some.child.path.text.now = child_longer dir c.in-Some.child.path.text.now c.in-Some.child.path.is_path is.parent in
-    let short : length c.in-Some.child.path.text.now ≤ 65535 = path_short c.in-Some.child.path.text.now c.in-Some.child.path.is_path in
-    (omega (arith, c.decreases, longer, short), in_parent c.args.mixed.now dir (shown_child c.in-Some.child) is)
-
-pub put_list-put_node-requires-clause-few : goal.put_list-put_node-requires-clause-few
-put_list-put_node-requires-clause-few t c = put_few _ _ _ _ _ _ _ _ c.in_ok-under.ensures
-
-pub put_list-put_node-requires-clause-base : goal.put_list-put_node-requires-clause-base
-put_list-put_node-requires-clause-base t c =
-    let dir = option_map (λ d. d.text.now) c.args.dir in
-    let is : IsChild c.args.mixed.now dir (shown_child c.in-Some.child) =
-    left_child c.args.mixed.now dir c.args.at c.loop-child.children c.next.new.self (shown_child c.in-Some.child) c.loop-child.sums _ _ _ _ c.in-Some.ensures c.loop-child.invariant.part in
-    subst (λ (n : ℕ). n ≤ length c.in-Some.child.path.text.now) (sym c.base_at-base_at.ensures) (base_inside dir c.in-Some.child.path.text.now is.parent)
+    let short : length c.in-Some.child.path.text.now ≤ 65535 = path_short c.in-Some.child.path.text.now c.in-Some.child.path.is_path in (
+      omega (arith, c.decreases, longer, short),
+      (
+        in_parent c.args.mixed.now dir (shown_child c.in-Some.child) is,
+        subst (λ (n : ℕ). n ≤ length c.in-Some.child.path.text.now) (sym c.base_at-base_at.ensures) (base_inside dir c.in-Some.child.path.text.now is.parent),
+      ),
+    )
 
 pub put_list-loop-child-preserved : goal.put_list-loop-child-preserved
 put_list-loop-child-preserved t c =
     let dir = option_map (λ d. d.text.now) c.args.dir in
     let is : IsChild c.args.mixed.now dir (shown_child c.in-Some.child) =
     left_child c.args.mixed.now dir c.args.at c.loop-child.children c.next.new.self (shown_child c.in-Some.child) c.loop-child.sums _ _ _ _ c.in-Some.ensures c.loop-child.invariant.part in
+    let put = subst (λ (n : ℕ). HasPut c.args.mixed.now (shown_child c.in-Some.child) n c.loop-child.sums c.in_ok-sums.sums c.loop-child.bytes.items c.put_child.new.bytes.items c.loop-child.records.items c.put_child.new.records.items)
+    c.base_at-base_at.ensures c.in_ok-sums.ensures in
     record {
       part = part_more c.args.mixed.now dir c.args.at c.loop-child.children (shown_child c.in-Some.child) c.next.new.self c.in-Some.ensures c.loop-child.sums c.in_ok-sums.sums
-          _ _ _ _ _ _ _ _ c.in_ok-under.under c.loop-child.invariant.part c.in_ok-under.ensures c.in_ok-sums.ensures.sums c.in_ok-sums.ensures.sound c.in_ok-sums.ensures.bytes
-          (subst (λ (n : ℕ). Puts c.in_ok-sums.sums.end (bytes_of (rec_with (shown_child c.in-Some.child) n c.in_ok-under.under)) c.put_below.new.records.items c.put_node.new.records.items)
-          c.base_at-base_at.ensures c.in_ok-sums.ensures.records) is;
+          _ _ put.mid _ _ _ put.mid_records _ put.under c.loop-child.invariant.part put.below put.is put.sound put.texts put.records is;
       base = c.base_at-base_at.ensures;
       from = c.loop-child.invariant.from;
     }

@@ -12,4 +12,4 @@ returns c =
 
 pub invariant_of-result : goal.invariant_of-result
 invariant_of-result c =
-    (at_paths c.self.inside.nodes _ c.kids.result c.self.invariant.paths c.kids.ensures.each, left_at_first c.self.inside.nodes c.kids.result c.kids.ensures.sorted)
+    (at_paths c.self.inside.nodes _ c.kids.result c.self.invariant.paths c.kids.ensures.each, left_at_first c.self.inside.nodes _ c.kids.result c.kids.ensures)
