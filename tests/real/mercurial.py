@@ -76,24 +76,16 @@ def run_case(tests, what, steps):
 
 
 def run_commit(tests):
-<<<<<<< HEAD
     """A commit whose files weren't brought into the plain store is told by its identifier, where bytes have to be compared."""
-=======
-    """Once there is a commit, a parent stands in the docket."""
->>>>>>> 13a93ffe17a25916aa76d609146068c28d7f39e5
     with tests.working_copy() as root:
         hg(root, "init")
         lay_out(root, ["a"])
         hg(root, "add", "a")
         tests.compare("hg: added before the commit", tests.run(root), (0, lines("A a"), b""))
         hg(root, "commit", "-m", "first")
-<<<<<<< HEAD
         node = hg(root, "log", "-r", ".", "-T", "{node}").stdout.decode()
         tests.compare("hg: after a commit", tests.run(root), (255, b"", aborted(f"no manifest {node}")))
         tests.compare("hg: after a commit, without comparing", tests.run(root, ("status", "-a", "-r", "-d", "-u")), (0, b"", b""))
-=======
-        tests.compare("hg: after a commit", tests.run(root), (255, b"", aborted("not built yet")))
->>>>>>> 13a93ffe17a25916aa76d609146068c28d7f39e5
 
 
 def run(tests):
