@@ -27,41 +27,44 @@ none_quiet : (rows kids : List (List ℕ × NodeData)) → AllByRecursion (λ ki
 none_quiet rows [] = tt
 none_quiet rows (kid ∷ kids) = (λ h. absurd (nothing_before kid.0 h), none_quiet rows kids)
 
-placed_in : (rows : List (List ℕ × NodeData)) (dir : List ℕ) (kids : List (List ℕ × NodeData)) → AllByRecursion (λ kid. (dir_text kid.0 ≡ dir) × (node_at rows kid.0 ≡ Some kid.1)) kids
-    → AllByRecursion (λ kid. dir_text kid.0 ≡ dir) kids
-placed_in rows dir [] each = tt
-placed_in rows dir (kid ∷ kids) each = (each.0.0, placed_in rows dir kids each.1)
-
 pub left_at_first : (rows : List (List ℕ × NodeData)) (dir : List ℕ) (kids : List (List ℕ × NodeData)) → AreKids rows dir kids → AreLeftBefore rows (Some []) kids
-left_at_first rows dir kids are = record { dir = dir; placed = placed_in rows dir kids are.each; sorted = are.sorted; quiet = none_quiet rows kids }
+left_at_first rows dir kids are = record { dir = dir; placed = are.each; sorted = are.sorted; quiet = none_quiet rows kids }
 
 behind_quiet : (rows : List (List ℕ × NodeData)) (dir path : List ℕ) (next : Option (List ℕ)) (kids : List (List ℕ × NodeData)) → dir_text path ≡ dir → IsQuiet rows path next
-    → AllByRecursion (λ kid. dir_text kid.0 ≡ dir) kids → AllByRecursion (λ other. slice_cmp nat_cmp path other ≡ Less) (keys_of kids)
+    → AllByRecursion (λ kid. (dir_text kid.0 ≡ dir) × (node_at rows kid.0 ≡ Some kid.1)) kids → AllByRecursion (λ other. slice_cmp nat_cmp path other ≡ Less) (keys_of kids)
     → AllByRecursion (λ kid. is_before next kid.0 ≡ true → has_rows_in rows kid.0 ≡ false) kids
 behind_quiet rows dir path next [] here quiet placed less = tt
 behind_quiet rows dir path next (kid ∷ kids) here quiet placed less =
-    (λ before. quiet kid.0 (placed.0 ∙ sym here) (ap is_lt less.0) before, behind_quiet rows dir path next kids here quiet placed.1 less.1)
+    (λ before. quiet kid.0 (placed.0.0 ∙ sym here) (ap is_lt less.0) before, behind_quiet rows dir path next kids here quiet placed.1 less.1)
 
-pub left_on : (rows old rest : List (List ℕ × NodeData)) (kid : List ℕ × NodeData) (known next : Option (List ℕ)) (has : Bool) → old ≡ kid ∷ rest → AreAtPaths old × AreLeftBefore rows known old
-    → Looks rows known kid.0 has next → AreAtPaths rest × AreLeftBefore rows next rest
-left_on rows old rest kid known next has is both looks =
-    let now = subst (λ (l : List (List ℕ × NodeData)). AreAtPaths l × AreLeftBefore rows known l) is both in
-    let sorted = now.1.sorted in (
-      now.0.1,
-      record {
-        dir = now.1.dir;
-        placed = now.1.placed.1;
-        sorted = sorted_tail (slice_cmp nat_cmp) kid.0 (keys_of rest) sorted;
-        quiet = elim (cases_Bool (is_before known kid.0)) [
-          | inl early ↦ subst (λ (n : Option (List ℕ)). AllByRecursion (λ k. is_before n k.0 ≡ true → has_rows_in rows k.0 ≡ false) rest) (sym (looks.early early).1) now.1.quiet.1
-          | inr late ↦ behind_quiet rows now.1.dir kid.0 next rest now.1.placed.0 (looks.late late).1 now.1.placed.1 (sorted_head (slice_cmp nat_cmp) kid.0 (keys_of rest) sorted)
-        ];
-      },
-    )
+module _ (rows old rest : List (List ℕ × NodeData)) (kid : List ℕ × NodeData) (known : Option (List ℕ)) (is : old ≡ kid ∷ rest) (both : AreAtPaths old × AreLeftBefore rows known old) where
+  left_now : AreAtPaths (kid ∷ rest) × AreLeftBefore rows known (kid ∷ rest)
+  left_now = subst (λ (l : List (List ℕ × NodeData)). AreAtPaths l × AreLeftBefore rows known l) is both
 
--- the first of what is left is a path
-pub first_path : (old rest : List (List ℕ × NodeData)) (kid : List ℕ × NodeData) → old ≡ kid ∷ rest → AreAtPaths old → is_path kid.0 ≡ true
-first_path old rest kid is paths = (subst AreAtPaths is paths).0
+  -- the first of what is left is a path, at which its node stands
+  pub first_path : is_path kid.0 ≡ true
+  first_path = left_now.0.0
+
+  pub first_there : node_at rows kid.0 ≡ Some kid.1
+  first_there = left_now.1.placed.0.1
+
+  pub first_has : (next : Option (List ℕ)) (has : Bool) → Looks rows known kid.0 has next → has ≡ has_rows_in rows kid.0
+  first_has next has looks = looks.here left_now.1.quiet.0
+
+  pub left_on : (next : Option (List ℕ)) (has : Bool) → Looks rows known kid.0 has next → AreAtPaths rest × AreLeftBefore rows next rest
+  left_on next has looks =
+      let now = left_now in (
+        now.0.1,
+        record {
+          dir = now.1.dir;
+          placed = now.1.placed.1;
+          sorted = sorted_tail (slice_cmp nat_cmp) kid.0 (keys_of rest) now.1.sorted;
+          quiet = elim looks.on [
+            | inl same ↦ subst (λ (n : Option (List ℕ)). AllByRecursion (λ k. is_before n k.0 ≡ true → has_rows_in rows k.0 ≡ false) rest) (sym same) now.1.quiet.1
+            | inr quiet ↦ behind_quiet rows now.1.dir kid.0 next rest now.1.placed.0.0 quiet now.1.placed.1 (sorted_head (slice_cmp nat_cmp) kid.0 (keys_of rest) now.1.sorted)
+          ];
+        },
+      )
 
 -- ---- the next directory, where it isn't below that of a path
 
@@ -95,7 +98,7 @@ past_all (d ∷ dir) (x ∷ path) (y ∷ at) (z ∷ next) p a n h =
     (ap (λ (c : ℕ). is_gt (ordering_then (nat_cmp c z) (slice_cmp nat_cmp path next))) (sym same) ∙ h)
 
 -- paths beside one that stands in a directory stand in it
-beside_in : (dir : List ℕ) (parent : Option (List ℕ)) → 0 < length dir → or_root parent ≡ dir → parent ≡ Some dir
+pub beside_in : (dir : List ℕ) (parent : Option (List ℕ)) → 0 < length dir → or_root parent ≡ dir → parent ≡ Some dir
 beside_in dir None long e = let none : 0 ≡ length dir = ap length e in absurd (omega (arith, none, long))
 beside_in dir (Some other) long e = ap Some e
 
@@ -114,11 +117,18 @@ module _ (rows : List (List ℕ × NodeData)) (path : List ℕ) (good : is_path 
           quiet at less (past_all dir path at next (below_parent dir path is) (below_parent dir at is_dir) out from)
 
   -- what a search finds, and that alone which matters beside the path
-  pub looked : (known next : Option (List ℕ)) (has : Bool) → is_before known path ≡ false → Seeks rows path has next → Looks rows known path has (beside path next)
-  looked known next has late seeks = record {
-    early = λ early. absurd (true≢false (sym early ∙ late));
-    late = λ _. (seeks.here, narrowed (parent_of path) next refl seeks.from seeks.quiet);
+  pub looked : (known next : Option (List ℕ)) (has : Bool) → Seeks rows path has next → Looks rows known path has (beside path next)
+  looked known next has seeks = record {
+    here = λ _. seeks.here;
+    on = inr (narrowed (parent_of path) next refl seeks.from seeks.quiet);
   }
+
+-- what surely has no nodes is told without a search
+pub looked_early : (rows : List (List ℕ × NodeData)) (path : List ℕ) (known : Option (List ℕ)) → has_rows_in rows path ≡ false → Looks rows known path false known
+looked_early rows path known none = record { here = λ _. sym none; on = inl refl }
+
+pub looked_before : (rows : List (List ℕ × NodeData)) (path : List ℕ) (known : Option (List ℕ)) → is_before known path ≡ true → Looks rows known path false known
+looked_before rows path known before = record { here = λ quiet. sym (quiet before); on = inl refl }
 
 -- nodes stand at paths
 pub at_paths : (rows : List (List ℕ × NodeData)) (dir : List ℕ) (kids : List (List ℕ × NodeData)) → ((at : List ℕ) → is_some (node_at rows at) ≡ true → is_path at ≡ true)

@@ -1,13 +1,13 @@
 -- The nodes that stand right in a directory, one after the other.
-use Rattle.std.specs.Prelude.{ℕ, ◌≡◌, if◌then◌else◌, Bool, true, false, List, [], ◌∷◌, Option, Some, None, is_some}
+use Rattle.std.specs.Prelude.{ℕ, ◌≡◌, if◌then◌else◌, ◌⊎◌, Bool, true, false, List, [], ◌∷◌, Option, Some, None, is_some}
 use Rattle.std.specs.List.{AllByRecursion, list_any}
 use Rattle.std.specs.List.Sorted.{IsStrictlySortedBy}
 use Rattle.std.specs.Map.{keys_of}
 use Rattle.std.specs.Ordering.{is_gt, is_lt, nat_cmp}
 use Rattle.std.specs.Cmp.Lexicographic.{slice_cmp}
 use Rattle.std.specs.Str.{bytes_eq}
-use Rattle.hg_base.specs.PathText.{is_below, parent_of}
-use Rattle.hg_mixed.specs.Node.{NodeData, node_at}
+use Rattle.hg_base.specs.PathText.{is_below, is_path, parent_of}
+use Rattle.hg_mixed.specs.Node.{NodeData, entry_in, node_at}
 use Rattle.hg_mixed.specs.Lists.{dir_text, has_rows_in}
 
 -- some rows are all that stand in a directory, ascending by path
@@ -46,10 +46,26 @@ below_dir (Some dir) (Some next) = if is_below dir next then Some next else None
 abbrev pub beside : List ℕ → Option (List ℕ) → Option (List ℕ)
 beside path next = below_dir (parent_of path) next
 
+-- nodes with an entry have no children
+abbrev pub AreChildless : List (List ℕ × NodeData) → Type 0
+AreChildless rows = (at : List ℕ) → is_path at ≡ true → is_some (entry_in (node_at rows at)) ≡ true → has_rows_in rows at ≡ false
+
+-- where the mark isn't set, they have none
+abbrev pub IsMarked : Bool → List (List ℕ × NodeData) → Type 0
+IsMarked stacked rows = stacked ≡ false → AreChildless rows
+
+-- the directory of a path has an entry
+abbrev pub has_entry_in : List (List ℕ × NodeData) → Option (List ℕ) → Bool
+has_entry_in rows None = false
+has_entry_in rows (Some dir) = is_some (entry_in (node_at rows dir))
+
+abbrev pub is_below_entry : List (List ℕ × NodeData) → List ℕ → Bool
+is_below_entry rows path = has_entry_in rows (parent_of path)
+
 -- what is left of the nodes of one directory ascends, and those before the next directory that has nodes have none
 pub record AreLeftBefore (rows : List (List ℕ × NodeData)) (next : Option (List ℕ)) (kids : List (List ℕ × NodeData)) : Type 0 where
   pub dir : List ℕ
-  pub placed : AllByRecursion (λ kid. dir_text kid.0 ≡ dir) kids
+  pub placed : AllByRecursion (λ kid. (dir_text kid.0 ≡ dir) × (node_at rows kid.0 ≡ Some kid.1)) kids
   pub sorted : IsStrictlySortedBy (slice_cmp nat_cmp) (keys_of kids)
   pub quiet : AllByRecursion (λ kid. is_before next kid.0 ≡ true → has_rows_in rows kid.0 ≡ false) kids
 
@@ -57,7 +73,7 @@ pub record AreLeftBefore (rows : List (List ℕ × NodeData)) (next : Option (Li
 abbrev pub IsQuiet : List (List ℕ × NodeData) → List ℕ → Option (List ℕ) → Type 0
 IsQuiet rows path next = (at : List ℕ) → dir_text at ≡ dir_text path → is_lt (slice_cmp nat_cmp path at) ≡ true → is_before next at ≡ true → has_rows_in rows at ≡ false
 
--- a look for a directory's nodes: where the directory stands before the next that has any, it has none and that stays the next
+-- a look for a directory's nodes, where those before the next that is known have none
 pub record Looks (rows : List (List ℕ × NodeData)) (known : Option (List ℕ)) (dir : List ℕ) (has : Bool) (next : Option (List ℕ)) : Type 0 where
-  pub early : is_before known dir ≡ true → (has ≡ false) × (next ≡ known)
-  pub late : is_before known dir ≡ false → (has ≡ has_rows_in rows dir) × IsQuiet rows dir next
+  pub here : (is_before known dir ≡ true → has_rows_in rows dir ≡ false) → has ≡ has_rows_in rows dir
+  pub on : (next ≡ known) ⊎ IsQuiet rows dir next

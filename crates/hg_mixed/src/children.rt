@@ -1,12 +1,13 @@
 //! The children of a directory, one after the other.
 
-ghost use Rattle.std.specs.Prelude.{◌≡◌, true, option_map};
+ghost use Rattle.std.specs.Prelude.{◌≡◌, true, Some, option_map};
 ghost use Rattle.hg_base.specs.PathText.{is_path};
 ghost use Rattle.hg_mixed.specs.Child.{shown_child};
 ghost use Rattle.hg_mixed.specs.Children.{AreChildren};
 ghost use Rattle.std.specs.String.{string_bytes};
 ghost use Rattle.hg_mixed.specs.Kids.{Looks, Takes, beside, is_before};
 ghost use Rattle.hg_mixed.specs.Lists.{data_of, or_root};
+ghost use Rattle.hg_mixed.specs.Node.{node_at};
 
 use crate::child::Child;
 use crate::kids::Kids;
@@ -79,11 +80,20 @@ fn beside<'t>(path: PathRef<'_>, next: Option<&'t str>) -> Option<&'t str>
 }
 
 // Whether nodes stand in a directory, and the next one that has any; `next` is the one that was known.
-fn look<'t>(nodes: &'t Nodes, next: Option<&'t str>, dir: &String) -> (bool, Option<&'t str>)
-    requires { is_path (string_bytes dir.now) ≡ true }
+fn look<'t>(
+    nodes: &'t Nodes,
+    next: Option<&'t str>,
+    dir: &String,
+    node: &Node,
+) -> (bool, Option<&'t str>)
+    requires path { is_path (string_bytes dir.now) ≡ true }
+    requires there { node_at nodes.now (string_bytes dir.now) ≡ Some (data_of node.now) }
     ensures { Looks nodes.entry.now (option_map (λ n. n.now) next.entry) (string_bytes dir.now) result.0 (option_map (λ n. n.now) result.1) }
 {
     let path = PathRef { text: dir.as_str() };
+    if nodes.is_childless(path.text, node) {
+        return (false, next);
+    }
     if is_before(next, path.text) {
         return (false, next);
     }
@@ -99,7 +109,7 @@ impl<'t> Children<'t> {
         match self.kids.next_held() {
             None => None,
             Some((held, node)) => {
-                let (has_kids, next) = look(self.nodes, self.next, held);
+                let (has_kids, next) = look(self.nodes, self.next, held, node);
                 self.next = next;
                 let text = held.as_str();
                 Some(Child {

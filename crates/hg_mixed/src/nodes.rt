@@ -1,8 +1,9 @@
 //! All nodes of a table.
 
-ghost use Rattle.std.specs.Prelude.{◌≡◌, ℕ, true, List, Some, None, is_some, option_map, OnOk, OnErr};
+ghost use Rattle.std.specs.Prelude.{◌≡◌, ◌&&◌, ◌||◌, ℕ, true, false, List, Some, None, is_some, option_map, OnOk, OnErr};
 ghost use Rattle.std.specs.String.{string_bytes};
-ghost use Rattle.hg_mixed.specs.Kids.{AreKids, Seeks};
+ghost use Rattle.hg_base.specs.PathText.{is_path};
+ghost use Rattle.hg_mixed.specs.Kids.{AreKids, Seeks, is_below_entry};
 ghost use Rattle.hg_mixed.specs.Lists.{data_of, has_rows_in};
 ghost use Rattle.hg_mixed.specs.Node.{AreSame, IsPut, node_at};
 
@@ -18,18 +19,22 @@ use std::marker::Model;
 #[derive(Drop)]
 pub struct Nodes {
     lists: BTreeMap<String, BTreeMap<String, Node>>,
+    // (Whether a node with an entry may have children, as one does where a directory took a removed file's place. As long as none may, a file needn't
+    // be looked for among the directories.)
+    stacked: bool,
 }
 
 impl Model for Nodes {
     ghost use Rattle.std.specs.Prelude.{List, ℕ};
     ghost use Rattle.hg_mixed.specs.Node.{NodeData};
     ghost use Rattle.hg_mixed.specs.Lists.{rows_of, AreListed};
+    ghost use Rattle.hg_mixed.specs.Kids.{IsMarked};
 
     ghost Value = { List (List ℕ × NodeData) };
 
     ghost view = { λ n. rows_of n.lists.entries };
 
-    ghost invariant = { λ n. AreListed n.lists.entries };
+    ghost invariant = { λ n. AreListed n.lists.entries × IsMarked n.stacked (rows_of n.lists.entries) };
 }
 
 impl Nodes {
@@ -45,6 +50,7 @@ impl Nodes {
     {
         Nodes {
             lists: BTreeMap::new(alloc),
+            stacked: false,
         }
     }
 
@@ -53,7 +59,59 @@ impl Nodes {
         ensures ok { OnOk result (IsPut path.entry.text.now (Some (data_of node)) self.old self.new) }
         ensures err { OnErr result (AreSame self.old self.new) }
     {
-        lists::put(alloc, &mut self.lists, path, node)
+        let stacks = self.is_stacking(path, &node);
+        match lists::put(alloc, &mut self.lists, path, node) {
+            Err(fault) => Err(fault),
+            Ok(()) => {
+                self.stacked |= stacks;
+                Ok(())
+            }
+        }
+    }
+
+    // Whether a node would have both an entry and children at the path.
+    fn stacks(&self, path: PathRef<'_>, node: &Node) -> bool
+        ensures { result ≡ (is_some (data_of node.now).entry && has_rows_in self.now path.entry.text.now) }
+    {
+        if node.entry.is_none() {
+            return false;
+        }
+        self.has_kids(path.text)
+    }
+
+    // Whether the directory of a path has an entry.
+    fn is_below_entry(&self, path: PathRef<'_>) -> bool
+        ensures { result ≡ is_below_entry self.now path.entry.text.now }
+    {
+        match path.parent() {
+            None => false,
+            Some(dir) => match self.get(dir) {
+                None => false,
+                Some(node) => node.entry.is_some(),
+            },
+        }
+    }
+
+    // Whether with a node at the path some node would have both an entry and children.
+    fn is_stacking(&self, path: PathRef<'_>, node: &Node) -> bool
+        ensures { result ≡ ((is_some (data_of node.now).entry && has_rows_in self.now path.entry.text.now) || is_below_entry self.now path.entry.text.now) }
+    {
+        if self.stacks(path, node) {
+            return true;
+        }
+        self.is_below_entry(path)
+    }
+
+    /// Whether a node that stands at a path surely has no children.
+    pub fn is_childless(&self, path: &str, node: &Node) -> bool
+        requires path { is_path path.now ≡ true }
+        requires there { node_at self.now path.now ≡ Some (data_of node.now) }
+        ensures { result ≡ true → has_rows_in self.now path.now ≡ false }
+    {
+        if self.stacked {
+            return false;
+        }
+        node.entry.is_some()
     }
 
     /// Puts another node where one stands, and answers that.
@@ -62,7 +120,10 @@ impl Nodes {
         ensures was { option_map data_of result ≡ node_at self.old path.entry.text.now }
         ensures put { IsPut path.entry.text.now (Some (data_of node)) self.old self.new }
     {
-        lists::replace(&mut self.lists, path, node)
+        let stacks = self.stacks(path, &node);
+        let was = lists::replace(&mut self.lists, path, node);
+        self.stacked |= stacks;
+        was
     }
 
     /// Takes out what stands at a path.

@@ -9,5 +9,5 @@ pub returns : goal.returns
 returns c =
     map_now c.look.result
     ∙ ap (option_map data_of) c.look.ensures
-    ∙ sym (row_of c.self.inside.lists.entries c.self.invariant c.args.path.text.now)
+    ∙ sym (row_of c.self.inside.lists.entries c.self.invariant.0 c.args.path.text.now)
     ∙ ap (λ (rows : List (List ℕ × NodeData)). node_at rows c.args.path.text.now) c.self.view_is
