@@ -13,7 +13,7 @@ use Rattle.hg_base.specs.declared.stat.Stat.{Stat}
 use Rattle.hg_ignore.specs.Line.{lines_of}
 use Rattle.hg_ignore.specs.State.{Piece, Ignore, ignore_file, items_of, state_of, Texts}
 use Rattle.hg_ignore.specs.Taking.{Counted, HasLineCause, first_fault}
-use Rattle.hg_ignore.specs.Source.{file_size, has_file, text_at, FileDuring, ReadDuring, the_read, AsksOnce, AsksRight, MayAsk, reads_of, IsTooLarge, HasReadCause, HasSizeCause, HasBytesCause, HasTextCause, BytesDuring, IsOfReading}
+use Rattle.hg_ignore.specs.Source.{AreTexts, file_size, has_file, text_at, FileDuring, ReadDuring, the_read, AsksOnce, AsksRight, MayAsk, reads_of, IsTooLarge, HasReadCause, HasSizeCause, HasBytesCause, HasTextCause, BytesDuring, IsOfReading}
 use Rattle.hg_ignore.specs.declared.fault.IgnoreFault.{IgnoreFault}
 use Rattle.hg_ignore.specs.declared.fault.IgnoreFault.TheVariants as a_fault
 
@@ -90,19 +90,19 @@ text_there : (P : List ℕ → Type 0) (bytes : List ℕ) (text : Option (List �
 text_there P bytes text e p = let Q : Option (List ℕ) → Type 0 = λ o. IsSomeAnd o P in subst Q e p
 
 -- and why what was read isn't taken
-cause_at : (most : ℕ) (old new : History) (bytes : List ℕ) (f : IgnoreFault) → Some bytes ≡ text_at (now new) → length bytes ≤ most → HasBytesCause bytes f → HasTextCause most old new f
-cause_at most old new bytes a_fault.OutOfMemory e small cause = tt
-cause_at most old new bytes a_fault.Failed e small cause = absurd cause
-cause_at most old new bytes (a_fault.IgnoreTooLarge size) e small cause = absurd cause
-cause_at most old new bytes (a_fault.IgnoreText at) e small cause = text_there (λ text. (length text ≤ most) × IsValidUpTo text at) bytes (text_at (now new)) e (small, cause)
-cause_at most old new bytes (a_fault.BadGlob line) e small cause =
-    text_there (λ text. (length text ≤ most) × IsUtf8 text × HasLineCause (lines_of text) (a_fault.BadGlob line)) bytes (text_at (now new)) e (small, cause.0, cause.1)
-cause_at most old new bytes (a_fault.BadRegexp line) e small cause =
-    text_there (λ text. (length text ≤ most) × IsUtf8 text × HasLineCause (lines_of text) (a_fault.BadRegexp line)) bytes (text_at (now new)) e (small, cause.0, cause.1)
-cause_at most old new bytes (a_fault.RegexpTooBig line) e small cause =
-    text_there (λ text. (length text ≤ most) × IsUtf8 text × HasLineCause (lines_of text) (a_fault.RegexpTooBig line)) bytes (text_at (now new)) e (small, cause.0, cause.1)
-cause_at most old new bytes (a_fault.BadInclude line) e small cause =
-    text_there (λ text. (length text ≤ most) × IsUtf8 text × HasLineCause (lines_of text) (a_fault.BadInclude line)) bytes (text_at (now new)) e (small, cause.0, cause.1)
+cause_at : (most : ℕ) (old new : History) (bytes : List ℕ) (f : IgnoreFault) → FileDuring old new → Some bytes ≡ text_at (now new) → length bytes ≤ most → HasBytesCause bytes f → HasTextCause most old new f
+cause_at most old new bytes a_fault.OutOfMemory during e small cause = tt
+cause_at most old new bytes a_fault.Failed during e small cause = absurd cause
+cause_at most old new bytes (a_fault.IgnoreTooLarge size) during e small cause = absurd cause
+cause_at most old new bytes (a_fault.IgnoreText at) during e small cause = (during, text_there (λ text. (length text ≤ most) × IsValidUpTo text at) bytes (text_at (now new)) e (small, cause))
+cause_at most old new bytes (a_fault.BadGlob line) during e small cause =
+    (during, text_there (λ text. (length text ≤ most) × IsUtf8 text × HasLineCause (lines_of text) (a_fault.BadGlob line)) bytes (text_at (now new)) e (small, cause.0, cause.1))
+cause_at most old new bytes (a_fault.BadRegexp line) during e small cause =
+    (during, text_there (λ text. (length text ≤ most) × IsUtf8 text × HasLineCause (lines_of text) (a_fault.BadRegexp line)) bytes (text_at (now new)) e (small, cause.0, cause.1))
+cause_at most old new bytes (a_fault.RegexpTooBig line) during e small cause =
+    (during, text_there (λ text. (length text ≤ most) × IsUtf8 text × HasLineCause (lines_of text) (a_fault.RegexpTooBig line)) bytes (text_at (now new)) e (small, cause.0, cause.1))
+cause_at most old new bytes (a_fault.BadInclude line) during e small cause =
+    (during, text_there (λ text. (length text ≤ most) × IsUtf8 text × HasLineCause (lines_of text) (a_fault.BadInclude line)) bytes (text_at (now new)) e (small, cause.0, cause.1))
 
 shown_text : (old new : History) (bytes : List ℕ) → BytesDuring old new (Some bytes) → FileDuring old new × (Some bytes ≡ text_at (now new))
 shown_text old new bytes (inl p) = absurd (cc p.0)
@@ -110,7 +110,7 @@ shown_text old new bytes (inr p) = p
 
 pub causes_of_bytes : {A : Type 0} (most : ℕ) (old new : History) (bytes : List ℕ) (r : Result A IgnoreFault) → BytesDuring old new (Some bytes) → length bytes ≤ most → IfErr r (HasBytesCause bytes) → IfErr r (HasTextCause most old new)
 causes_of_bytes most old new bytes (Ok i) during small cause = tt
-causes_of_bytes most old new bytes (Err f) during small cause = cause_at most old new bytes f (shown_text old new bytes during).1 small cause
+causes_of_bytes most old new bytes (Err f) during small cause = let there = shown_text old new bytes during in cause_at most old new bytes f there.0 there.1 small cause
 
 -- the state of what was read
 pub state_during : (old new : History) (bytes : List ℕ) (state : List Piece) → BytesDuring old new (Some bytes) → state ≡ state_of (Some bytes) → ReadDuring old new state
@@ -174,6 +174,11 @@ faultless_of state bytes e none = ap (λ s. first_fault (items_of s)) e ∙ ap f
 pub faultless_all : {A : Type 0} (view : A → List Piece) (bytes : List ℕ) (r : Result A IgnoreFault) → IfOk r (λ i. view i ≡ state_of (Some bytes)) → IfOk r (λ i. first_fault (lines_of bytes) ≡ None) → IfOk r (λ i. first_fault (items_of (view i)) ≡ None)
 faultless_all view bytes (Ok i) e none = faultless_of (view i) bytes e none
 faultless_all view bytes (Err f) e none = tt
+
+-- and its text is within the size, and is text
+pub texts_all : {A : Type 0} (view : A → List Piece) (bytes : List ℕ) (r : Result A IgnoreFault) → length bytes ≤ 1048576 → IfOk r (λ i. view i ≡ state_of (Some bytes)) → IfOk r (λ i. IsUtf8 bytes) → IfOk r (λ i. AreTexts (view i))
+texts_all view bytes (Ok i) small e utf8 = subst AreTexts (sym e) (small, utf8, tt)
+texts_all view bytes (Err f) small e utf8 = tt
 
 -- no regexp was compiled where no bytes were given
 pub counted_still : (A : Type 0) (most count : ℕ) (f : IgnoreFault) → IsOfReading most f → Counted {T = A} count count (Err f)

@@ -68,16 +68,21 @@ IsNoText most at new = IsSomeAnd (text_at (now new)) (λ text. (length text ≤ 
 abbrev pub AreRefused : ℕ → IgnoreFault → History → Type 0
 AreRefused most fault new = IsSomeAnd (text_at (now new)) (λ text. (length text ≤ most) × IsUtf8 text × HasLineCause (lines_of text) fault)
 
+-- each text is within the size, and is text
+abbrev pub AreTexts : List Piece → Type 0
+AreTexts [] = Unit {0}
+AreTexts (piece ∷ more) = (length piece.text ≤ 1048576) × IsUtf8 piece.text × AreTexts more
+
 -- why no state is given, by the moments of the call
 abbrev pub HasTextCause : ℕ → History → History → IgnoreFault → Type 0
 HasTextCause most old new a_fault.OutOfMemory = Unit {0}
 HasTextCause most old new a_fault.Failed = Unit {0}
 HasTextCause most old new (a_fault.IgnoreTooLarge size) = (most < size) × IsTooLarge most size old new
-HasTextCause most old new (a_fault.IgnoreText at) = IsNoText most at new
-HasTextCause most old new (a_fault.BadGlob line) = AreRefused most (a_fault.BadGlob line) new
-HasTextCause most old new (a_fault.BadRegexp line) = AreRefused most (a_fault.BadRegexp line) new
-HasTextCause most old new (a_fault.RegexpTooBig line) = AreRefused most (a_fault.RegexpTooBig line) new
-HasTextCause most old new (a_fault.BadInclude line) = AreRefused most (a_fault.BadInclude line) new
+HasTextCause most old new (a_fault.IgnoreText at) = FileDuring old new × IsNoText most at new
+HasTextCause most old new (a_fault.BadGlob line) = FileDuring old new × AreRefused most (a_fault.BadGlob line) new
+HasTextCause most old new (a_fault.BadRegexp line) = FileDuring old new × AreRefused most (a_fault.BadRegexp line) new
+HasTextCause most old new (a_fault.RegexpTooBig line) = FileDuring old new × AreRefused most (a_fault.RegexpTooBig line) new
+HasTextCause most old new (a_fault.BadInclude line) = FileDuring old new × AreRefused most (a_fault.BadInclude line) new
 
 -- what was read of the file, before its text is looked at: nothing, where no file is or nothing can be read
 abbrev pub BytesDuring : History → History → Option (List ℕ) → Type 0

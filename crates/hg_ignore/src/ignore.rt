@@ -1,13 +1,14 @@
 //! The ignore state of a working copy, compiled.
 
 ghost use Rattle.std.specs.Prelude.{ℕ, ◌≡◌, ◌↔◌, ◌≤◌, ◌<◌, ◌++◌, [], Some, None, IsTrue, IfOk, IfErr, OnOk, length};
+ghost use Rattle.std.specs.Str.{IsUtf8};
 ghost use Rattle.hg_base.specs.Fault.{HasCause};
 ghost use Rattle.hg_tree.specs.History.{IsOurs, Passes, now};
 ghost use Rattle.hg_ignore.specs.declared.fault.IgnoreFault.TheVariants as a_fault;
 ghost use Rattle.hg_ignore.specs.Asked.{state_asked};
 ghost use Rattle.hg_ignore.specs.Kept.{LawOfIgnored, SomeStands};
 ghost use Rattle.hg_ignore.specs.Line.{lines_of};
-ghost use Rattle.hg_ignore.specs.Source.{AsksOnce, AsksRight, HasBytesCause, HasTextCause, ReadDuring, reads_of};
+ghost use Rattle.hg_ignore.specs.Source.{AreTexts, AsksOnce, AsksRight, HasBytesCause, HasTextCause, ReadDuring, reads_of};
 ghost use Rattle.hg_ignore.specs.State as states;
 ghost use Rattle.hg_ignore.specs.State.{Hash, Ignored, Matches, Texts, items_of, state_of};
 ghost use Rattle.hg_ignore.specs.Taking.{Counted, HasLineCause, first_fault, globs_of, warnings_of};
@@ -122,6 +123,7 @@ impl Ignore {
         requires { length bytes.now ≤ 1048576 }
         ensures state { IfOk result (λ i. i ≡ state_of (Some bytes.now)) }
         ensures faultless { IfOk result (λ _. first_fault (lines_of bytes.now) ≡ None) }
+        ensures utf8 { IfOk result (λ _. IsUtf8 bytes.now) }
         ensures cause { IfErr result (HasBytesCause bytes.now) }
         ensures counted { Counted (G.oversize regexps.old) (G.oversize regexps.new) result }
     {
@@ -160,6 +162,7 @@ impl Ignore {
         ensures still { IsOurs (T.history tree.old) (T.history tree.new) → IfOk result (λ i. i ≡ states.Ignore (now (T.history tree.old))) }
         ensures among { IsTrue (T.history tree.old).told → IfOk result (λ i. Texts (T.history tree.new) i) }
         ensures faultless { IfOk result (λ i. first_fault (items_of i) ≡ None) }
+        ensures texts { IfOk result AreTexts }
 
         // why nothing is
         ensures cause { IsTrue (T.history tree.old).told → IfErr result (HasTextCause 1048576 (T.history tree.old) (T.history tree.new)) }
@@ -211,6 +214,13 @@ impl Ignore {
         ensures { result.now ≡ warnings_of (items_of self.now) }
     {
         &self.warnings
+    }
+
+    /// The same warnings, without the state.
+    pub fn into_warnings(self) -> Warnings
+        ensures { result ≡ warnings_of (items_of self) }
+    {
+        self.warnings
     }
 }
 

@@ -1,7 +1,7 @@
 use Rattle.std.proofs.Common.{List, ℕ, Some, sym, subst}
 use Rattle.hg_ignore.specs.Source.{BytesDuring}
 use Rattle.hg_ignore.specs.State.{Piece}
-use Rattle.hg_ignore.proofs.Sourced.{absent_during, asked_for, asks_still, cause_of_size, counted_still, state_still, states_during, states_still}
+use Rattle.hg_ignore.proofs.Sourced.{absent_during, asked_for, asks_still, cause_of_size, counted_still, state_still, states_during, states_still, texts_all}
 use Rattle.hg_ignore.proofs.ignore.Ignore.read.Goals as goal
 
 pub returns-in-Err-clause-oversize : goal.returns-in-Err-clause-oversize
@@ -30,3 +30,7 @@ returns-in-Ok-Some-clause-still g c = λ ours.
 
 pub returns-in-Err-clause-cause : goal.returns-in-Err-clause-cause
 returns-in-Err-clause-cause g c = λ told. cause_of_size 1048576 (g.T.Tree.history c.args.tree.now) (g.T.Tree.history c.read_bytes.new.tree) c.in-Err.fault (c.in-Err.ensures.size told)
+
+pub returns-in-Ok-Some-clause-texts : goal.returns-in-Ok-Some-clause-texts
+returns-in-Ok-Some-clause-texts g c =
+    texts_all (λ i. i) c.as_slice.result.now c.of_bytes.result (rw c.as_slice.ensures.value (rw c.in-Ok-Some.field-0-is at c.in-Ok-Some.ensures.within)) c.of_bytes.ensures.state c.of_bytes.ensures.utf8
