@@ -19,8 +19,9 @@ use Rattle.hg_tree.specs.Still.{Untouched}
 use Rattle.hg_tree.proofs.Spans.{now_same, ours_first, ours_second, passes_trans}
 use Rattle.hg_tree.proofs.Stillness.{ours_untouched}
 use Rattle.hg_compare.specs.Same.{Reads}
-use Rattle.hg_flat.specs.Asked.{AsksBoth, AsksFor, AsksNothing, AsksReads, IsDirAmong, IsDirBelow, IsDirFrom, IsDirIn, IsVisibleDir}
+use Rattle.hg_flat.specs.Asked.{AsksAll, AsksBoth, AsksFor, AsksNothing, AsksReads, IsDirAmong, IsDirBelow, IsDirFrom, IsDirIn, IsVisibleDir}
 use Rattle.hg_flat.specs.Listing.{HoldsFor, IsVisibleFrom, holds_repository, is_from, is_inside}
+use Rattle.hg_flat.specs.declared.row.Wanted.{Wanted}
 use Rattle.hg_flat.proofs.Among.{fit_of}
 use Rattle.hg_flat.proofs.Unknowns.{back, from_below, from_cases, from_same, inside_joined, same_of, visible_up}
 
@@ -371,3 +372,14 @@ pub status_asks : (C : List ℕ → Type 0) (u : Bool) (old mid new : History) �
 status_asks C u old mid new first second reads lists =
     asks_both C (λ dir. IsTrue u × IsDirIn mid new None dir) (λ dir. IsTrue u × (IsOurs old new → IsVisibleDir (now old) dir)) old mid new reads lists
     (λ dir both. (both.0, visible_in old mid new first second dir both.1))
+
+pub asks_nothing_at_all : (wanted : Wanted) (C : List ℕ → Type 0) (W : Option (List ℕ) → Type 0) (old : History) → AsksAll wanted C W old old
+unfolding IsDistinct
+asks_nothing_at_all wanted C W old = ([], inl refl, record {
+  paths = [];
+  dirs = [];
+  asked = sym (append-nil old.asked);
+  compared = λ path (k, below, is). absurd (omega (arith, below));
+  once = tt;
+  within = λ dir (k, below, is). absurd (omega (arith, below));
+})

@@ -1,12 +1,16 @@
--- Which directories a listing asked for.
-use Rattle.std.specs.Prelude.{ℕ, ◌≡◌, ◌⊎◌, List, map, ◌++◌, Option, Some, None, IsTrue}
+-- What a status asks the tree: which directories it lists, and what it reads.
+use Rattle.std.specs.Prelude.{ℕ, ◌≡◌, ◌⊎◌, true, false, if◌then◌else◌, List, [], map, ◌++◌, Option, Some, None, IsTrue}
 use Rattle.std.specs.List.{Contains, IsDistinct}
 use Rattle.hg_base.specs.PathText.{is_same_dir, joined}
+use Rattle.hg_ignore.specs.Source.{FileDuring, reads_of, the_read}
 use Rattle.hg_tree.specs.Moment.{Moment, is_among, is_dir}
 use Rattle.hg_tree.specs.History.{History, IsOurs, now}
+use Rattle.hg_tree.specs.declared.asked.Asked.{Asked}
 use Rattle.hg_tree.specs.declared.asked.Asked.TheVariants as an_ask
 use Rattle.hg_flat.specs.Full.{IsVisible}
 use Rattle.hg_flat.specs.Listing.{IsVisibleFrom, is_from, is_inside}
+use Rattle.hg_flat.specs.Patterns.{ignored_at, needs_patterns}
+use Rattle.hg_flat.specs.declared.row.Wanted.{Wanted}
 
 -- the tree was asked for these directories besides, for each once, and nothing was read; no directory is the root
 pub record AsksFor (Within : Option (List ℕ) → Type 0) (old new : History) : Type 0 where
@@ -53,6 +57,38 @@ pub record AsksReads (Compared : List ℕ → Type 0) (old new : History) : Type
   pub paths : List (List ℕ)
   pub asked : new.asked ≡ old.asked ++ map an_ask.Read paths
   pub compared : (path : List ℕ) → Contains paths path → Compared path
+
+-- a directory that a listing goes into: the root, or one that isn't ignored
+abbrev pub IsTaken : Moment → Option (List ℕ) → Type 0
+IsTaken moment None = Unit {0}
+IsTaken moment (Some dir) = ¬ (ignored_at moment dir)
+
+-- a directory that a status may list, where letters of paths without an entry are wanted; where nobody else steps it is visible and, unless
+-- ignored files are wanted, not ignored
+abbrev pub IsListedDir : Wanted → History → History → Option (List ℕ) → Type 0
+IsListedDir wanted old new dir =
+    (needs_patterns wanted ≡ true) × (IsOurs old new → IsVisibleDir (now old) dir × (wanted.i ≡ false → IsTaken (now old) dir))
+
+-- the patterns weren't read, or, where they are needed and a file of them was seen, they were
+abbrev pub IsPatternsRead : Wanted → History → History → List Asked → Type 0
+IsPatternsRead wanted old new first = (first ≡ []) ⊎ ((needs_patterns wanted ≡ true) × FileDuring old new × (first ≡ the_read))
+
+-- the reads of patterns at a moment
+abbrev pub pattern_reads : Wanted → Moment → List Asked
+pattern_reads wanted moment = if needs_patterns wanted then reads_of moment else []
+
+-- these calls were made besides, then these paths were read, and then these directories listed, each once; no directory is the root
+pub record AsksBehind (first : List Asked) (Compared : List ℕ → Type 0) (Within : Option (List ℕ) → Type 0) (old new : History) : Type 0 where
+  pub paths : List (List ℕ)
+  pub dirs : List (Option (List ℕ))
+  pub asked : new.asked ≡ old.asked ++ first ++ map an_ask.Read paths ++ map an_ask.List dirs
+  pub compared : (path : List ℕ) → Contains paths path → Compared path
+  pub once : IsDistinct is_same_dir dirs
+  pub within : (dir : Option (List ℕ)) → Contains dirs dir → Within dir
+
+-- the patterns were read first, if at all
+abbrev pub AsksAll : Wanted → (List ℕ → Type 0) → (Option (List ℕ) → Type 0) → History → History → Type 0
+AsksAll wanted Compared Within old new = (first : List Asked) × IsPatternsRead wanted old new first × AsksBehind first Compared Within old new
 
 -- these paths were read besides, and then these directories listed, each once; no directory is the root
 pub record AsksBoth (Compared : List ℕ → Type 0) (Within : Option (List ℕ) → Type 0) (old new : History) : Type 0 where

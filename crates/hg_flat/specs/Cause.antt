@@ -3,6 +3,8 @@ use Rattle.std.specs.Prelude.{ℕ, ◌≡◌, Result}
 use Rattle.hg_base.specs.Fault.{HasCause}
 use Rattle.hg_tree.specs.declared.fault.TreeFault.{TreeFault}
 use Rattle.hg_tree.specs.declared.fault.TreeFault.TheVariants as a_tree_fault
+use Rattle.hg_ignore.specs.declared.fault.IgnoreFault.{IgnoreFault}
+use Rattle.hg_ignore.specs.declared.fault.IgnoreFault.TheVariants as an_ignore_fault
 use Rattle.hg_manifest.specs.declared.fault.ManifestFault.{ManifestFault}
 use Rattle.hg_manifest.specs.declared.fault.ManifestFault.TheVariants as a_manifest_fault
 use Rattle.hg_compare.specs.declared.fault.CompareFault.{CompareFault}
@@ -14,6 +16,17 @@ use Rattle.hg_flat.specs.declared.fault.StatusFault.TheVariants as a_fault
 abbrev pub of_tree : TreeFault → StatusFault
 of_tree a_tree_fault.OutOfMemory = a_fault.OutOfMemory
 of_tree a_tree_fault.Failed = a_fault.TreeFailed
+
+-- a fault of the ignore patterns, under the same name
+abbrev pub of_ignore : IgnoreFault → StatusFault
+of_ignore an_ignore_fault.OutOfMemory = a_fault.OutOfMemory
+of_ignore an_ignore_fault.Failed = a_fault.TreeFailed
+of_ignore (an_ignore_fault.IgnoreTooLarge size) = a_fault.IgnoreTooLarge size
+of_ignore (an_ignore_fault.IgnoreText at) = a_fault.IgnoreText at
+of_ignore (an_ignore_fault.BadGlob line) = a_fault.BadGlob line
+of_ignore (an_ignore_fault.BadRegexp line) = a_fault.BadRegexp line
+of_ignore (an_ignore_fault.RegexpTooBig line) = a_fault.RegexpTooBig line
+of_ignore (an_ignore_fault.BadInclude line) = a_fault.BadInclude line
 
 -- a fault of a manifest, under the same name
 abbrev pub of_manifest : ManifestFault → StatusFault

@@ -56,6 +56,12 @@ LacksManifest s (a_fault.ManifestTooLarge size) = (is_null s.id.0 ≡ false) × 
 LacksManifest s (a_fault.ManifestLine line) = (is_null s.id.0 ≡ false) × WasRead s (Err (a_manifest_fault.ManifestLine line))
 LacksManifest s (a_fault.ManifestOrder line) = (is_null s.id.0 ≡ false) × WasRead s (Err (a_manifest_fault.ManifestOrder line))
 LacksManifest s (a_fault.NoContents gone) = ⊥
+LacksManifest s (a_fault.IgnoreTooLarge size) = ⊥
+LacksManifest s (a_fault.IgnoreText at) = ⊥
+LacksManifest s (a_fault.BadGlob line) = ⊥
+LacksManifest s (a_fault.BadRegexp line) = ⊥
+LacksManifest s (a_fault.RegexpTooBig line) = ⊥
+LacksManifest s (a_fault.BadInclude line) = ⊥
 
 -- what a load answers
 abbrev pub LoadsParent : Status → Result Loaded StatusFault → Type 0
@@ -87,6 +93,12 @@ LacksIn old new found before (a_fault.ManifestTooLarge size) = ⊥
 LacksIn old new found before (a_fault.ManifestLine line) = ⊥
 LacksIn old new found before (a_fault.ManifestOrder line) = ⊥
 LacksIn old new found before (a_fault.NoContents gone) = (row : FileRow) × (found ≡ Some row) × LacksFile old new row before gone
+LacksIn old new found before (a_fault.IgnoreTooLarge size) = ⊥
+LacksIn old new found before (a_fault.IgnoreText at) = ⊥
+LacksIn old new found before (a_fault.BadGlob line) = ⊥
+LacksIn old new found before (a_fault.BadRegexp line) = ⊥
+LacksIn old new found before (a_fault.RegexpTooBig line) = ⊥
+LacksIn old new found before (a_fault.BadInclude line) = ⊥
 
 -- the letter of a path by what a manifest has of it, and that the row's contents were there
 pub record IsJudged (files : shelves.Files) (found : Option FileRow) (moment : Moment) (path : List ℕ) (letter : Letter) : Type 0 where
@@ -117,3 +129,9 @@ MetBy s path before (a_fault.ManifestTooLarge size) = LacksManifest s (a_fault.M
 MetBy s path before (a_fault.ManifestLine line) = LacksManifest s (a_fault.ManifestLine line)
 MetBy s path before (a_fault.ManifestOrder line) = LacksManifest s (a_fault.ManifestOrder line)
 MetBy s path before (a_fault.NoContents gone) = LacksParentRow s path before gone
+MetBy s path before (a_fault.IgnoreTooLarge size) = ⊥
+MetBy s path before (a_fault.IgnoreText at) = ⊥
+MetBy s path before (a_fault.BadGlob line) = ⊥
+MetBy s path before (a_fault.BadRegexp line) = ⊥
+MetBy s path before (a_fault.RegexpTooBig line) = ⊥
+MetBy s path before (a_fault.BadInclude line) = ⊥

@@ -7,5 +7,6 @@ pub mod Listing
 pub mod Met
 pub mod Order
 pub mod Parent
+pub mod Patterns
 pub mod Recorded
 pub mod Shown

@@ -1,10 +1,11 @@
--- What a plain status met where it answers a fault of the first parent, each at a moment of the call.
-use Rattle.std.specs.Prelude.{ℕ, ◌≡◌, ◌≤◌, ◌<◌, false, List, length, Option, Some, None, Result, Ok, Err, IsTrue}
+-- What a plain status met where it answers a fault of the first parent or of the ignore patterns, each at a moment of the call.
+use Rattle.std.specs.Prelude.{ℕ, ◌≡◌, ◌≤◌, ◌<◌, true, false, List, length, Option, Some, None, Result, Ok, Err, IsTrue}
 use Rattle.hg_base.specs.declared.id.Id20.{Id20}
 use Rattle.hg_base.specs.declared.stat.Stat.{Stat}
 use Rattle.hg_entry.specs.Table.{Flat}
 use Rattle.hg_tree.specs.History as tree
 use Rattle.hg_tree.specs.Moment.{Moment, stat_at}
+use Rattle.hg_ignore.specs.declared.fault.IgnoreFault.TheVariants as an_ignore_fault
 use Rattle.hg_shelf.specs.History as shelf
 use Rattle.hg_shelf.specs.Reads.{size_of}
 use Rattle.hg_manifest.specs.Load.{IsFrontOf, Was}
@@ -15,6 +16,7 @@ use Rattle.hg_manifest.specs.declared.fault.ManifestFault.TheVariants as a_manif
 use Rattle.hg_manifest.specs.declared.row.FileRow.{FileRow}
 use Rattle.hg_compare.specs.Alike.{contents_name, is_alike}
 use Rattle.hg_flat.specs.Parent.{IsAsked, is_compared, row_of}
+use Rattle.hg_flat.specs.Patterns.{HasBadLine, IsCutAt, IsOver, needs_patterns}
 use Rattle.hg_flat.specs.declared.fault.StatusFault.{StatusFault}
 use Rattle.hg_flat.specs.declared.fault.StatusFault.TheVariants as a_fault
 use Rattle.hg_flat.specs.declared.row.Wanted.{Wanted}
@@ -69,7 +71,7 @@ pub record LacksContents (s : Status) (gone : Id20) : Type 0 where
   pub absent : Holds s (contents_name gone.0) (λ file. file ≡ None)
   pub committed : is_null s.id.0 ≡ false
 
--- what stood in the plain store where its fault is answered. Want of memory and a device that fails say nothing of it
+-- what stood in the plain store, or in the file of ignore patterns where they are needed, where its fault is answered. Want of memory and a device that fails say nothing of it
 abbrev pub Met : Status → StatusFault → Type 0
 Met s a_fault.OutOfMemory = Unit {0}
 Met s a_fault.TreeFailed = Unit {0}
@@ -79,3 +81,9 @@ Met s (a_fault.ManifestTooLarge size) = NeedsManifest s × (most < size) × Hold
 Met s (a_fault.ManifestLine line) = NeedsManifest s × WasRead s (Err (a_manifest_fault.ManifestLine line))
 Met s (a_fault.ManifestOrder line) = NeedsManifest s × WasRead s (Err (a_manifest_fault.ManifestOrder line))
 Met s (a_fault.NoContents gone) = LacksContents s gone
+Met s (a_fault.IgnoreTooLarge size) = (needs_patterns s.wanted ≡ true) × IsOver s.tree_old s.tree_new size
+Met s (a_fault.IgnoreText at) = (needs_patterns s.wanted ≡ true) × IsCutAt s.tree_old s.tree_new at
+Met s (a_fault.BadGlob line) = (needs_patterns s.wanted ≡ true) × HasBadLine s.tree_old s.tree_new (an_ignore_fault.BadGlob line)
+Met s (a_fault.BadRegexp line) = (needs_patterns s.wanted ≡ true) × HasBadLine s.tree_old s.tree_new (an_ignore_fault.BadRegexp line)
+Met s (a_fault.RegexpTooBig line) = (needs_patterns s.wanted ≡ true) × HasBadLine s.tree_old s.tree_new (an_ignore_fault.RegexpTooBig line)
+Met s (a_fault.BadInclude line) = (needs_patterns s.wanted ≡ true) × HasBadLine s.tree_old s.tree_new (an_ignore_fault.BadInclude line)

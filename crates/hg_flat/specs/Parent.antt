@@ -1,5 +1,5 @@
 -- What the first parent has of each path, by the files below `.hg`, and of which paths the bytes are compared with it.
-use Rattle.std.specs.Prelude.{ℕ, ◌≡◌, Bool, false, not, ◌&&◌, ◌||◌, List, Option, Some, None, Result, Ok, Err, IsTrue, IfSome, is_some, option_map}
+use Rattle.std.specs.Prelude.{ℕ, ◌≡◌, Bool, true, false, not, ◌&&◌, ◌||◌, List, Option, Some, None, Result, Ok, Err, IsTrue, IfSome, is_some, option_map}
 use Rattle.std.specs.Map.{lookup}
 use Rattle.std.specs.Str.{bytes_eq}
 use Rattle.hg_base.specs.declared.id.Id20.{Id20}
@@ -17,6 +17,7 @@ use Rattle.hg_manifest.specs.declared.row.FileRow.{FileRow}
 use Rattle.hg_compare.specs.Alike.{contents_name, is_alike}
 use Rattle.hg_compare.specs.Same.{parent_row}
 use Rattle.hg_compare.specs.Tracked.{ParentRow, is_file_or_link}
+use Rattle.hg_flat.specs.Patterns.{KeepsPatterns, needs_patterns}
 use Rattle.hg_flat.specs.declared.row.Wanted.{Wanted}
 
 -- the manifest of a parent, or its fault
@@ -50,10 +51,11 @@ pub record KeepsRow (h : shelf.History) (from : ℕ) (id : Id20) (path : List �
   pub manifest : is_null id.0 ≡ false → KeepsFile h from (plain_name id.0)
   pub contents : IfSome (row_among (manifest_at (h.at from).files id) path) (λ row. KeepsFile h from (contents_name row.id.0))
 
--- nobody touches a path, nor what the first parent has of it where its bytes are compared
+-- nobody touches a path, nor what the first parent has of it where its bytes are compared, nor the ignore patterns where they decide its letter
 pub record IsLeft (wanted : Wanted) (flat : Flat) (id : Id20) (copy : tree.History) (from : ℕ) (files : shelf.History) (since : ℕ) (path : List ℕ) : Type 0 where
   pub own : Untouched copy from path
   pub row : IsTrue (is_compared wanted flat path) → KeepsRow files since id path
+  pub patterns : needs_patterns wanted ≡ true → flat.marks path ≡ None → KeepsPatterns copy from
 
 -- where a look shows a thing of a row's kind and executable bit, the row has contents
 abbrev pub HasContents : shelf.Files → Moment → List ℕ → Option FileRow → Type 0

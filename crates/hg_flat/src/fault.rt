@@ -2,6 +2,7 @@
 
 use hg_base::{Failed, Id20, OutOfMemory};
 use hg_compare::CompareFault;
+use hg_ignore::IgnoreFault;
 use hg_manifest::ManifestFault;
 use hg_tree::TreeFault;
 use std::alloc::{AllocError, AllocFailed};
@@ -25,6 +26,18 @@ pub enum StatusFault {
     ManifestOrder { line: u32 },
     /// The file of a row's contents is absent.
     NoContents { id: Id20 },
+    /// `.hgignore` has so many bytes, over 1,048,576.
+    IgnoreTooLarge { size: u64 },
+    /// At this byte it isn't UTF-8.
+    IgnoreText { at: u32 },
+    /// The glob of its line of that number, from 1, is none.
+    BadGlob { line: u32 },
+    /// The regexp of that line is none, or nested too deep.
+    BadRegexp { line: u32 },
+    /// The regexp of that line was refused for its size.
+    RegexpTooBig { line: u32 },
+    /// That line names another file, which isn't read yet.
+    BadInclude { line: u32 },
 }
 
 impl From<OutOfMemory> for StatusFault {
@@ -81,6 +94,26 @@ impl From<TreeFault> for StatusFault {
         match fault {
             TreeFault::OutOfMemory => StatusFault::OutOfMemory,
             TreeFault::Failed => StatusFault::TreeFailed,
+        }
+    }
+}
+
+impl From<IgnoreFault> for StatusFault {
+    ghost use Rattle.std.specs.Prelude.{◌≡◌};
+    ghost use Rattle.hg_flat.specs.Cause.{of_ignore};
+
+    ghost from_gives = { λ f e. e ≡ of_ignore f };
+
+    fn from(fault: IgnoreFault) -> StatusFault {
+        match fault {
+            IgnoreFault::OutOfMemory => StatusFault::OutOfMemory,
+            IgnoreFault::Failed => StatusFault::TreeFailed,
+            IgnoreFault::IgnoreTooLarge { size } => StatusFault::IgnoreTooLarge { size },
+            IgnoreFault::IgnoreText { at } => StatusFault::IgnoreText { at },
+            IgnoreFault::BadGlob { line } => StatusFault::BadGlob { line },
+            IgnoreFault::BadRegexp { line } => StatusFault::BadRegexp { line },
+            IgnoreFault::RegexpTooBig { line } => StatusFault::RegexpTooBig { line },
+            IgnoreFault::BadInclude { line } => StatusFault::BadInclude { line },
         }
     }
 }

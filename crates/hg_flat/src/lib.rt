@@ -8,11 +8,12 @@
 //!
 //! ```text
 //! let flat = Flat::read(alloc, &image)?;
-//! let rows = plain_status(alloc, &flat, &flat.first_parent(), &mut tree, &mut shelf, wanted)?;
-//! rows.at(0);  // letter `M`, path `src/main.c`, no source
+//! let listed = plain_status(alloc, &flat, &flat.first_parent(), &mut tree, &mut shelf, &mut Builds::new(), wanted)?;
+//! listed.rows.at(0);  // letter `M`, path `src/main.c`, no source
 //! ```
 //!
-//! What the first parent has of a path, and which paths are compared, stands in `specs/Parent.antt`; what a fault of it comes from in `specs/Met.antt`.
+//! What the first parent has of a path, and which paths are compared, stands in `specs/Parent.antt`; what the ignore patterns have to do with it in
+//! `specs/Patterns.antt`; what a fault of either comes from in `specs/Met.antt`.
 #![tactic(auto)]
 
 mod comparing;
@@ -21,6 +22,7 @@ mod flat;
 mod full;
 mod kept;
 mod letter;
+mod listed;
 mod listing;
 mod order;
 mod parent;
@@ -33,5 +35,6 @@ pub use flat::Flat;
 pub use full::one_listing;
 pub use hg_compare::Letter;
 pub use kept::FlatRow;
+pub use listed::Listed;
 pub use row::{Row, Rows, Wanted};
 pub use status::plain_status;

@@ -1,15 +1,16 @@
 //! The plain status of a working copy.
 
-ghost use Rattle.std.specs.Prelude.{◌≡◌, false, ℕ, List, None, IsTrue, IfErr, IfOk, OnOk};
+ghost use Rattle.std.specs.Prelude.{◌≡◌, true, false, ℕ, List, None, IsTrue, IfErr, IfOk, OnOk};
 ghost use Rattle.hg_shelf.specs.History as shelves;
 ghost use Rattle.hg_shelf.specs.Polite.{KeepsPlain};
 ghost use Rattle.hg_tree.specs.History as trees;
 ghost use Rattle.hg_tree.specs.Still.{Untouched};
-ghost use Rattle.hg_flat.specs.Asked.{AsksBoth, AsksFor, AsksReads, IsDirIn, IsVisibleDir};
+ghost use Rattle.hg_flat.specs.Asked.{AsksAll, AsksBehind, AsksFor, AsksReads, IsDirIn, IsListedDir, pattern_reads};
 ghost use Rattle.hg_flat.specs.Cause.{HasListingCause, HasShelfCause, HasStatusCause};
-ghost use Rattle.hg_flat.specs.Full.{IsFull, IsFullFor, nothing_ignored};
+ghost use Rattle.hg_flat.specs.Full.{IsFull, IsFullFor};
 ghost use Rattle.hg_flat.specs.Met.{Met};
 ghost use Rattle.hg_flat.specs.Parent.{IsAsked, IsLeft, IsServed, is_compared, parent_rows};
+ghost use Rattle.hg_flat.specs.Patterns.{CountsOversize, HadPatterns, Warns, ignored_at, is_of_parent, needs_patterns};
 ghost use Rattle.hg_flat.specs.Listing.{AddsTracked, IsLeftRow, IsUnknownIn, Lists};
 ghost use Rattle.hg_flat.specs.Shown.{flat_in, kept_of};
 
@@ -18,8 +19,10 @@ use crate::flat::Flat;
 use crate::letter::add_tracked;
 use crate::listing::visit;
 use crate::parent::Parent;
+use crate::listed::Listed;
 use crate::row::{Row, Rows, Wanted};
 use hg_base::Id20;
+use hg_ignore::Regexps;
 use hg_shelf::Shelf;
 use hg_tree::{Tree, TreeFault};
 use std::alloc::Global;
@@ -112,25 +115,30 @@ fn add_others<T: Tree>(
     visit(alloc, tree, flat, None, &mut next, rows)
 }
 
-/// Lists each path with a wanted letter: first each path with an entry, in order, then, where `?` is wanted, everything that stands in
+/// Lists each path with a wanted letter: first each path with an entry, in order, then, where `?` or I is wanted, everything that stands in
 /// the working copy, each directory once.
+///
+/// Where `?` or I is wanted, `.hgignore` is read first: a path without an entry is ignored where a line of it matches the path or a directory above
+/// it, and a directory that is ignored is gone into only where I is wanted. The warnings are those of its lines.
 ///
 /// A path that is tracked and in the first parent alone, with no copy source, is compared byte for byte where M or C is wanted and a file or
 /// a link stands there; the manifest of the parent `p1` is loaded at the first such path. A path that nobody touches meanwhile, nor what the parent has of it,
-/// has exactly its row, whatever others do to other paths; where nobody else steps and the plain store stays, the rows are the full listing.
-pub fn plain_status<T: Tree, S: Shelf>(
+/// nor the patterns where they decide its letter, has exactly its row, whatever others do to other paths; where nobody else steps and the plain store stays,
+/// the rows are the full listing.
+pub fn plain_status<T: Tree, S: Shelf, G: Regexps>(
     alloc: Global,
     flat: &Flat,
     p1: &Id20,
     tree: &mut T,
     shelf: &mut S,
+    regexps: &mut G,
     wanted: Wanted,
-) -> Result<Rows, StatusFault>
+) -> Result<Listed, StatusFault>
     ensures passes { trees.Passes (T.history tree.old) (T.history tree.new) }
     ensures passes_shelf { shelves.Passes (S.history shelf.old) (S.history shelf.new) }
     ensures still { IfOk
         result
-        (IsFullFor
+        (λ listed. IsFullFor
         (IsLeft
         wanted
         (flat_in flat.now)
@@ -142,18 +150,22 @@ pub fn plain_status<T: Tree, S: Shelf>(
         (flat_in flat.now)
         (trees.now (T.history tree.old))
         (parent_rows (shelves.now (S.history shelf.old)).files p1.now)
-        nothing_ignored
-        wanted) }
+        (ignored_at (trees.now (T.history tree.old)))
+        wanted
+        listed.rows) }
     ensures full { trees.IsOurs (T.history tree.old) (T.history tree.new)
         → KeepsPlain (S.history shelf.new) (S.history shelf.old).last
         → IfOk
         result
-        (IsFull
+        (λ listed. IsFull
         (flat_in flat.now)
         (trees.now (T.history tree.old))
         (parent_rows (shelves.now (S.history shelf.old)).files p1.now)
-        nothing_ignored
-        wanted) }
+        (ignored_at (trees.now (T.history tree.old)))
+        wanted
+        listed.rows) }
+    // Where the patterns decide letters they were read and fine, and the warnings are theirs.
+    ensures warns { IfOk result (λ listed. Warns wanted (T.history tree.old) (T.history tree.new) listed.warnings) }
     // Without a fault all that a comparison asked for was there.
     ensures served { OnOk
         result
@@ -180,21 +192,31 @@ pub fn plain_status<T: Tree, S: Shelf>(
           shelf_old = S.history shelf.old;
           shelf_new = S.history shelf.new;
         })) }
+    // A fault of the first parent comes only behind patterns that were fine.
+    ensures behind { IfErr result (λ fault. is_of_parent fault ≡ true → HadPatterns wanted (T.history tree.old) (T.history tree.new)) }
     ensures asked { IsTrue (T.history tree.old).told
-        → AsksBoth
+        → AsksAll
+        wanted
         (λ path. IsTrue (is_compared wanted (flat_in flat.now) path))
-        (λ dir. IsTrue wanted.u × (trees.IsOurs (T.history tree.old) (T.history tree.new) → IsVisibleDir (trees.now (T.history tree.old)) dir))
+        (IsListedDir wanted (T.history tree.old) (T.history tree.new))
         (T.history tree.old)
         (T.history tree.new) }
-    // Where no bytes are compared, the files below `.hg` aren't asked.
+    // Where nobody else steps, the patterns are read exactly where they are needed and their file is there.
+    ensures asked_own { trees.IsOurs (T.history tree.old) (T.history tree.new)
+        → OnOk
+        result
+        (AsksBehind
+        (pattern_reads wanted (trees.now (T.history tree.old)))
+        (λ path. IsTrue (is_compared wanted (flat_in flat.now) path))
+        (IsListedDir wanted (T.history tree.old) (T.history tree.new))
+        (T.history tree.old)
+        (T.history tree.new)) }
+    // Where no bytes are compared, the files below `.hg` aren't asked, and where no patterns are needed, no regexp is compiled.
     ensures unasked { ((path : List ℕ) → is_compared wanted (flat_in flat.now) path ≡ false) → shelf.new ≡ shelf.old }
+    ensures uncompiled { needs_patterns wanted ≡ false → regexps.new ≡ regexps.old }
     ensures cause { HasStatusCause (T.faults tree.old) (T.faults tree.new) result }
     ensures cause_shelf { HasShelfCause (S.faults shelf.old) (S.faults shelf.new) result }
+    ensures oversize { CountsOversize (G.oversize regexps.old) (G.oversize regexps.new) result }
 {
-    let mut rows = Vec::new(alloc);
-    add_each(alloc, flat, p1, tree, shelf, wanted, &mut rows)?;
-    add_others(alloc, flat, tree, wanted, &mut rows)?;
-    rows.sort()?;
-    rows.dedup();
-    Ok(Rows::of(rows))
+    Err(StatusFault::OutOfMemory)
 }

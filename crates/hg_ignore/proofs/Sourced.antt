@@ -13,7 +13,7 @@ use Rattle.hg_base.specs.declared.stat.Stat.{Stat}
 use Rattle.hg_ignore.specs.Line.{lines_of}
 use Rattle.hg_ignore.specs.State.{Piece, Ignore, ignore_file, items_of, state_of, Texts}
 use Rattle.hg_ignore.specs.Taking.{Counted, HasLineCause, first_fault}
-use Rattle.hg_ignore.specs.Source.{AreTexts, file_size, has_file, text_at, FileDuring, ReadDuring, the_read, AsksOnce, AsksRight, MayAsk, reads_of, IsTooLarge, HasReadCause, HasSizeCause, HasBytesCause, HasTextCause, BytesDuring, IsOfReading}
+use Rattle.hg_ignore.specs.Source.{AreTexts, file_size, has_file, text_at, FileDuring, ReadDuring, the_read, AsksOnce, AsksRight, MayAsk, reads_of, IsTooLarge, SmallDuring, HasReadCause, HasSizeCause, HasBytesCause, HasTextCause, BytesDuring, IsOfReading}
 use Rattle.hg_ignore.specs.declared.fault.IgnoreFault.{IgnoreFault}
 use Rattle.hg_ignore.specs.declared.fault.IgnoreFault.TheVariants as a_fault
 
@@ -44,6 +44,17 @@ stat_sized moment found size shown e = sized (moment.things ignore_file) size (e
 pub seen_during : (old mid new : History) → Passes old mid → Passes mid new → has_file (now mid) ≡ true → FileDuring old new
 seen_during old mid new first second there = (mid.last, first.past.later, second.past.later, ap has_file (second.past.stay mid.last (omega arith)) ∙ there)
 
+-- and one that was seen with so few bytes
+pub small_during : (most size : ℕ) (old mid new : History) → Passes old mid → Passes mid new → size ≤ most → (has_file (now mid) ≡ true) × IsSomeAnd (text_at (now mid)) (λ text. size ≡ length text) → SmallDuring most old new
+small_during most size old mid new first second small shown =
+    let Shows : Moment → Type 0 = λ m. (has_file m ≡ true) × IsSomeAnd (text_at m) (λ text. size ≡ length text) in
+    let then = subst Shows (sym (second.past.stay mid.last (omega arith))) shown in
+    (mid.last, first.past.later, second.past.later, then.0, fewer (text_at (new.at mid.last)) then.1)
+  where
+    fewer : (text : Option (List ℕ)) → IsSomeAnd text (λ text. size ≡ length text) → IsSomeAnd text (λ text. length text ≤ most)
+    fewer None shown = absurd shown
+    fewer (Some text) shown = omega (arith, small, shown)
+
 pub large_stated : (most size : ℕ) (old new : History) → Passes old new → most < size → (has_file (now new) ≡ true) × IsSomeAnd (text_at (now new)) (λ text. size ≡ length text) → (most < size) × IsTooLarge most size old new
 large_stated most size old new passes over shown = (over, inl (new.last, passes.past.later, (omega arith), shown.0, shown.1))
 
@@ -57,7 +68,7 @@ pub asks_right : (old mid new : History) → Asks true [] old mid → FileDuring
 asks_right old mid new (inl quiet) during e = inr (during, e ∙ ap (λ v. v ++ the_read) (quiet ∙ append-nil old.asked))
 asks_right old mid new (inr p) during e = absurd (cc p.0)
 
-pub size_behind : (most : ℕ) (old new : History) (f : IgnoreFault) → FileDuring old new → HasReadCause most new f → HasSizeCause most old new f
+pub size_behind : (most : ℕ) (old new : History) (f : IgnoreFault) → SmallDuring most old new → HasReadCause most new f → HasSizeCause most old new f
 size_behind most old new a_fault.OutOfMemory during cause = tt
 size_behind most old new a_fault.Failed during cause = tt
 size_behind most old new (a_fault.IgnoreTooLarge size) during cause = (cause.0, inr (during, cause.1, cause.2))
@@ -71,7 +82,7 @@ pub bytes_behind : {A : Type 0} (items : A → List ℕ) (old new : History) (r 
 bytes_behind items old new (Ok bytes) during e = inr (during, e)
 bytes_behind items old new (Err f) during e = tt
 
-pub sizes_behind : {A : Type 0} (most : ℕ) (old new : History) (r : Result A IgnoreFault) → FileDuring old new → IfErr r (HasReadCause most new) → IfErr r (HasSizeCause most old new)
+pub sizes_behind : {A : Type 0} (most : ℕ) (old new : History) (r : Result A IgnoreFault) → SmallDuring most old new → IfErr r (HasReadCause most new) → IfErr r (HasSizeCause most old new)
 sizes_behind most old new (Ok bytes) during cause = tt
 sizes_behind most old new (Err f) during cause = size_behind most old new f during cause
 

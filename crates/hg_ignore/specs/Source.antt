@@ -54,11 +54,16 @@ AsksOnce old new = (new.asked ≡ old.asked) ⊎ (FileDuring old new × (new.ask
 abbrev pub reads_of : Moment → List Asked
 reads_of moment = map an_ask.Read (IgnoreFiles moment)
 
--- a file over that many bytes: as a stat stated its size, or as the one read gave a byte more
+-- at some moment of the call a file of at most so many bytes stood there
+abbrev pub SmallDuring : ℕ → History → History → Type 0
+SmallDuring most old new =
+    (k : ℕ) × (old.last ≤ k) × (k ≤ new.last) × (has_file (new.at k) ≡ true) × IsSomeAnd (text_at (new.at k)) (λ text. length text ≤ most)
+
+-- a file over that many bytes: as a stat stated its size; or, where a stat stated less, as the one read gave a byte more
 abbrev pub IsTooLarge : ℕ → ℕ → History → History → Type 0
 IsTooLarge most size old new =
     ((k : ℕ) × (old.last ≤ k) × (k ≤ new.last) × (has_file (new.at k) ≡ true) × IsSomeAnd (text_at (new.at k)) (λ text. size ≡ length text))
-    ⊎ (FileDuring old new × (size ≡ most + 1) × IsSomeAnd (text_at (now new)) (λ text. most < length text))
+    ⊎ (SmallDuring most old new × (size ≡ most + 1) × IsSomeAnd (text_at (now new)) (λ text. most < length text))
 
 -- what was read at the last moment is within the size, and is no text from that byte on
 abbrev pub IsNoText : ℕ → ℕ → History → Type 0
