@@ -378,7 +378,7 @@ unfolding IsDistinct
 asks_nothing_at_all wanted C W old = ([], inl refl, record {
   paths = [];
   dirs = [];
-  asked = sym (append-nil old.asked);
+  asked = sym (append-nil old.asked) ∙ sym (append-nil (old.asked ++ [])) ∙ sym (append-nil (old.asked ++ [] ++ []));
   compared = λ path (k, below, is). absurd (omega (arith, below));
   once = tt;
   within = λ dir (k, below, is). absurd (omega (arith, below));

@@ -15,6 +15,7 @@ use Rattle.hg_tree.proofs.Stillness.{ours_untouched, untouched_first}
 use Rattle.hg_compare.specs.Alike.{contents_name}
 use Rattle.hg_flat.specs.Kept.{source_of}
 use Rattle.hg_flat.specs.Listing.{IsLeftRow, is_compared_row}
+use Rattle.hg_ignore.specs.State.{ignore_file}
 use Rattle.hg_flat.specs.Parent.{IsLeft, is_compared, is_plain_entry, manifest_at, row_among}
 use Rattle.hg_flat.specs.Shown.{flat_in}
 use Rattle.hg_flat.specs.declared.flat.Flat.{Flat}
@@ -51,4 +52,5 @@ left_all flat wanted id old new passes ours files since keeps path = record {
     contents =
         some_all (row_among (manifest_at (files.at since).files id) path) (λ (row : FileRow). KeepsFile files since (contents_name row.id.0)) (λ row. keeps.each (contents_name row.id.0) refl);
   };
+  patterns = λ needed none. let own = ours_untouched old new passes ours ignore_file in record { told = own.told; file = own.own };
 }

@@ -209,6 +209,12 @@ met_in s later old new rows path before (a_fault.NoContents gone) first is (row,
     absent = was_later s.shelf_old old new (contents_name gone.0) (λ f. f ≡ None) first file.absent;
   };
 }
+met_in s later old new rows path before (a_fault.IgnoreTooLarge size) first is lacks = absurd lacks
+met_in s later old new rows path before (a_fault.IgnoreText at) first is lacks = absurd lacks
+met_in s later old new rows path before (a_fault.BadGlob line) first is lacks = absurd lacks
+met_in s later old new rows path before (a_fault.BadRegexp line) first is lacks = absurd lacks
+met_in s later old new rows path before (a_fault.RegexpTooBig line) first is lacks = absurd lacks
+met_in s later old new rows path before (a_fault.BadInclude line) first is lacks = absurd lacks
 
 pub met_load : (s : Status) (path : List ℕ) (before : Stat) (fault : StatusFault) → LacksManifest s fault → MetBy s path before fault
 met_load s path before a_fault.OutOfMemory lacks = tt
@@ -219,6 +225,12 @@ met_load s path before (a_fault.ManifestTooLarge size) lacks = lacks
 met_load s path before (a_fault.ManifestLine line) lacks = lacks
 met_load s path before (a_fault.ManifestOrder line) lacks = lacks
 met_load s path before (a_fault.NoContents gone) lacks = absurd lacks
+met_load s path before (a_fault.IgnoreTooLarge size) lacks = absurd lacks
+met_load s path before (a_fault.IgnoreText at) lacks = absurd lacks
+met_load s path before (a_fault.BadGlob line) lacks = absurd lacks
+met_load s path before (a_fault.BadRegexp line) lacks = absurd lacks
+met_load s path before (a_fault.RegexpTooBig line) lacks = absurd lacks
+met_load s path before (a_fault.BadInclude line) lacks = absurd lacks
 
 -- ---- a status goes on
 

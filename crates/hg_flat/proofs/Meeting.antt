@@ -52,3 +52,9 @@ module _ (s : Status) (copy later : trees.History) (new : shelves.History) (path
     absent = met.file.absent;
     committed = met.committed;
   }
+  met_compared (a_fault.IgnoreTooLarge size) met = absurd met
+  met_compared (a_fault.IgnoreText at) met = absurd met
+  met_compared (a_fault.BadGlob line) met = absurd met
+  met_compared (a_fault.BadRegexp line) met = absurd met
+  met_compared (a_fault.RegexpTooBig line) met = absurd met
+  met_compared (a_fault.BadInclude line) met = absurd met
