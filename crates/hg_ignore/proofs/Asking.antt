@@ -1,11 +1,10 @@
 -- What is asked of an ignore state.
 use Rattle.std.proofs.Common.{◌≡◌, ℕ, ◌<◌, Bool, true, false, ◌||◌, ◌⊎◌, ◌↔◌, inl, inr, List, [], ◌∷◌, map, length, Option, Some, None, is_some, IsTrue, chars, refl, sym, subst, ap, ◌∙◌, arith, append-nil, length-append}
-use Rattle.std.specs.List.{list_any, Any}
+use Rattle.std.specs.List.{list_any}
 use Rattle.std.proofs.lemmas.Bool.{both_ways}
-use Rattle.std.proofs.lemmas.List.Folds.{Any-from_list_any, list_any-from_Any}
 use Rattle.regex.specs.Patterns.{Re, find_str}
 use Rattle.regex.specs.Sets.{matches_of}
-use Rattle.regex.specs.Strings.{regex_pattern, set_patterns}
+use Rattle.regex.specs.Strings.{regex_pattern}
 use Rattle.regex.specs.declared.string.regex.Regex.{Regex}
 use Rattle.regex.specs.declared.string.set.RegexSet.{RegexSet}
 use Rattle.hg_base.specs.PathText.{is_path, is_below, parent_of, joined, base_of}
@@ -17,7 +16,7 @@ use Rattle.hg_ignore.specs.Line.{Item, glob, regexp, unknown, included, lines_of
 use Rattle.hg_ignore.specs.Regexp.{AreBytes, finds, found_by}
 use Rattle.hg_ignore.specs.State.{Piece, state_of, items_of, SomeMatches, Matches, Ignored, Hash}
 use Rattle.hg_ignore.specs.Taking.{globs_of, regexps_of, warnings_of, Reaches}
-use Rattle.hg_ignore.specs.Kept.{SomeStands, FindsAll, IsKept, DirIgnored, LawOfIgnored}
+use Rattle.hg_ignore.specs.Kept.{SomeStands, FindsAll, IsKept, DirIgnored, LawOfIgnored, patterns_kept, some_in}
 use Rattle.hg_ignore.specs.declared.reading.Reading.{Reading}
 
 -- the regexps of a set, as they are searched for
@@ -26,10 +25,10 @@ by_set path [] = refl
 by_set path (r ∷ regexes) = ap (λ v. found_by path r ∷ v) (by_set path regexes)
 
 -- what was read of a text is kept of its state
-pub kept_of : (text kept : List ℕ) (reading : Reading) (set : RegexSet) (hash : List ℕ) → kept ≡ text → Reaches (lines_of text) [] reading → set_patterns set ≡ map regex_pattern reading.regexes.items → hash ≡ Hash (state_of (Some text))
-    → IsKept (state_of (Some kept)) reading.globs.items set hash reading.warnings
-kept_of text kept reading set hash same reaches patterns hashed =
-    let P : List ℕ → Type 0 = λ v. IsKept (state_of (Some v)) reading.globs.items set hash reading.warnings in
+pub kept_of : (text kept : List ℕ) (reading : Reading) (sets : List RegexSet) (hash : List ℕ) → kept ≡ text → Reaches (lines_of text) [] reading → patterns_kept sets ≡ map regex_pattern reading.regexes.items → hash ≡ Hash (state_of (Some text))
+    → IsKept (state_of (Some kept)) reading.globs.items sets hash reading.warnings
+kept_of text kept reading sets hash same reaches patterns hashed =
+    let P : List ℕ → Type 0 = λ v. IsKept (state_of (Some v)) reading.globs.items sets hash reading.warnings in
     let all : items_of (state_of (Some text)) ≡ lines_of text = append-nil (lines_of text) in
     subst P (sym same) (record {
       globs_are = sym (append-nil reading.globs.items) ∙ reaches.globs ∙ ap globs_of (sym all);
@@ -98,12 +97,12 @@ set_found state patterns path all bytes = ap (list_any (λ b. b)) (all path byte
 
 -- where no glob stands in the path, the set decides
 pub set_decides : (state : List Piece) (patterns : List Re) (path : List ℕ) (stands result : Bool) → FindsAll patterns state → AreBytes path → (IsTrue stands ↔ SomeStands (globs_of (items_of state)) path) → stands ≡ false
-    → (IsTrue result ↔ Any IsTrue (matches_of true patterns path 0)) → IsTrue result ↔ Matches state path
+    → result ≡ some_in patterns path → IsTrue result ↔ Matches state path
 set_decides state patterns path stands result all bytes globs none found = (
-  λ h. found_match (items_of state) path (sym (set_found state patterns path all bytes) ∙ list_any-from_Any (λ b. b) (matches_of true patterns path 0) (found.0 h)),
+  λ h. found_match (items_of state) path (sym (set_found state patterns path all bytes) ∙ sym found ∙ h),
   λ m. elim (match_stands (items_of state) path m) [
     | inl s ↦ absurd (both_ways stands none (globs.1 s))
-    | inr h ↦ found.1 (Any-from_list_any (λ b. b) (matches_of true patterns path 0) (set_found state patterns path all bytes ∙ h))
+    | inr h ↦ found ∙ set_found state patterns path all bytes ∙ h
   ],
 )
 

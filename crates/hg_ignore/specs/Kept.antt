@@ -1,8 +1,11 @@
 -- What an ignore state keeps compiled, and what is asked of it.
-use Rattle.std.specs.Prelude.{ℕ, ◌≡◌, ◌⊎◌, ◌↔◌, false, IsTrue, List, [], ◌∷◌, map, is_some, chars, Option, Some, None}
+use Rattle.std.specs.Prelude.{ℕ, ◌≡◌, ◌⊎◌, ◌↔◌, Bool, true, false, IsTrue, List, [], ◌∷◌, map, is_some, chars, Option, Some, None}
 use Rattle.regex.specs.Patterns.{Re, find_str}
-use Rattle.regex.specs.Strings.{set_patterns}
+use Rattle.regex.specs.Sets.{matches_of}
+use Rattle.regex.specs.Strings.{set_matcher_patterns, set_patterns}
 use Rattle.regex.specs.declared.string.set.RegexSet.{RegexSet}
+use Rattle.regex.specs.declared.string.set.SetMatcher.{SetMatcher}
+use Rattle.std.specs.List.{flat_map, list_any}
 use Rattle.hg_base.specs.PathText.{is_path, parent_of}
 use Rattle.hg_glob.specs.Part.{glob_of}
 use Rattle.hg_glob.specs.Line.{Stands}
@@ -21,10 +24,22 @@ SomeStands (line ∷ more) path = Stands false line.rooted (glob_of (chars line.
 abbrev pub FindsAll : List Re → List Piece → Type 0
 FindsAll patterns state = (path : List ℕ) → AreBytes path → map (λ re. is_some (find_str re path 0)) patterns ≡ map (λ text. finds text path) (regexps_of (items_of state))
 
+-- the patterns of sets, one set behind another
+abbrev pub patterns_kept : List RegexSet → List Re
+patterns_kept sets = flat_map set_patterns sets
+
+-- those that are asked
+abbrev pub patterns_asked : List SetMatcher → List Re
+patterns_asked sets = flat_map (λ patterns. patterns) (map set_matcher_patterns sets)
+
+-- some pattern is found in the text
+abbrev pub some_in : List Re → List ℕ → Bool
+some_in patterns text = list_any (λ b. b) (matches_of true patterns text 0)
+
 -- what is kept of a state
-pub record IsKept (state : List Piece) (globs : List GlobLine) (set : RegexSet) (hash : List ℕ) (warnings : List Warning) : Type 0 where
+pub record IsKept (state : List Piece) (globs : List GlobLine) (sets : List RegexSet) (hash : List ℕ) (warnings : List Warning) : Type 0 where
   pub globs_are : globs ≡ globs_of (items_of state)
-  pub finds_are : FindsAll (set_patterns set) state
+  pub finds_are : FindsAll (patterns_kept sets) state
   pub hash_is : hash ≡ Hash state
   pub warnings_are : warnings ≡ warnings_of (items_of state)
 

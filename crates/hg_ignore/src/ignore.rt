@@ -19,6 +19,7 @@ use crate::glob_line::GlobLine;
 use crate::matcher::Matcher;
 use crate::reading::read_lines;
 use crate::regexps::Regexps;
+use crate::sets::{matchers_of, sets_of};
 use crate::source::read_bytes;
 use crate::warnings::Warnings;
 use hg_base::{OutOfMemory, PathRef, Text};
@@ -36,7 +37,7 @@ const MOST: usize = 1_048_576;
 pub struct Ignore {
     text: Option<Text>,
     globs: Vec<GlobLine>,
-    regexps: RegexSet,
+    regexps: Vec<RegexSet>,
     hash: [u8; 20],
     warnings: Warnings,
 }
@@ -50,7 +51,7 @@ impl Model for Ignore {
 
     ghost view = { λ i. state_of i.text };
 
-    ghost invariant = { λ i. IsKept (state_of i.text) i.globs.items i.regexps i.hash i.warnings };
+    ghost invariant = { λ i. IsKept (state_of i.text) i.globs.items i.regexps.items i.hash i.warnings };
 }
 
 /// The hash of the state of that text.
@@ -84,7 +85,7 @@ impl Ignore {
         Ignore {
             text: None,
             globs: Vec::new(alloc),
-            regexps: RegexSet::from_regexes(Vec::new(alloc)),
+            regexps: Vec::new(alloc),
             hash: Sha1::digest(&[]),
             warnings: Warnings::new(alloc),
         }
@@ -105,10 +106,11 @@ impl Ignore {
         let reading = read_lines(alloc, regexps, text)?;
         let hash = hash_of(text.as_bytes());
         let text = Text::of(alloc, text)?;
+        let regexps = sets_of(alloc, reading.regexes)?;
         Ok(Ignore {
             text: Some(text),
             globs: reading.globs,
-            regexps: RegexSet::from_regexes(reading.regexes),
+            regexps,
             hash,
             warnings: reading.warnings,
         })
@@ -181,8 +183,8 @@ impl Ignore {
     pub fn matcher(&self, alloc: Global) -> Result<Matcher<'_>, OutOfMemory>
         ensures { IfOk result (λ m. state_asked m ≡ self.now) }
     {
-        let set = self.regexps.matcher(alloc)?;
-        Ok(Matcher { ignore: self, set })
+        let sets = matchers_of(alloc, self.regexps.as_slice())?;
+        Ok(Matcher { ignore: self, sets })
     }
 
     /// Whether a line matches the path itself; the directories above it aren't asked.

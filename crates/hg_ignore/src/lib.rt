@@ -35,6 +35,7 @@ mod normal;
 mod reading;
 mod regexps;
 mod searching;
+mod sets;
 mod source;
 mod syntax;
 mod text;

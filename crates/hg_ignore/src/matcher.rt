@@ -1,7 +1,6 @@
 //! What asks an ignore state.
 
-ghost use Rattle.regex.specs.Strings.{set_matcher_patterns};
-ghost use Rattle.hg_ignore.specs.Kept.{FindsAll};
+ghost use Rattle.hg_ignore.specs.Kept.{FindsAll, patterns_asked};
 
 use crate::ignore::Ignore;
 use regex::SetMatcher;
@@ -11,6 +10,6 @@ use regex::SetMatcher;
 #[derive(Drop)]
 pub struct Matcher<'i> {
     pub(crate) ignore: &'i Ignore,
-    pub(crate) set: SetMatcher<'i>,
-    ghost finds: { FindsAll (set_matcher_patterns set) ignore.now },
+    pub(crate) sets: Vec<SetMatcher<'i>>,
+    ghost finds: { FindsAll (patterns_asked sets.items) ignore.now },
 }

@@ -5,6 +5,7 @@ ghost use Rattle.hg_ignore.specs.Asked.{state_asked};
 ghost use Rattle.hg_ignore.specs.State.{Ignored, Matches};
 
 use crate::matcher::Matcher;
+use crate::sets::some_found;
 use hg_base::PathRef;
 
 impl<'i> Matcher<'i> {
@@ -16,7 +17,7 @@ impl<'i> Matcher<'i> {
         if self.ignore.some_stands(path) {
             return true;
         }
-        self.set.is_match(path)
+        some_found(&mut self.sets, path)
     }
 
     /// Whether a line matches the path itself; the directories above it aren't asked.
