@@ -2,7 +2,8 @@
 """Times the built program against C loops that make the same system calls, and against other programs:
 python3 bench/bench.py [PROGRAM] [PART ..] [rhg=PROGRAM] [before=PROGRAM].
 
-PROGRAM is build/hgtrack where it isn't named. The parts are listing, tracked, compared, peers, deep, opening, placing, editing, encoding and manifests; all where none is named. `rhg` is
+PROGRAM is build/hgtrack where it isn't named. The parts are listing, tracked, compared, peers, deep, opening, placing, editing, encoding, manifests and
+patterns; all where none is named. `rhg` is
 Mercurial's program of that name, which is looked for in PATH otherwise, and `before` an earlier hgtrack, which is timed beside this one. Every time
 is the least of some runs, taken in turn with what it is compared with. The status is 0 exactly where each figure is within its limit.
 """
@@ -327,6 +328,54 @@ def manifests(bench):
     bench.tell("its time over the C loop's", own / other, 2.5)
 
 
+# Lines of an ignore text that match nothing in the copy that is listed, and how many times the status without a text they may take.
+GLOBS = ["*.ext{}", "build{}/out", "**/target{}/*.o", "lib{}*.so"]
+REGEXPS = [r"\.ext{}$", "^build{}/out", r"(^|/)target{}/.*\.o$", r"(?:^|/)lib{}[^/]*\.so$"]
+QUIET = [("glob", GLOBS, 100, 1.3), ("glob", GLOBS, 1_000, 3), ("glob", GLOBS, 4_000, 8), ("regexp", REGEXPS, 4_000, 10)]
+
+# Globs of some 4,095 bytes that match nothing there and that are as slow as one could make them. A text has as many of them as fit in a megabyte.
+HOSTILE = {
+    "stars": "*a" * 2_047,
+    "double stars": "**z" * 1_365,
+    "choices": "{,a,?}" * 330 + "Z" + "{,a,?}" * 330,
+    "deep braces": "{," * 1_300 + "**Z**" + "}" * 1_300,
+    "classes": "**" + "{[!a],[!b]}" * 350 + "Z**",
+    "ranges": "**[" + "b-cd-ef-g" * 450 + "]Z",
+    "stars in choices": "{**,*}" * 600 + "Z**",
+}
+
+
+def ignore_text(syntax, lines):
+    return f"syntax: {syntax}\n" + "".join(f"{it}\n" for it in lines)
+
+
+def patterns(bench):
+    """A status with ignore texts, beside the same status without one."""
+    root, tracked = f"{bench.room}/patterns", in_directories(10_000)
+    folders = sorted({os.path.dirname(it) for it in tracked}) + [f"other{i}" for i in range(9)]
+    others = [f"{folder}/other{i}.txt" for folder in folders for i in range(4)]
+    make_files(root, tracked + others)
+    put_record(root, *written([it.encode() for it in tracked]))
+    text, status = f"{root}/.hgignore", ([bench.program, "status"], root)
+    (without, _), = bench.least(status)
+    print(f"| `status` of 10,000 tracked files and {len(others):,} others in {len(folders)} directories | {without:.4f} s | | |")
+
+    def told(what, content, most, rounds=RUNS):
+        with open(text, "w", encoding="utf-8") as file:
+            file.write(content)
+        taken = [bench.once(*status) for _ in range(rounds)]
+        return what, min(it[0] for it in taken), max(it[1] for it in taken), most
+
+    for syntax, forms, count, most in QUIET:
+        lines = [forms[i % len(forms)].format(i) for i in range(count)]
+        what, seconds, memory, most = told(f"with {count:,} lines of {syntax}s", ignore_text(syntax, lines), most)
+        bench.tell(f"its time {what} over that without ({seconds:.3f} s, {memory:.1f} MB)", seconds / without, most)
+    for name, glob in HOSTILE.items():
+        what, seconds, _, most = told(f"with a hostile text: {name}", ignore_text("glob", [glob] * (1_048_500 // (len(glob) + 1))), 20, 1)
+        bench.tell(f"its time {what}", seconds, most, " s")
+    shutil.rmtree(root)
+
+
 PARTS = {
     "listing": listing,
     "tracked": tracked,
@@ -338,6 +387,7 @@ PARTS = {
     "editing": editing,
     "encoding": encoding,
     "manifests": manifests,
+    "patterns": patterns,
 }
 
 

@@ -136,13 +136,12 @@ def run(tests):
         check(tests, f"data: {what}", docket(len(data), root_list), data, aborted(f"dirstate data: {line}"))
     late = b"ab" + record(0, 1, flags=P1_TRACKED) + record(1, 1, flags=TIMED, nanos=10**9)
     check(tests, "damage behind a removed file", docket(len(late), (2, 2)), late, aborted("dirstate data: node 46: time"))
-    check(tests, "not built: a file .hgignore", GOOD, DATA, aborted(NOT_BUILT), ("a", ".hgignore"))
-    for words in (["status", "-m", "-a"], ["status", "-A"]):
+    # (a file that lay_out makes holds its own name, which is a regexp of an ignore text here)
+    for words, told in ((["status"], ["A a"]), (["status", "-m", "-a"], ["A a"]), (["status", "-A"], ["A a", "I .hgignore"])):
         with tests.working_copy() as root:
             lay_out(root, ["a", ".hgignore"])
             put_record(root, GOOD, DATA)
-            built = "-A" not in words
-            tests.check(f"a file .hgignore and {words}", root, lines("A a") if built else b"", b"" if built else aborted(NOT_BUILT), words)
+            tests.check(f"a file .hgignore and {words}", root, lines(*told), b"", words)
     check(tests, "damage before .hgignore", GOOD, DATA[:-1], aborted(short.format(44)), ("a", ".hgignore"))
     for what, docket_bytes, data, with_file, without in TAKEN:
         identifier = IDENTIFIER.decode()

@@ -1,7 +1,8 @@
 #!/usr/bin/env python3
 """Black-box tests of the built program over real folders: python3 tests/real/run.py [PROGRAM] [PART ..].
 
-PROGRAM is build/hgtrack where it isn't named. The parts are listings, commits, damage, outside, standing, meanwhile, mercurial, records and parents; all where none is named. The last line is
+PROGRAM is build/hgtrack where it isn't named. The parts are listings, commits, damage, outside, standing, meanwhile, mercurial, records, parents and
+ignoring; all where none is named. The last line is
 'N passed, M failed', and the status 0 exactly where M is 0.
 """
 
@@ -15,6 +16,7 @@ sys.setrecursionlimit(20_000)
 
 import commits
 import damage
+import ignoring
 import listings
 import meanwhile
 import mercurial
@@ -24,7 +26,7 @@ import records
 import standing
 from folder import Tests
 
-PARTS = {"listings": listings, "commits": commits, "damage": damage, "outside": outside, "standing": standing, "meanwhile": meanwhile, "mercurial": mercurial, "records": records, "parents": parents}
+PARTS = {"listings": listings, "commits": commits, "damage": damage, "outside": outside, "standing": standing, "meanwhile": meanwhile, "mercurial": mercurial, "records": records, "parents": parents, "ignoring": ignoring}
 
 
 def main(words):
