@@ -6,7 +6,6 @@ from folder import aborted, lay_out, lines, put_record
 
 GOOD, DATA = written([b"a"])
 PARENT = b"\x11" * 20
-NOT_BUILT = "not built yet"
 GONE = "dirstate data gone: 0000000000000000"
 LONGEST = b"k" * 255
 
