@@ -1,5 +1,5 @@
-// Takes a copy of a manifest's text, finds every line in it and compares each path with the one before, as often as the second word says: what
-// loading one cannot do without. The words are the text and the number of rounds.
+// Finds every line of a manifest's text and compares each path with the one before, as often as the second word says: what loading one cannot do
+// without. The words are the text and the number of rounds.
 #include <stdio.h>
 #include <stdlib.h>
 #include <string.h>
@@ -41,12 +41,7 @@ int main(int count, char **words) {
     size_t size;
     unsigned char *text = whole(words[1], &size);
     unsigned long found = 0;
-    for (long round = atol(words[2]); round > 0; round--) {
-        unsigned char *copy = count > 3 ? text : malloc(size);
-        if (count <= 3) memcpy(copy, text, size);
-        found += lines(copy, size);
-        if (count <= 3) free(copy);
-    }
+    for (long round = atol(words[2]); round > 0; round--) found += lines(text, size);
     printf("%lu\n", found);
     return 0;
 }

@@ -1,8 +1,8 @@
 -- Where a text is cut at its first NUL, and when digits spell an identifier.
-use Rattle.std.proofs.Common.{◌≡◌, ◌≢◌, ℕ, ◌+◌, ◌<◌, ◌≤◌, Bool, true, false, cond, List, [], length, Option, Some, None, Result, Ok, Err, is_some, refl, sym, ap, ◌∙◌, arith, ltb, le-ltb}
+use Rattle.std.proofs.Common.{◌≡◌, ◌≢◌, ℕ, ◌+◌, ◌<◌, ◌≤◌, Bool, true, false, cond, not, List, [], length, take, Option, Some, None, Result, Ok, Err, is_some, refl, sym, ap, ◌∙◌, arith, ltb, le-ltb}
 use Rattle.std.specs.List.{list_all, position_or_len, before_first, after_first}
-use Rattle.std.proofs.lemmas.List.{take_all, drop_all}
-use Rattle.std.proofs.lemmas.List.Sums.{AllPass-from_list_all, list_all-from_AllPass, position_or_len_is}
+use Rattle.std.proofs.lemmas.List.{take_all, drop_all, length-take-le}
+use Rattle.std.proofs.lemmas.List.Sums.{prefix_len-le-length, AllPass-from_list_all, list_all-from_AllPass, position_or_len_is}
 use Rattle.std.proofs.lemmas.Bool.{false_from_ne_true, lt-ltb, ltb-true, ltb-false}
 use Rattle.memchr.specs.Find.{IsFirstByte, is_byte}
 use Rattle.std.specs.Result.{IsOk}
@@ -41,6 +41,11 @@ pub nul_missing : (text : List ℕ) → nul_place text ≡ None → (before_firs
 nul_missing text is =
     let far = no_first (position_or_len is_nul text) (length text) (ltb (position_or_len is_nul text) (length text)) refl is in
     (take_all (position_or_len is_nul text) text far, drop_all (position_or_len is_nul text + 1) text (omega (arith, far)))
+
+-- what stands before the first NUL is what the text begins with
+pub front_there : (text : List ℕ) → take (length (before_first is_nul text)) text ≡ before_first is_nul text
+front_there text =
+    ap (λ (n : ℕ). take n text) (length-take-le (position_or_len is_nul text) text (prefix_len-le-length (λ b. not (is_nul b)) text))
 
 some_of_ok : (r : Result (List ℕ) FromHexError) → IsOk r → is_some (some_id r) ≡ true
 some_of_ok (Ok bytes) is = refl

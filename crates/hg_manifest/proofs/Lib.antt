@@ -1,5 +1,6 @@
 pub mod Ascending
 pub mod Digits
+pub mod Forty
 pub mod Fronts
 pub mod LineFaults
 pub mod Loads

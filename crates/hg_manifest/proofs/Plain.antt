@@ -1,13 +1,16 @@
 -- A plain text is a path.
-use Rattle.std.proofs.Common.{◌≡◌, ℕ, zero, suc, ◌+◌, ◌<◌, ◌≤◌, Bool, true, false, cond, not, ◌&&◌, ◌||◌, List, [], ◌∷◌, length, get_or, refl, sym, ap, ◌∙◌, arith, eqb, leb, ltb, ne_eqb, true≢false}
+use Rattle.std.proofs.Common.{◌≡◌, ℕ, zero, suc, ◌+◌, ◌-◌, ◌<◌, ◌≤◌, inl, inr, Bool, true, false, cond, not, ◌&&◌, ◌||◌, List, [], ◌∷◌, length, take, drop, get_or, refl, sym, ap, ◌∙◌, arith, eqb, leb, ltb, ne_eqb, true≢false}
 use Rattle.std.specs.Prelude.{codes}
 use Rattle.std.specs.List.{list_all, onto_first}
 use Rattle.std.specs.Str.{IsAscii, IsUtf8, bytes_eq, is_utf8}
-use Rattle.std.proofs.lemmas.Bool.{and_from, and_parts, leb-true, ltb-true, not-true, not_from_false, or_parts, or_from}
+use Rattle.std.proofs.lemmas.Bool.{and_from, and_parts, cases_lt, le-leb, leb-true, lt-leb, ltb-true, not-true, not_from_false, or_parts, or_from}
+use Rattle.std.proofs.Math.Bool.{and-true, and_assoc}
+use Rattle.std.proofs.Math.Seq.{drop-cons}
+use Rattle.std.proofs.lemmas.List.{take-take}
 use Rattle.std.proofs.lemmas.Str.{IsUtf8-from_ascii, is_utf8-from_IsUtf8}
 use Rattle.hg_base.specs.PathText.{components, has_nul, has_slash, is_component, is_path, is_reserved}
 use Rattle.hg_base.proofs.Paths.{path_from}
-use Rattle.hg_manifest.specs.Front.{is_plain_byte, is_plain_from}
+use Rattle.hg_manifest.specs.Front.{is_plain_byte, is_plain_from, is_plain_front}
 use Rattle.hg_manifest.specs.Line.{is_file_path}
 
 -- ---- one byte
@@ -127,3 +130,52 @@ plain_path text h short =
 
 pub plain_file_path : (text : List ℕ) → is_plain_from true text ≡ true → length text < 2048 → is_file_path text ≡ true
 plain_file_path text h short = and_from (is_utf8 text) (is_path text) (is_utf8-from_IsUtf8 text (plain_utf8 text h)) (plain_path text h short)
+
+-- ---- as far as a text goes
+
+-- what a text begins with, in a window of the text
+pub front_window : (text path : List ℕ) (n : ℕ) → take (length path) text ≡ path → length path ≤ n → take (length path) (take n text) ≡ path
+front_window text path n is short = take-take (length path) n text short ∙ is
+
+-- a byte more of a window, or none where enough was looked at
+pub front_step : (len i b : ℕ) (rest : List ℕ) (begins : Bool)
+    → is_plain_front begins (take (len - i) (b ∷ rest)) ≡ ((leb len i || is_plain_byte begins b) && is_plain_front (eqb b 47) (take (len - (i + 1)) rest))
+front_step len i b rest begins = elim (cases_lt i len) [
+  | inl before ↦
+      let more : len - i ≡ suc (len - (i + 1)) = omega (arith, before) in
+      ap (λ (n : ℕ). is_plain_front begins (take n (b ∷ rest))) more
+      ∙ ap (λ (t : Bool). (t || is_plain_byte begins b) && is_plain_front (eqb b 47) (take (len - (i + 1)) rest)) (sym (lt-leb len i before))
+  | inr past ↦
+      let none : len - i ≡ 0 = omega (arith, past) in
+      let over : len - (i + 1) ≡ 0 = omega (arith, past) in
+      ap (λ (n : ℕ). is_plain_front begins (take n (b ∷ rest))) none
+      ∙ ap (λ (n : ℕ). is_plain_front (eqb b 47) (take n rest)) (sym over)
+      ∙ ap (λ (t : Bool). (t || is_plain_byte begins b) && is_plain_front (eqb b 47) (take (len - (i + 1)) rest)) (sym (le-leb len i past))
+]
+
+pub window_more : (window : List ℕ) (len i at : ℕ) (plain begins now : Bool) → i < length window → at ≡ i → now ≡ is_plain_byte begins (get_or window i 0)
+    → is_plain_front true (take len window) ≡ (plain && is_plain_front begins (take (len - i) (drop i window)))
+    → is_plain_front true (take len window) ≡ (plain && (leb len at || now) && is_plain_front (eqb (get_or window i 0) 47) (take (len - (i + 1)) (drop (i + 1) window)))
+window_more window len i at plain begins now less same is so_far =
+    let b = get_or window i 0 in
+    let rest = drop (i + 1) window in
+    let end = is_plain_front (eqb b 47) (take (len - (i + 1)) rest) in
+    let next : suc i ≡ i + 1 = omega arith in
+    let there : drop i window ≡ b ∷ rest = drop-cons window i 0 less ∙ ap (λ (n : ℕ). b ∷ drop n window) next in
+    so_far
+    ∙ ap (λ (l : List ℕ). plain && is_plain_front begins (take (len - i) l)) there
+    ∙ ap (λ (t : Bool). plain && t) (front_step len i b rest begins)
+    ∙ sym (and_assoc plain (leb len i || is_plain_byte begins b) end)
+    ∙ ap (λ (n : ℕ). plain && (leb len n || is_plain_byte begins b) && end) (sym same)
+    ∙ ap (λ (t : Bool). plain && (leb len at || t) && end) (sym is)
+
+end_after : (begins : Bool) (b : ℕ) (text : List ℕ) → is_plain_from begins (b ∷ text) ≡ (is_plain_front begins (b ∷ text) && not (eqb (get_or (b ∷ text) (length text) 0) 47))
+end_after begins b [] = ap (λ (t : Bool). t && not (eqb b 47)) (sym (and-true (is_plain_byte begins b)))
+end_after begins b (c ∷ text) =
+    ap (λ (t : Bool). is_plain_byte begins b && t) (end_after (eqb b 47) c text)
+    ∙ sym (and_assoc (is_plain_byte begins b) (is_plain_front (eqb b 47) (c ∷ text)) (not (eqb (get_or (c ∷ text) (length text) 0) 47)))
+
+-- such a text is plain where it doesn't end with a slash
+pub plain_end : (text : List ℕ) → 0 < length text → is_plain_from true text ≡ (is_plain_front true text && not (eqb (get_or text (length text - 1) 0) 47))
+plain_end [] some = absurd (omega (arith, some))
+plain_end (b ∷ text) some = end_after true b text ∙ ap (λ (n : ℕ). is_plain_front true (b ∷ text) && not (eqb (get_or (b ∷ text) n 0) 47)) (omega arith)

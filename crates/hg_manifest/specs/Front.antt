@@ -1,5 +1,5 @@
 -- What a reading finds at the front of a text.
-use Rattle.std.specs.Prelude.{ℕ, ◌≡◌, if◌then◌else◌, Bool, not, ◌&&◌, ◌||◌, ◌==◌, nat_le, List, [], ◌∷◌, length, take, drop, Option, Some, None, nat_lt}
+use Rattle.std.specs.Prelude.{ℕ, ◌≡◌, if◌then◌else◌, Bool, true, not, ◌&&◌, ◌||◌, ◌==◌, nat_le, List, [], ◌∷◌, length, take, drop, Option, Some, None, nat_lt}
 use Rattle.std.specs.List.{position_or_len}
 use Rattle.hg_manifest.specs.Line.{Ending, Line, ending, id_of, is_nul}
 use Rattle.hg_base.specs.declared.id.Id20.{Id20}
@@ -17,6 +17,11 @@ is_plain_byte begins b = nat_le 1 b && nat_lt b 128 && not (begins && (b == 47 |
 abbrev pub is_plain_from : Bool → List ℕ → Bool
 is_plain_from begins [] = not begins
 is_plain_from begins (b ∷ text) = is_plain_byte begins b && is_plain_from (b == 47) text
+
+-- bytes that such a text may begin with
+abbrev pub is_plain_front : Bool → List ℕ → Bool
+is_plain_front begins [] = true
+is_plain_front begins (b ∷ text) = is_plain_byte begins b && is_plain_front (b == 47) text
 
 -- what stands behind a line that has an identifier and an end
 abbrev pub rest_from : Option Id20 → Option Ending → Option (List ℕ)

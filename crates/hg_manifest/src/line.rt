@@ -1,10 +1,10 @@
 //! The line at the front of a text.
 
-ghost use Rattle.std.specs.Prelude.{◌≡◌, ◌<◌, true, length, Some, None, take, drop, option_map, if◌then◌else◌, is_some};
+ghost use Rattle.std.specs.Prelude.{◌≡◌, ◌<◌, ◌≤◌, true, length, Some, None, take, drop, option_map, if◌then◌else◌, is_some};
 ghost use Rattle.std.specs.List.{before_first, after_first, list_all};
 ghost use Rattle.hex.specs.Hex.{is_hex_digit};
 ghost use Rattle.hg_manifest.specs.Line.{after_end, ending, id_of, is_file_path, is_nul, line_of};
-ghost use Rattle.hg_manifest.specs.Front.{IsFront, is_plain_byte, is_plain_from, nul_place, rest_behind};
+ghost use Rattle.hg_manifest.specs.Front.{IsFront, is_plain_byte, is_plain_from, is_plain_front, nul_place, rest_behind};
 
 use hg_base::PathRef;
 use memchr::memchr;
@@ -35,9 +35,9 @@ fn cut_at_nul(bytes: &[u8]) -> (&[u8], &[u8])
     }
 }
 
-// Whether the bytes are ASCII without a NUL, and no component is empty or begins with a dot. (No branch depends on a byte.)
-fn is_plain(bytes: &[u8]) -> bool
-    ensures { result ≡ is_plain_from true bytes.now }
+// Whether a plain path may begin with the bytes. (No branch depends on a byte.)
+fn is_plain_front(bytes: &[u8]) -> bool
+    ensures { result ≡ is_plain_front true bytes.now }
 {
     let mut plain = true;
     let mut begins = true;
@@ -45,7 +45,55 @@ fn is_plain(bytes: &[u8]) -> bool
         plain &= is_plain_byte(*b, begins);
         begins = *b == b'/';
     }
-    plain & !begins
+    plain
+}
+
+// The same of the first bytes of a window. (Where its length is known to the compiler, many bytes are tested at once.)
+#[inline(always)]
+fn is_plain_within(window: &[u8], len: u8) -> bool
+    requires { length window.now < 256 }
+    ensures { result ≡ is_plain_front true (take len window.now) }
+{
+    let mut plain = true;
+    let mut begins = true;
+    let mut at = 0;
+    for b in window {
+        plain &= (at >= len) | is_plain_byte(*b, begins);
+        begins = *b == b'/';
+        at += 1;
+    }
+    plain
+}
+
+// The same of what a text begins with, in a window of the text where it is short.
+#[tactic(auto, using(crate::proofs::Plain::front_window))]
+fn is_plain_start(text: &[u8], path: &[u8]) -> bool
+    requires { take (length path.now) text.now ≡ path.now }
+    ensures { result ≡ is_plain_front true path.now }
+{
+    let len = path.len();
+    if len <= 32 && text.len() >= 32 {
+        return is_plain_within(text.split_at(32).0, len as u8);
+    }
+    if len <= 64 && text.len() >= 64 {
+        return is_plain_within(text.split_at(64).0, len as u8);
+    }
+    if len <= 128 && text.len() >= 128 {
+        return is_plain_within(text.split_at(128).0, len as u8);
+    }
+    is_plain_front(path)
+}
+
+// Whether what a text begins with is ASCII without a NUL, and no component of it is empty or begins with a dot.
+#[tactic(auto, using(crate::proofs::Plain::plain_end))]
+fn is_plain(text: &[u8], path: &[u8]) -> bool
+    requires { take (length path.now) text.now ≡ path.now }
+    ensures { result ≡ is_plain_from true path.now }
+{
+    if path.is_empty() {
+        return false;
+    }
+    is_plain_start(text, path) & (path[path.len() - 1] != b'/')
 }
 
 // Whether a plain path may have the byte there, where `begins` says that a component begins with it.
@@ -55,8 +103,9 @@ fn is_plain_byte(b: u8, begins: bool) -> bool
     (b >= 1) & (b < 128) & !(begins & ((b == b'/') | (b == b'.')))
 }
 
-// A path in UTF-8.
+// A path in UTF-8. (Within its caller it would have the room of its locals cleared for each line.)
 #[tactic(auto, using(crate::proofs::Texts::utf8_true, crate::proofs::Texts::utf8_false, crate::proofs::Texts::path_false))]
+#[inline(never)]
 fn read_any(bytes: &[u8]) -> Option<PathRef<'_>>
     ensures { option_map (λ p. p.text.now) result ≡ (if is_file_path bytes.now then Some bytes.now else None) }
 {
@@ -81,18 +130,16 @@ fn plain_path(bytes: &[u8]) -> PathRef<'_>
     }
 }
 
-// The same, where most are plain and short, which needs no look at each component.
+// The same of what a text begins with, where most are plain and short, which needs no look at each component.
 #[tactic(auto, using(crate::proofs::Plain::plain_file_path))]
-fn read_path(bytes: &[u8]) -> Option<PathRef<'_>>
-    ensures { option_map (λ p. p.text.now) result ≡ (if is_file_path bytes.now then Some bytes.now else None) }
+fn read_path<'a>(text: &[u8], path: &'a [u8]) -> Option<PathRef<'a>>
+    requires { take (length path.now) text.now ≡ path.now }
+    ensures { option_map (λ p. p.text.now) result ≡ (if is_file_path path.entry.now then Some path.entry.now else None) }
 {
-    if bytes.len() >= 2048 {
-        return read_any(bytes);
-    }
-    if is_plain(bytes) {
-        Some(plain_path(bytes))
+    if path.len() < 2048 && is_plain(text, path) {
+        Some(plain_path(path))
     } else {
-        read_any(bytes)
+        read_any(path)
     }
 }
 
@@ -102,13 +149,14 @@ fn is_digit(b: u8) -> bool
     ((b >= b'0') & (b <= b'9')) | ((b >= b'a') & (b <= b'f')) | ((b >= b'A') & (b <= b'F'))
 }
 
-// Whether all are digits. (No branch depends on a byte.)
+// Whether forty bytes are digits, sixteen at a time, of which the last sixteen begin with eight of those before. (No branch depends on a byte.)
 fn all_digits(bytes: &[u8]) -> bool
+    requires { length bytes.now ≡ 40 }
     ensures { result ≡ list_all is_hex_digit bytes.now }
 {
     let mut all = true;
-    for b in bytes {
-        all &= is_digit(*b);
+    for i in 0..16 {
+        all &= is_digit(bytes[i]) & is_digit(bytes[i + 16]) & is_digit(bytes[i + 24]);
     }
     all
 }
@@ -168,11 +216,12 @@ fn behind_line(behind: &[u8]) -> Option<&[u8]>
 }
 
 /// The line at the front of a text, where it has the form of one.
+#[tactic(auto, using(crate::proofs::Digits::front_there))]
 pub(crate) fn read_line(bytes: &[u8]) -> Option<Front<'_>>
     ensures { IsFront (line_of bytes.now) result }
 {
     let (path, behind) = cut_at_nul(bytes);
-    match read_path(path) {
+    match read_path(bytes, path) {
         None => None,
         Some(path) => match behind_line(behind) {
             None => None,

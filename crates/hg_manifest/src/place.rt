@@ -32,7 +32,8 @@ fn next_line<'a>(text: &'a [u8], before: &str, number: u32) -> Result<Front<'a>,
     }
 }
 
-/// The places of all lines of a text, or its first fault.
+/// The places of all lines of a text, or its first fault. (A function by itself keeps what the loop carries in registers.)
+#[inline(never)]
 pub(crate) fn read_places(alloc: Global, text: &[u8]) -> Result<Vec<Place>, ManifestFault>
     requires { length text.now ≤ 67108864 }
     ensures { FindsPlaces text.now result }
