@@ -103,7 +103,7 @@ module _ (old mid new : History) (first : Passes old mid) (second : Extends mid 
   }
 
   pub warns : (wanted : Wanted) (ignore : Option (List Piece)) → IsKeptState wanted old mid ignore → Warns wanted old new (warned_of ignore)
-  warns wanted None none = subst (λ (b : Bool). MatchBool b (WereRead old new []) ([] ≡ [])) (sym none) refl
+  warns wanted None none = subst (λ (b : Bool). MatchBool b (WereRead old new (warned_of None)) (warned_of None ≡ [])) (sym none) refl
   warns wanted (Some state) is =
       subst (λ (b : Bool). MatchBool b (WereRead old new (warnings_of (items_of state))) (warnings_of (items_of state) ≡ [])) (sym is.0) (were_read state is.1)
 
@@ -127,7 +127,7 @@ module _ (old new : History) (later : old.last ≤ new.last) where
   unseen : (P : Moment → Type 0) → old.told ≡ false → Saw old new P
   unseen P none = record { at = 0; from = λ told. absurd (cc (told, none)); to = λ told. absurd (cc (told, none)); so = λ told. absurd (cc (told, none)) }
 
-  seen_at : (P : Moment → Type 0) (k : ℕ) → old.last ≤ k → k ≤ new.last → P (new.at k) → Saw old new P
+  abbrev seen_at : (P : Moment → Type 0) (k : ℕ) → old.last ≤ k → k ≤ new.last → P (new.at k) → Saw old new P
   seen_at P k from to so = record { at = k; from = λ told. from; to = λ told. to; so = λ told. so }
 
   read_by : (Seen : Moment → Type 0) (P : List ℕ → Type 0) (k : ℕ) → old.last ≤ k → k ≤ new.last → Seen (new.at k) → IsSomeAnd (text_at (now new)) P → ReadSo old new Seen P
