@@ -20,3 +20,4 @@ pub mod Spanning
 pub mod Steps
 pub mod Tracking
 pub mod Unknowns
+pub mod Whole
