@@ -71,21 +71,21 @@ module _ (wanted : Wanted) (flat : Flat) (id : Id20) (start old new : trees.Hist
   met_whole (a_fault.BadInclude line) met = absurd met
 
 -- no regexp was too big
-pub counts_still : {T : Type 0} (s : Status) (fault : StatusFault) (before now : ℕ) → now ≡ before → MetParent s fault → CountsOversize {T} before now (Err fault)
-counts_still s a_fault.OutOfMemory before now same met = same
-counts_still s a_fault.TreeFailed before now same met = same
-counts_still s a_fault.ShelfFailed before now same met = same
-counts_still s (a_fault.NoManifest gone) before now same met = same
-counts_still s (a_fault.ManifestTooLarge size) before now same met = same
-counts_still s (a_fault.ManifestLine line) before now same met = same
-counts_still s (a_fault.ManifestOrder line) before now same met = same
-counts_still s (a_fault.NoContents gone) before now same met = same
-counts_still s (a_fault.IgnoreTooLarge size) before now same met = absurd met
-counts_still s (a_fault.IgnoreText at) before now same met = absurd met
-counts_still s (a_fault.BadGlob line) before now same met = absurd met
-counts_still s (a_fault.BadRegexp line) before now same met = absurd met
-counts_still s (a_fault.RegexpTooBig line) before now same met = absurd met
-counts_still s (a_fault.BadInclude line) before now same met = absurd met
+pub counts_still : (T : Type 0) (s : Status) (fault : StatusFault) (before now : ℕ) → now ≡ before → MetParent s fault → CountsOversize {T = T} before now (Err fault)
+counts_still T s a_fault.OutOfMemory before now same met = same
+counts_still T s a_fault.TreeFailed before now same met = same
+counts_still T s a_fault.ShelfFailed before now same met = same
+counts_still T s (a_fault.NoManifest gone) before now same met = same
+counts_still T s (a_fault.ManifestTooLarge size) before now same met = same
+counts_still T s (a_fault.ManifestLine line) before now same met = same
+counts_still T s (a_fault.ManifestOrder line) before now same met = same
+counts_still T s (a_fault.NoContents gone) before now same met = same
+counts_still T s (a_fault.IgnoreTooLarge size) before now same met = absurd met
+counts_still T s (a_fault.IgnoreText at) before now same met = absurd met
+counts_still T s (a_fault.BadGlob line) before now same met = absurd met
+counts_still T s (a_fault.BadRegexp line) before now same met = absurd met
+counts_still T s (a_fault.RegexpTooBig line) before now same met = absurd met
+counts_still T s (a_fault.BadInclude line) before now same met = absurd met
 
 -- a fault of the patterns is what the status met
 pub met_patterns : (s : Status) (fault : StatusFault) → needs_patterns s.wanted ≡ true → LacksPatterns s.tree_old s.tree_new fault → Met s fault
