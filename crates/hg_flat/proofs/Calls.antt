@@ -70,10 +70,13 @@ module _ (wanted : Wanted) (C : List ℕ → Type 0) (state : List Piece) (old m
   Entered dir = (needs_patterns wanted ≡ true) × IsDirIn (IsEntered wanted state) later new None dir
 
   listed : (dir : Option (List ℕ)) → Entered dir → IsListedDir wanted old new dir
-  listed dir (needed, within) = (needed, λ ours. (
-    visible_in (IsEntered wanted state) old later new (passes_trans old mid later first second) third dir within ours,
-    λ unwanted. taken_in wanted state old later new (now old) dir within (still (ours_first old mid new (passes_trans mid later new second third).past ours) needed) unwanted,
-  ))
+  listed dir (needed, within) = (
+    needed,
+    λ ours. (
+      visible_in (IsEntered wanted state) old later new (passes_trans old mid later first second) third dir within ours,
+      λ unwanted. taken_in wanted state old later new (now old) dir within (still (ours_first old mid new (passes_trans mid later new second third).past ours) needed) unwanted,
+    ),
+  )
 
   pub all_asks : AsksPatterns wanted old mid → AsksReads C mid later → AsksFor Entered later new → AsksAll wanted C (IsListedDir wanted old new) old new
   all_asks (first_asks, are, is) reads lists = (

@@ -148,13 +148,14 @@ module _ (old new : History) (later : old.last ≤ new.last) where
 
   over_by : (size : ℕ) (b : Bool) → old.told ≡ b → most_text < size → (IsTrue old.told → HasTextCause most_text old new (an_ignore_fault.IgnoreTooLarge size)) → IsOver old new size
   over_by size false none large cause = (large, inl (unseen (HasBytes (λ text. size ≡ length text)) none))
-  over_by size true told large cause =
-      (large,
-      elim (cause told).1 [
-        | inl (k, from, to, has, some) ↦ inl (seen_at (HasBytes (λ text. size ≡ length text)) k from to (has, some))
-        | inr ((k, from, to, has, few), is, more) ↦
-            inr (is, read_by (HasBytes (λ text. length text ≤ most_text)) (λ text. most_text < length text) k from to (has, few) more)
-      ])
+  over_by size true told large cause = (
+    large,
+    elim (cause told).1 [
+      | inl (k, from, to, has, some) ↦ inl (seen_at (HasBytes (λ text. size ≡ length text)) k from to (has, some))
+      | inr ((k, from, to, has, few), is, more) ↦
+          inr (is, read_by (HasBytes (λ text. length text ≤ most_text)) (λ text. most_text < length text) k from to (has, few) more)
+    ],
+  )
 
   pub lacks : (fault : IgnoreFault) → (IsTrue old.told → HasTextCause most_text old new fault) → ((size : ℕ) → fault ≡ an_ignore_fault.IgnoreTooLarge size → most_text < size) → LacksPatterns old new (of_ignore fault)
   lacks an_ignore_fault.OutOfMemory cause over = tt

@@ -117,7 +117,17 @@ fn look<T: Tree>(
             if leaves_out(ignored, wanted) {
                 return Ok(());
             }
-            visit(alloc, tree, flat, Some(dir), matcher, ignored, wanted, next, rows)
+            visit(
+                alloc,
+                tree,
+                flat,
+                Some(dir),
+                matcher,
+                ignored,
+                wanted,
+                next,
+                rows,
+            )
         },
         Kind::Other => Ok(()),
     }
@@ -158,7 +168,9 @@ fn look_each<T: Tree>(
 {
     for name in names {
         let path = Path::within(alloc, dir, name.as_str())?;
-        look(alloc, tree, flat, path, matcher, ignored, wanted, next, rows)?;
+        look(
+            alloc, tree, flat, path, matcher, ignored, wanted, next, rows,
+        )?;
     }
     Ok(())
 }
@@ -203,5 +215,7 @@ pub(crate) fn visit<T: Tree>(
     if is_nested(alloc, tree, dir, &names)? {
         return Ok(());
     }
-    look_each(alloc, tree, flat, dir, &names, matcher, ignored, wanted, next, rows)
+    look_each(
+        alloc, tree, flat, dir, &names, matcher, ignored, wanted, next, rows,
+    )
 }

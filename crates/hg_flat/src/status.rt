@@ -124,7 +124,17 @@ fn add_others<T: Tree>(
     };
     let mut matcher = ignore.matcher(alloc)?;
     let mut next = 0;
-    visit(alloc, tree, flat, None, &mut matcher, false, wanted, &mut next, rows)
+    visit(
+        alloc,
+        tree,
+        flat,
+        None,
+        &mut matcher,
+        false,
+        wanted,
+        &mut next,
+        rows,
+    )
 }
 
 /// Lists each path with a wanted letter: first each path with an entry, in order, then, where `?` or I is wanted, everything that stands in
@@ -236,8 +246,7 @@ pub fn plain_status<T: Tree, S: Shelf, G: Regexps>(
     add_others(alloc, flat, ignore.as_ref(), tree, wanted, &mut rows)?;
     rows.sort()?;
     rows.dedup();
-    Ok(Listed {
-        rows: Rows::of(rows),
-        warnings: warnings_of(alloc, ignore),
-    })
+    let rows = Rows::of(rows);
+    let warnings = warnings_of(alloc, ignore);
+    Ok(Listed { rows, warnings })
 }

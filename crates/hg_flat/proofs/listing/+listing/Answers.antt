@@ -160,7 +160,7 @@ look_each-returns-in_err-look-clause-asked g t c = λ told.
     (each_more_asks (IsEntered c.args.wanted (state_asked c.args.matcher.now)) (g.T.Tree.history c.args.tree.now) (g.T.Tree.history c.loop-name.tree) (g.T.Tree.history c.look.new.tree) c.loop-name.invariant.passes c.look.ensures.passes.past
     (option_map (λ d. d.text.now) c.args.dir) c.args.names.now c.loop-name.name-index c.name-item.result c.as_str.result.now c.in_ok-path.path c.requires.fit
     c.loop-name-test.true c.name-item.is c.as_str.ensures.text c.in_ok-path.ensures (c.loop-name.invariant.asked told) (subst (λ (s : List Piece). AsksFor (IsDirFrom (IsEntered c.args.wanted s) (g.T.Tree.history c.loop-name.tree) (g.T.Tree.history c.look.new.tree) c.in_ok-path.path) (g.T.Tree.history c.loop-name.tree) (g.T.Tree.history c.look.new.tree))
-      c.loop-name.invariant.same (c.look.ensures.asked (c.loop-name.invariant.passes.past.told ∙ told))))
+    c.loop-name.invariant.same (c.look.ensures.asked (c.loop-name.invariant.passes.past.told ∙ told))))
 
 pub visit-returns-in_err-names-clause-asked : goal.visit-returns-in_err-names-clause-asked
 visit-returns-in_err-names-clause-asked g t c = λ told. dir_asks (IsEntered c.args.wanted (state_asked c.args.matcher.now)) (g.T.Tree.history c.args.tree.now) (g.T.Tree.history c.list.new.self) (option_map (λ d. d.text.now) c.args.dir) (asks_one _ (option_map (λ d. d.text.now) c.args.dir) (g.T.Tree.history c.args.tree.now) (g.T.Tree.history c.list.new.self) (c.list.ensures.asked told))

@@ -34,7 +34,7 @@ returns-clause-still g c =
     let start = g.S.Shelf.history c.args.shelf.now in
     let files = g.S.Shelf.history c.add_each.new.shelf in
     let flat = c.args.flat.now in
-    rw c.of.ensures
+    rw c.of-rows.ensures
     (full_for
     flat.p1.0 flat.p2.0 (kept_of flat) (shelves.now start).files c.args.p1.now (trees.now old) c.args.wanted (named flat.rows.items)
     (Left flat c.args.wanted c.args.p1.now old mid later new c.read_patterns.ensures.passes c.add_each.ensures.passes c.add_others.ensures.passes files start.last)
@@ -64,7 +64,7 @@ returns-clause-full g c = λ ours keeps.
     let flat = c.args.flat.now in
     let whole = passes_trans old mid new c.read_patterns.ensures.passes (passes_trans mid later new c.add_each.ensures.passes c.add_others.ensures.passes) in
     full_of (Left flat c.args.wanted c.args.p1.now old mid later new c.read_patterns.ensures.passes c.add_each.ensures.passes c.add_others.ensures.passes files start.last)
-    (flat_in flat) (trees.now old) (parent_rows (shelves.now start).files c.args.p1.now) (ignored_at (trees.now old)) c.args.wanted c.of.result
+    (flat_in flat) (trees.now old) (parent_rows (shelves.now start).files c.args.p1.now) (ignored_at (trees.now old)) c.args.wanted c.of-rows.result
     (left_all (flat_in flat) c.args.wanted c.args.p1.now old new whole ours files start.last keeps) (returns-clause-still g c)
 
 pub returns-clause-served : goal.returns-clause-served
@@ -104,7 +104,7 @@ returns-clause-warns g c =
     let mid = g.T.Tree.history c.read_patterns.new.tree in
     let later = g.T.Tree.history c.add_each.new.tree in
     let new = g.T.Tree.history c.add_others.new.tree in
-    rw c.warnings_of.ensures
+    rw c.warnings_of-warnings.ensures
     (warns old mid new c.read_patterns.ensures.passes (passes_trans mid later new c.add_each.ensures.passes c.add_others.ensures.passes).past c.args.wanted c.in_ok-ignore.ignore c.in_ok-ignore.ensures.kept)
 
 pub returns-in_err-ignore-clause-met : goal.returns-in_err-ignore-clause-met
