@@ -1,5 +1,5 @@
 -- What a whole status asks the tree: first the patterns, then what is compared, and then what is listed.
-use Rattle.std.proofs.Common.{ℕ, ◌≡◌, ◌+◌, Bool, true, false, cond, List, [], ◌∷◌, ◌++◌, map, append-nil, Option, Some, None, IsTrue, refl, sym, ap, ◌∙◌, subst, inl, inr, ◌⊎◌, arith}
+use Rattle.std.proofs.Common.{ℕ, ◌≡◌, Bool, true, false, cond, List, [], ◌++◌, map, append-nil, Option, None, refl, sym, ap, ◌∙◌, subst, inl, inr, arith}
 use Rattle.hg_ignore.specs.Source.{AsksOnce, FileDuring, has_file, reads_of, the_read}
 use Rattle.hg_ignore.specs.State.{Ignore, Ignored, Piece}
 use Rattle.hg_tree.specs.History.{Extends, History, IsOurs, Passes, now}
@@ -7,7 +7,7 @@ use Rattle.hg_tree.specs.Moment.{Moment}
 use Rattle.hg_tree.specs.declared.asked.Asked.{Asked}
 use Rattle.hg_tree.specs.declared.asked.Asked.TheVariants as an_ask
 use Rattle.hg_tree.proofs.Spans.{ours_first, passes_trans}
-use Rattle.hg_flat.specs.Asked.{AsksAll, AsksBehind, AsksFor, AsksNothing, AsksReads, IsDirBelow, IsDirIn, IsListedDir, IsPatternsRead, IsTaken, IsVisibleDir, pattern_reads}
+use Rattle.hg_flat.specs.Asked.{AsksAll, AsksBehind, AsksFor, AsksReads, IsDirBelow, IsDirIn, IsListedDir, IsPatternsRead, IsTaken, IsVisibleDir, pattern_reads}
 use Rattle.hg_flat.specs.Course.{AsksPatterns}
 use Rattle.hg_flat.specs.Listing.{IsEntered}
 use Rattle.hg_flat.specs.Patterns.{needs_patterns}

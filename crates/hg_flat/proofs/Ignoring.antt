@@ -1,10 +1,10 @@
 -- Which letter a state of ignore patterns gives a path, and which directories are ignored.
-use Rattle.std.proofs.Common.{ℕ, ◌≡◌, Bool, true, false, not, ◌&&◌, ◌||◌, ◌↔◌, List, [], ◌∷◌, ◌++◌, Option, Some, None, IsTrue, refl, sym, ap, ◌∙◌, subst, inl, inr, ◌⊎◌}
+use Rattle.std.proofs.Common.{ℕ, ◌≡◌, Bool, true, false, not, ◌&&◌, ◌||◌, ◌↔◌, List, [], ◌∷◌, ◌++◌, Option, Some, IsTrue, refl, sym, ap, ◌∙◌, subst, inl, inr, ◌⊎◌}
 use Rattle.std.proofs.lemmas.List.{append-nil}
 use Rattle.hg_base.specs.PathText.{has_slash, is_path, joined, parent_of}
 use Rattle.hg_base.specs.Within.{is_within}
 use Rattle.hg_base.proofs.Components.{parent_joined}
-use Rattle.hg_base.proofs.Within.{within_below, within_itself, within_trans}
+use Rattle.hg_base.proofs.Within.{within_below, within_trans}
 use Rattle.hg_ignore.specs.Kept.{DirIgnored}
 use Rattle.hg_ignore.specs.State.{Ignored, Matches, Piece}
 use Rattle.hg_ignore.proofs.Asking.{law_of_ignored}

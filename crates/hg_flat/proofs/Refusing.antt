@@ -1,5 +1,5 @@
 -- What was read of the ignore patterns in a status, and what they were refused for.
-use Rattle.std.proofs.Common.{ℕ, ◌≡◌, ◌≤◌, ◌<◌, ◌+◌, Bool, true, false, cond, List, [], length, Option, Some, None, IsTrue, is_some, option_map, refl, sym, ap, ◌∙◌, subst, inl, inr, ◌⊎◌, arith}
+use Rattle.std.proofs.Common.{ℕ, ◌≡◌, ◌≤◌, ◌<◌, Bool, true, false, cond, List, [], length, Option, Some, None, IsTrue, is_some, option_map, refl, sym, ap, ◌∙◌, subst, inl, inr, arith}
 use Rattle.std.specs.Prelude.{IsSomeAnd, MatchBool}
 use Rattle.hg_base.specs.declared.stat.Kind.{Kind}
 use Rattle.hg_base.specs.declared.stat.Kind.TheVariants as a_kind
@@ -18,7 +18,6 @@ use Rattle.hg_tree.proofs.Stillness.{same_kind}
 use Rattle.hg_flat.specs.Cause.{of_ignore}
 use Rattle.hg_flat.specs.Course.{IsKeptState, IsState, LacksPatterns, pieces_of, warned_of}
 use Rattle.hg_flat.specs.Patterns.{HadPatterns, HasBytes, HasFile, IsGiven, IsOver, KeepsPatterns, ReadSo, Saw, Warns, WereRead, most_text, needs_patterns}
-use Rattle.hg_flat.specs.declared.fault.StatusFault.{StatusFault}
 use Rattle.hg_flat.specs.declared.row.Wanted.{Wanted}
 use Rattle.hg_flat.proofs.Faces.{bytes_seen}
 

@@ -1,5 +1,5 @@
 -- What was met of the first parent behind a read of the patterns was met in the whole status.
-use Rattle.std.proofs.Common.{ℕ, ◌≡◌, ◌≤◌, Bool, true, false, List, Option, Some, None, Result, Ok, Err, IsTrue, refl, ◌∙◌, arith}
+use Rattle.std.proofs.Common.{ℕ, ◌≡◌, true, Some, Result, Ok, Err, IsTrue, ◌∙◌, arith}
 use Rattle.hg_base.specs.declared.id.Id20.{Id20}
 use Rattle.hg_base.specs.declared.stat.Stat.{Stat}
 use Rattle.hg_entry.specs.Table.{Flat}

@@ -1,5 +1,5 @@
 -- A status from its parts: the rows of the paths with an entry, and those of what else stands, behind a read of the patterns.
-use Rattle.std.proofs.Common.{ℕ, ◌≡◌, true, List, [], Option, Some, None, option_map, ap, ◌∙◌, refl}
+use Rattle.std.proofs.Common.{ℕ, ◌≡◌, true, List, Option, None, option_map, ap}
 use Rattle.std.specs.List.{Contains}
 use Rattle.hg_base.specs.declared.id.Id20.{Id20}
 use Rattle.hg_entry.specs.Entry.{view}

@@ -1,4 +1,4 @@
-use Rattle.std.proofs.Common.{None, is_some, option_map, refl, sym, true, ap, ◌∙◌, ◌≡◌}
+use Rattle.std.proofs.Common.{None, option_map, refl, true, ◌≡◌}
 use Rattle.hg_tree.specs.History as trees
 use Rattle.hg_tree.specs.Still.{Untouched}
 use Rattle.hg_flat.specs.Asked.{IsDirIn}
