@@ -19,9 +19,8 @@ use Rattle.hg_tree.specs.Still.{Untouched}
 use Rattle.hg_tree.proofs.Spans.{now_same, ours_first, ours_second, passes_trans}
 use Rattle.hg_tree.proofs.Stillness.{ours_untouched}
 use Rattle.hg_compare.specs.Same.{Reads}
-use Rattle.hg_flat.specs.Asked.{AsksAll, AsksBoth, AsksFor, AsksNothing, AsksReads, IsDirAmong, IsDirBelow, IsDirFrom, IsDirIn, IsVisibleDir}
+use Rattle.hg_flat.specs.Asked.{AsksFor, AsksNothing, AsksReads, IsDirAmong, IsDirBelow, IsDirFrom, IsDirIn}
 use Rattle.hg_flat.specs.Listing.{HoldsFor, IsVisibleFrom, holds_repository, is_from, is_inside}
-use Rattle.hg_flat.specs.declared.row.Wanted.{Wanted}
 use Rattle.hg_flat.proofs.Among.{fit_of}
 use Rattle.hg_flat.proofs.Unknowns.{back, from_below, from_cases, from_same, inside_joined, same_of, visible_up}
 
@@ -93,10 +92,11 @@ asks_before W a b c asks none = record { dirs = asks.dirs; asked = none ∙ asks
 -- ---- a path, and what stands below it
 
 -- what is asked behind a span is asked over the whole
-from_later : (old mid new : History) → Passes old mid → Extends mid new → (from : List ℕ) (dir : Option (List ℕ)) → IsDirFrom mid new from dir → IsDirFrom old new from dir
-from_later old mid new first second from dir d = record {
+from_later : (E : List ℕ → Type 0) (old mid new : History) → Passes old mid → Extends mid new → (from : List ℕ) (dir : Option (List ℕ)) → IsDirFrom E mid new from dir → IsDirFrom E old new from dir
+from_later E old mid new first second from dir d = record {
   path = d.path;
   is = d.is;
+  entered = d.entered;
   inside = d.inside;
   stands = λ ours.
       subst (λ (m : Moment). IsTrue (is_dir (m.things d.path))) (now_same old mid first (ours_first old mid new second ours))
@@ -106,10 +106,11 @@ from_later old mid new first second from dir d = record {
       (d.visible (ours_second old mid new first.past ours));
 }
 
-below_later : (old mid new : History) → Passes old mid → Extends mid new → (from dir : Option (List ℕ)) → IsDirBelow mid new from dir → IsDirBelow old new from dir
-below_later old mid new first second from dir d = record {
+pub below_later : (E : List ℕ → Type 0) (old mid new : History) → Passes old mid → Extends mid new → (from dir : Option (List ℕ)) → IsDirBelow E mid new from dir → IsDirBelow E old new from dir
+below_later E old mid new first second from dir d = record {
   path = d.path;
   is = d.is;
+  entered = d.entered;
   inside = d.inside;
   stands = λ ours.
       subst (λ (m : Moment). IsTrue (is_dir (m.things d.path))) (now_same old mid first (ours_first old mid new second ours))
@@ -120,10 +121,11 @@ below_later old mid new first second from dir d = record {
 }
 
 -- what is asked over a span is so over a longer one
-from_longer : (old mid new : History) → Extends mid new → (from : List ℕ) (dir : Option (List ℕ)) → IsDirFrom old mid from dir → IsDirFrom old new from dir
-from_longer old mid new second from dir d = record {
+from_longer : (E : List ℕ → Type 0) (old mid new : History) → Extends mid new → (from : List ℕ) (dir : Option (List ℕ)) → IsDirFrom E old mid from dir → IsDirFrom E old new from dir
+from_longer E old mid new second from dir d = record {
   path = d.path;
   is = d.is;
+  entered = d.entered;
   inside = d.inside;
   stands = λ ours. d.stands (ours_first old mid new second ours);
   visible = λ ours. d.visible (ours_first old mid new second ours);
@@ -137,27 +139,28 @@ itself_visible moment path d from below =
     ]
 
 -- a directory that was seen at a path
-pub look_asks : (old mid new : History) → Passes old mid → Extends mid new → (path text : List ℕ) → text ≡ path → (IsTrue old.told → is_dir ((now mid).things path) ≡ true) → AsksNothing old mid
-    → AsksFor (IsDirIn mid new (Some text)) mid new → AsksFor (IsDirFrom old new path) old new
-look_asks old mid new first second path text same sees none asks =
-    asks_then (IsDirFrom old new path) old mid new none
-    (asks_weaker (IsDirIn mid new (Some text)) (IsDirFrom old new path) mid new
+pub look_asks : (E : List ℕ → Type 0) (old mid new : History) → Passes old mid → Extends mid new → (path text : List ℕ) → text ≡ path → (IsTrue old.told → is_dir ((now mid).things path) ≡ true) → E path → AsksNothing old mid
+    → AsksFor (IsDirIn E mid new (Some text)) mid new → AsksFor (IsDirFrom E old new path) old new
+look_asks E old mid new first second path text same sees here none asks =
+    asks_then (IsDirFrom E old new path) old mid new none
+    (asks_weaker (IsDirIn E mid new (Some text)) (IsDirFrom E old new path) mid new
     (λ dir.
     elim [
       | inl is ↦ record {
         path = path;
         is = is ∙ ap Some same;
+        entered = here;
         inside = from_same path path refl;
         stands = λ ours.
             subst (λ (m : Moment). is_dir (m.things path) ≡ true) (now_same old mid first (ours_first old mid new second ours)) (sees ours.told);
         visible = λ ours. itself_visible (now old) path;
       }
-      | inr below ↦ in_path dir (subst (λ (t : List ℕ). IsDirBelow old new (Some t) dir) same (below_later old mid new first second (Some text) dir below))
+      | inr below ↦ in_path dir (subst (λ (t : List ℕ). IsDirBelow E old new (Some t) dir) same (below_later E old mid new first second (Some text) dir below))
     ])
     asks)
   where
-    in_path : (dir : Option (List ℕ)) → IsDirBelow old new (Some path) dir → IsDirFrom old new path dir
-    in_path dir d = record { path = d.path; is = d.is; inside = from_below path d.path d.inside; stands = d.stands; visible = d.visible }
+    in_path : (dir : Option (List ℕ)) → IsDirBelow E old new (Some path) dir → IsDirFrom E old new path dir
+    in_path dir d = record { path = d.path; is = d.is; entered = d.entered; inside = from_below path d.path d.inside; stands = d.stands; visible = d.visible }
 
 -- ---- the names one by one
 
@@ -211,9 +214,9 @@ among_take name names i among =
     ap (is_among name) (sym (take-append-drop i names)) ∙ list_any-append (bytes_eq name) (take i names) (drop i names) ∙ or_left (is_among name (take i names)) (is_among name (drop i names)) among
 
 -- what was asked for the first names was asked for the names
-pub each_asks : (old new : History) (dir : Option (List ℕ)) (names : List (List ℕ)) (i : ℕ) → AsksFor (IsDirAmong old new dir (take i names)) old new → AsksFor (IsDirAmong old new dir names) old new
-each_asks old new dir names i asks =
-    asks_weaker (IsDirAmong old new dir (take i names)) (IsDirAmong old new dir names) old new (λ asked (name, among, from). (name, among_take name names i among, from)) asks
+pub each_asks : (E : List ℕ → Type 0) (old new : History) (dir : Option (List ℕ)) (names : List (List ℕ)) (i : ℕ) → AsksFor (IsDirAmong E old new dir (take i names)) old new → AsksFor (IsDirAmong E old new dir names) old new
+each_asks E old new dir names i asks =
+    asks_weaker (IsDirAmong E old new dir (take i names)) (IsDirAmong E old new dir names) old new (λ asked (name, among, from). (name, among_take name names i among, from)) asks
 
 plain_of : (dir : Option (List ℕ)) (names : List (List ℕ)) (name : List ℕ) → AreFit dir names → is_among name names ≡ true → has_slash name ≡ false
 plain_of dir names name fit among = component_plain name (fit_of dir names name fit among).component
@@ -225,9 +228,9 @@ among_here name names i below is =
 among_before : (name : List ℕ) (names : List (List ℕ)) (i : ℕ) (d : List ℕ) → i < length names → is_among name (take i names) ≡ true → is_among name (take (i + 1) names) ≡ true
 among_before name names i d below among = list_any_more (bytes_eq name) names i d below ∙ or_left _ _ among
 
-apart_names : (mid : History) (old new : History) (dir : Option (List ℕ)) (names : List (List ℕ)) (i : ℕ) (name : List ℕ) → AreFit dir names → i < length names → name ≡ get_or names i name
-    → (x y : Option (List ℕ)) → IsDirAmong old mid dir (take i names) x → IsDirFrom mid new (joined dir name) y → is_same_dir x y ≡ false
-apart_names mid old new dir names i name fit below is x y (other, among, f) g =
+apart_names : (E : List ℕ → Type 0) (mid : History) (old new : History) (dir : Option (List ℕ)) (names : List (List ℕ)) (i : ℕ) (name : List ℕ) → AreFit dir names → i < length names → name ≡ get_or names i name
+    → (x y : Option (List ℕ)) → IsDirAmong E old mid dir (take i names) x → IsDirFrom E mid new (joined dir name) y → is_same_dir x y ≡ false
+apart_names E mid old new dir names i name fit below is x y (other, among, f) g =
     rw (f.is, g.is) (elim (cases_Bool (bytes_eq f.path g.path)) [
       | inl same ↦ absurd (clash (same_of f.path g.path same))
       | inr apart ↦ apart
@@ -245,28 +248,33 @@ apart_names mid old new dir names i name fit below is x y (other, among, f) g =
         let one : other ≡ get_or names i name = (joined_same dir other dir name plain_other plain joins).1 ∙ is in
         distinct_take names i name fit.distinct below (subst (λ (n : List ℕ). is_among n (take i names) ≡ true) one among)
 
+-- a name of a directory that fits has no slash
+pub plain_at : (dir : Option (List ℕ)) (names : List (List ℕ)) (i : ℕ) (name text : List ℕ) → AreFit dir names → i < length names → name ≡ get_or names i name → text ≡ name → has_slash text ≡ false
+plain_at dir names i name text fit below is same =
+    subst (λ (t : List ℕ). has_slash t ≡ false) (sym same) (plain_of dir names name fit (among_take name names (i + 1) (among_here name names i below is)))
+
 -- one name more
-pub each_more_asks : (old mid new : History) → Passes old mid → Extends mid new → (dir : Option (List ℕ)) (names : List (List ℕ)) (i : ℕ) (name text path : List ℕ) → AreFit dir names → i < length names
+pub each_more_asks : (E : List ℕ → Type 0) (old mid new : History) → Passes old mid → Extends mid new → (dir : Option (List ℕ)) (names : List (List ℕ)) (i : ℕ) (name text path : List ℕ) → AreFit dir names → i < length names
     → name ≡ get_or names i name → text ≡ name → path ≡ joined dir text
-    → AsksFor (IsDirAmong old mid dir (take i names)) old mid → AsksFor (IsDirFrom mid new path) mid new → AsksFor (IsDirAmong old new dir (take (i + 1) names)) old new
-each_more_asks old mid new first second dir names i name text path fit below is same at before one =
-    asks_weaker (λ asked. IsDirAmong old mid dir (take i names) asked ⊎ IsDirFrom mid new (joined dir name) asked) (IsDirAmong old new dir (take (i + 1) names)) old new
+    → AsksFor (IsDirAmong E old mid dir (take i names)) old mid → AsksFor (IsDirFrom E mid new path) mid new → AsksFor (IsDirAmong E old new dir (take (i + 1) names)) old new
+each_more_asks E old mid new first second dir names i name text path fit below is same at before one =
+    asks_weaker (λ asked. IsDirAmong E old mid dir (take i names) asked ⊎ IsDirFrom E mid new (joined dir name) asked) (IsDirAmong E old new dir (take (i + 1) names)) old new
     (λ asked.
     elim [
-      | inl (other, among, f) ↦ (other, among_before other names i name below among, from_longer old mid new second (joined dir other) asked f)
-      | inr f ↦ (name, among_here name names i below is, from_later old mid new first second (joined dir name) asked f)
+      | inl (other, among, f) ↦ (other, among_before other names i name below among, from_longer E old mid new second (joined dir other) asked f)
+      | inr f ↦ (name, among_here name names i below is, from_later E old mid new first second (joined dir name) asked f)
     ])
-    (asks_trans (IsDirAmong old mid dir (take i names)) (IsDirFrom mid new (joined dir name)) old mid new (apart_names mid old new dir names i name fit below is) before
-    (subst (λ (p : List ℕ). AsksFor (IsDirFrom mid new p) mid new) (at ∙ ap (joined dir) same) one))
+    (asks_trans (IsDirAmong E old mid dir (take i names)) (IsDirFrom E mid new (joined dir name)) old mid new (apart_names E mid old new dir names i name fit below is) before
+    (subst (λ (p : List ℕ). AsksFor (IsDirFrom E mid new p) mid new) (at ∙ ap (joined dir) same) one))
 
 -- ---- a directory, and what stands in it
 
-pub dir_asks : (old new : History) (dir : Option (List ℕ)) → AsksFor (λ asked. asked ≡ dir) old new → AsksFor (IsDirIn old new dir) old new
-dir_asks old new dir asks = asks_weaker (λ asked. asked ≡ dir) (IsDirIn old new dir) old new (λ asked is. inl is) asks
+pub dir_asks : (E : List ℕ → Type 0) (old new : History) (dir : Option (List ℕ)) → AsksFor (λ asked. asked ≡ dir) old new → AsksFor (IsDirIn E old new dir) old new
+dir_asks E old new dir asks = asks_weaker (λ asked. asked ≡ dir) (IsDirIn E old new dir) old new (λ asked is. inl is) asks
 
 -- the directory alone over a longer span, in which nothing more is asked
-pub dir_asks_on : (old mid new : History) (dir : Option (List ℕ)) → AsksFor (λ asked. asked ≡ dir) old mid → AsksNothing mid new → AsksFor (IsDirIn old new dir) old new
-dir_asks_on old mid new dir asks none = dir_asks old new dir (asks_before (λ asked. asked ≡ dir) old mid new asks none)
+pub dir_asks_on : (E : List ℕ → Type 0) (old mid new : History) (dir : Option (List ℕ)) → AsksFor (λ asked. asked ≡ dir) old mid → AsksNothing mid new → AsksFor (IsDirIn E old new dir) old new
+dir_asks_on E old mid new dir asks none = dir_asks E old new dir (asks_before (λ asked. asked ≡ dir) old mid new asks none)
 
 not_inside : (dir : Option (List ℕ)) (path : List ℕ) → is_inside dir path ≡ true → is_same_dir dir (Some path) ≡ false
 not_inside None path inside = refl
@@ -277,14 +285,14 @@ not_inside (Some dir) path inside =
       | inr apart ↦ apart
     ]
 
-pub visit_asks : (old mid later new : History) → Passes old mid → Passes mid later → Extends later new → (dir : Option (List ℕ)) (names again : List (List ℕ)) (holds : Bool) → AreFit dir names → again ≡ names
+pub visit_asks : (E : List ℕ → Type 0) (old mid later new : History) → Passes old mid → Passes mid later → Extends later new → (dir : Option (List ℕ)) (names again : List (List ℕ)) (holds : Bool) → AreFit dir names → again ≡ names
     → HoldsFor (Untouched later mid.last) (now mid) dir holds → holds ≡ false
-    → AsksFor (λ asked. asked ≡ dir) old mid → AsksNothing mid later → AsksFor (IsDirAmong later new dir again) later new → AsksFor (IsDirIn old new dir) old new
-visit_asks old mid later new first second third dir names again holds fit same found never own none asks =
-    asks_weaker (λ asked. (asked ≡ dir) ⊎ IsDirAmong later new dir names asked) (IsDirIn old new dir) old new
+    → AsksFor (λ asked. asked ≡ dir) old mid → AsksNothing mid later → AsksFor (IsDirAmong E later new dir again) later new → AsksFor (IsDirIn E old new dir) old new
+visit_asks E old mid later new first second third dir names again holds fit same found never own none asks =
+    asks_weaker (λ asked. (asked ≡ dir) ⊎ IsDirAmong E later new dir names asked) (IsDirIn E old new dir) old new
     (λ asked. elim [ inl is ↦ inl is | inr (name, among, f) ↦ inr (in_dir asked name among f) ])
-    (asks_trans (λ asked. asked ≡ dir) (IsDirAmong later new dir names) old later new apart (asks_before (λ asked. asked ≡ dir) old mid later own none)
-    (subst (λ (l : List (List ℕ)). AsksFor (IsDirAmong later new dir l) later new) same asks))
+    (asks_trans (λ asked. asked ≡ dir) (IsDirAmong E later new dir names) old later new apart (asks_before (λ asked. asked ≡ dir) old mid later own none)
+    (subst (λ (l : List (List ℕ)). AsksFor (IsDirAmong E later new dir l) later new) same asks))
   where
     past : Passes old later
     past = passes_trans old mid later first second
@@ -296,18 +304,19 @@ visit_asks old mid later new first second third dir names again holds fit same f
         ap (λ (m : Moment). holds_repository m dir) (sym (now_same old mid first (ours_first old mid later second.past start)))
         ∙ sym (found path (ours_untouched mid later second within path) inside) ∙ never
 
-    in_dir : (asked : Option (List ℕ)) (name : List ℕ) → is_among name names ≡ true → IsDirFrom later new (joined dir name) asked → IsDirBelow old new dir asked
+    in_dir : (asked : Option (List ℕ)) (name : List ℕ) → is_among name names ≡ true → IsDirFrom E later new (joined dir name) asked → IsDirBelow E old new dir asked
     in_dir asked name among f =
-        let g : IsDirFrom old new (joined dir name) asked = from_later old later new past third (joined dir name) asked f in
+        let g : IsDirFrom E old new (joined dir name) asked = from_later E old later new past third (joined dir name) asked f in
         let inside : is_inside dir g.path ≡ true = inside_joined dir name g.path g.inside in record {
           path = g.path;
           is = g.is;
+          entered = g.entered;
           inside = inside;
           stands = g.stands;
           visible = λ ours. visible_up (now old) dir name g.path (plain_of dir names name fit among) (no_repository g.path inside ours) g.inside (g.visible ours);
         }
 
-    apart : (x y : Option (List ℕ)) → x ≡ dir → IsDirAmong later new dir names y → is_same_dir x y ≡ false
+    apart : (x y : Option (List ℕ)) → x ≡ dir → IsDirAmong E later new dir names y → is_same_dir x y ≡ false
     apart x y is (name, among, f) = rw (is, f.is) (not_inside dir f.path (inside_joined dir name f.path f.inside))
 
 -- ---- paths that are read
@@ -347,39 +356,3 @@ reads_trans C a b c first second = record {
   compared = λ path has.
       elim (Contains-append_cases first.paths second.paths path has) [ inl left ↦ first.compared path left | inr right ↦ second.compared path right ];
 }
-
--- paths that are read, and then directories that are listed
-pub asks_both : (C : List ℕ → Type 0) (W V : Option (List ℕ) → Type 0) (a b c : History) → AsksReads C a b → AsksFor W b c → ((dir : Option (List ℕ)) → W dir → V dir) → AsksBoth C V a c
-asks_both C W V a b c reads lists weaker = record {
-  paths = reads.paths;
-  dirs = lists.dirs;
-  asked = lists.asked ∙ ap (λ (l : List Asked). l ++ map an_ask.List lists.dirs) reads.asked;
-  compared = reads.compared;
-  once = lists.once;
-  within = λ dir has. weaker dir (lists.within dir has);
-}
-
--- ---- the whole listing
-
-visible_in : (old mid new : History) → Passes old mid → Passes mid new → (dir : Option (List ℕ)) → IsDirIn mid new None dir → IsOurs old new → IsVisibleDir (now old) dir
-visible_in old mid new first second dir (inl is) ours = subst (IsVisibleDir (now old)) (sym is) tt
-visible_in old mid new first second dir (inr below) ours =
-    let d : IsDirBelow old new None dir = below_later old mid new first second.past None dir below in
-    subst (IsVisibleDir (now old)) (sym d.is) (d.stands ours, λ above under. d.visible ours above refl under)
-
-pub status_asks : (C : List ℕ → Type 0) (u : Bool) (old mid new : History) → Passes old mid → Passes mid new → AsksReads C old mid → AsksFor (λ dir. IsTrue u × IsDirIn mid new None dir) mid new
-    → AsksBoth C (λ dir. IsTrue u × (IsOurs old new → IsVisibleDir (now old) dir)) old new
-status_asks C u old mid new first second reads lists =
-    asks_both C (λ dir. IsTrue u × IsDirIn mid new None dir) (λ dir. IsTrue u × (IsOurs old new → IsVisibleDir (now old) dir)) old mid new reads lists
-    (λ dir both. (both.0, visible_in old mid new first second dir both.1))
-
-pub asks_nothing_at_all : (wanted : Wanted) (C : List ℕ → Type 0) (W : Option (List ℕ) → Type 0) (old : History) → AsksAll wanted C W old old
-unfolding IsDistinct
-asks_nothing_at_all wanted C W old = ([], inl refl, record {
-  paths = [];
-  dirs = [];
-  asked = sym (append-nil old.asked) ∙ sym (append-nil (old.asked ++ [])) ∙ sym (append-nil (old.asked ++ [] ++ []));
-  compared = λ path (k, below, is). absurd (omega (arith, below));
-  once = tt;
-  within = λ dir (k, below, is). absurd (omega (arith, below));
-})

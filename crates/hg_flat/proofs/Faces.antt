@@ -6,7 +6,7 @@ use Rattle.hg_base.specs.declared.stat.Kind.TheVariants as a_kind
 use Rattle.hg_base.specs.declared.stat.Stat.{Stat}
 use Rattle.hg_base.specs.declared.time.Time.{Time}
 use Rattle.hg_tree.specs.History.{History}
-use Rattle.hg_tree.specs.Honest.{face_of, face_with}
+use Rattle.hg_tree.specs.Honest.{face, face_of, face_with}
 use Rattle.hg_tree.specs.Moment.{Moment, bytes_at, bytes_of, stat_at, stat_of, zero_time}
 use Rattle.hg_tree.specs.Still.{AreAlike, Untouched, is_exec, is_exec_thing}
 use Rattle.hg_tree.specs.declared.thing.Placed.{Placed}
@@ -64,9 +64,13 @@ unfolding bytes_by
 bytes_is None names = refl
 bytes_is (Some placed) names = bytes_thing placed.thing placed.mtime names
 
+-- the bytes are those of the face
+pub bytes_seen : (m n : Moment) (path : List ℕ) → face m path ≡ face n path → bytes_at m path ≡ bytes_at n path
+bytes_seen m n path seen =
+    sym (bytes_is (m.things path) _) ∙ (λ i. bytes_by (seen i).kind (seen i).bytes) ∙ bytes_is (n.things path) _
+
 pub bytes_alike : (m n : Moment) (path : List ℕ) → AreAlike m n path → bytes_at m path ≡ bytes_at n path
-bytes_alike m n path alike =
-    sym (bytes_is (m.things path) _) ∙ (λ i. bytes_by (alike.seen i).kind (alike.seen i).bytes) ∙ bytes_is (n.things path) _
+bytes_alike m n path alike = bytes_seen m n path alike.seen
 
 -- who touches nothing leaves what is shown
 pub stays_shown : (old new : History) (path : List ℕ) → Untouched new old.last path → StaysShown old new path

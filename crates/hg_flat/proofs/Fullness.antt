@@ -1,6 +1,5 @@
 -- That the rows of the paths with an entry and of what else stands in the working copy are the full listing.
 use Rattle.std.proofs.Common.{ℕ, ◌≡◌, Bool, true, false, ◌&&◌, ◌||◌, List, [], ◌∷◌, map, Option, Some, None, is_some, option_map, refl, sym, ap, ◌∙◌, subst, inl, inr, ◌⊎◌, arith}
-use Rattle.std.specs.Prelude.{IsTrue}
 use Rattle.std.specs.List.{AllByRecursion, Contains, IsDistinct, dedup}
 use Rattle.std.specs.List.Sorted.{IsPermutation, IsSorted, IsStrictlySortedBy}
 use Rattle.std.specs.Ordering.{eq_by_cmp}
@@ -12,18 +11,20 @@ use Rattle.hg_entry.specs.Entry.{view}
 use Rattle.hg_entry.specs.Table.{Flat, marks_of}
 use Rattle.hg_shelf.specs.History as shelves
 use Rattle.hg_tree.specs.Moment.{Moment}
+use Rattle.hg_ignore.specs.State.{Ignore, Piece}
 use Rattle.hg_compare.specs.Tracked.{ParentRow, is_file_or_link, tracked_letter}
 use Rattle.hg_compare.specs.declared.letter.Letter.{Letter}
-use Rattle.hg_compare.specs.declared.letter.Letter.TheVariants as a_letter
-use Rattle.hg_flat.specs.Full.{HasLetter, HasLetterBy, IsFull, IsFullFor, IsTold, nothing_ignored, wants}
+use Rattle.hg_flat.specs.Full.{HasLetter, HasLetterBy, IsFull, IsFullFor, IsTold, wants}
 use Rattle.hg_flat.specs.Kept.{AreNamed, HaveOwnPaths, Kept, flat_from, source_of}
-use Rattle.hg_flat.specs.Listing.{AddsTracked, ArePutFor, IsPutFor, IsUnknownIn, Lists, letter_at, row_under, rows_under, unknown_row}
+use Rattle.hg_flat.specs.Listing.{AddsTracked, ArePutFor, Gives, GivesLetter, IsPutFor, IsUnknownIn, IsUntrackedRow, Lists, letter_at, row_under, rows_under, untracked_row}
 use Rattle.hg_flat.specs.Order.{row_order, whole_order}
 use Rattle.hg_flat.specs.Parent.{IsAsked, IsServed, is_plain_entry, parent_rows}
+use Rattle.hg_flat.specs.Patterns.{ignored_at, needs_patterns}
 use Rattle.hg_flat.specs.declared.kept.FlatRow.{FlatRow}
 use Rattle.hg_flat.specs.declared.row.Row.{Row}
 use Rattle.hg_flat.specs.declared.row.Wanted.{Wanted}
 use Rattle.hg_flat.proofs.Ascending.{ascending, distinct_paths, kept_by, kept_of, same_row}
+use Rattle.hg_flat.proofs.Ignoring.{gives_needs, one_letter}
 use Rattle.hg_flat.proofs.Tracking.{from_put, in_put, under_has, under_one}
 
 -- these rows are what is kept, and no others
@@ -45,56 +46,55 @@ module _ (p1 p2 : List ℕ) (kept : Kept) (files : shelves.Files) (id : Id20) (m
 
   -- what is told of a path
   abbrev Tells : Row → Type 0
-  Tells row = IsTold flat moment (parent_rows files id) nothing_ignored wanted row
+  Tells row = IsTold flat moment (parent_rows files id) (ignored_at moment) wanted row
 
   path_is : (path : List ℕ) (row : FlatRow) → kept path ≡ Some row → row.path ≡ path
   path_is path row is =
       let both = subst (λ (o : Option FlatRow). option_map (λ r. r.path) o ≡ option_map (λ r. path) o) is (named path) in cc (both)
 
   -- the letter of an entry is that of its path
-  has_letter : (path : List ℕ) (k : FlatRow) (letter : Letter) → kept path ≡ Some k → k.path ≡ path → letter_at files id moment k ≡ Some letter → HasLetter flat moment (parent_rows files id) nothing_ignored path letter
+  has_letter : (path : List ℕ) (k : FlatRow) (letter : Letter) → kept path ≡ Some k → k.path ≡ path → letter_at files id moment k ≡ Some letter → HasLetter flat moment (parent_rows files id) (ignored_at moment) path letter
   has_letter path k letter is at has =
-      subst (λ (o : Option FlatRow). HasLetterBy (option_map (λ r. marks_of (view r.entry)) o) flat moment (parent_rows files id) nothing_ignored path letter) (sym is)
+      subst (λ (o : Option FlatRow). HasLetterBy (option_map (λ r. marks_of (view r.entry)) o) flat moment (parent_rows files id) (ignored_at moment) path letter) (sym is)
       (subst (λ (p : List ℕ). tracked_letter (parent_rows files id p) (marks_of (view k.entry)) (is_some (source_of (kept path))) (moment.things p) ≡ Some letter) at
       (ap (λ (o : Option FlatRow). tracked_letter (parent_rows files id k.path) (marks_of (view k.entry)) (is_some (source_of o)) (moment.things k.path)) is ∙ has))
 
-  letter_back : (path : List ℕ) (k : FlatRow) (letter : Letter) → kept path ≡ Some k → k.path ≡ path → HasLetter flat moment (parent_rows files id) nothing_ignored path letter → letter_at files id moment k ≡ Some letter
+  letter_back : (path : List ℕ) (k : FlatRow) (letter : Letter) → kept path ≡ Some k → k.path ≡ path → HasLetter flat moment (parent_rows files id) (ignored_at moment) path letter → letter_at files id moment k ≡ Some letter
   letter_back path k letter is at has =
       sym (ap (λ (o : Option FlatRow). tracked_letter (parent_rows files id k.path) (marks_of (view k.entry)) (is_some (source_of o)) (moment.things k.path)) is)
       ∙ subst (λ (p : List ℕ). tracked_letter (parent_rows files id p) (marks_of (view k.entry)) (is_some (source_of (kept path))) (moment.things p) ≡ Some letter) (sym at)
-      (subst (λ (o : Option FlatRow). HasLetterBy (option_map (λ r. marks_of (view r.entry)) o) flat moment (parent_rows files id) nothing_ignored path letter) is has)
+      (subst (λ (o : Option FlatRow). HasLetterBy (option_map (λ r. marks_of (view r.entry)) o) flat moment (parent_rows files id) (ignored_at moment) path letter) is has)
 
   told_tracked : (k : FlatRow) (letter : Letter) → kept k.path ≡ Some k → letter_at files id moment k ≡ Some letter → wants wanted letter ≡ true → Tells (row_under k letter)
   told_tracked k letter is has wants = (wants, has_letter k.path k letter is refl has, sym (ap source_of is))
 
-  told_unknown : (path : List ℕ) → IsTrue wanted.u → IsUnknownIn kept moment None path → Tells (unknown_row path)
-  told_unknown path wants u = (
-    wants,
-    subst (λ (o : Option FlatRow). HasLetterBy (option_map (λ r. marks_of (view r.entry)) o) flat moment (parent_rows files id) nothing_ignored path a_letter.Unknown) (sym u.untracked.1)
-        (u.untracked.0, λ d below. u.visible d refl below, inr (refl, λ h. h)),
+  told_unknown : (letter : Letter) (path : List ℕ) → Gives wanted (Ignore moment) path letter → IsUnknownIn kept moment None path → Tells (untracked_row letter path)
+  told_unknown letter path gives u = (
+    gives.0,
+    subst (λ (o : Option FlatRow). HasLetterBy (option_map (λ r. marks_of (view r.entry)) o) flat moment (parent_rows files id) (ignored_at moment) path letter) (sym u.untracked.1)
+        (u.untracked.0, λ d below. u.visible d refl below, gives.1),
     sym (ap source_of u.untracked.1),
   )
 
   -- a row that is told is that of an entry, or of a path without one
   told_row : (row : Row) (o : Option FlatRow) → kept row.path ≡ o → Tells row
       → ((k : FlatRow) × (kept row.path ≡ Some k) × (letter_at files id moment k ≡ Some row.letter) × (row ≡ row_under k row.letter))
-      ⊎ ((IsTrue wanted.u × IsUnknownIn kept moment None row.path) × (row ≡ unknown_row row.path))
+      ⊎ ((kept row.path ≡ None) × Gives wanted (Ignore moment) row.path row.letter × IsUnknownIn kept moment None row.path × (row ≡ untracked_row row.letter row.path))
   told_row row None is tells =
-      let letter = subst (λ (o : Option FlatRow). HasLetterBy (option_map (λ r. marks_of (view r.entry)) o) flat moment (parent_rows files id) nothing_ignored row.path row.letter) is tells.1 in
-      elim letter.2 [
-        | inl ignored ↦ absurd ignored.1
-        | inr unknown ↦
-            inr (
-              (ap (wants wanted) (sym unknown.0) ∙ tells.0, record { inside = refl; untracked = (letter.0, is); visible = λ d from below. letter.1 d below }),
-              same_row row (unknown_row row.path) unknown.0 refl (tells.2 ∙ ap source_of is),
-            )
-      ]
+      let letter = subst (λ (o : Option FlatRow). HasLetterBy (option_map (λ r. marks_of (view r.entry)) o) flat moment (parent_rows files id) (ignored_at moment) row.path row.letter) is tells.1 in
+      inr (
+        is,
+        (tells.0, letter.2),
+        record { inside = refl; untracked = (letter.0, is); visible = λ d from below. letter.1 d below },
+        same_row row (untracked_row row.letter row.path) refl refl (tells.2 ∙ ap source_of is),
+      )
   told_row row (Some k) is tells =
       let same = path_is row.path k is in
       inl (k, is, letter_back row.path k row.letter is same tells.1, same_row row (row_under k row.letter) refl (sym same) (tells.2 ∙ ap source_of is))
 
   module _ (S : List ℕ → Type 0) (Left : FlatRow → Type 0) (rows : List FlatRow) (own : HaveOwnPaths rows) (holds : Holds kept rows) (left : (k : FlatRow) → Contains rows k → S k.path → Left k) (a b : List Row)
-      (tracked : AddsTracked Left files id moment wanted rows [] a) (lists : Lists kept S (λ path. IsTrue wanted.u × IsUnknownIn kept moment None path) a b) where
+      (tracked : AddsTracked Left files id moment wanted rows [] a) (state : List Piece) (asks : (path : List ℕ) → S path → kept path ≡ None → needs_patterns wanted ≡ true → state ≡ Ignore moment)
+      (lists : Lists kept (Gives wanted state) S (IsUnknownIn kept moment None) a b) where
     abbrev Put : FlatRow → List Row → Type 0
     Put = IsPutFor Left files id moment wanted
 
@@ -123,7 +123,9 @@ module _ (p1 p2 : List ℕ) (kept : Kept) (files : shelves.Files) (id : Id20) (m
               subst Tells (sym is.1) (told_tracked k row.letter (holds.found k of) (put_letter k more put here row within) is.0)
           | inr second ↦
               let e = lists.2.each row second in
-              let s = lists.2.sound row second meets in subst Tells (sym e.0) (told_unknown row.path s.0 s.1)
+              let at : state ≡ Ignore moment = asks row.path meets e.none (gives_needs wanted state row.path row.letter e.given) in
+              subst Tells (sym e.is)
+              (told_unknown row.letter row.path (subst (λ (t : List Piece). Gives wanted t row.path row.letter) at e.given) (lists.2.sound row second meets))
         ]
 
     has_told : (row : Row) → S row.path → Tells row → Contains b row
@@ -138,7 +140,11 @@ module _ (p1 p2 : List ℕ) (kept : Kept) (files : shelves.Files) (id : Id20) (m
               Contains-append_left a lists.0 row
               (subst (λ (l : List Row). Contains l row) (sym tracked.1)
               (from.2 row (subst (λ (l : List Row). Contains l row) (sym (from.1.one ∙ from.1.found.right here ∙ ap (rows_under wanted k) letter)) put)))
-          | inr (unknown, same) ↦ Contains-append_right a lists.0 row (subst (Contains lists.0) (sym same) (lists.2.all row.path meets unknown))
+          | inr (none, gives, unknown, same) ↦
+              let at : state ≡ Ignore moment = asks row.path meets none (gives_needs wanted (Ignore moment) row.path row.letter gives) in
+              Contains-append_right a lists.0 row
+              (subst (Contains lists.0) (sym same)
+              (lists.2.all row.path row.letter meets unknown (subst (λ (t : List Piece). Gives wanted t row.path row.letter) (sym at) gives)))
         ])
 
     -- the source of a row follows from its path
@@ -148,7 +154,7 @@ module _ (p1 p2 : List ℕ) (kept : Kept) (files : shelves.Files) (id : Id20) (m
           | inl (k, more, of, put, within) ↦
               let is : row ≡ row_under k row.letter = (put_row k more put row within).1 in
               ap (λ (r : Row). r.source) is ∙ sym (ap source_of (ap (λ (r : Row). kept r.path) is ∙ holds.found k of))
-          | inr second ↦ let e = lists.2.each row second in ap (λ (r : Row). r.source) e.0 ∙ sym (ap source_of e.1)
+          | inr second ↦ let e = lists.2.each row second in ap (λ (r : Row). r.source) e.is ∙ sym (ap source_of e.none)
         ]
 
     one_row : (k : FlatRow) (more : List Row) → Put k more → (x y : Row) → Contains more x → Contains more y → x ≡ y
@@ -185,6 +191,11 @@ module _ (p1 p2 : List ℕ) (kept : Kept) (files : shelves.Files) (id : Id20) (m
             let is : bytes_eq k.path from.0.path ≡ true = (bytes_eq-Decides k.path from.0.path).1 (sym mine ∙ at ∙ other) in
             absurd (cc (never, is))
 
+    one_other : (x y : Row) → IsUntrackedRow kept (Gives wanted state) x → IsUntrackedRow kept (Gives wanted state) y → x.path ≡ y.path → x ≡ y
+    one_other x y left right same =
+        let letters : x.letter ≡ y.letter = one_letter state y.path x.letter y.letter (subst (λ (p : List ℕ). GivesLetter state p x.letter) same left.given.1) right.given.1 in
+        left.is ∙ ap (untracked_row x.letter) same ∙ ap (λ (l : Letter). untracked_row l y.path) letters ∙ sym right.is
+
     one_of_path : (x y : Row) → Contains b x → Contains b y → x.path ≡ y.path → x ≡ y
     one_of_path x y left right same =
         elim (Contains-append_cases a lists.0 x (subst (λ (l : List Row). Contains l x) lists.1 left)) [
@@ -197,7 +208,7 @@ module _ (p1 p2 : List ℕ) (kept : Kept) (files : shelves.Files) (id : Id20) (m
           | inr second_x ↦
               elim (Contains-append_cases a lists.0 y (subst (λ (l : List Row). Contains l y) lists.1 right)) [
                 | inl first_y ↦ absurd (apart y x first_y second_x (sym same))
-                | inr second_y ↦ (lists.2.each x second_x).0 ∙ ap unknown_row same ∙ sym (lists.2.each y second_y).0
+                | inr second_y ↦ one_other x y (lists.2.each x second_x) (lists.2.each y second_y) same
               ]
         ]
       where
@@ -206,7 +217,7 @@ module _ (p1 p2 : List ℕ) (kept : Kept) (files : shelves.Files) (id : Id20) (m
             let from = from_put Put rows tracked.0 tracked.2 p (subst (λ (l : List Row). Contains l p) tracked.1 first) in
             let mine : p.path ≡ from.0.path = ap (λ (r : Row). r.path) (put_row from.0 from.1 from.3 p from.4).1 in
             let there : kept q.path ≡ Some from.0 = ap kept (sym at ∙ mine) ∙ holds.found from.0 from.2 in
-            let none = (lists.2.each q second).1 in absurd (cc (there, none))
+            let none = (lists.2.each q second).none in absurd (cc (there, none))
 
     -- what a comparison asked for was there
     pub served_path : (path : List ℕ) → S path → IsAsked wanted flat moment path → IsServed files id moment path
@@ -230,7 +241,7 @@ module _ (p1 p2 : List ℕ) (kept : Kept) (files : shelves.Files) (id : Id20) (m
             (record { compared = sym (ap test is) ∙ asked.compared; there = ap (λ (p : List ℕ). is_file_or_link (moment.things p)) same ∙ asked.there }))
 
     -- these rows put in order without doubles are the full listing of the paths that meet S
-    pub full_for : (c d : List Row) → IsPermutation b c → IsSorted whole_order c → d ≡ dedup (eq_by_cmp whole_order) c → IsFullFor S flat moment (parent_rows files id) nothing_ignored wanted d
+    pub full_for : (c d : List Row) → IsPermutation b c → IsSorted whole_order c → d ≡ dedup (eq_by_cmp whole_order) c → IsFullFor S flat moment (parent_rows files id) (ignored_at moment) wanted d
     full_for c d moved sorted once =
         let up : IsStrictlySortedBy row_order d = ascending (λ path. source_of (kept path)) b c d moved sorted once sourced in record {
           sound = λ row has meets. told row (kept_of b c d row moved once has) meets;

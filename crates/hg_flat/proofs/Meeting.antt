@@ -7,9 +7,9 @@ use Rattle.hg_tree.specs.History as trees
 use Rattle.hg_tree.specs.Moment.{Moment, stat_at}
 use Rattle.hg_manifest.specs.Plain.{is_null}
 use Rattle.hg_compare.specs.Alike.{is_alike}
-use Rattle.hg_flat.specs.Course.{MetBy, upto}
+use Rattle.hg_flat.specs.Course.{MetBy, MetParent, upto}
 use Rattle.hg_flat.specs.Listing.{is_file_or_link_kind}
-use Rattle.hg_flat.specs.Met.{Met, NeedsManifest, Shows, Status}
+use Rattle.hg_flat.specs.Met.{NeedsManifest, Shows, Status}
 use Rattle.hg_flat.specs.Parent.{IsAsked, is_compared}
 use Rattle.hg_flat.specs.declared.fault.StatusFault.{StatusFault}
 use Rattle.hg_flat.specs.declared.fault.StatusFault.TheVariants as a_fault
@@ -32,7 +32,7 @@ module _ (s : Status) (copy later : trees.History) (new : shelves.History) (path
   needs : is_null s.id.0 ≡ false → NeedsManifest (upto s later new)
   needs some = record { path = path; asked = shows (λ moment. IsAsked s.wanted s.flat moment path) asked; committed = some }
 
-  pub met_compared : (fault : StatusFault) → MetBy (upto s later new) path there fault → Met (upto s later new) fault
+  pub met_compared : (fault : StatusFault) → MetBy (upto s later new) path there fault → MetParent (upto s later new) fault
   met_compared a_fault.OutOfMemory met = tt
   met_compared a_fault.TreeFailed met = tt
   met_compared a_fault.ShelfFailed met = tt

@@ -1,6 +1,7 @@
 -- The steps of a listing, for the paths that nobody touches meanwhile, in the words of the moment at its start.
-use Rattle.std.proofs.Common.{ℕ, ◌≡◌, ◌+◌, ◌<◌, Bool, true, false, cond, List, length, take, get_or, Option, Some, None, is_some, option_map, IsTrue, refl, sym, ap, ◌∙◌, subst, inl, inr, ◌⊎◌, arith, ◌++◌, ◌∷◌, []}
+use Rattle.std.proofs.Common.{ℕ, ◌≡◌, ◌+◌, ◌<◌, Bool, true, false, List, length, take, get_or, Option, Some, None, is_some, option_map, IsTrue, refl, sym, ap, ◌∙◌, subst, inl, inr, ◌⊎◌, arith, ◌++◌}
 use Rattle.std.proofs.lemmas.Bool.{and_parts}
+use Rattle.std.proofs.lemmas.List.{append-nil}
 use Rattle.hg_base.specs.declared.stat.Stat.{Stat}
 use Rattle.hg_base.specs.declared.stat.Kind.TheVariants as a_kind
 use Rattle.hg_base.specs.PathText.{joined}
@@ -14,12 +15,17 @@ use Rattle.hg_tree.specs.declared.thing.Thing.{Thing}
 use Rattle.hg_tree.specs.declared.thing.Thing.TheVariants as a_thing
 use Rattle.hg_tree.proofs.Histories.{extends_same, extends_trans}
 use Rattle.hg_tree.proofs.Stillness.{alike_between, untouched_first, untouched_second}
+use Rattle.hg_ignore.specs.State.{Ignored, Piece}
 use Rattle.hg_compare.specs.Tracked.{is_file_or_link, is_file_or_link_thing}
+use Rattle.hg_compare.specs.declared.letter.Letter.{Letter}
+use Rattle.hg_flat.specs.Full.{wants}
 use Rattle.hg_flat.specs.Kept.{Kept}
-use Rattle.hg_flat.specs.Listing.{HoldsFor, IsUnknownAmong, IsUnknownFrom, IsUnknownIn, Lists, unknown_row}
+use Rattle.hg_flat.specs.Listing.{Gives, GivesLetter, HoldsFor, IsUnknownAmong, IsUnknownFrom, IsUnknownIn, Lists, PutsUntracked, rows_if, untracked_row}
 use Rattle.hg_flat.specs.declared.row.Row.{Row}
+use Rattle.hg_flat.specs.declared.row.Wanted.{Wanted}
 use Rattle.hg_flat.specs.declared.kept.FlatRow.{FlatRow}
 use Rattle.hg_flat.proofs.Alike.{alike_back, among_moved, from_moved, in_moved}
+use Rattle.hg_flat.proofs.Ignoring.{none_left, one_letter}
 use Rattle.hg_flat.proofs.Unknowns.{among_more, backward, forward, from_in, here_from, in_from, inside_joined, lists_moved, lists_none, lists_one, nested_in, no_dir_in, not_dir, nothing_from, only_here}
 
 -- a path of a well-formed moment, and what a stat shows there
@@ -92,7 +98,7 @@ module _ (old mid new : History) (first : Extends old mid) (second : Extends mid
 
 -- ---- the rows of what stands at a path; the tree is not asked again behind the stat
 
-module _ (kept : Kept) (old mid : History) (first : Extends old mid) (path : List ℕ) (found : Option Stat) (sees : IsTrue old.told → Seen (now mid) path found) where
+module _ (kept : Kept) (wanted : Wanted) (state : List Piece) (old mid : History) (first : Extends old mid) (path : List ℕ) (found : Option Stat) (sees : IsTrue old.told → Seen (now mid) path found) where
   abbrev same : Extends mid mid
   same = extends_same mid
 
@@ -100,17 +106,17 @@ module _ (kept : Kept) (old mid : History) (first : Extends old mid) (path : Lis
   abbrev later : (p : List ℕ) → Untouched mid old.last p → IsUnknownFrom kept (now old) path p → IsUnknownFrom kept (now mid) path p
   later p is u = from_moved kept (now old) (now mid) p (alike_then old mid mid first same p is) path u
 
-  pub look_none : (rows : List Row) → found ≡ None → Lists kept (Untouched mid old.last) (IsUnknownFrom kept (now old) path) rows rows
+  pub look_none : (rows : List Row) → found ≡ None → Lists kept (Gives wanted state) (Untouched mid old.last) (IsUnknownFrom kept (now old) path) rows rows
   look_none rows none =
-      lists_none kept (Untouched mid old.last) (IsUnknownFrom kept (now old) path) rows
-      (λ p is u.
+      lists_none kept (Gives wanted state) (Untouched mid old.last) (IsUnknownFrom kept (now old) path) rows
+      (λ p l is u gives.
       let s : Seen (now mid) path found = sees (told_then old mid mid first same p is) in
       let not = none_is ((now mid).things path) (sym none ∙ s.is) in nothing_from kept (now mid) s.formed path p not.0 not.1 (later p is u))
 
-  pub look_other : (stat : Stat) (rows : List Row) → found ≡ Some stat → stat.kind ≡ a_kind.Other → Lists kept (Untouched mid old.last) (IsUnknownFrom kept (now old) path) rows rows
+  pub look_other : (stat : Stat) (rows : List Row) → found ≡ Some stat → stat.kind ≡ a_kind.Other → Lists kept (Gives wanted state) (Untouched mid old.last) (IsUnknownFrom kept (now old) path) rows rows
   look_other stat rows some kind =
-      lists_none kept (Untouched mid old.last) (IsUnknownFrom kept (now old) path) rows
-      (λ p is u.
+      lists_none kept (Gives wanted state) (Untouched mid old.last) (IsUnknownFrom kept (now old) path) rows
+      (λ p l is u gives.
       let s : Seen (now mid) path found = sees (told_then old mid mid first same p is) in
       let not = other_is ((now mid).things path) stat (sym some ∙ s.is) kind in nothing_from kept (now mid) s.formed path p not.0 not.1 (later p is u))
 
@@ -120,37 +126,55 @@ module _ (kept : Kept) (old mid : History) (first : Extends old mid) (path : Lis
       let s : Seen (now mid) path found = sees (told_then old mid mid first same p is) in
       only_here kept (now mid) s.formed path p (not_dir ((now mid).things path) (file_is ((now mid).things path) stat (sym some ∙ s.is) kind)) (later p is u)
 
-  file_by : (stat : Stat) (a b : List Row) (o : Option FlatRow) → kept path ≡ o → found ≡ Some stat → (stat.kind ≡ a_kind.File) ⊎ (stat.kind ≡ a_kind.Link)
-      → b ≡ (cond (is_some o) a (a ++ unknown_row path ∷ [])) → Lists kept (Untouched mid old.last) (IsUnknownFrom kept (now old) path) a b
-  file_by stat a b None is some kind rows =
-      lists_one kept (Untouched mid old.last) (IsUnknownFrom kept (now old) path) a b path rows is
+  put_by : (stat : Stat) (a b : List Row) (letter : Letter) (asks : Bool) → wants wanted letter ≡ asks → kept path ≡ None → found ≡ Some stat → (stat.kind ≡ a_kind.File) ⊎ (stat.kind ≡ a_kind.Link) → GivesLetter state path letter
+      → b ≡ a ++ rows_if asks (untracked_row letter path) → Lists kept (Gives wanted state) (Untouched mid old.last) (IsUnknownFrom kept (now old) path) a b
+  put_by stat a b letter true asks is some kind given put =
+      lists_one kept (Gives wanted state) (Untouched mid old.last) (IsUnknownFrom kept (now old) path) a b path letter put is (asks, given)
+      (λ l gives. one_letter state path l letter gives.1 given)
       (λ meets.
       let s : Seen (now mid) path found = sees (told_then old mid mid first same path meets) in
       from_moved kept (now mid) (now old) path (alike_now old mid mid first same path meets) path
       (here_from kept (now mid) s.formed path (file_is ((now mid).things path) stat (sym some ∙ s.is) kind) is))
       (only_file stat some kind)
-  file_by stat a b (Some row) is some kind rows =
-      subst (λ (n : List Row). Lists kept (Untouched mid old.last) (IsUnknownFrom kept (now old) path) a n) (sym rows)
-      (lists_none kept (Untouched mid old.last) (IsUnknownFrom kept (now old) path) a
-      (λ p meets u. let at = ap kept (only_file stat some kind p meets u) in absurd (cc (u.untracked.1, at, is))))
+  put_by stat a b letter false asks is some kind given put =
+      subst (λ (n : List Row). Lists kept (Gives wanted state) (Untouched mid old.last) (IsUnknownFrom kept (now old) path) a n) (sym (put ∙ append-nil a))
+      (lists_none kept (Gives wanted state) (Untouched mid old.last) (IsUnknownFrom kept (now old) path) a
+      (λ p l meets u gives.
+      let at : p ≡ path = only_file stat some kind p meets u in
+      let one : l ≡ letter = one_letter state path l letter (subst (λ (q : List ℕ). GivesLetter state q l) at gives.1) given in
+      absurd (cc (asks, sym (ap (wants wanted) one) ∙ gives.0))))
 
-  -- a file or link has a row exactly where it has no entry
+  file_by : (stat : Stat) (a b : List Row) (o : Option FlatRow) → kept path ≡ o → found ≡ Some stat → (stat.kind ≡ a_kind.File) ⊎ (stat.kind ≡ a_kind.Link)
+      → PutsUntracked (is_some o) wanted state path a b → Lists kept (Gives wanted state) (Untouched mid old.last) (IsUnknownFrom kept (now old) path) a b
+  file_by stat a b None is some kind puts = put_by stat a b puts.letter (wants wanted puts.letter) refl is some kind puts.given puts.put
+  file_by stat a b (Some row) is some kind rows =
+      subst (λ (n : List Row). Lists kept (Gives wanted state) (Untouched mid old.last) (IsUnknownFrom kept (now old) path) a n) (sym rows)
+      (lists_none kept (Gives wanted state) (Untouched mid old.last) (IsUnknownFrom kept (now old) path) a
+      (λ p l meets u gives. let at = ap kept (only_file stat some kind p meets u) in absurd (cc (u.untracked.1, at, is))))
+
+  -- a file or link has a row exactly where it has no entry and its letter is wanted
   pub look_file : (stat : Stat) (a b : List Row) → found ≡ Some stat → (stat.kind ≡ a_kind.File) ⊎ (stat.kind ≡ a_kind.Link)
-      → b ≡ (cond (is_some (kept path)) a (a ++ unknown_row path ∷ [])) → Lists kept (Untouched mid old.last) (IsUnknownFrom kept (now old) path) a b
+      → PutsUntracked (is_some (kept path)) wanted state path a b → Lists kept (Gives wanted state) (Untouched mid old.last) (IsUnknownFrom kept (now old) path) a b
   look_file stat a b some kind rows = file_by stat a b (kept path) refl some kind rows
 
+  -- of a directory that is ignored nothing is wanted where I isn't
+  pub look_left : (rows : List Row) → wanted.i ≡ false → Ignored state path → Lists kept (Gives wanted state) (Untouched mid old.last) (IsUnknownFrom kept (now old) path) rows rows
+  look_left rows unwanted ignored =
+      lists_none kept (Gives wanted state) (Untouched mid old.last) (IsUnknownFrom kept (now old) path) rows
+      (λ p l is u gives. none_left wanted state path p l unwanted ignored u.inside gives)
+
 -- a directory has the rows of what stands in it
-pub look_dir : (kept : Kept) (old mid new : History) → Extends old mid → Extends mid new → (path text : List ℕ) (found : Option Stat) → (IsTrue old.told → Seen (now mid) path found) → (stat : Stat) (a b : List Row)
+pub look_dir : (kept : Kept) (wanted : Wanted) (state : List Piece) (old mid new : History) → Extends old mid → Extends mid new → (path text : List ℕ) (found : Option Stat) → (IsTrue old.told → Seen (now mid) path found) → (stat : Stat) (a b : List Row)
     → found ≡ Some stat → stat.kind ≡ a_kind.Dir → text ≡ path
-    → Lists kept (Untouched new mid.last) (IsUnknownIn kept (now mid) (Some text)) a b → Lists kept (Untouched new old.last) (IsUnknownFrom kept (now old) path) a b
-look_dir kept old mid new first second path text found sees stat a b some kind same lists =
-    lists_moved kept (Untouched new mid.last) (Untouched new old.last) (IsUnknownIn kept (now mid) (Some path)) (IsUnknownFrom kept (now old) path) a b
+    → Lists kept (Gives wanted state) (Untouched new mid.last) (IsUnknownIn kept (now mid) (Some text)) a b → Lists kept (Gives wanted state) (Untouched new old.last) (IsUnknownFrom kept (now old) path) a b
+look_dir kept wanted state old mid new first second path text found sees stat a b some kind same lists =
+    lists_moved kept (Gives wanted state) (Untouched new mid.last) (Untouched new old.last) (IsUnknownIn kept (now mid) (Some path)) (IsUnknownFrom kept (now old) path) a b
     (second_part old mid new first second)
     (λ p is u. from_moved kept (now mid) (now old) p (alike_now old mid new first second p is) path (from_in kept (now mid) (formed p is) path p u))
     (λ p is u.
     in_from kept (now mid) (formed p is) path p (dir_is ((now mid).things path) stat (sym some ∙ (sees (told p is)).is) kind)
     (from_moved kept (now old) (now mid) p (alike_then old mid new first second p is) path u))
-    (subst (λ (t : List ℕ). Lists kept (Untouched new mid.last) (IsUnknownIn kept (now mid) (Some t)) a b) same lists)
+    (subst (λ (t : List ℕ). Lists kept (Gives wanted state) (Untouched new mid.last) (IsUnknownIn kept (now mid) (Some t)) a b) same lists)
   where
     told : (p : List ℕ) → Untouched new old.last p → IsTrue old.told
     told p is = told_then old mid new first second p is
@@ -172,32 +196,32 @@ these_names dir names these text m some same listed =
 formed_at : (mid : History) (dir : Option (List ℕ)) (names : Option (List (List ℕ))) → Named mid dir names → IsFormed (now mid)
 formed_at mid dir names named = named.formed.each mid.last (omega arith)
 
-pub visit_none : (kept : Kept) (old mid : History) → Extends old mid → (dir : Option (List ℕ)) (names : Option (List (List ℕ))) → (IsTrue old.told → Named mid dir names) → (rows : List Row) → names ≡ None
-    → Lists kept (Untouched mid old.last) (IsUnknownIn kept (now old) dir) rows rows
-visit_none kept old mid first dir names named rows none =
-    lists_none kept (Untouched mid old.last) (IsUnknownIn kept (now old) dir) rows
-    (λ p is u.
+pub visit_none : (kept : Kept) (wanted : Wanted) (state : List Piece) (old mid : History) → Extends old mid → (dir : Option (List ℕ)) (names : Option (List (List ℕ))) → (IsTrue old.told → Named mid dir names) → (rows : List Row) → names ≡ None
+    → Lists kept (Gives wanted state) (Untouched mid old.last) (IsUnknownIn kept (now old) dir) rows rows
+visit_none kept wanted state old mid first dir names named rows none =
+    lists_none kept (Gives wanted state) (Untouched mid old.last) (IsUnknownIn kept (now old) dir) rows
+    (λ p l is u gives.
     let n : Named mid dir names = named (told_then old mid mid first (extends_same mid) p is) in
     no_dir_in kept (now mid) (formed_at mid dir names n) dir p (subst (λ (l : Option (List (List ℕ))). a_moment.Lists dir l (now mid)) none n.listed)
     (in_moved kept (now old) (now mid) p (alike_then old mid mid first (extends_same mid) p is) dir u))
 
-pub visit_nested : (kept : Kept) (old mid new : History) → Extends old mid → Extends mid new → (dir : Option (List ℕ)) (names : Option (List (List ℕ))) → (IsTrue old.told → Named mid dir names)
+pub visit_nested : (kept : Kept) (wanted : Wanted) (state : List Piece) (old mid new : History) → Extends old mid → Extends mid new → (dir : Option (List ℕ)) (names : Option (List (List ℕ))) → (IsTrue old.told → Named mid dir names)
     → (these text : List (List ℕ)) (found : Bool) (rows : List Row) → names ≡ Some these → text ≡ these → (AreNames (now mid) dir text → HoldsFor (Untouched new mid.last) (now mid) dir found) → found ≡ true
-    → Lists kept (Untouched new old.last) (IsUnknownIn kept (now old) dir) rows rows
-visit_nested kept old mid new first second dir names named these text found rows some same holds is_true =
-    lists_none kept (Untouched new old.last) (IsUnknownIn kept (now old) dir) rows
-    (λ p is u.
+    → Lists kept (Gives wanted state) (Untouched new old.last) (IsUnknownIn kept (now old) dir) rows rows
+visit_nested kept wanted state old mid new first second dir names named these text found rows some same holds is_true =
+    lists_none kept (Gives wanted state) (Untouched new old.last) (IsUnknownIn kept (now old) dir) rows
+    (λ p l is u gives.
     let n : Named mid dir names = named (told_then old mid new first second p is) in
     let then : IsUnknownIn kept (now mid) dir p = in_moved kept (now old) (now mid) p (alike_then old mid new first second p is) dir u in
     nested_in kept (now mid) (formed_at mid dir names n) dir p
     (sym (holds (these_names dir names these text (now mid) some same n.listed) p (second_part old mid new first second p is) then.inside) ∙ is_true) then)
 
-pub visit_rest : (kept : Kept) (old mid later new : History) → Extends old mid → Extends mid later → Extends later new → (dir : Option (List ℕ)) (names : Option (List (List ℕ))) → (IsTrue old.told → Named mid dir names)
+pub visit_rest : (kept : Kept) (wanted : Wanted) (state : List Piece) (old mid later new : History) → Extends old mid → Extends mid later → Extends later new → (dir : Option (List ℕ)) (names : Option (List (List ℕ))) → (IsTrue old.told → Named mid dir names)
     → (these text again : List (List ℕ)) (found : Bool) (a b : List Row) → names ≡ Some these → text ≡ these → again ≡ these
     → (AreNames (now mid) dir text → HoldsFor (Untouched later mid.last) (now mid) dir found) → found ≡ false
-    → Lists kept (Untouched new later.last) (IsUnknownAmong kept (now later) dir again) a b → Lists kept (Untouched new old.last) (IsUnknownIn kept (now old) dir) a b
-visit_rest kept old mid later new first second third dir names named these text again found a b some same too holds is_false lists =
-    lists_moved kept (Untouched new later.last) (Untouched new old.last) (IsUnknownAmong kept (now later) dir again) (IsUnknownIn kept (now old) dir) a b
+    → Lists kept (Gives wanted state) (Untouched new later.last) (IsUnknownAmong kept (now later) dir again) a b → Lists kept (Gives wanted state) (Untouched new old.last) (IsUnknownIn kept (now old) dir) a b
+visit_rest kept wanted state old mid later new first second third dir names named these text again found a b some same too holds is_false lists =
+    lists_moved kept (Gives wanted state) (Untouched new later.last) (Untouched new old.last) (IsUnknownAmong kept (now later) dir again) (IsUnknownIn kept (now old) dir) a b
     (second_part old later new past third)
     (λ p is (name, among, u).
     let n : Named mid dir names = named (told p is) in
@@ -228,28 +252,28 @@ visit_rest kept old mid later new first second third dir names named these text 
     middle : (p : List ℕ) → Untouched new old.last p → Untouched later mid.last p
     middle p is = second_part old mid later first second p (first_part old later new past third p is)
 
-pub each_more : (kept : Kept) (old mid new : History) → Extends old mid → Extends mid new → (dir : Option (List ℕ)) (names : List (List ℕ)) (i : ℕ) (name text path : List ℕ) (a b c : List Row)
+pub each_more : (kept : Kept) (wanted : Wanted) (state : List Piece) (old mid new : History) → Extends old mid → Extends mid new → (dir : Option (List ℕ)) (names : List (List ℕ)) (i : ℕ) (name text path : List ℕ) (a b c : List Row)
     → i < length names → name ≡ get_or names i name → text ≡ name → path ≡ joined dir text
-    → Lists kept (Untouched mid old.last) (IsUnknownAmong kept (now old) dir (take i names)) a b → Lists kept (Untouched new mid.last) (IsUnknownFrom kept (now mid) path) b c
-    → Lists kept (Untouched new old.last) (IsUnknownAmong kept (now old) dir (take (i + 1) names)) a c
-each_more kept old mid new first second dir names i name text path a b c below is same at before one =
-    among_more kept (Untouched new old.last) (now old) dir names i name a b c below (sym is)
-    (lists_moved kept (Untouched mid old.last) (Untouched new old.last) (IsUnknownAmong kept (now old) dir (take i names)) (IsUnknownAmong kept (now old) dir (take i names)) a b
+    → Lists kept (Gives wanted state) (Untouched mid old.last) (IsUnknownAmong kept (now old) dir (take i names)) a b → Lists kept (Gives wanted state) (Untouched new mid.last) (IsUnknownFrom kept (now mid) path) b c
+    → Lists kept (Gives wanted state) (Untouched new old.last) (IsUnknownAmong kept (now old) dir (take (i + 1) names)) a c
+each_more kept wanted state old mid new first second dir names i name text path a b c below is same at before one =
+    among_more kept (Gives wanted state) (Untouched new old.last) (now old) dir names i name a b c below (sym is)
+    (lists_moved kept (Gives wanted state) (Untouched mid old.last) (Untouched new old.last) (IsUnknownAmong kept (now old) dir (take i names)) (IsUnknownAmong kept (now old) dir (take i names)) a b
     (first_part old mid new first second) (λ p meets u. u) (λ p meets u. u) before)
-    (lists_moved kept (Untouched new mid.last) (Untouched new old.last) (IsUnknownFrom kept (now mid) (joined dir name)) (IsUnknownFrom kept (now old) (joined dir name)) b c
+    (lists_moved kept (Gives wanted state) (Untouched new mid.last) (Untouched new old.last) (IsUnknownFrom kept (now mid) (joined dir name)) (IsUnknownFrom kept (now old) (joined dir name)) b c
     (second_part old mid new first second)
     (λ p meets u. from_moved kept (now mid) (now old) p (alike_now old mid new first second p meets) (joined dir name) u)
     (λ p meets u. from_moved kept (now old) (now mid) p (alike_then old mid new first second p meets) (joined dir name) u)
-    (subst (λ (q : List ℕ). Lists kept (Untouched new mid.last) (IsUnknownFrom kept (now mid) q) b c) (at ∙ ap (joined dir) same) one))
+    (subst (λ (q : List ℕ). Lists kept (Gives wanted state) (Untouched new mid.last) (IsUnknownFrom kept (now mid) q) b c) (at ∙ ap (joined dir) same) one))
 
 -- ---- over the whole span
 
 -- what was listed behind a span is so over the whole, for paths that nobody touches over it
-pub lists_later : (old mid new : History) → Extends old mid → Extends mid new → (kept : Kept) (u : Bool) (S : List ℕ → Type 0) → ((p : List ℕ) → S p → Untouched new old.last p) → (a b : List Row)
-    → Lists kept (Untouched new mid.last) (λ p. IsTrue u × IsUnknownIn kept (now mid) None p) a b → Lists kept S (λ p. IsTrue u × IsUnknownIn kept (now old) None p) a b
-lists_later old mid new first second kept u S own a b lists =
-    lists_moved kept (Untouched new mid.last) S (λ p. IsTrue u × IsUnknownIn kept (now mid) None p) (λ p. IsTrue u × IsUnknownIn kept (now old) None p) a b
+pub lists_later : (old mid new : History) → Extends old mid → Extends mid new → (kept : Kept) (L : List ℕ → Letter → Type 0) (S : List ℕ → Type 0) → ((p : List ℕ) → S p → Untouched new old.last p) → (a b : List Row)
+    → Lists kept L (Untouched new mid.last) (IsUnknownIn kept (now mid) None) a b → Lists kept L S (IsUnknownIn kept (now old) None) a b
+lists_later old mid new first second kept L S own a b lists =
+    lists_moved kept L (Untouched new mid.last) S (IsUnknownIn kept (now mid) None) (IsUnknownIn kept (now old) None) a b
     (λ p meets. second_part old mid new first second p (own p meets))
-    (λ p meets both. (both.0, in_moved kept (now mid) (now old) p (alike_now old mid new first second p (own p meets)) None both.1))
-    (λ p meets both. (both.0, in_moved kept (now old) (now mid) p (alike_then old mid new first second p (own p meets)) None both.1))
+    (λ p meets u. in_moved kept (now mid) (now old) p (alike_now old mid new first second p (own p meets)) None u)
+    (λ p meets u. in_moved kept (now old) (now mid) p (alike_then old mid new first second p (own p meets)) None u)
     lists

@@ -14,65 +14,72 @@ use Rattle.hg_tree.specs.declared.thing.Placed.{Placed}
 use Rattle.hg_tree.specs.declared.thing.Thing.TheVariants as a_thing
 use Rattle.hg_tree.specs.declared.thing.Thing.{Thing}
 use Rattle.hg_compare.specs.Tracked.{is_file_or_link, is_file_or_link_thing}
+use Rattle.hg_compare.specs.declared.letter.Letter.{Letter}
 use Rattle.hg_tree.specs.Moment.{is_dir_thing}
 use Rattle.hg_flat.specs.Full.{is_repository}
 use Rattle.hg_flat.specs.Kept.{Kept}
-use Rattle.hg_flat.specs.Listing.{AreUnknown, IsUnknownAmong, IsUnknownFrom, IsUnknownIn, IsVisibleFrom, Lists, holds_repository, is_from, is_inside, unknown_row}
+use Rattle.hg_flat.specs.Listing.{AreUnknown, IsUnknownAmong, IsUnknownFrom, IsUnknownIn, IsVisibleFrom, IsUntrackedRow, Lists, holds_repository, is_from, is_inside, untracked_row}
 use Rattle.hg_flat.specs.declared.row.Row.{Row}
 use Rattle.hg_flat.proofs.Among.{reached, Reached}
 
 -- ---- listings
 
-unknown_none : (kept : Kept) (S P : List ℕ → Type 0) → ((p : List ℕ) → S p → P p → ⊥) → AreUnknown kept S P []
-unknown_none kept S P never = record {
+unknown_none : (kept : Kept) (L : List ℕ → Letter → Type 0) (S P : List ℕ → Type 0) → ((p : List ℕ) (l : Letter) → S p → P p → L p l → ⊥) → AreUnknown kept L S P []
+unknown_none kept L S P never = record {
   each = λ row (k, below, is). absurd (omega (arith, below));
   sound = λ row (k, below, is). absurd (omega (arith, below));
-  all = λ path meets here. absurd (never path meets here);
+  all = λ path letter meets here given. absurd (never path letter meets here given);
 }
 
-the_one : (path : List ℕ) (row : Row) → Contains (unknown_row path ∷ []) row → row ≡ unknown_row path
-the_one path row has = elim (Contains-push_cases [] (unknown_row path) row has) [ inl (k, below, is) ↦ absurd (omega (arith, below)) | inr same ↦ sym same ]
+the_one : (row other : Row) → Contains (row ∷ []) other → other ≡ row
+the_one row other has = elim (Contains-push_cases [] row other has) [ inl (k, below, is) ↦ absurd (omega (arith, below)) | inr same ↦ sym same ]
 
-unknown_one : (kept : Kept) (S P : List ℕ → Type 0) (path : List ℕ) → kept path ≡ None → (S path → P path) → ((p : List ℕ) → S p → P p → p ≡ path) → AreUnknown kept S P (unknown_row path ∷ [])
-unknown_one kept S P path none here only = record {
+unknown_one : (kept : Kept) (L : List ℕ → Letter → Type 0) (S P : List ℕ → Type 0) (path : List ℕ) (letter : Letter) → kept path ≡ None → L path letter → ((l : Letter) → L path l → l ≡ letter) → (S path → P path)
+    → ((p : List ℕ) → S p → P p → p ≡ path) → AreUnknown kept L S P (untracked_row letter path ∷ [])
+unknown_one kept L S P path letter none given one here only = record {
   each = λ row has.
-      let is = the_one path row has in
-      (subst (λ (r : Row). r ≡ unknown_row r.path) (sym is) refl, subst (λ (r : Row). kept r.path ≡ None) (sym is) none);
-  sound = λ row has. let is = the_one path row has in subst (λ (r : Row). S r.path → P r.path) (sym is) here;
-  all = λ p meets there. subst (λ (q : List ℕ). Contains (unknown_row path ∷ []) (unknown_row q)) (sym (only p meets there)) (Contains-push [] (unknown_row path));
+      subst (IsUntrackedRow kept L) (sym (the_one (untracked_row letter path) row has)) (record { is = refl; none = none; given = given });
+  sound = λ row has. let is = the_one (untracked_row letter path) row has in subst (λ (r : Row). S r.path → P r.path) (sym is) here;
+  all = λ p l meets there also.
+      let at = only p meets there in
+      let is : untracked_row l p ≡ untracked_row letter path =
+      ap (untracked_row l) at ∙ ap (λ (m : Letter). untracked_row m path) (one l (subst (λ (q : List ℕ). L q l) at also)) in
+      subst (Contains (untracked_row letter path ∷ [])) (sym is) (Contains-push [] (untracked_row letter path));
 }
 
-unknown_append : (kept : Kept) (S P Q : List ℕ → Type 0) (xs ys : List Row) → AreUnknown kept S P xs → AreUnknown kept S Q ys → AreUnknown kept S (λ p. P p ⊎ Q p) (xs ++ ys)
-unknown_append kept S P Q xs ys first second = record {
+unknown_append : (kept : Kept) (L : List ℕ → Letter → Type 0) (S P Q : List ℕ → Type 0) (xs ys : List Row) → AreUnknown kept L S P xs → AreUnknown kept L S Q ys → AreUnknown kept L S (λ p. P p ⊎ Q p) (xs ++ ys)
+unknown_append kept L S P Q xs ys first second = record {
   each = λ row has. elim (Contains-append_cases xs ys row has) [ inl left ↦ first.each row left | inr right ↦ second.each row right ];
   sound = λ row has meets.
       elim (Contains-append_cases xs ys row has) [ inl left ↦ inl (first.sound row left meets) | inr right ↦ inr (second.sound row right meets) ];
-  all = λ path meets here.
+  all = λ path letter meets here given.
       elim here [
-        | inl p ↦ Contains-append_left xs ys (unknown_row path) (first.all path meets p)
-        | inr q ↦ Contains-append_right xs ys (unknown_row path) (second.all path meets q)
+        | inl p ↦ Contains-append_left xs ys (untracked_row letter path) (first.all path letter meets p given)
+        | inr q ↦ Contains-append_right xs ys (untracked_row letter path) (second.all path letter meets q given)
       ];
 }
 
-unknown_moved : (kept : Kept) (S T P Q : List ℕ → Type 0) (xs : List Row) → ((p : List ℕ) → T p → S p) → ((p : List ℕ) → T p → P p → Q p) → ((p : List ℕ) → T p → Q p → P p) → AreUnknown kept S P xs → AreUnknown kept T Q xs
-unknown_moved kept S T P Q xs meets there back are = record {
+unknown_moved : (kept : Kept) (L : List ℕ → Letter → Type 0) (S T P Q : List ℕ → Type 0) (xs : List Row) → ((p : List ℕ) → T p → S p) → ((p : List ℕ) → T p → P p → Q p) → ((p : List ℕ) → T p → Q p → P p) → AreUnknown kept L S P xs → AreUnknown kept L T Q xs
+unknown_moved kept L S T P Q xs meets there back are = record {
   each = are.each;
   sound = λ row has m. there row.path m (are.sound row has (meets row.path m));
-  all = λ path m here. are.all path (meets path m) (back path m here);
+  all = λ path letter m here given. are.all path letter (meets path m) (back path m here) given;
 }
 
-pub lists_none : (kept : Kept) (S P : List ℕ → Type 0) (rows : List Row) → ((p : List ℕ) → S p → P p → ⊥) → Lists kept S P rows rows
-lists_none kept S P rows never = ([], sym (append-nil rows), unknown_none kept S P never)
+pub lists_none : (kept : Kept) (L : List ℕ → Letter → Type 0) (S P : List ℕ → Type 0) (rows : List Row) → ((p : List ℕ) (l : Letter) → S p → P p → L p l → ⊥) → Lists kept L S P rows rows
+lists_none kept L S P rows never = ([], sym (append-nil rows), unknown_none kept L S P never)
 
-pub lists_one : (kept : Kept) (S P : List ℕ → Type 0) (old new : List Row) (path : List ℕ) → new ≡ old ++ unknown_row path ∷ [] → kept path ≡ None → (S path → P path) → ((p : List ℕ) → S p → P p → p ≡ path) → Lists kept S P old new
-lists_one kept S P old new path is none here only = (unknown_row path ∷ [], is, unknown_one kept S P path none here only)
+pub lists_one : (kept : Kept) (L : List ℕ → Letter → Type 0) (S P : List ℕ → Type 0) (old new : List Row) (path : List ℕ) (letter : Letter) → new ≡ old ++ untracked_row letter path ∷ [] → kept path ≡ None → L path letter
+    → ((l : Letter) → L path l → l ≡ letter) → (S path → P path) → ((p : List ℕ) → S p → P p → p ≡ path) → Lists kept L S P old new
+lists_one kept L S P old new path letter is none given one here only =
+    (untracked_row letter path ∷ [], is, unknown_one kept L S P path letter none given one here only)
 
-pub lists_trans : (kept : Kept) (S P Q : List ℕ → Type 0) (a b c : List Row) → Lists kept S P a b → Lists kept S Q b c → Lists kept S (λ p. P p ⊎ Q p) a c
-lists_trans kept S P Q a b c (xs, is, first) (ys, also, second) =
-    (xs ++ ys, also ∙ ap (λ (l : List Row). l ++ ys) is ∙ append_assoc a xs ys, unknown_append kept S P Q xs ys first second)
+pub lists_trans : (kept : Kept) (L : List ℕ → Letter → Type 0) (S P Q : List ℕ → Type 0) (a b c : List Row) → Lists kept L S P a b → Lists kept L S Q b c → Lists kept L S (λ p. P p ⊎ Q p) a c
+lists_trans kept L S P Q a b c (xs, is, first) (ys, also, second) =
+    (xs ++ ys, also ∙ ap (λ (l : List Row). l ++ ys) is ∙ append_assoc a xs ys, unknown_append kept L S P Q xs ys first second)
 
-pub lists_moved : (kept : Kept) (S T P Q : List ℕ → Type 0) (old new : List Row) → ((p : List ℕ) → T p → S p) → ((p : List ℕ) → T p → P p → Q p) → ((p : List ℕ) → T p → Q p → P p) → Lists kept S P old new → Lists kept T Q old new
-lists_moved kept S T P Q old new meets there back (xs, is, are) = (xs, is, unknown_moved kept S T P Q xs meets there back are)
+pub lists_moved : (kept : Kept) (L : List ℕ → Letter → Type 0) (S T P Q : List ℕ → Type 0) (old new : List Row) → ((p : List ℕ) → T p → S p) → ((p : List ℕ) → T p → P p → Q p) → ((p : List ℕ) → T p → Q p → P p) → Lists kept L S P old new → Lists kept L T Q old new
+lists_moved kept L S T P Q old new meets there back (xs, is, are) = (xs, is, unknown_moved kept L S T P Q xs meets there back are)
 
 -- ---- things
 
@@ -239,13 +246,13 @@ module _ (kept : Kept) (moment : Moment) (formed : IsFormed moment) where
 
 -- ---- the names one by one
 
-pub among_none : (kept : Kept) (S : List ℕ → Type 0) (moment : Moment) (dir : Option (List ℕ)) (rows : List Row) → Lists kept S (IsUnknownAmong kept moment dir []) rows rows
-among_none kept S moment dir rows = lists_none kept S (IsUnknownAmong kept moment dir []) rows (λ p meets (name, among, u). absurd (cc (among)))
+pub among_none : (kept : Kept) (L : List ℕ → Letter → Type 0) (S : List ℕ → Type 0) (moment : Moment) (dir : Option (List ℕ)) (rows : List Row) → Lists kept L S (IsUnknownAmong kept moment dir []) rows rows
+among_none kept L S moment dir rows = lists_none kept L S (IsUnknownAmong kept moment dir []) rows (λ p l meets (name, among, u) given. absurd (cc (among)))
 
-pub among_more : (kept : Kept) (S : List ℕ → Type 0) (moment : Moment) (dir : Option (List ℕ)) (names : List (List ℕ)) (i : ℕ) (name : List ℕ) (a b c : List Row) → i < length names → get_or names i name ≡ name
-    → Lists kept S (IsUnknownAmong kept moment dir (take i names)) a b → Lists kept S (IsUnknownFrom kept moment (joined dir name)) b c → Lists kept S (IsUnknownAmong kept moment dir (take (i + 1) names)) a c
-among_more kept S moment dir names i name a b c below is first second =
-    lists_moved kept S S (λ p. IsUnknownAmong kept moment dir (take i names) p ⊎ IsUnknownFrom kept moment (joined dir name) p) (IsUnknownAmong kept moment dir (take (i + 1) names)) a c
+pub among_more : (kept : Kept) (L : List ℕ → Letter → Type 0) (S : List ℕ → Type 0) (moment : Moment) (dir : Option (List ℕ)) (names : List (List ℕ)) (i : ℕ) (name : List ℕ) (a b c : List Row) → i < length names → get_or names i name ≡ name
+    → Lists kept L S (IsUnknownAmong kept moment dir (take i names)) a b → Lists kept L S (IsUnknownFrom kept moment (joined dir name)) b c → Lists kept L S (IsUnknownAmong kept moment dir (take (i + 1) names)) a c
+among_more kept L S moment dir names i name a b c below is first second =
+    lists_moved kept L S S (λ p. IsUnknownAmong kept moment dir (take i names) p ⊎ IsUnknownFrom kept moment (joined dir name) p) (IsUnknownAmong kept moment dir (take (i + 1) names)) a c
     (λ p meets. meets)
     (λ p meets.
     elim [
@@ -259,4 +266,4 @@ among_more kept S moment dir names i name a b c below is first second =
       | inr same ↦
           inr (subst (λ (q : List ℕ). IsUnknownFrom kept moment (joined dir q) p) (same_of n (get_or names i name) same ∙ is) u)
     ])
-    (lists_trans kept S (IsUnknownAmong kept moment dir (take i names)) (IsUnknownFrom kept moment (joined dir name)) a b c first second)
+    (lists_trans kept L S (IsUnknownAmong kept moment dir (take i names)) (IsUnknownFrom kept moment (joined dir name)) a b c first second)

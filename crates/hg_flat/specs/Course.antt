@@ -1,10 +1,16 @@
 -- A status in its course: what it knows of the first parent so far, and what a comparison with it finds.
-use Rattle.std.specs.Prelude.{ℕ, ◌≡◌, ◌<◌, false, if◌then◌else◌, List, [], Option, Some, None, Result, Ok, Err, IsTrue, MatchBool, option_map}
+use Rattle.std.specs.Prelude.{ℕ, ◌≡◌, ◌<◌, true, false, if◌then◌else◌, List, [], ◌++◌, Option, Some, None, Result, Ok, Err, IsTrue, MatchBool, option_map}
 use Rattle.hg_base.specs.declared.id.Id20.{Id20}
 use Rattle.hg_base.specs.declared.stat.Stat.{Stat}
 use Rattle.hg_tree.specs.History as trees
 use Rattle.hg_tree.specs.Moment.{Moment}
+use Rattle.hg_tree.specs.declared.asked.Asked.{Asked}
 use Rattle.hg_tree.specs.declared.thing.Placed.{Placed}
+use Rattle.hg_ignore.specs.Source.{ReadDuring}
+use Rattle.hg_ignore.specs.State.{Ignore, Piece, items_of}
+use Rattle.hg_ignore.specs.Taking.{warnings_of}
+use Rattle.hg_ignore.specs.declared.fault.IgnoreFault.TheVariants as an_ignore_fault
+use Rattle.hg_ignore.specs.declared.warnings.Warning.{Warning}
 use Rattle.hg_shelf.specs.History as shelves
 use Rattle.hg_shelf.specs.Reads.{size_of}
 use Rattle.hg_manifest.specs.Load.{Was}
@@ -19,12 +25,78 @@ use Rattle.hg_compare.specs.declared.letter.Letter.{Letter}
 use Rattle.hg_compare.specs.declared.letter.Letter.TheVariants as a_letter
 use Rattle.hg_compare.specs.declared.looked.Looked.{Looked}
 use Rattle.hg_compare.specs.declared.looked.Looked.TheVariants as a_look
-use Rattle.hg_flat.specs.Met.{Holds, Status, WasRead}
+use Rattle.hg_flat.specs.Asked.{IsPatternsRead}
+use Rattle.hg_flat.specs.Met.{Holds, Met, Status, WasRead}
 use Rattle.hg_flat.specs.Parent.{HasContents, IsServed, parent_rows, row_of}
+use Rattle.hg_flat.specs.Patterns.{AreFine, HasBadLine, IsCutAt, IsOver, needs_patterns}
 use Rattle.hg_flat.specs.declared.fault.StatusFault.{StatusFault}
 use Rattle.hg_flat.specs.declared.fault.StatusFault.TheVariants as a_fault
 use Rattle.hg_flat.specs.declared.parent.Loaded.{Loaded}
 use Rattle.hg_flat.specs.declared.parent.Parent.{Parent}
+use Rattle.hg_flat.specs.declared.row.Wanted.{Wanted}
+
+-- ---- the ignore patterns
+
+-- a state that was read in a call, and nothing is wrong with it
+pub record IsState (old new : trees.History) (state : List Piece) : Type 0 where
+  pub given : IsTrue old.told → ReadDuring old new state
+  pub still : trees.IsOurs old new → state ≡ Ignore (trees.now old)
+  pub fine : AreFine state
+
+-- what is kept of the patterns: a state where they are needed, and nothing where they aren't
+abbrev pub IsKeptState : Wanted → trees.History → trees.History → Option (List Piece) → Type 0
+IsKeptState wanted old new None = needs_patterns wanted ≡ false
+IsKeptState wanted old new (Some state) = (needs_patterns wanted ≡ true) × IsState old new state
+
+-- the state that a listing asks
+abbrev pub pieces_of : Option (List Piece) → List Piece
+pieces_of None = []
+pieces_of (Some state) = state
+
+-- what its reader is warned of
+abbrev pub warned_of : Option (List Piece) → List Warning
+warned_of None = []
+warned_of (Some state) = warnings_of (items_of state)
+
+-- why patterns that are needed could not be read
+abbrev pub LacksPatterns : trees.History → trees.History → StatusFault → Type 0
+LacksPatterns old new a_fault.OutOfMemory = Unit {0}
+LacksPatterns old new a_fault.TreeFailed = Unit {0}
+LacksPatterns old new a_fault.ShelfFailed = ⊥
+LacksPatterns old new (a_fault.NoManifest gone) = ⊥
+LacksPatterns old new (a_fault.ManifestTooLarge size) = ⊥
+LacksPatterns old new (a_fault.ManifestLine line) = ⊥
+LacksPatterns old new (a_fault.ManifestOrder line) = ⊥
+LacksPatterns old new (a_fault.NoContents gone) = ⊥
+LacksPatterns old new (a_fault.IgnoreTooLarge size) = IsOver old new size
+LacksPatterns old new (a_fault.IgnoreText at) = IsCutAt old new at
+LacksPatterns old new (a_fault.BadGlob line) = HasBadLine old new (an_ignore_fault.BadGlob line)
+LacksPatterns old new (a_fault.BadRegexp line) = HasBadLine old new (an_ignore_fault.BadRegexp line)
+LacksPatterns old new (a_fault.RegexpTooBig line) = HasBadLine old new (an_ignore_fault.RegexpTooBig line)
+LacksPatterns old new (a_fault.BadInclude line) = HasBadLine old new (an_ignore_fault.BadInclude line)
+
+-- the patterns were read, if at all
+abbrev pub AsksPatterns : Wanted → trees.History → trees.History → Type 0
+AsksPatterns wanted old new = (first : List Asked) × IsPatternsRead wanted old new first × (new.asked ≡ old.asked ++ first)
+
+-- ---- the first parent
+
+-- what was met behind the patterns: no fault of theirs
+abbrev pub MetParent : Status → StatusFault → Type 0
+MetParent s a_fault.OutOfMemory = Unit {0}
+MetParent s a_fault.TreeFailed = Unit {0}
+MetParent s a_fault.ShelfFailed = Unit {0}
+MetParent s (a_fault.NoManifest gone) = Met s (a_fault.NoManifest gone)
+MetParent s (a_fault.ManifestTooLarge size) = Met s (a_fault.ManifestTooLarge size)
+MetParent s (a_fault.ManifestLine line) = Met s (a_fault.ManifestLine line)
+MetParent s (a_fault.ManifestOrder line) = Met s (a_fault.ManifestOrder line)
+MetParent s (a_fault.NoContents gone) = Met s (a_fault.NoContents gone)
+MetParent s (a_fault.IgnoreTooLarge size) = ⊥
+MetParent s (a_fault.IgnoreText at) = ⊥
+MetParent s (a_fault.BadGlob line) = ⊥
+MetParent s (a_fault.BadRegexp line) = ⊥
+MetParent s (a_fault.RegexpTooBig line) = ⊥
+MetParent s (a_fault.BadInclude line) = ⊥
 
 -- a status up to there
 abbrev pub upto : Status → trees.History → shelves.History → Status

@@ -1,5 +1,5 @@
 -- The rows of a plain status while it is made: those of tracked paths, and those of what else stands below a directory.
-use Rattle.std.specs.Prelude.{ℕ, ◌≡◌, Bool, true, false, ◌||◌, ◌&&◌, not, if◌then◌else◌, List, [], ◌∷◌, ◌++◌, Option, Some, None, IsTrue, is_some}
+use Rattle.std.specs.Prelude.{ℕ, ◌≡◌, ◌⊎◌, Bool, true, false, ◌||◌, ◌&&◌, not, if◌then◌else◌, List, [], ◌∷◌, ◌++◌, Option, Some, None, IsTrue, MatchBool, is_some}
 use Rattle.std.specs.List.{Contains}
 use Rattle.std.specs.Str.{bytes_eq}
 use Rattle.hg_base.specs.PathText.{is_below, joined}
@@ -13,6 +13,7 @@ use Rattle.hg_tree.specs.History as trees
 use Rattle.hg_tree.specs.Moment.{Moment, is_among}
 use Rattle.hg_tree.specs.Still.{Untouched}
 use Rattle.hg_shelf.specs.History as shelves
+use Rattle.hg_ignore.specs.State.{Ignored, Piece}
 use Rattle.hg_compare.specs.Tracked.{is_file_or_link, tracked_letter}
 use Rattle.hg_compare.specs.declared.letter.Letter.{Letter}
 use Rattle.hg_compare.specs.declared.letter.Letter.TheVariants as a_letter
@@ -106,9 +107,31 @@ ArePutFor Put (kept ∷ all) rows = (own : List Row) × (rest : List Row) × (ro
 abbrev pub AddsTracked : (FlatRow → Type 0) → shelves.Files → Id20 → Moment → Wanted → List FlatRow → List Row → List Row → Type 0
 AddsTracked S files id moment wanted all old new = (more : List Row) × (new ≡ old ++ more) × ArePutFor (IsPutFor S files id moment wanted) all more
 
--- the row of a path without an entry
-abbrev pub unknown_row : List ℕ → Row
-unknown_row path = record { letter = a_letter.Unknown; path = path; source = None }
+-- the row of a path without an entry, under a letter
+abbrev pub untracked_row : Letter → List ℕ → Row
+untracked_row letter path = record { letter = letter; path = path; source = None }
+
+-- the letter that a state of ignore patterns gives a path without an entry
+abbrev pub GivesLetter : List Piece → List ℕ → Letter → Type 0
+GivesLetter state path letter = ((letter ≡ a_letter.I) × Ignored state path) ⊎ ((letter ≡ a_letter.Unknown) × (¬ (Ignored state path)))
+
+-- the same, and the letter is asked for
+abbrev pub Gives : Wanted → List Piece → List ℕ → Letter → Type 0
+Gives wanted state path letter = IsTrue (wants wanted letter) × GivesLetter state path letter
+
+-- the row of the letter that a state gives a path was put behind the rows so far, if the letter is asked for
+pub record PutsLetter (wanted : Wanted) (state : List Piece) (path : List ℕ) (old new : List Row) : Type 0 where
+  pub letter : Letter
+  pub given : GivesLetter state path letter
+  pub put : new ≡ old ++ rows_if (wants wanted letter) (untracked_row letter path)
+
+-- so it was, unless the path has an entry
+abbrev pub PutsUntracked : Bool → Wanted → List Piece → List ℕ → List Row → List Row → Type 0
+PutsUntracked has wanted state path old new = MatchBool has (new ≡ old) (PutsLetter wanted state path old new)
+
+-- a listing goes into a directory: it isn't ignored, or ignored paths are wanted
+abbrev pub IsEntered : Wanted → List Piece → List ℕ → Type 0
+IsEntered wanted state dir = wanted.i ≡ false → ¬ (Ignored state dir)
 
 -- a stat shows a directory
 abbrev pub shows_dir : Option Stat → Bool
@@ -155,15 +178,21 @@ abbrev pub IsUnknownAmong : Kept → Moment → Option (List ℕ) → List (List
 IsUnknownAmong kept moment dir names path =
     (name : List ℕ) × IsTrue (is_among name names) × IsUnknownFrom kept moment (joined dir name) path
 
--- rows of paths without an entry; of the paths that meet S, just those that meet P
-pub record AreUnknown (kept : Kept) (S P : List ℕ → Type 0) (rows : List Row) : Type 0 where
-  pub each : (row : Row) → Contains rows row → (row ≡ unknown_row row.path) × (kept row.path ≡ None)
+-- a row of a path without an entry, under a letter that its path has by L
+pub record IsUntrackedRow (kept : Kept) (L : List ℕ → Letter → Type 0) (row : Row) : Type 0 where
+  pub is : row ≡ untracked_row row.letter row.path
+  pub none : kept row.path ≡ None
+  pub given : L row.path row.letter
+
+-- rows of paths without an entry, under letters that they have by L; of the paths that meet S, just those that meet P, with each letter
+pub record AreUnknown (kept : Kept) (L : List ℕ → Letter → Type 0) (S P : List ℕ → Type 0) (rows : List Row) : Type 0 where
+  pub each : (row : Row) → Contains rows row → IsUntrackedRow kept L row
   pub sound : (row : Row) → Contains rows row → S row.path → P row.path
-  pub all : (path : List ℕ) → S path → P path → Contains rows (unknown_row path)
+  pub all : (path : List ℕ) (letter : Letter) → S path → P path → L path letter → Contains rows (untracked_row letter path)
 
 -- such rows were put behind the rows so far
-abbrev pub Lists : Kept → (List ℕ → Type 0) → (List ℕ → Type 0) → List Row → List Row → Type 0
-Lists kept S P old new = (more : List Row) × (new ≡ old ++ more) × AreUnknown kept S P more
+abbrev pub Lists : Kept → (List ℕ → Letter → Type 0) → (List ℕ → Type 0) → (List ℕ → Type 0) → List Row → List Row → Type 0
+Lists kept L S P old new = (more : List Row) × (new ≡ old ++ more) × AreUnknown kept L S P more
 
 -- whether the directory is a repository of its own is as it was at the moment, for each path in it that meets S
 abbrev pub HoldsFor : (List ℕ → Type 0) → Moment → Option (List ℕ) → Bool → Type 0

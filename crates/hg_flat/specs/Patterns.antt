@@ -1,5 +1,5 @@
 -- What a status has of the ignore patterns: where it reads them, which paths they ignore, and what they are refused for.
-use Rattle.std.specs.Prelude.{ℕ, ◌≡◌, ◌⊎◌, ◌≤◌, ◌<◌, ◌+◌, Bool, true, false, ◌||◌, List, [], length, Option, Some, None, Result, Ok, Err, IsTrue, IsSomeAnd, MatchBool}
+use Rattle.std.specs.Prelude.{ℕ, ◌≡◌, ◌⊎◌, ◌≤◌, ◌<◌, ◌+◌, Bool, true, false, ◌||◌, List, [], length, None, Result, Ok, Err, IsTrue, IsSomeAnd, MatchBool}
 use Rattle.std.specs.Str.{IsUtf8, IsValidUpTo}
 use Rattle.hg_base.specs.Fault.{Rose}
 use Rattle.hg_ignore.specs.Line.{lines_of}

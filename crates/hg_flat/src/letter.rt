@@ -4,30 +4,27 @@ ghost use Rattle.std.specs.Prelude.{◌≡◌, ◌++◌, ◌∷◌, [], Some, No
 ghost use Rattle.hg_shelf.specs.History as shelves;
 ghost use Rattle.hg_tree.specs.History as trees;
 ghost use Rattle.hg_tree.specs.Moment.{stat_at};
-ghost use Rattle.hg_tree.specs.declared.fault.TreeFault.TheVariants as a_tree_fault;
 ghost use Rattle.hg_flat.specs.Asked.{AsksReads};
 ghost use Rattle.hg_flat.specs.Cause.{HasShelfCause, HasStatusCause};
-ghost use Rattle.hg_flat.specs.Course.{Goes, upto};
+ghost use Rattle.hg_flat.specs.Course.{Goes, MetParent, upto};
 ghost use Rattle.hg_flat.specs.Full.{wants};
-ghost use Rattle.hg_flat.specs.Listing.{AddsTracked, IsComparedAs, IsLeftRow, IsLetterFor, is_compared_row, is_file_or_link_kind, marked_letter, row_under, rows_under, unknown_row, wants_bytes, wants_tracked};
-ghost use Rattle.hg_flat.specs.Met.{Met, Status};
+ghost use Rattle.hg_flat.specs.Listing.{AddsTracked, IsComparedAs, IsLeftRow, IsLetterFor, is_compared_row, is_file_or_link_kind, marked_letter, row_under, rows_under, wants_bytes, wants_tracked};
+ghost use Rattle.hg_flat.specs.Met.{Status};
 ghost use Rattle.hg_flat.specs.Parent.{is_compared};
-ghost use Rattle.hg_flat.specs.Shown.{kept_of};
 
 use crate::comparing::compared_letter;
 use crate::fault::StatusFault;
-use crate::flat::Flat;
 use crate::kept::FlatRow;
 use crate::parent::Parent;
 use crate::row::{Row, Wanted};
 use hg_base::{Kind, OutOfMemory, Path, Stat};
 use hg_compare::Letter;
 use hg_shelf::Shelf;
-use hg_tree::{Tree, TreeFault};
+use hg_tree::Tree;
 use std::alloc::Global;
 
-// Whether a letter is asked for.
-fn wants(wanted: Wanted, letter: Letter) -> bool
+/// Whether a letter is asked for.
+pub(crate) fn wants(wanted: Wanted, letter: Letter) -> bool
     ensures { result ≡ wants wanted letter }
 {
     match letter {
@@ -114,7 +111,7 @@ fn letter_there<T: Tree, S: Shelf>(
         (λ fault. (s : Status) → Goes (upto s (T.history tree.old) (S.history shelf.old)) parent.old
         → is_compared s.wanted s.flat kept.now.path ≡ is_compared_row wanted kept.now
         → (IsTrue (T.history tree.old).told → stat_at (trees.now (T.history tree.old)) kept.now.path ≡ Some there.now)
-        → Met (upto s (T.history tree.new) (S.history shelf.new)) fault) }
+        → MetParent (upto s (T.history tree.new) (S.history shelf.new)) fault) }
     ensures asked { IsTrue (T.history tree.old).told → AsksReads (IsComparedAs wanted kept.now) (T.history tree.old) (T.history tree.new) }
     ensures unasked { is_compared_row wanted kept.now ≡ false → shelf.new ≡ shelf.old }
     ensures cause { HasStatusCause (T.faults tree.old) (T.faults tree.new) result }
@@ -166,7 +163,7 @@ fn find_letter<T: Tree, S: Shelf>(
         result
         (λ fault. (s : Status) → Goes (upto s (T.history tree.old) (S.history shelf.old)) parent.old
         → is_compared s.wanted s.flat kept.now.path ≡ is_compared_row wanted kept.now
-        → Met (upto s (T.history tree.new) (S.history shelf.new)) fault) }
+        → MetParent (upto s (T.history tree.new) (S.history shelf.new)) fault) }
     ensures asked { IsTrue (T.history tree.old).told → AsksReads (IsComparedAs wanted kept.now) (T.history tree.old) (T.history tree.new) }
     ensures unasked { is_compared_row wanted kept.now ≡ false → shelf.new ≡ shelf.old }
     ensures cause { HasStatusCause (T.faults tree.old) (T.faults tree.new) result }
@@ -270,7 +267,7 @@ pub(crate) fn add_tracked<T: Tree, S: Shelf>(
         result
         (λ fault. (s : Status) → Goes (upto s (T.history tree.old) (S.history shelf.old)) parent.old
         → is_compared s.wanted s.flat kept.now.path ≡ is_compared_row wanted kept.now
-        → Met (upto s (T.history tree.new) (S.history shelf.new)) fault) }
+        → MetParent (upto s (T.history tree.new) (S.history shelf.new)) fault) }
     ensures asked { IsTrue (T.history tree.old).told → AsksReads (IsComparedAs wanted kept.now) (T.history tree.old) (T.history tree.new) }
     ensures unasked { is_compared_row wanted kept.now ≡ false → shelf.new ≡ shelf.old }
     ensures cause { HasStatusCause (T.faults tree.old) (T.faults tree.new) result }
@@ -278,29 +275,5 @@ pub(crate) fn add_tracked<T: Tree, S: Shelf>(
 {
     let letter = find_letter(alloc, tree, shelf, kept, parent, wanted)?;
     put_wanted(alloc, kept, letter, wanted, rows)?;
-    Ok(())
-}
-
-/// Puts the row of a path, unless it has an entry, for which the search begins at `next`.
-pub(crate) fn add_unknown(
-    flat: &Flat,
-    path: Path,
-    next: &mut usize,
-    rows: &mut Vec<Row>,
-) -> Result<(), TreeFault>
-    ensures row { OnOk
-        result
-        (rows.new.items
-        ≡ (if is_some (kept_of flat.now path) then rows.old.items else rows.old.items ++ (unknown_row path) ∷ [])) }
-    ensures cause { IfErr result (λ e. e ≡ a_tree_fault.OutOfMemory) }
-{
-    if flat.has(path.as_str(), next) {
-        return Ok(());
-    }
-    rows.push(Row {
-        letter: Letter::Unknown,
-        path,
-        source: None,
-    })?;
     Ok(())
 }

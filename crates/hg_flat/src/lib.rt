@@ -26,9 +26,11 @@ mod listed;
 mod listing;
 mod order;
 mod parent;
+mod patterns;
 mod reading;
 mod row;
 mod status;
+mod untracked;
 
 pub use fault::StatusFault;
 pub use flat::Flat;

@@ -1,19 +1,22 @@
 //! Everything that stands in the working copy, directory by directory.
 
-ghost use Rattle.std.specs.Prelude.{◌≡◌, IsTrue, IfOk, OnOk, Some, option_map, codes};
-ghost use Rattle.hg_base.specs.PathText.{is_path, joined};
+ghost use Rattle.std.specs.Prelude.{◌≡◌, ◌↔◌, IsTrue, IfOk, OnOk, Some, option_map, codes};
+ghost use Rattle.hg_base.specs.PathText.{is_path, joined, parent_of};
+ghost use Rattle.hg_ignore.specs.Asked.{state_asked};
+ghost use Rattle.hg_ignore.specs.Kept.{DirIgnored};
 ghost use Rattle.hg_tree.specs.History.{Passes, now};
 ghost use Rattle.hg_tree.specs.Still.{Untouched};
 ghost use Rattle.hg_tree.specs.Moment.{AreFit, AreNames, has_dir, is_among, is_dir, stat_at};
 ghost use Rattle.hg_flat.specs.Cause.{HasListingCause};
 ghost use Rattle.hg_flat.specs.Asked.{AsksFor, AsksNothing, IsDirAmong, IsDirFrom, IsDirIn};
-ghost use Rattle.hg_flat.specs.Listing.{HoldsFor, IsUnknownAmong, IsUnknownFrom, IsUnknownIn, Lists, holds_repository, shows_dir};
+ghost use Rattle.hg_flat.specs.Listing.{Gives, HoldsFor, IsEntered, IsUnknownAmong, IsUnknownFrom, IsUnknownIn, Lists, holds_repository, shows_dir};
 ghost use Rattle.hg_flat.specs.Shown.{kept_of};
 
 use crate::flat::Flat;
-use crate::letter::add_unknown;
-use crate::row::Row;
+use crate::row::{Row, Wanted};
+use crate::untracked::{add_untracked, is_ignored, leaves_out};
 use hg_base::{Kind, Path, PathRef, Stat};
+use hg_ignore::Matcher;
 use hg_tree::{Name, Tree, TreeFault};
 use std::alloc::Global;
 
@@ -81,28 +84,51 @@ fn look<T: Tree>(
     tree: &mut T,
     flat: &Flat,
     path: Path,
+    matcher: &mut Matcher<'_>,
+    above: bool,
+    wanted: Wanted,
     next: &mut usize,
     rows: &mut Vec<Row>,
 ) -> Result<(), TreeFault>
+    requires { IsTrue above ↔ DirIgnored (state_asked matcher.now) (parent_of path) }
     ensures passes { Passes (T.history tree.old) (T.history tree.new) }
     ensures listed { OnOk
         result
         (Lists
         (kept_of flat.now)
+        (Gives wanted (state_asked matcher.old))
         (Untouched (T.history tree.new) (T.history tree.old).last)
         (IsUnknownFrom (kept_of flat.now) (now (T.history tree.old)) path)
         rows.old.items
         rows.new.items) }
     ensures asked { IsTrue (T.history tree.old).told
-        → AsksFor (IsDirFrom (T.history tree.old) (T.history tree.new) path) (T.history tree.old) (T.history tree.new) }
+        → AsksFor (IsDirFrom (IsEntered wanted (state_asked matcher.old)) (T.history tree.old) (T.history tree.new) path) (T.history tree.old) (T.history tree.new) }
+    ensures same { state_asked matcher.new ≡ state_asked matcher.old }
     ensures cause { HasListingCause (T.faults tree.old) (T.faults tree.new) result }
 {
     let Some(stat) = tree.stat(path.as_ref())? else {
         return Ok(());
     };
     match stat.kind {
-        Kind::File | Kind::Link => add_unknown(flat, path, next, rows),
-        Kind::Dir => visit(alloc, tree, flat, Some(path.as_ref()), next, rows),
+        Kind::File | Kind::Link => add_untracked(flat, path, matcher, above, wanted, next, rows),
+        Kind::Dir => {
+            let dir = path.as_ref();
+            let ignored = is_ignored(matcher, above, dir);
+            if leaves_out(ignored, wanted) {
+                return Ok(());
+            }
+            visit(
+                alloc,
+                tree,
+                flat,
+                Some(dir),
+                matcher,
+                ignored,
+                wanted,
+                next,
+                rows,
+            )
+        },
         Kind::Other => Ok(()),
     }
 }
@@ -114,59 +140,73 @@ fn look_each<T: Tree>(
     flat: &Flat,
     dir: Option<PathRef<'_>>,
     names: &[Name],
+    matcher: &mut Matcher<'_>,
+    ignored: bool,
+    wanted: Wanted,
     next: &mut usize,
     rows: &mut Vec<Row>,
 ) -> Result<(), TreeFault>
-    requires { AreFit (option_map (λ d. d.text.now) dir) names.now }
+    requires fit { AreFit (option_map (λ d. d.text.now) dir) names.now }
+    requires above { IsTrue ignored ↔ DirIgnored (state_asked matcher.now) (option_map (λ d. d.text.now) dir) }
     ensures passes { Passes (T.history tree.old) (T.history tree.new) }
     ensures listed { OnOk
         result
         (Lists
         (kept_of flat.now)
+        (Gives wanted (state_asked matcher.old))
         (Untouched (T.history tree.new) (T.history tree.old).last)
         (IsUnknownAmong (kept_of flat.now) (now (T.history tree.old)) (option_map (λ d. d.text.now) dir.entry) names.now)
         rows.old.items
         rows.new.items) }
     ensures asked { IsTrue (T.history tree.old).told
         → AsksFor
-        (IsDirAmong (T.history tree.old) (T.history tree.new) (option_map (λ d. d.text.now) dir.entry) names.now)
+        (IsDirAmong (IsEntered wanted (state_asked matcher.old)) (T.history tree.old) (T.history tree.new) (option_map (λ d. d.text.now) dir.entry) names.now)
         (T.history tree.old)
         (T.history tree.new) }
+    ensures same { state_asked matcher.new ≡ state_asked matcher.old }
     ensures cause { HasListingCause (T.faults tree.old) (T.faults tree.new) result }
 {
     for name in names {
         let path = Path::within(alloc, dir, name.as_str())?;
-        look(alloc, tree, flat, path, next, rows)?;
+        look(
+            alloc, tree, flat, path, matcher, ignored, wanted, next, rows,
+        )?;
     }
     Ok(())
 }
 
-/// Puts a row for each file and link without an entry that stands in the directory at any depth; no directory is the root. A
-/// directory below the root that holds a directory `.hg` is a repository of its own, and nothing in it is listed. The search for an entry
-/// begins at `next`.
+/// Puts a row for each file and link without an entry that stands in the directory at any depth, where its letter is wanted; no directory is
+/// the root. A directory below the root that holds a directory `.hg` is a repository of its own, and nothing in it is listed; nor is a directory
+/// gone into that is ignored, where I isn't wanted. The search for an entry begins at `next`.
 #[cycle(listing)]
 pub(crate) fn visit<T: Tree>(
     alloc: Global,
     tree: &mut T,
     flat: &Flat,
     dir: Option<PathRef<'_>>,
+    matcher: &mut Matcher<'_>,
+    ignored: bool,
+    wanted: Wanted,
     next: &mut usize,
     rows: &mut Vec<Row>,
 ) -> Result<(), TreeFault>
+    requires { IsTrue ignored ↔ DirIgnored (state_asked matcher.now) (option_map (λ d. d.text.now) dir) }
     ensures passes { Passes (T.history tree.old) (T.history tree.new) }
     ensures listed { OnOk
         result
         (Lists
         (kept_of flat.now)
+        (Gives wanted (state_asked matcher.old))
         (Untouched (T.history tree.new) (T.history tree.old).last)
         (IsUnknownIn (kept_of flat.now) (now (T.history tree.old)) (option_map (λ d. d.text.now) dir.entry))
         rows.old.items
         rows.new.items) }
     ensures asked { IsTrue (T.history tree.old).told
         → AsksFor
-        (IsDirIn (T.history tree.old) (T.history tree.new) (option_map (λ d. d.text.now) dir.entry))
+        (IsDirIn (IsEntered wanted (state_asked matcher.old)) (T.history tree.old) (T.history tree.new) (option_map (λ d. d.text.now) dir.entry))
         (T.history tree.old)
         (T.history tree.new) }
+    ensures same { state_asked matcher.new ≡ state_asked matcher.old }
     ensures cause { HasListingCause (T.faults tree.old) (T.faults tree.new) result }
 {
     let Some(names) = tree.list(alloc, dir)? else {
@@ -175,5 +215,7 @@ pub(crate) fn visit<T: Tree>(
     if is_nested(alloc, tree, dir, &names)? {
         return Ok(());
     }
-    look_each(alloc, tree, flat, dir, &names, next, rows)
+    look_each(
+        alloc, tree, flat, dir, &names, matcher, ignored, wanted, next, rows,
+    )
 }

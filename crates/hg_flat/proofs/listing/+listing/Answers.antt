@@ -1,42 +1,59 @@
 -- A listing of what stands at a path, at the names of a directory and in a directory: `Steps` has each step, `Asks` what the tree is asked.
-use Rattle.std.proofs.Common.{◌∙◌, ◌+◌, [], ap, refl, sym, option_map}
+use Rattle.std.proofs.lemmas.Grind.{common_steps}
+use Rattle.std.proofs.Common.{arith, List, Some, ◌∙◌, ◌+◌, [], ap, refl, sym, subst, option_map}
+use Rattle.std.specs.Prelude.{OnOk}
 use Rattle.std.proofs.lemmas.Result.{on_ok_weaker}
 use Rattle.hg_tree.specs.History.{now}
 use Rattle.hg_tree.specs.Still.{Untouched}
 use Rattle.hg_tree.proofs.Spans.{passes_same, passes_trans}
-use Rattle.hg_flat.specs.Asked.{IsDirAmong, IsDirFrom}
+use Rattle.hg_ignore.specs.Asked.{state_asked}
+use Rattle.hg_ignore.specs.State.{Ignored, Piece}
+use Rattle.hg_flat.specs.Asked.{AsksFor, IsDirAmong, IsDirFrom, IsDirIn}
+use Rattle.hg_flat.specs.Listing.{Gives, IsEntered, IsUnknownFrom, IsUnknownIn, Lists}
 use Rattle.hg_flat.specs.Shown.{kept_of}
-use Rattle.hg_flat.proofs.Asks.{asks_none, asks_nothing, asks_one, dir_asks, dir_asks_on, each_asks, each_more_asks, look_asks, visit_asks}
+use Rattle.hg_flat.proofs.Asks.{asks_none, asks_nothing, asks_one, dir_asks, dir_asks_on, each_asks, each_more_asks, look_asks, plain_at, visit_asks}
+use Rattle.hg_flat.proofs.Ignoring.{above_name, entered, left_out}
 use Rattle.hg_flat.proofs.Unknowns.{among_none}
-use Rattle.hg_flat.proofs.Steps.{dir_is, each_more, look_dir, look_file, look_none, look_other, seen, these_names, visit_nested, visit_none, visit_rest}
+use Rattle.hg_flat.proofs.Steps.{dir_is, each_more, look_dir, look_file, look_left, look_none, look_other, seen, these_names, visit_nested, visit_none, visit_rest}
 use Rattle.hg_flat.proofs.listing.+listing.Goals as goal
 
 pub look-returns-in_default-clause-listed : goal.look-returns-in_default-clause-listed
 look-returns-in_default-clause-listed g t c =
-    look_none (kept_of c.args.flat.now) (g.T.Tree.history c.args.tree.now) (g.T.Tree.history c.stat.new.self) c.stat.ensures.passes.past c.args.path c.in_ok-stat.field-0
+    look_none (kept_of c.args.flat.now) c.args.wanted (state_asked c.args.matcher.now) (g.T.Tree.history c.args.tree.now) (g.T.Tree.history c.stat.new.self) c.stat.ensures.passes.past c.args.path c.in_ok-stat.field-0
     (λ told. seen (g.T.Tree.history c.stat.new.self) c.args.path c.as_ref.result.text.now c.in_ok-stat.field-0 (c.in_ok-stat.ensures.formed told) c.as_ref.ensures (c.in_ok-stat.ensures.found told))
     c.args.rows.now.items c.in_default.is
 
 pub look-returns-in-File-clause-listed : goal.look-returns-in-File-clause-listed
 look-returns-in-File-clause-listed g t c =
-    on_ok_weaker c.add_unknown.result
-    (look_file (kept_of c.args.flat.now) (g.T.Tree.history c.args.tree.now) (g.T.Tree.history c.stat.new.self) c.stat.ensures.passes.past c.args.path c.in_ok-stat.field-0
+    on_ok_weaker c.add_untracked.result
+    (look_file (kept_of c.args.flat.now) c.args.wanted (state_asked c.args.matcher.now) (g.T.Tree.history c.args.tree.now) (g.T.Tree.history c.stat.new.self) c.stat.ensures.passes.past c.args.path c.in_ok-stat.field-0
     (λ told. seen (g.T.Tree.history c.stat.new.self) c.args.path c.as_ref.result.text.now c.in_ok-stat.field-0 (c.in_ok-stat.ensures.formed told) c.as_ref.ensures (c.in_ok-stat.ensures.found told))
-    c.in-Some.stat c.args.rows.now.items c.add_unknown.new.rows.items c.in-Some.is c.in-File.is)
-    c.add_unknown.ensures.row
+    c.in-Some.stat c.args.rows.now.items c.add_untracked.new.rows.items c.in-Some.is c.in-File.is)
+    c.add_untracked.ensures.row
 
-pub look-returns-in-Dir-clause-listed : goal.look-returns-in-Dir-clause-listed
-look-returns-in-Dir-clause-listed g t c =
-    on_ok_weaker c.visit.result
-    (look_dir (kept_of c.args.flat.now) (g.T.Tree.history c.args.tree.now) (g.T.Tree.history c.stat.new.self) (g.T.Tree.history c.visit.new.tree) c.stat.ensures.passes.past c.visit.ensures.passes.past
-    c.args.path c.as_ref-in-Dir.result.text.now c.in_ok-stat.field-0
+pub look-returns-then-leaves_out-clause-listed : goal.look-returns-then-leaves_out-clause-listed
+look-returns-then-leaves_out-clause-listed g t c =
+    let out = left_out c.args.wanted (state_asked c.args.matcher.now) c.is_ignored-ignored.result c.leaves_out.result c.as_ref-dir.result.text.now c.is_ignored-ignored.ensures.ignored c.leaves_out.ensures c.if-leaves_out.true in
+    look_left (kept_of c.args.flat.now) c.args.wanted (state_asked c.args.matcher.now) (g.T.Tree.history c.args.tree.now) (g.T.Tree.history c.stat.new.self) c.stat.ensures.passes.past c.args.path c.in_ok-stat.field-0
     (λ told. seen (g.T.Tree.history c.stat.new.self) c.args.path c.as_ref.result.text.now c.in_ok-stat.field-0 (c.in_ok-stat.ensures.formed told) c.as_ref.ensures (c.in_ok-stat.ensures.found told))
-    c.in-Some.stat c.args.rows.now.items c.visit.new.rows.items c.in-Some.is c.in-Dir.is c.as_ref-in-Dir.ensures)
-    c.visit.ensures.listed
+    c.args.rows.now.items out.0 (subst (Ignored (state_asked c.args.matcher.now)) c.as_ref-dir.ensures out.1)
+
+pub look-returns-else-leaves_out-clause-listed : goal.look-returns-else-leaves_out-clause-listed
+look-returns-else-leaves_out-clause-listed g t c =
+    on_ok_weaker c.visit.result
+    (look_dir (kept_of c.args.flat.now) c.args.wanted (state_asked c.args.matcher.now) (g.T.Tree.history c.args.tree.now) (g.T.Tree.history c.stat.new.self) (g.T.Tree.history c.visit.new.tree) c.stat.ensures.passes.past
+    c.visit.ensures.passes.past c.args.path c.as_ref-dir.result.text.now c.in_ok-stat.field-0
+    (λ told. seen (g.T.Tree.history c.stat.new.self) c.args.path c.as_ref.result.text.now c.in_ok-stat.field-0 (c.in_ok-stat.ensures.formed told) c.as_ref.ensures (c.in_ok-stat.ensures.found told))
+    c.in-Some.stat c.args.rows.now.items c.visit.new.rows.items c.in-Some.is c.in-Dir.is c.as_ref-dir.ensures)
+    (subst
+    (λ (s : List Piece). OnOk c.visit.result
+    (Lists (kept_of c.args.flat.now) (Gives c.args.wanted s) (Untouched (g.T.Tree.history c.visit.new.tree) (g.T.Tree.history c.stat.new.self).last)
+    (IsUnknownIn (kept_of c.args.flat.now) (now (g.T.Tree.history c.stat.new.self)) (Some c.as_ref-dir.result.text.now)) c.args.rows.now.items c.visit.new.rows.items))
+    c.is_ignored-ignored.ensures.same c.visit.ensures.listed)
 
 pub look-returns-in-Other-clause-listed : goal.look-returns-in-Other-clause-listed
 look-returns-in-Other-clause-listed g t c =
-    look_other (kept_of c.args.flat.now) (g.T.Tree.history c.args.tree.now) (g.T.Tree.history c.stat.new.self) c.stat.ensures.passes.past c.args.path c.in_ok-stat.field-0
+    look_other (kept_of c.args.flat.now) c.args.wanted (state_asked c.args.matcher.now) (g.T.Tree.history c.args.tree.now) (g.T.Tree.history c.stat.new.self) c.stat.ensures.passes.past c.args.path c.in_ok-stat.field-0
     (λ told. seen (g.T.Tree.history c.stat.new.self) c.args.path c.as_ref.result.text.now c.in_ok-stat.field-0 (c.in_ok-stat.ensures.formed told) c.as_ref.ensures (c.in_ok-stat.ensures.found told))
     c.in-Some.stat c.args.rows.now.items c.in-Some.is c.in-Other.is
 
@@ -44,25 +61,29 @@ pub look_each-loop-name-preserved : goal.look_each-loop-name-preserved
 look_each-loop-name-preserved g t c = record {
   passes = passes_trans _ _ _ c.loop-name.invariant.passes c.look.ensures.passes;
   listed =
-      each_more (kept_of c.args.flat.now) (g.T.Tree.history c.args.tree.now) (g.T.Tree.history c.loop-name.tree) (g.T.Tree.history c.look.new.tree) c.loop-name.invariant.passes.past c.look.ensures.passes.past
+      each_more (kept_of c.args.flat.now) c.args.wanted (state_asked c.args.matcher.now) (g.T.Tree.history c.args.tree.now) (g.T.Tree.history c.loop-name.tree) (g.T.Tree.history c.look.new.tree) c.loop-name.invariant.passes.past c.look.ensures.passes.past
       (option_map (λ d. d.text.now) c.args.dir) c.args.names.now c.loop-name.name-index c.name-item.result c.as_str.result.now c.in_ok-path.path c.args.rows.now.items c.loop-name.rows.items c.look.new.rows.items
-      c.loop-name-test.true c.name-item.is c.as_str.ensures.text c.in_ok-path.ensures c.loop-name.invariant.listed c.in_ok-look.ensures.listed;
+      c.loop-name-test.true c.name-item.is c.as_str.ensures.text c.in_ok-path.ensures c.loop-name.invariant.listed
+      (subst (λ (s : List Piece). Lists (kept_of c.args.flat.now) (Gives c.args.wanted s) (Untouched (g.T.Tree.history c.look.new.tree) (g.T.Tree.history c.loop-name.tree).last) (IsUnknownFrom (kept_of c.args.flat.now) (now (g.T.Tree.history c.loop-name.tree)) c.in_ok-path.path) c.loop-name.rows.items c.look.new.rows.items)
+      c.loop-name.invariant.same c.in_ok-look.ensures.listed);
   asked = λ told.
-      each_more_asks (g.T.Tree.history c.args.tree.now) (g.T.Tree.history c.loop-name.tree) (g.T.Tree.history c.look.new.tree) c.loop-name.invariant.passes c.look.ensures.passes.past
-      (option_map (λ d. d.text.now) c.args.dir) c.args.names.now c.loop-name.name-index c.name-item.result c.as_str.result.now c.in_ok-path.path c.requires
-      c.loop-name-test.true c.name-item.is c.as_str.ensures.text c.in_ok-path.ensures (c.loop-name.invariant.asked told) (c.look.ensures.asked (c.loop-name.invariant.passes.past.told ∙ told));
+      each_more_asks (IsEntered c.args.wanted (state_asked c.args.matcher.now)) (g.T.Tree.history c.args.tree.now) (g.T.Tree.history c.loop-name.tree) (g.T.Tree.history c.look.new.tree) c.loop-name.invariant.passes c.look.ensures.passes.past
+      (option_map (λ d. d.text.now) c.args.dir) c.args.names.now c.loop-name.name-index c.name-item.result c.as_str.result.now c.in_ok-path.path c.requires.fit
+      c.loop-name-test.true c.name-item.is c.as_str.ensures.text c.in_ok-path.ensures (c.loop-name.invariant.asked told) (subst (λ (s : List Piece). AsksFor (IsDirFrom (IsEntered c.args.wanted s) (g.T.Tree.history c.loop-name.tree) (g.T.Tree.history c.look.new.tree) c.in_ok-path.path) (g.T.Tree.history c.loop-name.tree) (g.T.Tree.history c.look.new.tree))
+      c.loop-name.invariant.same (c.look.ensures.asked (c.loop-name.invariant.passes.past.told ∙ told)));
+  same = c.look.ensures.same ∙ c.loop-name.invariant.same;
   still = c.in_ok-look.ensures.cause.quiet ∙ c.loop-name.invariant.still;
 }
 
 pub visit-returns-in_default-clause-listed : goal.visit-returns-in_default-clause-listed
 visit-returns-in_default-clause-listed g t c =
-    visit_none (kept_of c.args.flat.now) (g.T.Tree.history c.args.tree.now) (g.T.Tree.history c.list.new.self) c.list.ensures.passes.past (option_map (λ d. d.text.now) c.args.dir)
+    visit_none (kept_of c.args.flat.now) c.args.wanted (state_asked c.args.matcher.now) (g.T.Tree.history c.args.tree.now) (g.T.Tree.history c.list.new.self) c.list.ensures.passes.past (option_map (λ d. d.text.now) c.args.dir)
     (option_map (λ v. v.items) c.in_ok-names.field-0) (λ told. record { formed = c.in_ok-names.ensures.formed told; listed = c.in_ok-names.ensures.found told })
     c.args.rows.now.items (ap (option_map (λ v. v.items)) c.in_default.is)
 
 pub visit-returns-then-branch-clause-listed : goal.visit-returns-then-branch-clause-listed
 visit-returns-then-branch-clause-listed g t c =
-    visit_nested (kept_of c.args.flat.now) (g.T.Tree.history c.args.tree.now) (g.T.Tree.history c.list.new.self) (g.T.Tree.history c.is_nested.new.tree) c.list.ensures.passes.past c.is_nested.ensures.passes.past
+    visit_nested (kept_of c.args.flat.now) c.args.wanted (state_asked c.args.matcher.now) (g.T.Tree.history c.args.tree.now) (g.T.Tree.history c.list.new.self) (g.T.Tree.history c.is_nested.new.tree) c.list.ensures.passes.past c.is_nested.ensures.passes.past
     (option_map (λ d. d.text.now) c.args.dir) (option_map (λ v. v.items) c.in_ok-names.field-0) (λ told. record { formed = c.in_ok-names.ensures.formed told; listed = c.in_ok-names.ensures.found told })
     c.in-Some.names.items c.deref.result.now c.in_ok-is_nested.field-0 c.args.rows.now.items (ap (option_map (λ v. v.items)) c.in-Some.is) c.deref.ensures.value
     c.in_ok-is_nested.ensures.found c.if-branch.true
@@ -70,7 +91,7 @@ visit-returns-then-branch-clause-listed g t c =
 pub visit-returns-clause-listed : goal.visit-returns-clause-listed
 visit-returns-clause-listed g t c =
     on_ok_weaker c.look_each.result
-    (visit_rest (kept_of c.args.flat.now) (g.T.Tree.history c.args.tree.now) (g.T.Tree.history c.list.new.self) (g.T.Tree.history c.is_nested.new.tree) (g.T.Tree.history c.look_each.new.tree)
+    (visit_rest (kept_of c.args.flat.now) c.args.wanted (state_asked c.args.matcher.now) (g.T.Tree.history c.args.tree.now) (g.T.Tree.history c.list.new.self) (g.T.Tree.history c.is_nested.new.tree) (g.T.Tree.history c.look_each.new.tree)
     c.list.ensures.passes.past c.is_nested.ensures.passes.past c.look_each.ensures.passes.past
     (option_map (λ d. d.text.now) c.args.dir) (option_map (λ v. v.items) c.in_ok-names.field-0) (λ told. record { formed = c.in_ok-names.ensures.formed told; listed = c.in_ok-names.ensures.found told })
     c.in-Some.names.items c.deref.result.now c.deref-2.result.now c.in_ok-is_nested.field-0 c.args.rows.now.items c.look_each.new.rows.items (ap (option_map (λ v. v.items)) c.in-Some.is) c.deref.ensures.value c.deref-2.ensures.value
@@ -81,71 +102,83 @@ visit-returns-clause-listed g t c =
 
 pub look-returns-in_err-stat-clause-asked : goal.look-returns-in_err-stat-clause-asked
 look-returns-in_err-stat-clause-asked g t c = λ told.
-    asks_none (IsDirFrom (g.T.Tree.history c.args.tree.now) (g.T.Tree.history c.stat.new.self) c.args.path) (g.T.Tree.history c.args.tree.now) (g.T.Tree.history c.stat.new.self)
+    asks_none (IsDirFrom (IsEntered c.args.wanted (state_asked c.args.matcher.now)) (g.T.Tree.history c.args.tree.now) (g.T.Tree.history c.stat.new.self) c.args.path) (g.T.Tree.history c.args.tree.now) (g.T.Tree.history c.stat.new.self)
     (asks_nothing _ (g.T.Tree.history c.args.tree.now) (g.T.Tree.history c.stat.new.self) (c.stat.ensures.asked told))
 
 pub look-returns-in_default-clause-asked : goal.look-returns-in_default-clause-asked
 look-returns-in_default-clause-asked g t c = λ told.
-    asks_none (IsDirFrom (g.T.Tree.history c.args.tree.now) (g.T.Tree.history c.stat.new.self) c.args.path) (g.T.Tree.history c.args.tree.now) (g.T.Tree.history c.stat.new.self)
+    asks_none (IsDirFrom (IsEntered c.args.wanted (state_asked c.args.matcher.now)) (g.T.Tree.history c.args.tree.now) (g.T.Tree.history c.stat.new.self) c.args.path) (g.T.Tree.history c.args.tree.now) (g.T.Tree.history c.stat.new.self)
     (asks_nothing _ (g.T.Tree.history c.args.tree.now) (g.T.Tree.history c.stat.new.self) (c.stat.ensures.asked told))
 
 pub look-returns-in-File-clause-asked : goal.look-returns-in-File-clause-asked
 look-returns-in-File-clause-asked g t c = λ told.
-    asks_none (IsDirFrom (g.T.Tree.history c.args.tree.now) (g.T.Tree.history c.stat.new.self) c.args.path) (g.T.Tree.history c.args.tree.now) (g.T.Tree.history c.stat.new.self)
+    asks_none (IsDirFrom (IsEntered c.args.wanted (state_asked c.args.matcher.now)) (g.T.Tree.history c.args.tree.now) (g.T.Tree.history c.stat.new.self) c.args.path) (g.T.Tree.history c.args.tree.now) (g.T.Tree.history c.stat.new.self)
     (asks_nothing _ (g.T.Tree.history c.args.tree.now) (g.T.Tree.history c.stat.new.self) (c.stat.ensures.asked told))
 
 pub look-returns-in-Other-clause-asked : goal.look-returns-in-Other-clause-asked
 look-returns-in-Other-clause-asked g t c = λ told.
-    asks_none (IsDirFrom (g.T.Tree.history c.args.tree.now) (g.T.Tree.history c.stat.new.self) c.args.path) (g.T.Tree.history c.args.tree.now) (g.T.Tree.history c.stat.new.self)
+    asks_none (IsDirFrom (IsEntered c.args.wanted (state_asked c.args.matcher.now)) (g.T.Tree.history c.args.tree.now) (g.T.Tree.history c.stat.new.self) c.args.path) (g.T.Tree.history c.args.tree.now) (g.T.Tree.history c.stat.new.self)
     (asks_nothing _ (g.T.Tree.history c.args.tree.now) (g.T.Tree.history c.stat.new.self) (c.stat.ensures.asked told))
 
-pub look-returns-in-Dir-clause-asked : goal.look-returns-in-Dir-clause-asked
-look-returns-in-Dir-clause-asked g t c = λ told.
-    look_asks (g.T.Tree.history c.args.tree.now) (g.T.Tree.history c.stat.new.self) (g.T.Tree.history c.visit.new.tree) c.stat.ensures.passes c.visit.ensures.passes.past
-    c.args.path c.as_ref-in-Dir.result.text.now c.as_ref-in-Dir.ensures
+pub look-returns-then-leaves_out-clause-asked : goal.look-returns-then-leaves_out-clause-asked
+look-returns-then-leaves_out-clause-asked g t c = λ told.
+    asks_none (IsDirFrom (IsEntered c.args.wanted (state_asked c.args.matcher.now)) (g.T.Tree.history c.args.tree.now) (g.T.Tree.history c.stat.new.self) c.args.path) (g.T.Tree.history c.args.tree.now) (g.T.Tree.history c.stat.new.self)
+    (asks_nothing _ (g.T.Tree.history c.args.tree.now) (g.T.Tree.history c.stat.new.self) (c.stat.ensures.asked told))
+
+pub look-returns-else-leaves_out-clause-asked : goal.look-returns-else-leaves_out-clause-asked
+look-returns-else-leaves_out-clause-asked g t c = λ told.
+    look_asks (IsEntered c.args.wanted (state_asked c.args.matcher.now)) (g.T.Tree.history c.args.tree.now) (g.T.Tree.history c.stat.new.self) (g.T.Tree.history c.visit.new.tree) c.stat.ensures.passes c.visit.ensures.passes.past
+    c.args.path c.as_ref-dir.result.text.now c.as_ref-dir.ensures
     (λ told.
     dir_is ((now (g.T.Tree.history c.stat.new.self)).things c.args.path) c.in-Some.stat
     (sym c.in-Some.is ∙ (seen (g.T.Tree.history c.stat.new.self) c.args.path c.as_ref.result.text.now c.in_ok-stat.field-0 (c.in_ok-stat.ensures.formed told) c.as_ref.ensures (c.in_ok-stat.ensures.found told)).is)
     c.in-Dir.is)
-    (asks_nothing _ (g.T.Tree.history c.args.tree.now) (g.T.Tree.history c.stat.new.self) (c.stat.ensures.asked told)) (c.visit.ensures.asked (c.stat.ensures.passes.past.told ∙ told))
+    (subst (IsEntered c.args.wanted (state_asked c.args.matcher.now)) c.as_ref-dir.ensures
+    (entered c.args.wanted (state_asked c.args.matcher.now) c.is_ignored-ignored.result c.leaves_out.result c.as_ref-dir.result.text.now c.is_ignored-ignored.ensures.ignored c.leaves_out.ensures c.if-leaves_out.false))
+    (asks_nothing _ (g.T.Tree.history c.args.tree.now) (g.T.Tree.history c.stat.new.self) (c.stat.ensures.asked told))
+    (subst
+    (λ (s : List Piece). AsksFor (IsDirIn (IsEntered c.args.wanted s) (g.T.Tree.history c.stat.new.self) (g.T.Tree.history c.visit.new.tree) (Some c.as_ref-dir.result.text.now)) (g.T.Tree.history c.stat.new.self) (g.T.Tree.history c.visit.new.tree))
+    c.is_ignored-ignored.ensures.same (c.visit.ensures.asked (c.stat.ensures.passes.past.told ∙ told)))
 
 pub look_each-loop-name-init : goal.look_each-loop-name-init
 look_each-loop-name-init g t c = record {
   passes = passes_same _;
-  listed = among_none (kept_of c.args.flat.now) (Untouched (g.T.Tree.history c.args.tree.now) (g.T.Tree.history c.args.tree.now).last) (now (g.T.Tree.history c.args.tree.now)) (option_map (λ d. d.text.now) c.args.dir) c.args.rows.now.items;
+  listed = among_none (kept_of c.args.flat.now) (Gives c.args.wanted (state_asked c.args.matcher.now)) (Untouched (g.T.Tree.history c.args.tree.now) (g.T.Tree.history c.args.tree.now).last) (now (g.T.Tree.history c.args.tree.now)) (option_map (λ d. d.text.now) c.args.dir) c.args.rows.now.items;
   asked = λ told.
-      asks_none (IsDirAmong (g.T.Tree.history c.args.tree.now) (g.T.Tree.history c.args.tree.now) (option_map (λ d. d.text.now) c.args.dir) []) (g.T.Tree.history c.args.tree.now) (g.T.Tree.history c.args.tree.now) refl;
+      asks_none (IsDirAmong (IsEntered c.args.wanted (state_asked c.args.matcher.now)) (g.T.Tree.history c.args.tree.now) (g.T.Tree.history c.args.tree.now) (option_map (λ d. d.text.now) c.args.dir) []) (g.T.Tree.history c.args.tree.now) (g.T.Tree.history c.args.tree.now) refl;
+  same = refl;
   still = refl;
 }
 
 pub look_each-returns-in_err-path-clause-asked : goal.look_each-returns-in_err-path-clause-asked
 look_each-returns-in_err-path-clause-asked g t c = λ told.
-    each_asks (g.T.Tree.history c.args.tree.now) (g.T.Tree.history c.loop-name.tree) (option_map (λ d. d.text.now) c.args.dir) c.args.names.now c.loop-name.name-index (c.loop-name.invariant.asked told)
+    each_asks (IsEntered c.args.wanted (state_asked c.args.matcher.now)) (g.T.Tree.history c.args.tree.now) (g.T.Tree.history c.loop-name.tree) (option_map (λ d. d.text.now) c.args.dir) c.args.names.now c.loop-name.name-index (c.loop-name.invariant.asked told)
 
 pub look_each-returns-in_err-look-clause-asked : goal.look_each-returns-in_err-look-clause-asked
 look_each-returns-in_err-look-clause-asked g t c = λ told.
-    each_asks (g.T.Tree.history c.args.tree.now) (g.T.Tree.history c.look.new.tree) (option_map (λ d. d.text.now) c.args.dir) c.args.names.now (c.loop-name.name-index + 1)
-    (each_more_asks (g.T.Tree.history c.args.tree.now) (g.T.Tree.history c.loop-name.tree) (g.T.Tree.history c.look.new.tree) c.loop-name.invariant.passes c.look.ensures.passes.past
-    (option_map (λ d. d.text.now) c.args.dir) c.args.names.now c.loop-name.name-index c.name-item.result c.as_str.result.now c.in_ok-path.path c.requires
-    c.loop-name-test.true c.name-item.is c.as_str.ensures.text c.in_ok-path.ensures (c.loop-name.invariant.asked told) (c.look.ensures.asked (c.loop-name.invariant.passes.past.told ∙ told)))
+    each_asks (IsEntered c.args.wanted (state_asked c.args.matcher.now)) (g.T.Tree.history c.args.tree.now) (g.T.Tree.history c.look.new.tree) (option_map (λ d. d.text.now) c.args.dir) c.args.names.now (c.loop-name.name-index + 1)
+    (each_more_asks (IsEntered c.args.wanted (state_asked c.args.matcher.now)) (g.T.Tree.history c.args.tree.now) (g.T.Tree.history c.loop-name.tree) (g.T.Tree.history c.look.new.tree) c.loop-name.invariant.passes c.look.ensures.passes.past
+    (option_map (λ d. d.text.now) c.args.dir) c.args.names.now c.loop-name.name-index c.name-item.result c.as_str.result.now c.in_ok-path.path c.requires.fit
+    c.loop-name-test.true c.name-item.is c.as_str.ensures.text c.in_ok-path.ensures (c.loop-name.invariant.asked told) (subst (λ (s : List Piece). AsksFor (IsDirFrom (IsEntered c.args.wanted s) (g.T.Tree.history c.loop-name.tree) (g.T.Tree.history c.look.new.tree) c.in_ok-path.path) (g.T.Tree.history c.loop-name.tree) (g.T.Tree.history c.look.new.tree))
+    c.loop-name.invariant.same (c.look.ensures.asked (c.loop-name.invariant.passes.past.told ∙ told))))
 
 pub visit-returns-in_err-names-clause-asked : goal.visit-returns-in_err-names-clause-asked
-visit-returns-in_err-names-clause-asked g t c = λ told. dir_asks (g.T.Tree.history c.args.tree.now) (g.T.Tree.history c.list.new.self) (option_map (λ d. d.text.now) c.args.dir) (asks_one _ (option_map (λ d. d.text.now) c.args.dir) (g.T.Tree.history c.args.tree.now) (g.T.Tree.history c.list.new.self) (c.list.ensures.asked told))
+visit-returns-in_err-names-clause-asked g t c = λ told. dir_asks (IsEntered c.args.wanted (state_asked c.args.matcher.now)) (g.T.Tree.history c.args.tree.now) (g.T.Tree.history c.list.new.self) (option_map (λ d. d.text.now) c.args.dir) (asks_one _ (option_map (λ d. d.text.now) c.args.dir) (g.T.Tree.history c.args.tree.now) (g.T.Tree.history c.list.new.self) (c.list.ensures.asked told))
 
 pub visit-returns-in_default-clause-asked : goal.visit-returns-in_default-clause-asked
-visit-returns-in_default-clause-asked g t c = λ told. dir_asks (g.T.Tree.history c.args.tree.now) (g.T.Tree.history c.list.new.self) (option_map (λ d. d.text.now) c.args.dir) (asks_one _ (option_map (λ d. d.text.now) c.args.dir) (g.T.Tree.history c.args.tree.now) (g.T.Tree.history c.list.new.self) (c.list.ensures.asked told))
+visit-returns-in_default-clause-asked g t c = λ told. dir_asks (IsEntered c.args.wanted (state_asked c.args.matcher.now)) (g.T.Tree.history c.args.tree.now) (g.T.Tree.history c.list.new.self) (option_map (λ d. d.text.now) c.args.dir) (asks_one _ (option_map (λ d. d.text.now) c.args.dir) (g.T.Tree.history c.args.tree.now) (g.T.Tree.history c.list.new.self) (c.list.ensures.asked told))
 
 pub visit-returns-in_err-is_nested-clause-asked : goal.visit-returns-in_err-is_nested-clause-asked
 visit-returns-in_err-is_nested-clause-asked g t c = λ told.
-    dir_asks_on (g.T.Tree.history c.args.tree.now) (g.T.Tree.history c.list.new.self) (g.T.Tree.history c.is_nested.new.tree) (option_map (λ d. d.text.now) c.args.dir) (asks_one _ (option_map (λ d. d.text.now) c.args.dir) (g.T.Tree.history c.args.tree.now) (g.T.Tree.history c.list.new.self) (c.list.ensures.asked told)) (c.is_nested.ensures.asked (c.list.ensures.passes.past.told ∙ told))
+    dir_asks_on (IsEntered c.args.wanted (state_asked c.args.matcher.now)) (g.T.Tree.history c.args.tree.now) (g.T.Tree.history c.list.new.self) (g.T.Tree.history c.is_nested.new.tree) (option_map (λ d. d.text.now) c.args.dir) (asks_one _ (option_map (λ d. d.text.now) c.args.dir) (g.T.Tree.history c.args.tree.now) (g.T.Tree.history c.list.new.self) (c.list.ensures.asked told)) (c.is_nested.ensures.asked (c.list.ensures.passes.past.told ∙ told))
 
 pub visit-returns-then-branch-clause-asked : goal.visit-returns-then-branch-clause-asked
 visit-returns-then-branch-clause-asked g t c = λ told.
-    dir_asks_on (g.T.Tree.history c.args.tree.now) (g.T.Tree.history c.list.new.self) (g.T.Tree.history c.is_nested.new.tree) (option_map (λ d. d.text.now) c.args.dir) (asks_one _ (option_map (λ d. d.text.now) c.args.dir) (g.T.Tree.history c.args.tree.now) (g.T.Tree.history c.list.new.self) (c.list.ensures.asked told)) (c.is_nested.ensures.asked (c.list.ensures.passes.past.told ∙ told))
+    dir_asks_on (IsEntered c.args.wanted (state_asked c.args.matcher.now)) (g.T.Tree.history c.args.tree.now) (g.T.Tree.history c.list.new.self) (g.T.Tree.history c.is_nested.new.tree) (option_map (λ d. d.text.now) c.args.dir) (asks_one _ (option_map (λ d. d.text.now) c.args.dir) (g.T.Tree.history c.args.tree.now) (g.T.Tree.history c.list.new.self) (c.list.ensures.asked told)) (c.is_nested.ensures.asked (c.list.ensures.passes.past.told ∙ told))
 
 pub visit-returns-clause-asked : goal.visit-returns-clause-asked
 visit-returns-clause-asked g t c = λ told.
-    visit_asks (g.T.Tree.history c.args.tree.now) (g.T.Tree.history c.list.new.self) (g.T.Tree.history c.is_nested.new.tree) (g.T.Tree.history c.look_each.new.tree)
+    visit_asks (IsEntered c.args.wanted (state_asked c.args.matcher.now)) (g.T.Tree.history c.args.tree.now) (g.T.Tree.history c.list.new.self) (g.T.Tree.history c.is_nested.new.tree) (g.T.Tree.history c.look_each.new.tree)
     c.list.ensures.passes c.is_nested.ensures.passes c.look_each.ensures.passes.past
     (option_map (λ d. d.text.now) c.args.dir) c.in-Some.names.items c.deref-2.result.now c.in_ok-is_nested.field-0 (rw c.in-Some.is at c.in_ok-names.ensures.fit) c.deref-2.ensures.value
     (c.in_ok-is_nested.ensures.found
@@ -153,3 +186,11 @@ visit-returns-clause-asked g t c = λ told.
     (ap (option_map (λ v. v.items)) c.in-Some.is) c.deref.ensures.value (c.in_ok-names.ensures.found told))) c.if-branch.false
     (asks_one _ (option_map (λ d. d.text.now) c.args.dir) (g.T.Tree.history c.args.tree.now) (g.T.Tree.history c.list.new.self) (c.list.ensures.asked told)) (c.is_nested.ensures.asked (c.list.ensures.passes.past.told ∙ told))
     (c.look_each.ensures.asked (c.is_nested.ensures.passes.past.told ∙ c.list.ensures.passes.past.told ∙ told))
+
+-- a name of a directory is ignored with it
+pub look_each-look-requires : goal.look_each-look-requires
+look_each-look-requires g t c κs within =
+    let above = above_name (state_asked c.args.matcher.now) (state_asked c.loop-name.matcher) c.args.ignored (option_map (λ d. d.text.now) c.args.dir) c.as_str.result.now c.in_ok-path.path c.loop-name.invariant.same
+    (plain_at (option_map (λ d. d.text.now) c.args.dir) c.args.names.now c.loop-name.name-index c.name-item.result c.as_str.result.now c.requires.fit c.loop-name-test.true c.name-item.is c.as_str.ensures.text)
+    c.in_ok-path.ensures c.requires.above in
+    grind (arith, common_steps, above)

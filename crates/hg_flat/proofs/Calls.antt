@@ -1,0 +1,105 @@
+-- What a whole status asks the tree: first the patterns, then what is compared, and then what is listed.
+use Rattle.std.proofs.Common.{ℕ, ◌≡◌, Bool, true, false, cond, List, [], ◌++◌, map, append-nil, Option, None, refl, sym, ap, ◌∙◌, subst, inl, inr, arith}
+use Rattle.hg_ignore.specs.Source.{AsksOnce, FileDuring, has_file, reads_of, the_read}
+use Rattle.hg_ignore.specs.State.{Ignore, Ignored, Piece}
+use Rattle.hg_tree.specs.History.{Extends, History, IsOurs, Passes, now}
+use Rattle.hg_tree.specs.Moment.{Moment}
+use Rattle.hg_tree.specs.declared.asked.Asked.{Asked}
+use Rattle.hg_tree.specs.declared.asked.Asked.TheVariants as an_ask
+use Rattle.hg_tree.proofs.Spans.{ours_first, passes_trans}
+use Rattle.hg_flat.specs.Asked.{AsksAll, AsksBehind, AsksFor, AsksReads, IsDirBelow, IsDirIn, IsListedDir, IsPatternsRead, IsTaken, IsVisibleDir, pattern_reads}
+use Rattle.hg_flat.specs.Course.{AsksPatterns}
+use Rattle.hg_flat.specs.Listing.{IsEntered}
+use Rattle.hg_flat.specs.Patterns.{needs_patterns}
+use Rattle.hg_flat.specs.declared.row.Wanted.{Wanted}
+use Rattle.hg_flat.proofs.Asks.{asks_none, below_later, reads_none}
+
+-- ---- the patterns
+
+during_longer : (a b c : History) → Extends b c → FileDuring a b → FileDuring a c
+during_longer a b c second (k, from, to, has) = (k, from, omega (arith, to, second.later), ap has_file (second.stay k to) ∙ has)
+
+read_longer : (wanted : Wanted) (a b c : History) (first : List Asked) → Extends b c → IsPatternsRead wanted a b first → IsPatternsRead wanted a c first
+read_longer wanted a b c first second (inl none) = inl none
+read_longer wanted a b c first second (inr (needed, during, is)) = inr (needed, during_longer a b c second during, is)
+
+-- one read of the file is
+pub asks_read : (wanted : Wanted) (old new : History) → needs_patterns wanted ≡ true → AsksOnce old new → AsksPatterns wanted old new
+asks_read wanted old new needed (inl none) = ([], inl refl, none ∙ sym (append-nil old.asked))
+asks_read wanted old new needed (inr (during, is)) = (the_read, inr (needed, during, refl), is)
+
+pub own_needed : (wanted : Wanted) (old new : History) → needs_patterns wanted ≡ true → new.asked ≡ old.asked ++ reads_of (now old) → new.asked ≡ old.asked ++ pattern_reads wanted (now old)
+own_needed wanted old new needed is = is ∙ sym (ap (λ (b : Bool). old.asked ++ cond b (reads_of (now old)) []) needed)
+
+-- nothing is asked where no patterns are needed
+pub asks_unneeded : (wanted : Wanted) (h : History) → AsksPatterns wanted h h
+asks_unneeded wanted h = ([], inl refl, sym (append-nil h.asked))
+
+pub own_unneeded : (wanted : Wanted) (h : History) → needs_patterns wanted ≡ false → h.asked ≡ h.asked ++ pattern_reads wanted (now h)
+own_unneeded wanted h none = sym (ap (λ (b : Bool). h.asked ++ cond b (reads_of (now h)) []) none ∙ append-nil h.asked)
+
+-- ---- all calls
+
+behind : (first : List Asked) (C : List ℕ → Type 0) (V W : Option (List ℕ) → Type 0) (a b c d : History) → b.asked ≡ a.asked ++ first → AsksReads C b c → AsksFor V c d → ((dir : Option (List ℕ)) → V dir → W dir) → AsksBehind first C W a d
+behind first C V W a b c d is reads lists weaker = record {
+  paths = reads.paths;
+  dirs = lists.dirs;
+  asked = lists.asked ∙ ap (λ (l : List Asked). l ++ map an_ask.List lists.dirs) (reads.asked ∙ ap (λ (l : List Asked). l ++ map an_ask.Read reads.paths) is);
+  compared = reads.compared;
+  once = lists.once;
+  within = λ dir has. weaker dir (lists.within dir has);
+}
+
+module _ (E : List ℕ → Type 0) (old mid new : History) (first : Passes old mid) (second : Passes mid new) where
+  visible_in : (dir : Option (List ℕ)) → IsDirIn E mid new None dir → IsOurs old new → IsVisibleDir (now old) dir
+  visible_in dir (inl is) ours = subst (IsVisibleDir (now old)) (sym is) tt
+  visible_in dir (inr below) ours =
+      let d : IsDirBelow E old new None dir = below_later E old mid new first second.past None dir below in
+      subst (IsVisibleDir (now old)) (sym d.is) (d.stands ours, λ above under. d.visible ours above refl under)
+
+-- a directory that is gone into isn't ignored, or I is wanted
+taken_in : (wanted : Wanted) (state : List Piece) (old mid new : History) (moment : Moment) (dir : Option (List ℕ)) → IsDirIn (IsEntered wanted state) mid new None dir → state ≡ Ignore moment → wanted.i ≡ false → IsTaken moment dir
+taken_in wanted state old mid new moment dir (inl is) at unwanted = subst (IsTaken moment) (sym is) tt
+taken_in wanted state old mid new moment dir (inr d) at unwanted =
+    subst (IsTaken moment) (sym d.is) (subst (λ (s : List Piece). Ignored s d.path → ⊥) at (d.entered unwanted))
+
+module _ (wanted : Wanted) (C : List ℕ → Type 0) (state : List Piece) (old mid later new : History) (first : Passes old mid) (second : Passes mid later) (third : Passes later new)
+    (still : IsOurs old mid → needs_patterns wanted ≡ true → state ≡ Ignore (now old)) where
+  -- what the listing goes into
+  abbrev Entered : Option (List ℕ) → Type 0
+  Entered dir = (needs_patterns wanted ≡ true) × IsDirIn (IsEntered wanted state) later new None dir
+
+  listed : (dir : Option (List ℕ)) → Entered dir → IsListedDir wanted old new dir
+  listed dir (needed, within) = (
+    needed,
+    λ ours. (
+      visible_in (IsEntered wanted state) old later new (passes_trans old mid later first second) third dir within ours,
+      λ unwanted. taken_in wanted state old later new (now old) dir within (still (ours_first old mid new (passes_trans mid later new second third).past ours) needed) unwanted,
+    ),
+  )
+
+  pub all_asks : AsksPatterns wanted old mid → AsksReads C mid later → AsksFor Entered later new → AsksAll wanted C (IsListedDir wanted old new) old new
+  all_asks (first_asks, are, is) reads lists = (
+    first_asks,
+    read_longer wanted old mid new first_asks (passes_trans mid later new second third).past are,
+    behind first_asks C Entered (IsListedDir wanted old new) old mid later new is reads lists listed,
+  )
+
+  pub own_asks : mid.asked ≡ old.asked ++ pattern_reads wanted (now old) → AsksReads C mid later → AsksFor Entered later new → AsksBehind (pattern_reads wanted (now old)) C (IsListedDir wanted old new) old new
+  own_asks is reads lists = behind (pattern_reads wanted (now old)) C Entered (IsListedDir wanted old new) old mid later new is reads lists listed
+
+-- a status that stops behind the patterns
+pub asks_first : (wanted : Wanted) (C : List ℕ → Type 0) (old new : History) → AsksPatterns wanted old new → AsksAll wanted C (IsListedDir wanted old new) old new
+asks_first wanted C old new (first, are, is) = (
+  first,
+  are,
+  behind first C (IsListedDir wanted old new) (IsListedDir wanted old new) old new new new is (reads_none C new new refl) (asks_none (IsListedDir wanted old new) new new refl) (λ dir within. within),
+)
+
+-- one that stops among the tracked paths
+pub asks_second : (wanted : Wanted) (C : List ℕ → Type 0) (old mid new : History) → Extends mid new → AsksPatterns wanted old mid → AsksReads C mid new → AsksAll wanted C (IsListedDir wanted old new) old new
+asks_second wanted C old mid new second (first, are, is) reads = (
+  first,
+  read_longer wanted old mid new first second are,
+  behind first C (IsListedDir wanted old new) (IsListedDir wanted old new) old mid new new is reads (asks_none (IsListedDir wanted old new) new new refl) (λ dir within. within),
+)

@@ -1,0 +1,122 @@
+-- What was met of the first parent behind a read of the patterns was met in the whole status.
+use Rattle.std.proofs.Common.{ℕ, ◌≡◌, true, Some, Result, Ok, Err, IsTrue, ◌∙◌, arith}
+use Rattle.hg_base.specs.declared.id.Id20.{Id20}
+use Rattle.hg_base.specs.declared.stat.Stat.{Stat}
+use Rattle.hg_entry.specs.Table.{Flat}
+use Rattle.hg_tree.specs.History as trees
+use Rattle.hg_tree.specs.Moment.{Moment, stat_at}
+use Rattle.hg_shelf.specs.History as shelves
+use Rattle.hg_manifest.specs.Rows.{Rows}
+use Rattle.hg_manifest.specs.declared.fault.ManifestFault.{ManifestFault}
+use Rattle.hg_manifest.specs.declared.fault.ManifestFault.TheVariants as a_manifest_fault
+use Rattle.hg_compare.specs.Alike.{is_alike}
+use Rattle.hg_flat.specs.Course.{LacksPatterns, MetParent}
+use Rattle.hg_flat.specs.Met.{LacksContents, Met, NeedsManifest, Shows, Status, WasRead}
+use Rattle.hg_flat.specs.Parent.{IsAsked}
+use Rattle.hg_flat.specs.Patterns.{CountsOversize, is_of_parent, needs_patterns}
+use Rattle.hg_flat.specs.declared.fault.StatusFault.{StatusFault}
+use Rattle.hg_flat.specs.declared.fault.StatusFault.TheVariants as a_fault
+use Rattle.hg_flat.specs.declared.row.Wanted.{Wanted}
+
+module _ (wanted : Wanted) (flat : Flat) (id : Id20) (start old new : trees.History) (first : trees.Passes start old) (files later : shelves.History) where
+  abbrev part : Status
+  part = record { wanted = wanted; flat = flat; id = id; tree_old = old; tree_new = new; shelf_old = files; shelf_new = later }
+
+  abbrev whole : Status
+  whole = record { wanted = wanted; flat = flat; id = id; tree_old = start; tree_new = new; shelf_old = files; shelf_new = later }
+
+  shows_whole : (P : Moment → Type 0) → Shows part P → Shows whole P
+  shows_whole P shows = record {
+    at = shows.at;
+    from = λ told. omega (arith, first.past.later, shows.from (first.past.told ∙ told));
+    to = λ told. shows.to (first.past.told ∙ told);
+    so = λ told. shows.so (first.past.told ∙ told);
+  }
+
+  read_whole : (answer : Result Rows ManifestFault) → WasRead part answer → WasRead whole answer
+  read_whole answer read =
+      record { size = read.size; bytes = read.bytes; few = read.few; short = read.short; sized = read.sized; front = read.front; found = read.found }
+
+  needs_whole : NeedsManifest part → NeedsManifest whole
+  needs_whole needs = record { path = needs.path; asked = shows_whole (λ moment. IsAsked wanted flat moment needs.path) needs.asked; committed = needs.committed }
+
+  lacks_whole : (gone : Id20) → LacksContents part gone → LacksContents whole gone
+  lacks_whole gone lacks = record {
+    path = lacks.path;
+    compared = lacks.compared;
+    rows = lacks.rows;
+    read = read_whole (Ok lacks.rows) lacks.read;
+    row = lacks.row;
+    is = lacks.is;
+    names = lacks.names;
+    alike = shows_whole (λ moment. (stat : Stat) × (stat_at moment lacks.path ≡ Some stat) × IsTrue (is_alike lacks.row stat)) lacks.alike;
+    absent = lacks.absent;
+    committed = lacks.committed;
+  }
+
+  pub met_whole : (fault : StatusFault) → MetParent part fault → Met whole fault
+  met_whole a_fault.OutOfMemory met = tt
+  met_whole a_fault.TreeFailed met = tt
+  met_whole a_fault.ShelfFailed met = tt
+  met_whole (a_fault.NoManifest gone) met = (needs_whole met.0, met.1, met.2)
+  met_whole (a_fault.ManifestTooLarge size) met = (needs_whole met.0, met.1, met.2)
+  met_whole (a_fault.ManifestLine line) met = (needs_whole met.0, read_whole (Err (a_manifest_fault.ManifestLine line)) met.1)
+  met_whole (a_fault.ManifestOrder line) met = (needs_whole met.0, read_whole (Err (a_manifest_fault.ManifestOrder line)) met.1)
+  met_whole (a_fault.NoContents gone) met = lacks_whole gone met
+  met_whole (a_fault.IgnoreTooLarge size) met = absurd met
+  met_whole (a_fault.IgnoreText at) met = absurd met
+  met_whole (a_fault.BadGlob line) met = absurd met
+  met_whole (a_fault.BadRegexp line) met = absurd met
+  met_whole (a_fault.RegexpTooBig line) met = absurd met
+  met_whole (a_fault.BadInclude line) met = absurd met
+
+-- no regexp was too big
+pub counts_still : (T : Type 0) (s : Status) (fault : StatusFault) (before now : ℕ) → now ≡ before → MetParent s fault → CountsOversize {T = T} before now (Err fault)
+counts_still T s a_fault.OutOfMemory before now same met = same
+counts_still T s a_fault.TreeFailed before now same met = same
+counts_still T s a_fault.ShelfFailed before now same met = same
+counts_still T s (a_fault.NoManifest gone) before now same met = same
+counts_still T s (a_fault.ManifestTooLarge size) before now same met = same
+counts_still T s (a_fault.ManifestLine line) before now same met = same
+counts_still T s (a_fault.ManifestOrder line) before now same met = same
+counts_still T s (a_fault.NoContents gone) before now same met = same
+counts_still T s (a_fault.IgnoreTooLarge size) before now same met = absurd met
+counts_still T s (a_fault.IgnoreText at) before now same met = absurd met
+counts_still T s (a_fault.BadGlob line) before now same met = absurd met
+counts_still T s (a_fault.BadRegexp line) before now same met = absurd met
+counts_still T s (a_fault.RegexpTooBig line) before now same met = absurd met
+counts_still T s (a_fault.BadInclude line) before now same met = absurd met
+
+-- a fault of the patterns is what the status met
+pub met_patterns : (s : Status) (fault : StatusFault) → needs_patterns s.wanted ≡ true → LacksPatterns s.tree_old s.tree_new fault → Met s fault
+met_patterns s a_fault.OutOfMemory needed lacks = tt
+met_patterns s a_fault.TreeFailed needed lacks = tt
+met_patterns s a_fault.ShelfFailed needed lacks = tt
+met_patterns s (a_fault.NoManifest gone) needed lacks = absurd lacks
+met_patterns s (a_fault.ManifestTooLarge size) needed lacks = absurd lacks
+met_patterns s (a_fault.ManifestLine line) needed lacks = absurd lacks
+met_patterns s (a_fault.ManifestOrder line) needed lacks = absurd lacks
+met_patterns s (a_fault.NoContents gone) needed lacks = absurd lacks
+met_patterns s (a_fault.IgnoreTooLarge size) needed lacks = (needed, lacks)
+met_patterns s (a_fault.IgnoreText at) needed lacks = (needed, lacks)
+met_patterns s (a_fault.BadGlob line) needed lacks = (needed, lacks)
+met_patterns s (a_fault.BadRegexp line) needed lacks = (needed, lacks)
+met_patterns s (a_fault.RegexpTooBig line) needed lacks = (needed, lacks)
+met_patterns s (a_fault.BadInclude line) needed lacks = (needed, lacks)
+
+-- it is none of the parent
+pub not_parent : (old new : trees.History) (fault : StatusFault) → LacksPatterns old new fault → is_of_parent fault ≡ true → ⊥
+not_parent old new a_fault.OutOfMemory lacks is = absurd (cc is)
+not_parent old new a_fault.TreeFailed lacks is = absurd (cc is)
+not_parent old new a_fault.ShelfFailed lacks is = absurd lacks
+not_parent old new (a_fault.NoManifest gone) lacks is = absurd lacks
+not_parent old new (a_fault.ManifestTooLarge size) lacks is = absurd lacks
+not_parent old new (a_fault.ManifestLine line) lacks is = absurd lacks
+not_parent old new (a_fault.ManifestOrder line) lacks is = absurd lacks
+not_parent old new (a_fault.NoContents gone) lacks is = absurd lacks
+not_parent old new (a_fault.IgnoreTooLarge size) lacks is = absurd (cc is)
+not_parent old new (a_fault.IgnoreText at) lacks is = absurd (cc is)
+not_parent old new (a_fault.BadGlob line) lacks is = absurd (cc is)
+not_parent old new (a_fault.BadRegexp line) lacks is = absurd (cc is)
+not_parent old new (a_fault.RegexpTooBig line) lacks is = absurd (cc is)
+not_parent old new (a_fault.BadInclude line) lacks is = absurd (cc is)
