@@ -1,4 +1,4 @@
--- A fault of the first parent: what was met in the second part of a call was met in the call, and where nobody else steps it stands there.
+-- A fault of a status: what was met behind the load was met in the call, and where nobody else steps what the first parent has stands there.
 use Rattle.std.proofs.Common.{ℕ, ◌≡◌, ◌<◌, ◌≤◌, Bool, true, false, cond, List, [], length, take, Option, Some, None, option_map, Result, Ok, Err, IsTrue, refl, sym, ap, ◌∙◌, subst, arith, le-ltb}
 use Rattle.std.proofs.lemmas.Bool.{lt-ltb}
 use Rattle.std.proofs.Math.Seq.{take-length}
@@ -29,20 +29,15 @@ use Rattle.hg_tree.specs.declared.thing.Thing.TheVariants as a_thing
 
 -- ---- over a longer call
 
-module _ (wanted : Wanted) (flat : Flat) (id : Id20) (old mid new : tree.History) (start behind end : shelf.History) (first : tree.Extends old mid) (before : shelf.Extends start behind) where
+module _ (wanted : Wanted) (flat : Flat) (id : Id20) (old new : tree.History) (start behind end : shelf.History) (before : shelf.Extends start behind) where
   abbrev part : Status
-  part = record { wanted = wanted; flat = flat; id = id; tree_old = mid; tree_new = new; shelf_old = behind; shelf_new = end }
+  part = record { wanted = wanted; flat = flat; id = id; tree_old = old; tree_new = new; shelf_old = behind; shelf_new = end }
 
   abbrev whole : Status
   whole = record { wanted = wanted; flat = flat; id = id; tree_old = old; tree_new = new; shelf_old = start; shelf_new = end }
 
   shows_longer : (P : Moment → Type 0) → Shows part P → Shows whole P
-  shows_longer P shows = record {
-    at = shows.at;
-    from = λ told. omega (arith, first.later, shows.from (first.told ∙ told));
-    to = λ told. shows.to (first.told ∙ told);
-    so = λ told. shows.so (first.told ∙ told);
-  }
+  shows_longer P shows = record { at = shows.at; from = shows.from; to = shows.to; so = shows.so }
 
   holds_longer : (name : List ℕ) (P : Option (List ℕ) → Type 0) → Was behind end name P → Was start end name P
   holds_longer name P was = record {
@@ -88,6 +83,12 @@ module _ (wanted : Wanted) (flat : Flat) (id : Id20) (old mid new : tree.History
   met_longer (a_fault.ManifestLine line) met = (needs_longer met.0, read_longer (Err (a_manifest_fault.ManifestLine line)) met.1)
   met_longer (a_fault.ManifestOrder line) met = (needs_longer met.0, read_longer (Err (a_manifest_fault.ManifestOrder line)) met.1)
   met_longer (a_fault.NoContents gone) met = lacks_longer gone met
+  met_longer (a_fault.IgnoreTooLarge size) met = met
+  met_longer (a_fault.IgnoreText at) met = met
+  met_longer (a_fault.BadGlob line) met = met
+  met_longer (a_fault.BadRegexp line) met = met
+  met_longer (a_fault.RegexpTooBig line) met = met
+  met_longer (a_fault.BadInclude line) met = met
 
 -- ---- what a manifest's file says
 

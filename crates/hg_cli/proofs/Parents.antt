@@ -2,21 +2,17 @@
 use Rattle.std.proofs.Common.{ℕ, ◌≡◌, ◌≤◌, Bool, true, false, not, ◌&&◌, ◌||◌, cond, List, [], Option, Some, None, option_map, Result, Ok, IsTrue, IfSome, is_some, refl, sym, ap, ◌∙◌, subst, inl, inr, arith}
 use Rattle.std.proofs.lemmas.Bool.{cases_Bool, or_left, or_right}
 use Rattle.hg_base.specs.declared.id.Id20.{Id20}
-use Rattle.hg_base.specs.declared.stat.Kind.{Kind}
-use Rattle.hg_base.specs.declared.stat.Stat.{Stat}
-use Rattle.hg_base.specs.declared.time.Time.{Time}
-use Rattle.hg_compare.specs.Alike.{contents_name, is_alike, is_alike_as}
+use Rattle.hg_compare.specs.Alike.{contents_name, is_alike}
 use Rattle.hg_compare.specs.Same.{parent_row}
 use Rattle.hg_compare.specs.Tracked.{ParentRow, is_file_or_link, is_unchanged, tracked_letter}
 use Rattle.hg_compare.specs.declared.letter.Letter.{Letter}
 use Rattle.hg_compare.specs.declared.letter.Letter.TheVariants as a_letter
 use Rattle.hg_entry.specs.Table.{Flat, Marks}
-use Rattle.hg_flat.specs.Full.{HasLetterBy, IsFullFor, IsTold, nothing_ignored, wants}
+use Rattle.hg_flat.specs.Full.{HasLetterBy, IsFullFor, IsTold, wants}
 use Rattle.hg_flat.specs.Parent.{HasContents, IsAsked, IsLeft, IsServed, KeepsRow, is_compared, is_plain_entry, manifest_at, parent_rows, row_among, row_of}
+use Rattle.hg_flat.specs.Patterns.{ignored_at}
 use Rattle.hg_flat.specs.declared.row.Row.{Row}
 use Rattle.hg_flat.specs.declared.row.Wanted.{Wanted}
-use Rattle.hg_flat.proofs.Alike.{alike_back, file_alike}
-use Rattle.hg_flat.proofs.Moved.{told_moved}
 use Rattle.hg_manifest.specs.Load.{file_manifest, manifest_in}
 use Rattle.hg_manifest.specs.Plain.{is_null, plain_name}
 use Rattle.hg_manifest.specs.Rows.{Rows}
@@ -25,12 +21,8 @@ use Rattle.hg_manifest.specs.declared.row.FileRow.{FileRow}
 use Rattle.hg_shelf.specs.History as shelf
 use Rattle.hg_shelf.specs.Polite.{KeepsFile}
 use Rattle.hg_tree.specs.History as tree
-use Rattle.hg_tree.specs.Moment.{Moment, kind_of, stat_at, stat_of}
-use Rattle.hg_tree.specs.Still.{AreAlike, is_exec, is_exec_thing}
+use Rattle.hg_tree.specs.Moment.{Moment, stat_at}
 use Rattle.hg_tree.specs.declared.thing.Placed.{Placed}
-use Rattle.hg_tree.specs.declared.thing.Thing.{Thing}
-use Rattle.hg_tree.specs.declared.thing.Thing.TheVariants as a_thing
-use Rattle.hg_tree.proofs.Stillness.{alike_between, same_kind, untouched_second}
 
 -- ---- the files
 
@@ -138,66 +130,30 @@ told_rows : (wanted : Wanted) (flat : Flat) (moment : Moment) (a b : List ℕ �
 told_rows wanted flat moment a b Ignored row same told =
     (told.0, letter_by wanted flat moment a b Ignored row.path row.letter told.0 (flat.marks row.path) same told.1, told.2)
 
--- ---- whether a thing has a row's kind and executable bit
+-- where a row's contents are the same, a path that has them goes on having them
+contents_moved : (a b : shelf.Files) (moment : Moment) (path : List ℕ) (o : Option FileRow) → IfSome o (λ row. a (contents_name row.id.0) ≡ b (contents_name row.id.0)) → HasContents a moment path o → HasContents b moment path o
+contents_moved a b moment path None same has = tt
+contents_moved a b moment path (Some row) same has =
+    subst (λ (file : Option (List ℕ)). IfSome (stat_at moment path) (λ stat. IsTrue (is_alike row stat) → IsTrue (is_some file))) same has
 
-shows_alike : FileRow → Option Stat → Bool
-shows_alike row None = false
-shows_alike row (Some stat) = is_alike row stat
+-- ---- over a load
 
-alike_by : FileRow → Option Kind → Bool → Bool
-alike_by row None exec = false
-alike_by row (Some kind) exec = is_alike_as kind exec row
-
-alike_thing : (row : FileRow) (thing : Thing) (mtime : Time) → alike_by row (Some (kind_of thing)) (is_exec_thing thing) ≡ is_alike row (stat_of thing mtime)
-unfolding alike_by
-alike_thing row (a_thing.File exec bytes) mtime = refl
-alike_thing row (a_thing.Link target) mtime = refl
-alike_thing row a_thing.Dir mtime = refl
-alike_thing row a_thing.Other mtime = refl
-
-alike_is : (row : FileRow) (o : Option Placed) → alike_by row (option_map (λ placed. kind_of placed.thing) o) (is_exec o) ≡ shows_alike row (option_map (λ placed. stat_of placed.thing placed.mtime) o)
-unfolding alike_by shows_alike
-alike_is row None = refl
-alike_is row (Some placed) = alike_thing row placed.thing placed.mtime
-
-alike_same : (m n : Moment) (path : List ℕ) (row : FileRow) → AreAlike m n path → shows_alike row (stat_at m path) ≡ shows_alike row (stat_at n path)
-alike_same m n path row alike =
-    sym (alike_is row (m.things path)) ∙ (λ i. alike_by row (same_kind m n path alike.seen i) (alike.exec i)) ∙ alike_is row (n.things path)
-
-shown_to : {X : Type 0} (row : FileRow) (o : Option Stat) → IfSome o (λ stat. IsTrue (is_alike row stat) → X) → shows_alike row o ≡ true → X
-unfolding shows_alike
-shown_to row None gives is = absurd (cc (is))
-shown_to row (Some stat) gives is = gives is
-
-shown_from : {X : Type 0} (row : FileRow) (o : Option Stat) → (shows_alike row o ≡ true → X) → IfSome o (λ stat. IsTrue (is_alike row stat) → X)
-unfolding shows_alike
-shown_from row None gives = tt
-shown_from row (Some stat) gives = λ is. gives is
-
-contents_moved : (a b : shelf.Files) (m n : Moment) (path : List ℕ) → AreAlike m n path → (o : Option FileRow) → IfSome o (λ row. a (contents_name row.id.0) ≡ b (contents_name row.id.0)) → HasContents a m path o → HasContents b n path o
-contents_moved a b m n path alike None same has = tt
-contents_moved a b m n path alike (Some row) same has =
-    shown_from row (stat_at n path)
-    (λ is. subst (λ (file : Option (List ℕ)). IsTrue (is_some file)) same (shown_to row (stat_at m path) has (alike_same m n path row alike ∙ is)))
-
--- ---- over a load and a look at the root
-
-module _ (wanted : Wanted) (flat : Flat) (id : Id20) (old mid new : tree.History) (start behind end : shelf.History) (first : tree.Extends old mid) (second : tree.Extends mid new)
-    (before : shelf.Extends start behind) (after : shelf.Extends behind end) where
+module _ (wanted : Wanted) (flat : Flat) (id : Id20) (old new : tree.History) (start behind end : shelf.History) (before : shelf.Extends start behind) (after : shelf.Extends behind end) where
   abbrev Left : List ℕ → Type 0
   Left = IsLeft wanted flat id new old.last end start.last
 
   abbrev LeftBehind : List ℕ → Type 0
-  LeftBehind = IsLeft wanted flat id new mid.last end behind.last
+  LeftBehind = IsLeft wanted flat id new old.last end behind.last
 
   within : behind.last ≤ end.last
   within = after.later
 
-  -- who touches nothing over the call touches nothing over its second part
+  -- who touches nothing over the call touches nothing behind the load
   left_behind : (path : List ℕ) → Left path → LeftBehind path
   left_behind path left = record {
-    own = untouched_second new old.last mid.last path first.later second.later left.own;
+    own = left.own;
     row = λ is. row_later end start.last behind.last id path before.later after.later (left.row is);
+    patterns = left.patterns;
   }
 
   at_start : (end.at start.last).files ≡ (shelf.now start).files
@@ -205,9 +161,6 @@ module _ (wanted : Wanted) (flat : Flat) (id : Id20) (old mid new : tree.History
 
   at_behind : (end.at behind.last).files ≡ (shelf.now behind).files
   at_behind = (after.stay behind.last (omega arith)).shown
-
-  alike : (path : List ℕ) → Left path → AreAlike (tree.now mid) (tree.now old) path
-  alike path left = alike_between old mid new path first second left.own
 
   rows_moved : (path : List ℕ) → KeepsRow end start.last id path → parent_rows (shelf.now behind).files id path ≡ parent_rows (shelf.now start).files id path
   rows_moved path kept =
@@ -219,16 +172,16 @@ module _ (wanted : Wanted) (flat : Flat) (id : Id20) (old mid new : tree.History
       ap (λ (files : shelf.Files). manifest_at files id) (sym at_behind) ∙ manifest_same end start.last behind.last id path before.later after.later kept
       ∙ ap (λ (files : shelf.Files). manifest_at files id) at_start
 
-  pub full_moved : (rows : List Row) → IsFullFor LeftBehind flat (tree.now mid) (parent_rows (shelf.now behind).files id) nothing_ignored wanted rows
-      → IsFullFor Left flat (tree.now old) (parent_rows (shelf.now start).files id) nothing_ignored wanted rows
+  pub full_moved : (rows : List Row) → IsFullFor LeftBehind flat (tree.now old) (parent_rows (shelf.now behind).files id) (ignored_at (tree.now old)) wanted rows
+      → IsFullFor Left flat (tree.now old) (parent_rows (shelf.now start).files id) (ignored_at (tree.now old)) wanted rows
   full_moved rows is = record {
     sound = λ row has left.
-        told_rows wanted flat (tree.now old) (parent_rows (shelf.now behind).files id) (parent_rows (shelf.now start).files id) nothing_ignored row (λ looked. rows_moved row.path (left.row looked))
-        (told_moved flat (tree.now mid) (tree.now old) (parent_rows (shelf.now behind).files id) nothing_ignored wanted row (alike row.path left) (is.sound row has (left_behind row.path left)));
+        told_rows wanted flat (tree.now old) (parent_rows (shelf.now behind).files id) (parent_rows (shelf.now start).files id) (ignored_at (tree.now old)) row (λ looked. rows_moved row.path (left.row looked))
+        (is.sound row has (left_behind row.path left));
     all = λ row left tells.
         is.all row (left_behind row.path left)
-        (told_rows wanted flat (tree.now mid) (parent_rows (shelf.now start).files id) (parent_rows (shelf.now behind).files id) nothing_ignored row (λ looked. sym (rows_moved row.path (left.row looked)))
-        (told_moved flat (tree.now old) (tree.now mid) (parent_rows (shelf.now start).files id) nothing_ignored wanted row (alike_back (tree.now mid) (tree.now old) row.path (alike row.path left)) tells));
+        (told_rows wanted flat (tree.now old) (parent_rows (shelf.now start).files id) (parent_rows (shelf.now behind).files id) (ignored_at (tree.now old)) row (λ looked. sym (rows_moved row.path (left.row looked)))
+        tells);
     once = is.once;
     ascending = is.ascending;
   }
@@ -247,16 +200,13 @@ module _ (wanted : Wanted) (flat : Flat) (id : Id20) (old mid new : tree.History
           ap (λ (files : shelf.Files). files (contents_name row.id.0)) (sym at_behind) ∙ keeps behind.last before.later after.later
           ∙ ap (λ (files : shelf.Files). files (contents_name row.id.0)) at_start
 
-  pub served_moved : ((path : List ℕ) → LeftBehind path → IsAsked wanted flat (tree.now mid) path → IsServed (shelf.now behind).files id (tree.now mid) path)
+  pub served_moved : ((path : List ℕ) → LeftBehind path → IsAsked wanted flat (tree.now old) path → IsServed (shelf.now behind).files id (tree.now old) path)
       → (path : List ℕ) → Left path → IsAsked wanted flat (tree.now old) path → IsServed (shelf.now start).files id (tree.now old) path
   served_moved served path left asked =
       let kept : KeepsRow end start.last id path = left.row asked.compared in
-      let same = alike path left in
-      let there : is_file_or_link ((tree.now mid).things path) ≡ true = file_alike (tree.now mid) (tree.now old) path (same_kind (tree.now mid) (tree.now old) path same.seen) ∙ asked.there in
-      let s = served path (left_behind path left) (record { compared = asked.compared; there = there }) in
+      let s = served path (left_behind path left) asked in
       let formed : manifest_at (shelf.now start).files id ≡ Ok s.rows = sym (manifest_moved path kept) ∙ s.formed in record {
         rows = s.rows;
         formed = formed;
-        contents =
-            contents_moved (shelf.now behind).files (shelf.now start).files (tree.now mid) (tree.now old) path same (row_of s.rows path) (contents_stay path kept s.rows formed) s.contents;
+        contents = contents_moved (shelf.now behind).files (shelf.now start).files (tree.now old) path (row_of s.rows path) (contents_stay path kept s.rows formed) s.contents;
       }

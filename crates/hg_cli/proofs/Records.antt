@@ -7,6 +7,7 @@ use Rattle.hg_entry.specs.Table.{Table}
 use Rattle.hg_image.specs.Reading.{RecordFault}
 use Rattle.hg_mixed.specs.Edits.{IsSame}
 use Rattle.hg_report.specs.Debug.{IsDebugText}
+use Rattle.hg_report.specs.Fault.{has_line}
 use Rattle.hg_report.specs.declared.fault.Fault.{Fault}
 use Rattle.hg_report.specs.declared.fault.Fault.TheVariants as a_fault
 use Rattle.hg_report.proofs.Recorded.{one_text}
@@ -14,14 +15,14 @@ use Rattle.hg_shelf.specs.History as shelf
 use Rattle.hg_shelf.proofs.Histories as shelves
 use Rattle.hg_tree.specs.History as tree
 use Rattle.hg_cli.specs.Call.{Call, Fails, Serves, Watched}
-use Rattle.hg_cli.specs.Command.{Does, IsFaultOrMemory, Prints, Ran}
+use Rattle.hg_cli.specs.Command.{Does, IsFaultOrMemory, IsSilent, Prints, Ran, Tells, TellsLine}
 use Rattle.hg_cli.specs.Debug.{HasText, IsExpectedOf, IsLeftAlone, IsRead, IsReadable, IsTextIn, LeavesRecord, LeavesText, MetReading, OneRecord, PrintsRecord, RanRecord, RecordCause, is_debug}
 use Rattle.hg_cli.specs.Listed.{LoadMet}
 use Rattle.hg_cli.specs.Load.{id_in, of_load, record_in}
 use Rattle.hg_cli.specs.Loaded.{Answers, IsBytesOf, IsFlatOf, Loads, Try}
 use Rattle.hg_cli.specs.declared.load_fault.LoadFault.{LoadFault}
 use Rattle.hg_cli.specs.declared.load_fault.LoadFault.TheVariants as a_load
-use Rattle.hg_cli.proofs.Commands.{answered_by, not_without, ran_err, ran_ok}
+use Rattle.hg_cli.proofs.Commands.{answered_by, ends, line_told, not_without, partly_told, ran_as, ran_err, ran_ok, silent_left}
 use Rattle.hg_cli.proofs.Loads.{unstepped_found, unstepped_loads}
 
 -- ---- the text that was read
@@ -97,9 +98,16 @@ module _ (files : Watched shelf.History) (passes : shelf.Passes files.old files.
   reading_expected (a_fault.ManifestLine line) met p = absurd met
   reading_expected (a_fault.ManifestOrder line) met p = absurd met
   reading_expected (a_fault.NoContents id) met p = absurd met
+  reading_expected (a_fault.IgnoreTooLarge size) met p = absurd met
+  reading_expected (a_fault.IgnoreText at) met p = absurd met
+  reading_expected (a_fault.BadGlob line) met p = absurd met
+  reading_expected (a_fault.BadRegexp line) met p = absurd met
+  reading_expected (a_fault.RegexpTooBig line) met p = absurd met
+  reading_expected (a_fault.BadInclude line) met p = absurd met
   reading_expected a_fault.TreeFailed met p = absurd met
   reading_expected a_fault.ShelfFailed met p = absurd (steady_not_rose files.before files.after p met)
   reading_expected a_fault.OutFailed met p = absurd met
+  reading_expected a_fault.ErrFailed met p = absurd met
 
   record_expected : (out : Watched (Option (List ℕ))) (fault : Fault) → RecordCause files out fault → Serves files → Serves out → IsExpectedOf there (Some fault)
   record_expected out fault (inl met) p q = reading_expected fault met p
@@ -159,25 +167,96 @@ record_err copy files out fault answered is (alone, prints) = record {
       (record_left files prints.passes own out fault prints.left) (record_left files prints.passes own out fault prints.left);
 }
 
+-- no fault of the record is the error stream's
+record_told : (files : Watched shelf.History) (out : Watched (Option (List ℕ))) (fault : Fault) → fault ≡ a_fault.ErrFailed → LeavesText files out fault → ⊥
+record_told files out fault is left = never (subst (LeavesText files out) is left)
+  where
+    never : LeavesText files out a_fault.ErrFailed → ⊥
+    never (inl (met, same)) = met
+    never (inr (writing, begun)) = writing.kind
+
 -- ---- by the words
 
-pub does_record : (call : Call) (result : Result Unit Fault) (b : Bool) → b ≡ is_debug call.words → b ≡ true → IsLeftAlone call.looked.tree → PrintsRecord call.looked.shelf call.out result → Does call result
-does_record call result b debug is alone prints = record { debug = λ _. (alone, prints); status = λ other. absurd (both_ways (is_debug call.words) other (sym debug ∙ is)) }
+pub does_record : (call : Call) (result : Result Unit Fault) (b : Bool) → b ≡ is_debug call.words → b ≡ true → IsLeftAlone call.looked.tree → call.looked.oversize.after ≡ call.looked.oversize.before → IsSilent call.err
+    → PrintsRecord call.looked.shelf call.out result → Does call result
+does_record call result b debug is alone uncounted silent prints = record {
+  debug = λ _. (alone, prints);
+  uncounted = λ _. uncounted;
+  silent = λ _. silent;
+  status = λ other. absurd (both_ways (is_debug call.words) other (sym debug ∙ is));
+}
 
 pub does_status : (call : Call) (result : Result Unit Fault) (b : Bool) → b ≡ is_debug call.words → b ≡ false → Prints call result → Does call result
-does_status call result b is other prints = record { debug = λ it. absurd (both_ways (is_debug call.words) (sym is ∙ other) it); status = λ _. prints }
+does_status call result b is other prints = record {
+  debug = λ it. absurd (both_ways (is_debug call.words) (sym is ∙ other) it);
+  uncounted = λ it. absurd (both_ways (is_debug call.words) (sym is ∙ other) it);
+  silent = λ it. absurd (both_ways (is_debug call.words) (sym is ∙ other) it);
+  status = λ _. prints;
+}
 
 pub did_ok : (call : Call) (u : Unit) → Does call (Ok u) → Ran call None
 did_ok call u does = record {
   debug = λ is. record_ok call.looked.tree call.looked.shelf call.out u (does.debug is);
+  uncounted = does.uncounted;
   status = λ is. ran_ok call u (does.status is);
 }
 
-pub did_err : (call : Call) (fault : Fault) (answered : Option Fault) → Does call (Err fault) → IsFaultOrMemory answered fault → Ran call answered
-did_err call fault answered does is = record {
-  debug = λ it. record_err call.looked.tree call.looked.shelf call.out fault answered is (does.debug it);
-  status = λ it. ran_err call fault answered (does.status it) is;
+pub told_ok : (call : Call) (u : Unit) → Does call (Ok u) → Tells call None
+told_ok call u does = record { debug = λ is. (does.silent is).bytes; status = λ is. (does.status is).warned }
+
+pub steady_ok : (call : Call) (u : Unit) → Does call (Ok u) → call.err.after ≡ call.err.before
+steady_ok call u does = elim (cases_Bool (is_debug call.words)) [ inl it ↦ (does.silent it).count | inr other ↦ (does.status other).calm_err ]
+
+-- a fault whose line isn't told
+pub did_untold : (call : Call) (fault : Fault) → Does call (Err fault) → Ran call (Some fault)
+did_untold call fault does = record {
+  debug = λ it. record_err call.looked.tree call.looked.shelf call.out fault (Some fault) (inl refl) (does.debug it);
+  uncounted = does.uncounted;
+  status = λ it. ran_as call fault (does.status it);
 }
+
+unwritten : (fault : Fault) → has_line fault ≡ false → fault ≡ a_fault.ErrFailed
+unwritten a_fault.OutOfMemory is = absurd (cc (is))
+unwritten a_fault.NotBuilt is = absurd (cc (is))
+unwritten (a_fault.Docket fault) is = absurd (cc (is))
+unwritten (a_fault.Node fault) is = absurd (cc (is))
+unwritten (a_fault.DataGone ids) is = absurd (cc (is))
+unwritten (a_fault.NoManifest id) is = absurd (cc (is))
+unwritten (a_fault.ManifestTooLarge size) is = absurd (cc (is))
+unwritten (a_fault.ManifestLine line) is = absurd (cc (is))
+unwritten (a_fault.ManifestOrder line) is = absurd (cc (is))
+unwritten (a_fault.NoContents id) is = absurd (cc (is))
+unwritten (a_fault.IgnoreTooLarge size) is = absurd (cc (is))
+unwritten (a_fault.IgnoreText at) is = absurd (cc (is))
+unwritten (a_fault.BadGlob line) is = absurd (cc (is))
+unwritten (a_fault.BadRegexp line) is = absurd (cc (is))
+unwritten (a_fault.RegexpTooBig line) is = absurd (cc (is))
+unwritten (a_fault.BadInclude line) is = absurd (cc (is))
+unwritten a_fault.TreeFailed is = absurd (cc (is))
+unwritten a_fault.ShelfFailed is = absurd (cc (is))
+unwritten a_fault.OutFailed is = absurd (cc (is))
+unwritten a_fault.ErrFailed is = refl
+
+pub untold : (call : Call) (fault : Fault) → has_line fault ≡ false → Does call (Err fault) → Tells call (Some fault)
+untold call fault none does = elim (cases_Bool (is_debug call.words)) [
+  | inl it ↦ absurd (record_told call.looked.shelf call.out fault (unwritten fault none) (does.debug it).1.left)
+  | inr other ↦ partly_told call fault none (does.status other).left_err
+]
+
+-- and one whose line is, behind it
+pub did_err : (call : Call) (err : Watched (Option (List ℕ))) (fault : Fault) (answered : Option Fault) → has_line fault ≡ true → Does call (Err fault) → IsFaultOrMemory answered fault → Ran (ends call err) answered
+did_err call err fault answered told does is = record {
+  debug = λ it. record_err call.looked.tree call.looked.shelf call.out fault answered is (does.debug it);
+  uncounted = does.uncounted;
+  status = λ it. ran_err call err fault answered told (does.status it) is;
+}
+
+pub told_err : (call : Call) (err : Watched (Option (List ℕ))) (fault : Fault) (answered : Option Fault) → has_line fault ≡ true → Does call (Err fault) → err.old ≡ call.err.old → err.before ≡ call.err.before
+    → IsFaultOrMemory answered fault → IfSome answered (λ f. TellsLine call.err.new err.new call.err.after err.after f) → Tells (ends call err) answered
+told_err call err fault answered told does same_old same_before is line = line_told call err fault answered told silent same_old same_before is line
+  where
+    silent : IsSilent call.err
+    silent = elim (cases_Bool (is_debug call.words)) [ inl it ↦ does.silent it | inr other ↦ silent_left call fault told (does.status other).left_err ]
 
 -- ---- one text
 

@@ -1,8 +1,9 @@
 -- What a status prints is one text: the reading is a function, there is one full listing, and its lines are put behind what stood there.
 use Rattle.std.proofs.Common.{◌≡◌, List, ◌++◌, Option, Some, None, option_map, Result, Ok, Err, sym, ap, ◌∙◌, subst}
 use Rattle.hg_entry.specs.Table.{Table, flat_of}
-use Rattle.hg_flat.specs.Full.{IsFull, nothing_ignored}
+use Rattle.hg_flat.specs.Full.{IsFull}
 use Rattle.hg_flat.specs.Parent.{parent_rows}
+use Rattle.hg_flat.specs.Patterns.{ignored_at}
 use Rattle.hg_flat.specs.declared.row.Row.{Row}
 use Rattle.hg_flat.proofs.Alone.{alone}
 use Rattle.hg_image.specs.Reading.{RecordFault}
@@ -26,8 +27,8 @@ same_text words files moment old a b is_a is_b =
     let first = is_a.listing in
     let second = is_b.listing in
     let table : first.table ≡ second.table = same_table (record_in files files) first.table second.table first.recorded second.recorded in
-    let full : IsFull (flat_of second.table) moment (parent_rows files (first_parent (flat_of second.table))) nothing_ignored (wanted_of words) is_a.rows =
-    subst (λ (t : Table). IsFull (flat_of t) moment (parent_rows files (first_parent (flat_of t))) nothing_ignored (wanted_of words) is_a.rows) table first.full in
+    let full : IsFull (flat_of second.table) moment (parent_rows files (first_parent (flat_of second.table))) (ignored_at moment) (wanted_of words) is_a.rows =
+    subst (λ (t : Table). IsFull (flat_of t) moment (parent_rows files (first_parent (flat_of t))) (ignored_at moment) (wanted_of words) is_a.rows) table first.full in
     let rows : is_a.rows ≡ is_b.rows =
-    alone nothing_ignored (flat_of second.table) moment (parent_rows files (first_parent (flat_of second.table))) (wanted_of words) is_a.rows is_b.rows full second.full in
+    alone (ignored_at moment) (flat_of second.table) moment (parent_rows files (first_parent (flat_of second.table))) (wanted_of words) is_a.rows is_b.rows full second.full in
     is_a.printed ∙ ap (λ (r : List Row). option_map (λ bytes. bytes ++ text_of (style_of words) r) old) rows ∙ sym is_b.printed

@@ -19,13 +19,20 @@ Fails device = Rose device.before device.after
 abbrev pub Serves {ℓ} : {Told : Type ℓ} → Watched Told → Type 0
 Serves device = IsSteady device.before device.after
 
--- what is looked at: the working copy, and the files below `.hg`
+-- a count before and after a call
+pub record Count : Type 0 where
+  pub before : ℕ
+  pub after : ℕ
+
+-- what is looked at: the working copy, and the files below `.hg`; and how many regexps were too big
 pub record Looked : Type 0 where
   pub tree : Watched tree.History
   pub shelf : Watched shelf.History
+  pub oversize : Count
 
--- a command: its words, what is looked at, and standard output
+-- a command: its words, what is looked at, standard output and the error stream
 pub record Call : Type 0 where
   pub words : List (List ℕ)
   pub looked : Looked
   pub out : Watched (Option (List ℕ))
+  pub err : Watched (Option (List ℕ))

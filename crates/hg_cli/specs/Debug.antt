@@ -89,8 +89,15 @@ MetReading files (a_fault.ManifestTooLarge size) = ⊥
 MetReading files (a_fault.ManifestLine line) = ⊥
 MetReading files (a_fault.ManifestOrder line) = ⊥
 MetReading files (a_fault.NoContents id) = ⊥
+MetReading files (a_fault.IgnoreTooLarge size) = ⊥
+MetReading files (a_fault.IgnoreText at) = ⊥
+MetReading files (a_fault.BadGlob line) = ⊥
+MetReading files (a_fault.BadRegexp line) = ⊥
+MetReading files (a_fault.RegexpTooBig line) = ⊥
+MetReading files (a_fault.BadInclude line) = ⊥
 MetReading files a_fault.TreeFailed = ⊥
 MetReading files a_fault.OutFailed = ⊥
+MetReading files a_fault.ErrFailed = ⊥
 
 -- a fault that printing may meet; for the line of the one there may be no memory
 abbrev pub IsOutFault : Fault → Type 0
@@ -105,8 +112,15 @@ IsOutFault (a_fault.ManifestTooLarge size) = ⊥
 IsOutFault (a_fault.ManifestLine line) = ⊥
 IsOutFault (a_fault.ManifestOrder line) = ⊥
 IsOutFault (a_fault.NoContents id) = ⊥
+IsOutFault (a_fault.IgnoreTooLarge size) = ⊥
+IsOutFault (a_fault.IgnoreText at) = ⊥
+IsOutFault (a_fault.BadGlob line) = ⊥
+IsOutFault (a_fault.BadRegexp line) = ⊥
+IsOutFault (a_fault.RegexpTooBig line) = ⊥
+IsOutFault (a_fault.BadInclude line) = ⊥
 IsOutFault a_fault.TreeFailed = ⊥
 IsOutFault a_fault.ShelfFailed = ⊥
+IsOutFault a_fault.ErrFailed = ⊥
 
 -- while it printed: no fault was found before, and standard output failed
 pub record MetWriting (files : Watched shelf.History) (out : Watched (Option (List ℕ))) (fault : Fault) : Type 0 where
@@ -140,9 +154,16 @@ IsExpectedOf files (Some (a_fault.ManifestTooLarge size)) = ⊥
 IsExpectedOf files (Some (a_fault.ManifestLine line)) = ⊥
 IsExpectedOf files (Some (a_fault.ManifestOrder line)) = ⊥
 IsExpectedOf files (Some (a_fault.NoContents id)) = ⊥
+IsExpectedOf files (Some (a_fault.IgnoreTooLarge size)) = ⊥
+IsExpectedOf files (Some (a_fault.IgnoreText at)) = ⊥
+IsExpectedOf files (Some (a_fault.BadGlob line)) = ⊥
+IsExpectedOf files (Some (a_fault.BadRegexp line)) = ⊥
+IsExpectedOf files (Some (a_fault.RegexpTooBig line)) = ⊥
+IsExpectedOf files (Some (a_fault.BadInclude line)) = ⊥
 IsExpectedOf files (Some a_fault.TreeFailed) = ⊥
 IsExpectedOf files (Some a_fault.ShelfFailed) = ⊥
 IsExpectedOf files (Some a_fault.OutFailed) = ⊥
+IsExpectedOf files (Some a_fault.ErrFailed) = ⊥
 
 -- ---- the command
 

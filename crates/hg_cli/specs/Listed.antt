@@ -1,24 +1,24 @@
 -- What a listing answers, and why.
-use Rattle.std.specs.Prelude.{ℕ, ◌≡◌, ◌⊎◌, ◌≤◌, Bool, true, false, ◌||◌, List, Option, Some, None, Result, Ok, Err, IsTrue, IfErr, IfOk, OnOk, codes}
+use Rattle.std.specs.Prelude.{ℕ, ◌≡◌, ◌⊎◌, true, List, Option, Some, Result, Ok, Err, IsTrue, IfErr, IfOk, OnOk}
+use Rattle.hg_base.specs.Fault.{Rose}
 use Rattle.hg_base.specs.declared.id.Id20.{Id20}
-use Rattle.hg_base.specs.declared.stat.Kind.{Kind}
-use Rattle.hg_base.specs.declared.stat.Kind.TheVariants as a_kind
-use Rattle.hg_base.specs.declared.stat.Stat.{Stat}
 use Rattle.hg_entry.specs.Table.{Table, flat_of}
 use Rattle.hg_entry.specs.Table as plain
-use Rattle.hg_flat.specs.Asked.{AsksBoth, AsksNothing, IsVisibleDir}
-use Rattle.hg_flat.specs.Full.{IsFull, IsFullFor, nothing_ignored}
+use Rattle.hg_flat.specs.Asked.{AsksAll, AsksBehind, AsksNothing, IsListedDir, pattern_reads}
+use Rattle.hg_flat.specs.Full.{IsFull, IsFullFor}
 use Rattle.hg_flat.specs.Met.{Met, Status}
 use Rattle.hg_flat.specs.Parent.{IsAsked, IsLeft, IsServed, is_compared, parent_rows}
+use Rattle.hg_flat.specs.Patterns.{HadPatterns, Warns, ignored_at, is_of_parent}
 use Rattle.hg_flat.specs.declared.fault.StatusFault.{StatusFault}
 use Rattle.hg_flat.specs.declared.fault.StatusFault.TheVariants as a_status
+use Rattle.hg_flat.specs.declared.listed.Listed.{Listed}
 use Rattle.hg_flat.specs.declared.row.Row.{Row}
 use Rattle.hg_flat.specs.declared.row.Wanted.{Wanted}
 use Rattle.hg_report.specs.declared.fault.Fault.{Fault}
 use Rattle.hg_report.specs.declared.fault.Fault.TheVariants as a_fault
 use Rattle.hg_shelf.specs.History as shelf
 use Rattle.hg_tree.specs.History as tree
-use Rattle.hg_tree.specs.Moment.{Moment, is_file}
+use Rattle.hg_tree.specs.Moment.{Moment}
 use Rattle.hg_cli.specs.Call.{Fails, Looked, Watched}
 use Rattle.hg_cli.specs.Load.{record_in}
 use Rattle.hg_cli.specs.Loaded.{IsFlatOf, Loads, Tries, Try, found_by}
@@ -51,31 +51,10 @@ LoadMet fault files = IsTrue files.old.told → ((tries : List Try) × Loads IsF
 abbrev pub first_parent : plain.Flat → Id20
 first_parent flat = record { 0 = flat.p1 }
 
--- a file of ignore patterns stands at the root
-abbrev pub has_ignore_file : Moment → Bool
-has_ignore_file moment = is_file (moment.things (codes ".hgignore"))
-
--- the letters that patterns decide between are wanted
-abbrev pub needs_patterns : Wanted → Bool
-needs_patterns wanted = wanted.u || wanted.i
-
--- at a moment of the call a file of ignore patterns stood there, or none did
-pub record IgnoreSeen (there : Bool) (old new : tree.History) : Type 0 where
-  pub at : ℕ
-  pub from : old.last ≤ at
-  pub to : at ≤ new.last
-  pub is : has_ignore_file (new.at at) ≡ there
-
-abbrev pub LooksFor : Bool → Watched tree.History → Type 0
-LooksFor there copy = IsTrue copy.old.told → IgnoreSeen there copy.old copy.new
-
--- where such a file matters, none was found
-abbrev pub LacksPatterns : Wanted → Watched tree.History → Type 0
-LacksPatterns wanted copy = needs_patterns wanted ≡ true → LooksFor false copy
-
 -- ---- paths that are left alone
 
--- nobody touches the path during the call, nor what the first parent has of it where its bytes are compared
+-- nobody touches the path during the call, nor what the first parent has of it where its bytes are compared, nor the ignore patterns where
+-- they decide its letter
 abbrev pub IsUntouched : Looked → Wanted → plain.Flat → List ℕ → Type 0
 IsUntouched looked wanted flat = IsLeft wanted flat (first_parent flat) looked.tree.new looked.tree.old.last looked.shelf.new looked.shelf.old.last
 
@@ -85,11 +64,11 @@ IsServedFor looked wanted flat =
     (path : List ℕ) → IsUntouched looked wanted flat path → IsAsked wanted flat (tree.now looked.tree.old) path
     → IsServed (shelf.now looked.shelf.old).files (first_parent flat) (tree.now looked.tree.old) path
 
--- a listing met no fault: a flat map was loaded, no file of ignore patterns was found where one matters, and what was compared was there
+-- a listing met no fault: a flat map was loaded, the ignore patterns were read and fine where they are needed, and what was compared was there
 pub record IsListable (looked : Looked) (wanted : Wanted) : Type 0 where
   pub flat : plain.Flat
   pub loaded : IsLoaded looked.shelf flat
-  pub plain_root : LacksPatterns wanted looked.tree
+  pub patterns : HadPatterns wanted looked.tree.old looked.tree.new
   pub served : IsServedFor looked wanted flat
 
 -- ---- why a listing met a fault
@@ -106,96 +85,88 @@ status_over looked wanted flat = record {
   shelf_new = looked.shelf.new;
 }
 
--- the first parent had this fault, behind the load and the look for ignore patterns
-pub record ParentMet (looked : Looked) (wanted : Wanted) (fault : StatusFault) : Type 0 where
+-- a status over the flat map that was loaded met this fault; one of the first parent was met behind patterns that were fine
+pub record StatusMet (looked : Looked) (wanted : Wanted) (fault : StatusFault) : Type 0 where
   pub flat : plain.Flat
   pub loaded : IsLoaded looked.shelf flat
-  pub plain_root : LacksPatterns wanted looked.tree
+  pub behind : is_of_parent fault ≡ true → HadPatterns wanted looked.tree.old looked.tree.new
   pub met : Met (status_over looked wanted flat) fault
 
 -- what stood in the files or at the root, or a device that failed; and that no earlier fault was found. Want of memory needs no reason
 abbrev pub ListingCause : Looked → Wanted → Fault → Type 0
 ListingCause looked wanted a_fault.OutOfMemory = Unit {0}
-ListingCause looked wanted a_fault.NotBuilt = (needs_patterns wanted ≡ true) × Loaded looked.shelf × LooksFor true looked.tree
+ListingCause looked wanted a_fault.NotBuilt = ⊥
 ListingCause looked wanted (a_fault.Docket fault) = LoadMet (a_load.Docket fault) looked.shelf
 ListingCause looked wanted (a_fault.Node fault) = LoadMet (a_load.Node fault) looked.shelf
 ListingCause looked wanted (a_fault.DataGone ids) = LoadMet (a_load.DataGone ids) looked.shelf
-ListingCause looked wanted (a_fault.NoManifest id) = ParentMet looked wanted (a_status.NoManifest id)
-ListingCause looked wanted (a_fault.ManifestTooLarge size) = ParentMet looked wanted (a_status.ManifestTooLarge size)
-ListingCause looked wanted (a_fault.ManifestLine line) = ParentMet looked wanted (a_status.ManifestLine line)
-ListingCause looked wanted (a_fault.ManifestOrder line) = ParentMet looked wanted (a_status.ManifestOrder line)
-ListingCause looked wanted (a_fault.NoContents id) = ParentMet looked wanted (a_status.NoContents id)
+ListingCause looked wanted (a_fault.NoManifest id) = StatusMet looked wanted (a_status.NoManifest id)
+ListingCause looked wanted (a_fault.ManifestTooLarge size) = StatusMet looked wanted (a_status.ManifestTooLarge size)
+ListingCause looked wanted (a_fault.ManifestLine line) = StatusMet looked wanted (a_status.ManifestLine line)
+ListingCause looked wanted (a_fault.ManifestOrder line) = StatusMet looked wanted (a_status.ManifestOrder line)
+ListingCause looked wanted (a_fault.NoContents id) = StatusMet looked wanted (a_status.NoContents id)
+ListingCause looked wanted (a_fault.IgnoreTooLarge size) = StatusMet looked wanted (a_status.IgnoreTooLarge size)
+ListingCause looked wanted (a_fault.IgnoreText at) = StatusMet looked wanted (a_status.IgnoreText at)
+ListingCause looked wanted (a_fault.BadGlob line) = StatusMet looked wanted (a_status.BadGlob line)
+ListingCause looked wanted (a_fault.BadRegexp line) = StatusMet looked wanted (a_status.BadRegexp line)
+ListingCause looked wanted (a_fault.RegexpTooBig line) = StatusMet looked wanted (a_status.RegexpTooBig line) × Rose looked.oversize.before looked.oversize.after
+ListingCause looked wanted (a_fault.BadInclude line) = StatusMet looked wanted (a_status.BadInclude line)
 ListingCause looked wanted a_fault.TreeFailed = Fails looked.tree × Loaded looked.shelf
 ListingCause looked wanted a_fault.ShelfFailed = Fails looked.shelf
 ListingCause looked wanted a_fault.OutFailed = ⊥
+ListingCause looked wanted a_fault.ErrFailed = ⊥
 
 -- ---- the rows
 
--- for paths that are left alone the rows are the full listing at the start of the call, by the flat map that was loaded in it and what the
--- files at the start of the call have of its first parent
+-- for paths that are left alone the rows are the full listing at the start of the call, by the flat map that was loaded in it, what the
+-- files at the start of the call have of its first parent, and the ignore patterns there
 pub record IsListedFor (looked : Looked) (wanted : Wanted) (rows : List Row) : Type 0 where
   pub flat : plain.Flat
   pub loaded : IsLoaded looked.shelf flat
-  pub full : IsFullFor (IsUntouched looked wanted flat) flat (tree.now looked.tree.old) (parent_rows (shelf.now looked.shelf.old).files (first_parent flat)) nothing_ignored wanted rows
+  pub full : IsFullFor (IsUntouched looked wanted flat) flat (tree.now looked.tree.old) (parent_rows (shelf.now looked.shelf.old).files (first_parent flat)) (ignored_at (tree.now looked.tree.old)) wanted rows
 
--- the rows are the full listing of the working copy at a moment, by the dirstate in these files and its first parent there
+-- the rows are the full listing of the working copy at a moment, by the dirstate in these files, its first parent there, and the ignore patterns of that moment
 pub record IsListed (files : shelf.Files) (moment : Moment) (wanted : Wanted) (rows : List Row) : Type 0 where
   pub table : Table
   pub recorded : record_in files files ≡ Some (Ok table)
-  pub full : IsFull (flat_of table) moment (parent_rows files (first_parent (flat_of table))) nothing_ignored wanted rows
+  pub full : IsFull (flat_of table) moment (parent_rows files (first_parent (flat_of table))) (ignored_at moment) wanted rows
 
 -- nobody but the caller makes a step
 pub record IsOwn (looked : Looked) : Type 0 where
   pub tree : tree.IsOurs looked.tree.old looked.tree.new
   pub shelf : shelf.IsOurs looked.shelf.old looked.shelf.new
 
--- the tree was asked by a listing over a flat map: paths whose bytes are compared were read, and where `?` is wanted directories were listed,
--- each once at most; where nobody else steps, visible ones alone
+-- a path whose bytes are compared
+abbrev pub IsCompared : Wanted → plain.Flat → List ℕ → Type 0
+IsCompared wanted flat path = IsTrue (is_compared wanted flat path)
+
+-- the tree was asked by a listing over a flat map: the ignore patterns were read where they are needed and a file of them was seen, then paths whose
+-- bytes are compared were read, and where `?` or I is wanted directories were listed, each once at most; where nobody else steps, visible ones alone, and
+-- without I none that is ignored
 abbrev pub AsksOver : plain.Flat → Wanted → Watched tree.History → Type 0
-AsksOver flat wanted copy =
-    AsksBoth (λ path. IsTrue (is_compared wanted flat path)) (λ dir. IsTrue wanted.u × (tree.IsOurs copy.old copy.new → IsVisibleDir (tree.now copy.old) dir)) copy.old copy.new
+AsksOver flat wanted copy = AsksAll wanted (IsCompared wanted flat) (IsListedDir wanted copy.old copy.new) copy.old copy.new
 
 -- it was asked nothing, or by a listing over the flat map that was loaded
 abbrev pub AsksLittle : Looked → Wanted → Type 0
 AsksLittle looked wanted =
     IsTrue looked.tree.old.told → AsksNothing looked.tree.old looked.tree.new ⊎ ((flat : plain.Flat) × IsLoaded looked.shelf flat × AsksOver flat wanted looked.tree)
 
--- what a listing does: it only asks, and answers the rows or a fault
-pub record Lists (looked : Looked) (wanted : Wanted) (result : Result (List Row) Fault) : Type 0 where
+-- where nobody else steps, it was asked by a listing that read the ignore patterns exactly where they are needed and stand there
+abbrev pub AsksOwn : Looked → Wanted → Type 0
+AsksOwn looked wanted =
+    tree.IsOurs looked.tree.old looked.tree.new
+    → (flat : plain.Flat) × IsLoaded looked.shelf flat
+    × AsksBehind (pattern_reads wanted (tree.now looked.tree.old)) (IsCompared wanted flat) (IsListedDir wanted looked.tree.old looked.tree.new) looked.tree.old looked.tree.new
+
+-- what a listing does: it only asks, and answers the rows and the warnings, or a fault
+pub record Lists (looked : Looked) (wanted : Wanted) (result : Result Listed Fault) : Type 0 where
   pub tree : tree.Passes looked.tree.old looked.tree.new
   pub shelf : shelf.Passes looked.shelf.old looked.shelf.new
-  pub still : IfOk result (IsListedFor looked wanted)
+  pub still : IfOk result (λ listed. IsListedFor looked wanted listed.rows)
+  pub warns : IfOk result (λ listed. Warns wanted looked.tree.old looked.tree.new listed.warnings)
   pub listable : OnOk result (IsListable looked wanted)
   pub cause : IfErr result (ListingCause looked wanted)
   pub asked : AsksLittle looked wanted
+  pub asked_own : OnOk result (AsksOwn looked wanted)
   pub calm_tree : OnOk result (looked.tree.after ≡ looked.tree.before)
   pub calm_shelf : OnOk result (looked.shelf.after ≡ looked.shelf.before)
-
--- ---- the steps
-
-abbrev pub is_file_kind : Kind → Bool
-is_file_kind a_kind.File = true
-is_file_kind a_kind.Link = false
-is_file_kind a_kind.Dir = false
-is_file_kind a_kind.Other = false
-
--- a stat shows a regular file
-abbrev pub shows_file : Option Stat → Bool
-shows_file None = false
-shows_file (Some stat) = is_file_kind stat.kind
-
--- why the look for the file of ignore patterns met a fault
-abbrev pub IgnoreCause : Wanted → Watched tree.History → Fault → Type 0
-IgnoreCause wanted copy a_fault.NotBuilt = (needs_patterns wanted ≡ true) × LooksFor true copy
-IgnoreCause wanted copy a_fault.TreeFailed = Fails copy
-IgnoreCause wanted copy a_fault.OutOfMemory = ⊥
-IgnoreCause wanted copy a_fault.ShelfFailed = ⊥
-IgnoreCause wanted copy a_fault.OutFailed = ⊥
-IgnoreCause wanted copy (a_fault.Docket fault) = ⊥
-IgnoreCause wanted copy (a_fault.Node fault) = ⊥
-IgnoreCause wanted copy (a_fault.DataGone ids) = ⊥
-IgnoreCause wanted copy (a_fault.NoManifest id) = ⊥
-IgnoreCause wanted copy (a_fault.ManifestTooLarge size) = ⊥
-IgnoreCause wanted copy (a_fault.ManifestLine line) = ⊥
-IgnoreCause wanted copy (a_fault.ManifestOrder line) = ⊥
-IgnoreCause wanted copy (a_fault.NoContents id) = ⊥
+  pub calm_regexps : OnOk result (looked.oversize.after ≡ looked.oversize.before)

@@ -1,5 +1,5 @@
 -- The line of a fault on the error stream.
-use Rattle.std.specs.Prelude.{ℕ, List, [], ◌∷◌, ◌++◌, codes}
+use Rattle.std.specs.Prelude.{ℕ, Bool, true, false, if◌then◌else◌, List, [], ◌∷◌, ◌++◌, codes}
 use Rattle.std.specs.Fmt.{decimal}
 use Rattle.std.specs.List.{flat_map}
 use Rattle.hex.specs.Hex.{encode_lower}
@@ -37,6 +37,10 @@ node_words (a_node.Times node) = at_node node (codes "time")
 abbrev pub with_id : List ℕ → Id20 → List ℕ
 with_id what id = what ++ encode_lower id.0
 
+-- what is wrong with a line of the ignore patterns
+abbrev pub at_ignore_line : ℕ → List ℕ → List ℕ
+at_ignore_line line what = codes ".hgignore line " ++ (decimal line ++ (codes ": " ++ what))
+
 abbrev pub words_of : Fault → List ℕ
 words_of a_fault.OutOfMemory = codes "out of memory"
 words_of a_fault.NotBuilt = codes "not built yet"
@@ -48,10 +52,22 @@ words_of (a_fault.ManifestTooLarge size) = codes "manifest of " ++ (decimal size
 words_of (a_fault.ManifestLine line) = codes "manifest line " ++ decimal line
 words_of (a_fault.ManifestOrder line) = codes "manifest order at line " ++ decimal line
 words_of (a_fault.NoContents id) = with_id (codes "no contents ") id
+words_of (a_fault.IgnoreTooLarge size) = codes ".hgignore of " ++ (decimal size ++ codes " bytes")
+words_of (a_fault.IgnoreText at) = codes ".hgignore: byte " ++ (decimal at ++ codes " is not text")
+words_of (a_fault.BadGlob line) = at_ignore_line line (codes "glob")
+words_of (a_fault.BadRegexp line) = at_ignore_line line (codes "regexp")
+words_of (a_fault.RegexpTooBig line) = at_ignore_line line (codes "size")
+words_of (a_fault.BadInclude line) = at_ignore_line line (codes "include")
 words_of a_fault.TreeFailed = codes "working copy failed"
 words_of a_fault.ShelfFailed = codes ".hg failed"
 words_of a_fault.OutFailed = codes "output failed"
+words_of a_fault.ErrFailed = []
+
+-- a fault has a line, but for the one where the error stream failed
+abbrev pub has_line : Fault → Bool
+has_line a_fault.ErrFailed = false
+has_line fault = true
 
 -- the whole line
 abbrev pub line_of : Fault → List ℕ
-line_of fault = codes "abort: " ++ words_of fault ++ 10 ∷ []
+line_of fault = if has_line fault then codes "abort: " ++ words_of fault ++ 10 ∷ [] else []

@@ -3,3 +3,4 @@ pub mod Debug
 pub mod Fault
 pub mod Gathered
 pub mod Status
+pub mod Warnings

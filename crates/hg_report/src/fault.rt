@@ -29,12 +29,26 @@ pub enum Fault {
     ManifestOrder { line: u32 },
     /// The file of a row's contents is absent.
     NoContents { id: Id20 },
+    /// `.hgignore` has so many bytes, over 1,048,576.
+    IgnoreTooLarge { size: u64 },
+    /// At this byte it isn't UTF-8.
+    IgnoreText { at: u32 },
+    /// The glob of its line of that number, from 1, is none.
+    BadGlob { line: u32 },
+    /// The regexp of that line is none, or nested too deep.
+    BadRegexp { line: u32 },
+    /// The regexp of that line was refused for its size.
+    RegexpTooBig { line: u32 },
+    /// That line names another file, which isn't read yet.
+    BadInclude { line: u32 },
     /// The working copy failed.
     TreeFailed,
     /// The files below `.hg` failed.
     ShelfFailed,
     /// Standard output failed.
     OutFailed,
+    /// The error stream failed while warnings were written.
+    ErrFailed,
 }
 
 impl From<OutOfMemory> for Fault {
@@ -108,6 +122,12 @@ impl From<StatusFault> for Fault {
             StatusFault::ManifestLine { line } => Fault::ManifestLine { line },
             StatusFault::ManifestOrder { line } => Fault::ManifestOrder { line },
             StatusFault::NoContents { id } => Fault::NoContents { id },
+            StatusFault::IgnoreTooLarge { size } => Fault::IgnoreTooLarge { size },
+            StatusFault::IgnoreText { at } => Fault::IgnoreText { at },
+            StatusFault::BadGlob { line } => Fault::BadGlob { line },
+            StatusFault::BadRegexp { line } => Fault::BadRegexp { line },
+            StatusFault::RegexpTooBig { line } => Fault::RegexpTooBig { line },
+            StatusFault::BadInclude { line } => Fault::BadInclude { line },
         }
     }
 }

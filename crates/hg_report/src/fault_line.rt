@@ -4,7 +4,8 @@ ghost use Rattle.std.specs.Prelude.{◌≡◌, ◌++◌, ◌∷◌, [], IfOk, On
 ghost use Rattle.std.specs.Fmt.{decimal};
 ghost use Rattle.std.specs.List.{flat_map};
 ghost use Rattle.std.specs.String.{string_bytes};
-ghost use Rattle.hg_report.specs.Fault.{at_node, docket_words, line_of, node_words, with_id, words_of};
+ghost use Rattle.hg_report.specs.Fault as words_are;
+ghost use Rattle.hg_report.specs.Fault.{at_ignore_line, at_node, docket_words, line_of, node_words, with_id, words_of};
 
 use crate::fault::Fault;
 use hg_base::{Id20, OutOfMemory};
@@ -86,6 +87,24 @@ fn line_text(alloc: Global, what: &str, line: u32) -> Result<String, OutOfMemory
     Ok(format!(in alloc; "{what}{line}")?)
 }
 
+fn ignore_text(alloc: Global, line: u32, what: &str) -> Result<String, OutOfMemory>
+    ensures { IfOk result (λ text. string_bytes text ≡ at_ignore_line line what.now) }
+{
+    Ok(format!(in alloc; ".hgignore line {line}: {what}")?)
+}
+
+fn ignore_size_text(alloc: Global, size: u64) -> Result<String, OutOfMemory>
+    ensures { IfOk result (λ text. string_bytes text ≡ codes ".hgignore of " ++ (decimal size ++ codes " bytes")) }
+{
+    Ok(format!(in alloc; ".hgignore of {size} bytes")?)
+}
+
+fn ignore_byte_text(alloc: Global, at: u32) -> Result<String, OutOfMemory>
+    ensures { IfOk result (λ text. string_bytes text ≡ codes ".hgignore: byte " ++ (decimal at ++ codes " is not text")) }
+{
+    Ok(format!(in alloc; ".hgignore: byte {at} is not text")?)
+}
+
 fn put_words(alloc: Global, line: &mut Vec<u8>, fault: &Fault) -> Result<(), OutOfMemory>
     ensures { OnOk result (line.new.items ≡ line.old.items ++ words_of fault.now) }
 {
@@ -110,9 +129,16 @@ fn put_words(alloc: Global, line: &mut Vec<u8>, fault: &Fault) -> Result<(), Out
             )
         }
         Fault::NoContents { id } => put_id(alloc, line, "no contents ", *id),
+        Fault::IgnoreTooLarge { size } => put(line, ignore_size_text(alloc, *size)?.as_str()),
+        Fault::IgnoreText { at } => put(line, ignore_byte_text(alloc, *at)?.as_str()),
+        Fault::BadGlob { line: at } => put(line, ignore_text(alloc, *at, "glob")?.as_str()),
+        Fault::BadRegexp { line: at } => put(line, ignore_text(alloc, *at, "regexp")?.as_str()),
+        Fault::RegexpTooBig { line: at } => put(line, ignore_text(alloc, *at, "size")?.as_str()),
+        Fault::BadInclude { line: at } => put(line, ignore_text(alloc, *at, "include")?.as_str()),
         Fault::TreeFailed => put(line, "working copy failed"),
         Fault::ShelfFailed => put(line, ".hg failed"),
         Fault::OutFailed => put(line, "output failed"),
+        Fault::ErrFailed => Ok(()),
     }
 }
 
@@ -123,11 +149,21 @@ fn put(line: &mut Vec<u8>, text: &str) -> Result<(), OutOfMemory>
     Ok(())
 }
 
-/// The line of a fault: `abort: `, its text and LF. Numbers are decimal.
+// Whether a fault has a line.
+fn has_line(fault: &Fault) -> bool
+    ensures { result ≡ words_are.has_line fault.now }
+{
+    !matches!(fault, Fault::ErrFailed)
+}
+
+/// The line of a fault: `abort: `, its text and LF; of `ErrFailed` there is none. Numbers are decimal.
 pub fn fault_text(alloc: Global, fault: &Fault) -> Result<Vec<u8>, OutOfMemory>
     ensures { IfOk result (λ line. line.items ≡ line_of fault.now) }
 {
     let mut line = Vec::new(alloc);
+    if !has_line(fault) {
+        return Ok(line);
+    }
     put(&mut line, "abort: ")?;
     put_words(alloc, &mut line, fault)?;
     put(&mut line, "\n")?;

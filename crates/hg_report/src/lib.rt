@@ -1,8 +1,9 @@
-//! The exact texts that a user sees: the lines of a status and the line of a fault.
+//! The exact texts that a user sees: the lines of a status, of its warnings, and the line of a fault.
 //!
 //! A status prints a line for each row (help topic `status`): the letter, a space, the path. `-n` leaves letter and space out, `-0`
 //! ends each name by NUL, `-C` puts the copy source of an added or modified file on a line of its own. A fault prints `abort: `, its
-//! text and a line's end on the error stream.
+//! text and a line's end on the error stream; the one that met the error stream itself prints nothing. A warning says which line of
+//! `.hgignore` names a syntax that isn't known.
 //!
 //! ```text
 //! status_text(alloc, &rows, Style { plain: false, nul: false, copies: false })?;  // "A a\n! b\n? c\n"
@@ -15,11 +16,13 @@ mod fault;
 mod fault_line;
 mod gather;
 mod status;
+mod warnings;
 
 pub use debug::{debug_text, one_debug_text};
 pub use fault::Fault;
 pub use fault_line::fault_text;
 pub use status::{Style, status_text};
+pub use warnings::warnings_text;
 
 #[cfg(test)]
 mod tests;

@@ -1,10 +1,11 @@
 //! What no clause says: the texts as the program's page of texts has them, and that memory is found.
 
 use super::*;
-use hg_base::{Id20, Path};
+use hg_base::{Id20, Path, Text};
 use hg_compare::Letter;
 use hg_docket::{DocketFault, Ident, Idents};
 use hg_flat::{Row, Rows};
+use hg_ignore::{Warning, Warnings};
 use hg_image::NodeFault;
 use std::alloc::Global;
 use std::test::Fail;
@@ -222,6 +223,7 @@ fn prints_other_faults(rt: HostRuntime) -> Result<(), Fail> {
         (Fault::TreeFailed, "abort: working copy failed\n"),
         (Fault::ShelfFailed, "abort: .hg failed\n"),
         (Fault::OutFailed, "abort: output failed\n"),
+        (Fault::ErrFailed, ""),
     ] {
         let line = fault_text(rt.alloc(), &fault)?;
         assert_eq!(rt; line.as_slice(), wanted.as_bytes(), "{wanted}");
@@ -257,6 +259,69 @@ fn prints_faults_of_the_parent(rt: HostRuntime) -> Result<(), Fail> {
     ] {
         let line = fault_text(rt.alloc(), &fault)?;
         assert_eq!(rt; line.as_slice(), wanted.as_bytes(), "{wanted}");
+    }
+    Ok(())
+}
+
+// What may be wrong with the ignore patterns.
+#[test]
+fn prints_faults_of_the_patterns(rt: HostRuntime) -> Result<(), Fail> {
+    for (fault, wanted) in [
+        (
+            Fault::IgnoreTooLarge { size: 1_048_577 },
+            "abort: .hgignore of 1048577 bytes\n",
+        ),
+        (
+            Fault::IgnoreText { at: 0 },
+            "abort: .hgignore: byte 0 is not text\n",
+        ),
+        (
+            Fault::BadGlob { line: 1 },
+            "abort: .hgignore line 1: glob\n",
+        ),
+        (
+            Fault::BadRegexp {
+                line: 4_294_967_295,
+            },
+            "abort: .hgignore line 4294967295: regexp\n",
+        ),
+        (
+            Fault::RegexpTooBig { line: 20 },
+            "abort: .hgignore line 20: size\n",
+        ),
+        (
+            Fault::BadInclude { line: 3 },
+            "abort: .hgignore line 3: include\n",
+        ),
+    ] {
+        let line = fault_text(rt.alloc(), &fault)?;
+        assert_eq!(rt; line.as_slice(), wanted.as_bytes(), "{wanted}");
+    }
+    Ok(())
+}
+
+// The lines and names of warnings, and their text.
+const WARNINGS: &[(&[(u32, &str)], &str)] = &[
+    (&[], ""),
+    (&[(1, "foo")], ".hgignore line 1: unknown syntax foo\n"),
+    (
+        &[(1, ""), (30, "\u{e4} b"), (4_294_967_295, "GLOB")],
+        ".hgignore line 1: unknown syntax \n.hgignore line 30: unknown syntax \u{e4} b\n.hgignore line 4294967295: unknown syntax GLOB\n",
+    ),
+];
+
+#[test]
+fn prints_warnings(rt: HostRuntime) -> Result<(), Fail> {
+    for (lines, wanted) in WARNINGS {
+        let mut warnings = Warnings::new(rt.alloc());
+        for (line, name) in *lines {
+            warnings.push(Warning {
+                line: *line,
+                name: Text::of(rt.alloc(), name)?,
+            })?;
+        }
+        let text = warnings_text(rt.alloc(), &warnings)?;
+        assert_eq!(rt; text.as_slice(), wanted.as_bytes());
     }
     Ok(())
 }
