@@ -40,7 +40,10 @@ pub struct Builds {
 }
 
 impl Builds {
-    pub fn new() -> Builds {
+    /// Compiles every regexp; none was too big yet.
+    pub fn new() -> Builds
+        ensures { result.oversize ≡ 0 }
+    {
         Builds {
             failing: None,
             made: 0,
@@ -49,7 +52,9 @@ impl Builds {
     }
 
     /// Makes that call of `build` answer that the regexp is too big, and no call that was named before; calls are counted from 0.
-    pub fn fail_at(&mut self, call: u64) {
+    pub fn fail_at(&mut self, call: u64)
+        ensures { self.new.oversize ≡ self.old.oversize }
+    {
         self.failing = Some(call);
     }
 
