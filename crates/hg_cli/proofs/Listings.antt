@@ -1,5 +1,5 @@
 -- What a listing answers, from what its parts answer.
-use Rattle.std.proofs.Common.{ℕ, ◌≡◌, Bool, true, List, [], ◌∷◌, map, Ok, Err, IsTrue, refl, sym, ◌∙◌, subst}
+use Rattle.std.proofs.Common.{ℕ, ◌≡◌, Bool, true, List, [], ◌∷◌, Ok, Err, IsTrue, refl, sym, ◌∙◌, subst}
 use Rattle.std.specs.Prelude.{MatchBool}
 use Rattle.hg_base.specs.declared.id.Id20.{Id20}
 use Rattle.hg_entry.specs.Table as plain

@@ -1,5 +1,5 @@
 -- What a call saw of the ignore patterns, where nobody else steps: it stands there.
-use Rattle.std.proofs.Common.{ℕ, ◌≡◌, ◌≤◌, ◌<◌, true, List, length, Option, Some, None, IsTrue, ap, ◌∙◌, subst, inl, inr, arith}
+use Rattle.std.proofs.Common.{ℕ, ◌≡◌, ◌≤◌, ◌<◌, true, List, length, Option, Some, None, ap, ◌∙◌, subst, inl, inr, arith}
 use Rattle.std.specs.Option.{IsSomeAnd}
 use Rattle.hg_flat.specs.Patterns.{AreFine, HadPatterns, HasBytes, IsOver, KeepsPatterns, ReadSo, Saw, most_text, needs_patterns}
 use Rattle.hg_flat.specs.declared.row.Wanted.{Wanted}

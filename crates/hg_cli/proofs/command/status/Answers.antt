@@ -1,5 +1,5 @@
 -- A status: the rows, their text and that of the warnings, and printing both.
-use Rattle.std.proofs.Common.{◌∙◌, inl, inr, refl, sym}
+use Rattle.std.proofs.Common.{◌∙◌, inl, refl, sym}
 use Rattle.std.proofs.lemmas.Result.{err_from_is_err_and}
 use Rattle.hg_tree.proofs.Spans.{passes_same}
 use Rattle.hg_shelf.proofs.Histories as shelves
