@@ -35,7 +35,7 @@ pub record ReadBack (inner rooted : Bool) (parts : List Part) (text : List ℕ) 
   pub text_is : rest ++ encode_utf8_all (reverse read) ≡ text
   pub scalars_are : scalars (reverse read) ≡ true
 
-reverse_more : (read : List ℕ) (c : ℕ) → reverse (read ++ c ∷ []) ≡ c ∷ reverse read
+pub reverse_more : (read : List ℕ) (c : ℕ) → reverse (read ++ c ∷ []) ≡ c ∷ reverse read
 reverse_more read c = reverse-append read (c ∷ [])
 
 none_in_nothing : (inner : Bool) (parts : List Part) → NoneBegins inner parts []
@@ -89,7 +89,7 @@ back_chars text rest t utf8 whole scalar =
     let rest_utf8 : IsUtf8 rest = subst IsUtf8 cut (IsUtf8-take text (length rest) utf8 seam) in
     ap chars (sym whole) ∙ chars-append rest (encode_utf8_all t) rest_utf8 ∙ ap (λ v. chars rest ++ v) (chars-encodes t scalar)
 
-none_left : (rest : List ℕ) → length rest ≡ 0 → rest ≡ []
+pub none_left : (rest : List ℕ) → length rest ≡ 0 → rest ≡ []
 none_left [] h = refl
 none_left (b ∷ rest) h = absurd (omega arith)
 
@@ -103,7 +103,7 @@ first_at [] = refl
 first_at (m ∷ marks) = refl
 
 -- as many braces around as end without a beginning
-frames_len : (parts : List Part) → length (reading parts).frames ≡ closers parts
+pub frames_len : (parts : List Part) → length (reading parts).frames ≡ closers parts
 frames_len [] = refl
 frames_len (a_part.Literal c ∷ parts) = frames_len parts
 frames_len (a_part.One ∷ parts) = frames_len parts

@@ -1,13 +1,17 @@
+pub mod Bits
 pub mod Bounding
 pub mod Bounds
+pub mod Columns
 pub mod Edges
 pub mod Ends
 pub mod Faults
 pub mod Lines
 pub mod Literal
+pub mod Masks
 pub mod Passes
 pub mod Rows
 pub mod Spelled
+pub mod Sweeps
 pub mod Then
 pub mod Turns
 pub mod Worked

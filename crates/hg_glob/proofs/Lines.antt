@@ -26,7 +26,7 @@ back_ends false t h = subst (Ends false) (sym h) tt
 back_ends true t (inl h) = subst (Ends true) (sym h) tt
 back_ends true t (inr (below, h)) = subst (Ends true) (sym h) refl
 
-front_nothing : (rooted : Bool) → IsFront rooted []
+pub front_nothing : (rooted : Bool) → IsFront rooted []
 front_nothing true = refl
 front_nothing false = inl refl
 
@@ -35,7 +35,7 @@ pub stands_from : (inner rooted : Bool) (parts : List Part) (path a t : List ℕ
 stands_from inner rooted parts path a t none e in_front (b, c, split, i, k) =
     (a, b, c, e ∙ ap (λ v. a ++ v) split, in_front, i, ends_back inner c (subst (λ fs. Follows inner fs c) (frames_none parts none) k))
 
-accepts_behind : (inner : Bool) (parts : List Part) (b c : List ℕ) → closers parts ≡ 0 → InGlob (reading parts).pattern b → IsBack inner c → Accepts inner (reading parts) (b ++ c)
+pub accepts_behind : (inner : Bool) (parts : List Part) (b c : List ℕ) → closers parts ≡ 0 → InGlob (reading parts).pattern b → IsBack inner c → Accepts inner (reading parts) (b ++ c)
 accepts_behind inner parts b c none i back = (b, c, refl, i, subst (λ fs. Follows inner fs c) (sym (frames_none parts none)) (back_ends inner c back))
 
 -- one end of a path is an end of the other

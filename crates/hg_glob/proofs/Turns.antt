@@ -27,7 +27,7 @@ first_is inner [] (m ∷ marks) t h = h
 first_is inner (p ∷ parts) [] t h = absurd h
 first_is inner (p ∷ parts) (m ∷ marks) t h = h.0
 
-end_is : (inner : Bool) (c : Option ℕ) (t : List ℕ) → Decides (is_end inner c) (Ends inner (grown c t))
+pub end_is : (inner : Bool) (c : Option ℕ) (t : List ℕ) → Decides (is_end inner c) (Ends inner (grown c t))
 end_is inner None t = (λ e. tt, λ e. refl)
 end_is inner (Some c) t = (λ e. e, λ e. e)
 

@@ -1,3 +1,4 @@
+pub mod Column
 pub mod Kept
 pub mod Line
 pub mod Part

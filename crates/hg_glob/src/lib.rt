@@ -32,15 +32,20 @@
 //! beginning of a match, so one reading answers for a whole path.
 #![tactic(auto)]
 
+mod column;
 mod edge;
 mod fault;
+mod fork;
 mod glob;
 mod mark;
 mod matching;
 mod part;
 mod refusal;
+mod short;
 mod spell;
+mod sweep;
 mod turn;
+mod words;
 
 pub use fault::GlobFault;
 pub use glob::Glob;

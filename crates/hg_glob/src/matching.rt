@@ -8,6 +8,8 @@ ghost use Rattle.hg_glob.specs.Line.{Stands};
 
 use crate::mark::{Going, Mark};
 use crate::part::Part;
+use crate::short::Short;
+use crate::sweep::stands_short;
 use crate::turn::turn;
 
 /// Whether a match may begin behind the character, and one does.
@@ -47,9 +49,9 @@ fn stands(parts: &[Part], inner: bool, rooted: bool, path: &str, marks: &mut [Ma
     marks[0].here
 }
 
-/// The same, with room of its own. Apart from its caller, which mostly needs no marks.
+/// The same for a path of any length, with room of its own.
 #[inline(never)]
-pub fn stands_marked(parts: &[Part], inner: bool, rooted: bool, path: &str) -> bool
+fn stands_long(parts: &[Part], inner: bool, rooted: bool, path: &str) -> bool
     requires few { length parts.now ≤ 4095 }
     requires closed { closers parts.now ≡ 0 }
     ensures { IsTrue result ↔ Stands inner rooted (reading parts.now).pattern (chars path.now) }
@@ -62,4 +64,18 @@ pub fn stands_marked(parts: &[Part], inner: bool, rooted: bool, path: &str) -> b
     let room: &mut [Mark] = &mut marks;
     let (row, _) = room.split_at_mut(parts.len() + 1);
     stands(parts, inner, rooted, path, row)
+}
+
+/// The same, a short path over all its ends at once. Apart from its caller, which mostly needs no marks.
+#[inline(never)]
+pub fn stands_marked(parts: &[Part], inner: bool, rooted: bool, path: &str) -> bool
+    requires few { length parts.now ≤ 4095 }
+    requires closed { closers parts.now ≡ 0 }
+    ensures { IsTrue result ↔ Stands inner rooted (reading parts.now).pattern (chars path.now) }
+{
+    let mut short = Short::new();
+    if short.read(path) {
+        return stands_short(parts, inner, rooted, &short);
+    }
+    stands_long(parts, inner, rooted, path)
 }
