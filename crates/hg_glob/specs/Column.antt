@@ -1,8 +1,7 @@
 -- Words with one bit for each end of a path, and how those of a part follow from those of the part behind it; for the private functions alone.
-use Rattle.std.specs.Prelude.{◌≡◌, ◌≤◌, ◌<◌, ◌+◌, ◌-◌, slice_index_or, ℕ, zero, suc, Bool, true, false, not, ◌&&◌, ◌||◌, List, [], ◌∷◌, map, take, reverse, length, Option, Some, None, ◌==◌, nat_le}
+use Rattle.std.specs.Prelude.{◌≡◌, ◌≤◌, ◌<◌, slice_index_or, ℕ, zero, suc, Bool, true, false, ◌&&◌, ◌||◌, List, [], ◌∷◌, map, take, reverse, length, Some, None, ◌==◌, nat_le}
 use Rattle.std.specs.Int.{bit_at}
 use Rattle.hg_glob.specs.declared.part.Part.{Part}
-use Rattle.hg_glob.specs.declared.mark.Mark.{Mark}
 use Rattle.hg_glob.specs.declared.mark.Brace.{Brace}
 use Rattle.hg_glob.specs.declared.mark.Going.{Going}
 use Rattle.hg_glob.specs.declared.fork.Fork.{Fork}

@@ -1,4 +1,4 @@
-use Rattle.std.proofs.Common.{take, get_or, set, length, ◌≡◌, ◌<◌, ◌+◌, subst, sym, ap, ◌∙◌, arith, length-set}
+use Rattle.std.proofs.Common.{set, length, ◌<◌, ◌+◌, subst, sym, ap, ◌∙◌, arith, length-set}
 use Rattle.std.proofs.lemmas.List.{length-take}
 use Rattle.hg_glob.specs.Column.{IsTable}
 use Rattle.hg_glob.proofs.Masks.{table_more, put_there, put_nowhere, wide_same, wide_more}
