@@ -1,6 +1,6 @@
 -- Bits of words: of `&`, `|`, `^`, a shift by one, and a sum whose carry smears.
-use Rattle.std.proofs.Common.{◌≡◌, ◌≢◌, ℕ, zero, suc, ◌+◌, ◌-◌, ◌*◌, ◌/◌, ◌%◌, ◌^◌, ◌<◌, ◌≤◌, min, max, Bool, true, false, not, cond, ◌&&◌, ◌||◌, ◌==◌, refl, sym, ap, subst, ◌∙◌, arith, add-one, eqb-true, eq-eqb}
-use Rattle.std.specs.Int.{bit_at, bit_not, w64}
+use Rattle.std.proofs.Common.{◌≡◌, ℕ, zero, suc, ◌+◌, ◌-◌, ◌*◌, ◌/◌, ◌%◌, ◌^◌, ◌<◌, min, max, Bool, true, false, not, cond, ◌&&◌, ◌||◌, ◌==◌, refl, sym, ap, ◌∙◌, arith, add-one, eqb-true, eq-eqb}
+use Rattle.std.specs.Int.{bit_at, w64}
 use Rattle.std.specs.Int.Bits.{bit_and, bit_or, bit_xor}
 use Rattle.std.proofs.lemmas.Nat.Bits.{bit_at_and, bit_at_or, bit_at_xor, bit_at-lt, bit_at-suc, bit_at_lowest, bit_at-zero, bit_at_cat_low, bit_at_ones, bit_at_set_same, bit_at_set_other}
 use Rattle.std.proofs.lemmas.Bool.{false≢true}

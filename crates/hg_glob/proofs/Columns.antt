@@ -1,10 +1,9 @@
 -- One part over all ends at once: each part is one lemma.
-use Rattle.std.proofs.Common.{◌≡◌, ℕ, zero, suc, ◌+◌, ◌-◌, ◌<◌, ◌≤◌, Bool, true, false, not, cond, ◌&&◌, ◌||◌, ◌==◌, nat_le, List, [], ◌∷◌, length, get_or, map, Some, None, refl, sym, ap, subst, ◌∙◌, arith, add-one}
+use Rattle.std.proofs.Common.{◌≡◌, ℕ, zero, suc, ◌+◌, ◌<◌, ◌≤◌, Bool, true, false, not, cond, ◌&&◌, ◌||◌, ◌==◌, nat_le, List, ◌∷◌, length, get_or, map, refl, sym, ap, subst, ◌∙◌, arith, add-one}
 use Rattle.std.specs.Int.Bits.{bit_and, bit_or}
 use Rattle.hg_glob.specs.Column.{bit, IsUp, IsSmeared, IsWord, brace_at, going_at, stepped_at, StepsTo}
 use Rattle.hg_glob.specs.declared.part.Part.{Part}
 use Rattle.hg_glob.specs.declared.part.Part.TheVariants as a_part
-use Rattle.hg_glob.specs.declared.mark.Brace.{Brace}
 use Rattle.hg_glob.specs.declared.mark.Going.{Going}
 use Rattle.hg_glob.specs.declared.fork.Fork.{Fork}
 use Rattle.hg_glob.proofs.Bits.{bit_of_and, bit_of_or, bit_of_none, or_false}

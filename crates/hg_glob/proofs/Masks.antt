@@ -1,5 +1,5 @@
 -- Words of the ends whose first character passes a test, and the table of them.
-use Rattle.std.proofs.Common.{◌≡◌, ℕ, zero, suc, ◌+◌, ◌<◌, ◌≤◌, Bool, true, false, not, ◌&&◌, ◌||◌, ◌==◌, nat_le, nat_lt, List, [], ◌∷◌, ◌++◌, take, set, length, get_or, replicate, reverse, chars, encode_utf8, encode_utf8_all, IsUtf8, refl, sym, ap, subst, ◌∙◌, arith, add-one, eqb-true, eq-eqb, le-leb, leb-true, append-nil, get_or-set_same, get_or-set_other}
+use Rattle.std.proofs.Common.{◌≡◌, ℕ, zero, suc, ◌+◌, ◌<◌, ◌≤◌, Bool, true, false, not, ◌&&◌, ◌||◌, ◌==◌, nat_le, List, [], ◌∷◌, ◌++◌, take, set, length, get_or, replicate, reverse, chars, encode_utf8, encode_utf8_all, IsUtf8, refl, sym, ap, subst, ◌∙◌, arith, add-one, eqb-true, eq-eqb, le-leb, leb-true, append-nil, get_or-set_same, get_or-set_other}
 use Rattle.std.specs.Char.{IsScalar}
 use lib.Utf8.{scalars}
 use Rattle.std.proofs.lemmas.Bool.{false≢true, ne_eqb}
@@ -54,6 +54,15 @@ mask_none test = record { at = none }
     none zero = bit_of_none 0
     none (suc i) = bit_of_none (suc i)
 
+over_by : (a b : ℕ) (v : Bool) → b < a → nat_le a b ≡ v → v ≡ false
+over_by a b true h e =
+    let le : a ≤ b = leb-true a b e in
+    absurd (omega arith)
+over_by a b false h e = refl
+
+over_le : (a b : ℕ) → b < a → nat_le a b ≡ false
+over_le a b h = over_by a b (nat_le a b) h refl
+
 -- one character more
 pub mask_more : (xs more : List ℕ) (test : ℕ → Bool) (c word on : ℕ) → IsMask xs test word → more ≡ xs ++ c ∷ [] → ((i : ℕ) → bit on i ≡ (bit word i || (test c && i == length xs + 1))) → IsMask more test on
 mask_more xs more test c word on h more_is put =
@@ -87,17 +96,18 @@ zeros zero x = refl
 zeros (suc n) zero = refl
 zeros (suc n) (suc x) = zeros n x
 
-pub table_first : (items table : List ℕ) → length items ≡ 64 → table ≡ replicate 128 0 → length table ≡ 128 → IsTable items 0 table
+pub table_first : (items table : List ℕ) → length items ≡ 64 → table ≡ replicate 128 0 → length table ≡ 128 → IsTable items 0 table 0
 table_first items table room table_is words = record {
   few = omega arith;
   room = room;
   words = words;
   at = λ x _. subst (IsMask [] (λ c. c == x)) (sym (ap (λ t. get_or t x 0) table_is ∙ zeros 128 x)) (mask_none (λ c. c == x));
+  beyond = mask_none (λ c. nat_le 128 c);
 }
 
-pub table_more : (items : List ℕ) (count c : ℕ) (table on : List ℕ) → IsTable items count table → count < 63 → length on ≡ 128
-    → ((x : ℕ) → x < 128 → (i : ℕ) → bit (get_or on x 0) i ≡ (bit (get_or table x 0) i || ((c == x) && i == count + 1))) → IsTable (set items count c) (count + 1) on
-table_more items count c table on h some words put =
+pub table_more : (items : List ℕ) (count c : ℕ) (table on : List ℕ) (wide on_wide : ℕ) → IsTable items count table wide → count < 63 → length on ≡ 128
+    → ((i : ℕ) → bit on_wide i ≡ (bit wide i || (nat_le 128 c && i == count + 1))) → ((x : ℕ) → x < 128 → (i : ℕ) → bit (get_or on x 0) i ≡ (bit (get_or table x 0) i || ((c == x) && i == count + 1))) → IsTable (set items count c) (count + 1) on on_wide
+table_more items count c table on wide on_wide h some words far put =
     let inside : count < length items = omega (arith, h.room) in
     let few : length (take count items) ≡ count = omega (arith, length-take count items) in
     record {
@@ -107,7 +117,25 @@ table_more items count c table on h some words put =
       at = λ x below.
           mask_more (take count items) (take (count + 1) (set items count c)) (λ d. d == x) c (get_or table x 0) (get_or on x 0) (h.at x below) (take_more_set items count c inside)
           (λ i. put x below i ∙ ap (λ n. bit (get_or table x 0) i || ((c == x) && i == n + 1)) (sym few));
+      beyond = mask_more (take count items) (take (count + 1) (set items count c)) (λ d. nat_le 128 d) c wide on_wide h.beyond (take_more_set items count c inside)
+          (λ i. far i ∙ ap (λ n. bit wide i || (nat_le 128 c && i == n + 1)) (sym few));
     }
+
+-- the word of the others, at an ASCII character and at another
+pub wide_same : (c wide count : ℕ) → c < 128 → (i : ℕ) → bit wide i ≡ (bit wide i || (nat_le 128 c && i == count + 1))
+wide_same c wide count near i = sym (or_false (bit wide i)) ∙ ap (λ v. bit wide i || (v && i == count + 1)) (sym (over_le 128 c near))
+
+pub wide_more : (c wide on count : ℕ) → 128 ≤ c → ((i : ℕ) → bit on i ≡ (bit wide i || (true && i == count + 1))) → (i : ℕ) → bit on i ≡ (bit wide i || (nat_le 128 c && i == count + 1))
+wide_more c wide on count far put i = put i ∙ ap (λ v. bit wide i || (v && i == count + 1)) (sym (le-leb 128 c far))
+
+-- no character beyond ASCII is there
+pub none_beyond : (xs : List ℕ) (x wide : ℕ) → 128 ≤ x → IsMask xs (λ c. nat_le 128 c) wide → wide ≡ 0 → IsWord xs (λ c. c == x) 0
+none_beyond xs x wide far h none = record {
+  front = bit_of_none 0;
+  at = λ i below.
+      let near : nat_le 128 (get_or xs i 0) ≡ false = sym (passes_at (λ c. nat_le 128 c) xs i below) ∙ sym (h.at (suc i)) ∙ ap (λ w. bit w (suc i)) none ∙ bit_of_none (suc i) in
+      bit_of_none (suc i) ∙ sym (ne_eqb (get_or xs i 0) x (λ e. absurd (false≢true (sym near ∙ le-leb 128 (get_or xs i 0) (omega arith)))));
+}
 
 put_by : (table : List ℕ) (c word count x i : ℕ) (v : Bool) → (c == x) ≡ v → c < length table → bit word i ≡ (bit (get_or table c 0) i || (true && i == count + 1)) → bit (get_or (set table c word) x 0) i ≡ (bit (get_or table x 0) i || (v && i == count + 1))
 put_by table c word count x i true h below put =

@@ -1,25 +1,23 @@
 -- The columns of the parts, from the last to the first, as the texts that they speak of.
-use Rattle.std.proofs.Common.{◌≡◌, ℕ, zero, suc, ◌+◌, ◌-◌, ◌*◌, ◌<◌, ◌≤◌, Bool, true, false, ◌&&◌, ◌==◌, ◌⊎◌, inl, inr, List, [], ◌∷◌, ◌++◌, length, get_or, take, drop, reverse, map, Option, Some, None, refl, sym, ap, subst, ◌∙◌, arith, append_assoc, drop-cons, length-drop}
+use Rattle.std.proofs.Common.{◌≡◌, ℕ, zero, suc, ◌+◌, ◌*◌, ◌<◌, ◌≤◌, Bool, true, false, ◌⊎◌, inl, inr, List, [], ◌∷◌, ◌++◌, length, get_or, take, drop, reverse, map, Option, Some, None, refl, sym, ap, subst, ◌∙◌, arith, append_assoc, drop-cons, length-drop}
 use Rattle.std.specs.Bool.{Decides}
 use Rattle.std.proofs.lemmas.Bool.Decides.{Decides-like}
 use Rattle.std.proofs.lemmas.List.{drop_all, length-reverse, length-take, reverse-append}
-use Rattle.hg_glob.specs.Pattern.{Pattern, InGlob}
 use Rattle.hg_glob.specs.Part.{Frame, Reading, before, reading}
-use Rattle.hg_glob.specs.Line.{IsFront, IsBack, Stands}
+use Rattle.hg_glob.specs.Line.{IsFront, Stands}
 use Rattle.hg_glob.specs.Refusal.{closers, closers_at}
-use Rattle.hg_glob.specs.Row.{step, Stepped, plain, no_mark, is_end}
+use Rattle.hg_glob.specs.Row.{Stepped, plain, no_mark}
 use Rattle.hg_glob.specs.Column.{bit, IsEnd, brace_at, going_at, stepped_at, stack, StepsTo}
 use Rattle.hg_glob.specs.declared.part.Part.{Part}
 use Rattle.hg_glob.specs.declared.part.Part.TheVariants as a_part
-use Rattle.hg_glob.specs.declared.mark.Brace.{Brace}
 use Rattle.hg_glob.specs.declared.mark.Going.{Going}
 use Rattle.hg_glob.specs.declared.fork.Fork.{Fork}
 use Rattle.hg_glob.proofs.Bits.{bit_of_none}
-use Rattle.hg_glob.proofs.Then.{Then, Past, empty_then, then_empty, slashes_then, then_slashes}
-use Rattle.hg_glob.proofs.Rows.{Ends, Follows, Accepts, BracesAre, HitIs, BehindIs, grown, BelowIs, StepIs, step_is}
+use Rattle.hg_glob.proofs.Then.{Past, empty_then, then_empty, slashes_then, then_slashes}
+use Rattle.hg_glob.proofs.Rows.{Ends, Follows, Accepts, BracesAre, HitIs, BehindIs, step_is}
 use Rattle.hg_glob.proofs.Turns.{end_is}
 use Rattle.hg_glob.proofs.Ends.{frames_len}
-use Rattle.hg_glob.proofs.Lines.{stands_from, accepts_behind, front_nothing}
+use Rattle.hg_glob.proofs.Lines.{stands_from, accepts_behind}
 
 -- the character that the end of i characters begins with
 abbrev pub char_at : List ℕ → ℕ → Option ℕ

@@ -1,8 +1,7 @@
 -- Words with one bit for each end of a path, and how those of a part follow from those of the part behind it; for the private functions alone.
-use Rattle.std.specs.Prelude.{◌≡◌, ◌≤◌, ◌<◌, ◌+◌, ◌-◌, slice_index_or, ℕ, zero, suc, Bool, true, false, not, ◌&&◌, ◌||◌, List, [], ◌∷◌, map, take, reverse, length, Option, Some, None, ◌==◌}
+use Rattle.std.specs.Prelude.{◌≡◌, ◌≤◌, ◌<◌, slice_index_or, ℕ, zero, suc, Bool, true, false, ◌&&◌, ◌||◌, List, [], ◌∷◌, map, take, reverse, length, Some, None, ◌==◌, nat_le}
 use Rattle.std.specs.Int.{bit_at}
 use Rattle.hg_glob.specs.declared.part.Part.{Part}
-use Rattle.hg_glob.specs.declared.mark.Mark.{Mark}
 use Rattle.hg_glob.specs.declared.mark.Brace.{Brace}
 use Rattle.hg_glob.specs.declared.mark.Going.{Going}
 use Rattle.hg_glob.specs.declared.fork.Fork.{Fork}
@@ -42,12 +41,13 @@ pub record IsWord (xs : List ℕ) (test : ℕ → Bool) (word : ℕ) : Type 0 wh
   pub front : bit word 0 ≡ false
   pub at : (i : ℕ) → i < length xs → bit word (suc i) ≡ test (slice_index_or xs i 0)
 
--- so many characters, and a word for each ASCII character
-pub record IsTable (items : List ℕ) (count : ℕ) (table : List ℕ) : Type 0 where
+-- so many characters, a word for each ASCII character, and one for all others
+pub record IsTable (items : List ℕ) (count : ℕ) (table : List ℕ) (wide : ℕ) : Type 0 where
   pub few : count ≤ 63
   pub room : length items ≡ 64
   pub words : length table ≡ 128
   pub at : (x : ℕ) → x < 128 → IsMask (take count items) (λ c. c == x) (slice_index_or table x 0)
+  pub beyond : IsMask (take count items) (λ c. nat_le 128 c) wide
 
 -- the ends at which a match may end
 pub record IsEnd (inner : Bool) (xs : List ℕ) (word : ℕ) : Type 0 where

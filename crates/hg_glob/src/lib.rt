@@ -30,6 +30,9 @@
 //! A text is read from its end, with one mark for each part: whether the end that was read is accepted from that part on. A character
 //! more in front gives the next row of marks in one pass over the parts, in place; the mark of the first part answers for every
 //! beginning of a match, so one reading answers for a whole path.
+//!
+//! A path of at most 63 characters is short: its ends fit the bits of one word, and the parts are passed over once, from the last to
+//! the first, with one such word for all ends. This gives the same marks part by part, where the rows give them end by end.
 #![tactic(auto)]
 
 mod column;

@@ -18,6 +18,8 @@ pub struct Short {
     items: [char; 64],
     count: usize,
     table: [u64; 128],
+    /// The ends that begin with a character beyond ASCII.
+    wide: u64,
 }
 
 impl Model for Short {
@@ -28,7 +30,7 @@ impl Model for Short {
 
     ghost view = { λ s. take s.count s.items };
 
-    ghost invariant = { λ s. IsTable s.items s.count s.table };
+    ghost invariant = { λ s. IsTable s.items s.count s.table s.wide };
 }
 
 impl Short {
@@ -39,6 +41,7 @@ impl Short {
             items: ['\0'; 64],
             count: 0,
             table: [0; 128],
+            wide: 0,
         }
     }
 
@@ -58,6 +61,8 @@ impl Short {
         self.items[self.count] = c;
         if code < 128 {
             self.table[code] = put(self.table[code], self.count, true);
+        } else {
+            self.wide = put(self.wide, self.count, true);
         }
         self.count += 1;
     }
@@ -83,6 +88,9 @@ impl Short {
         let code = x as usize;
         if code < 128 {
             return self.table[code];
+        }
+        if self.wide == 0 {
+            return 0;
         }
         self.spread(x, x)
     }

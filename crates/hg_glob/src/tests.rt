@@ -1,5 +1,6 @@
 //! What no clause says: that reading finds memory, and globs and texts as the help page means them, the answers by hand.
 use super::*;
+use hg_base::OutOfMemory;
 use std::alloc::Global;
 use std::string::String;
 use std::test::Fail;
@@ -132,20 +133,29 @@ const BRACES: &[Case] = &[
     ("{a,b}}", &["a}", "b}"], &["a"]),
 ];
 
-/// The first glob and text that are answered otherwise.
+/// Directories of 64 characters, one of them beyond ASCII: with them in front a path is long.
+const DIRECTORIES: &str = "a-directory/with-a-long-name/and-one/more-of-them/before-it-a/ö/";
+
+/// What an answer differs from: the glob and the text.
+type Wrong = Option<(&'static str, &'static str)>;
+
+/// The first glob and text that are answered otherwise, the texts as they are, and behind the beginning.
 fn wrong(
     alloc: Global,
     cases: &'static [Case],
-) -> Result<Option<(&'static str, &'static str)>, GlobFault> {
+    glob_front: &'static str,
+    front: &'static str,
+) -> Result<Wrong, GlobFault> {
     for (text, inside, outside) in cases {
-        let glob = Glob::read(alloc, text)?;
+        let whole = joined(alloc, glob_front, text)?;
+        let glob = Glob::read(alloc, whole.as_str())?;
         for one in *inside {
-            if !glob.matches(one) {
+            if !glob.matches(joined(alloc, front, one)?.as_str()) {
                 return Ok(Some((text, one)));
             }
         }
         for one in *outside {
-            if glob.matches(one) {
+            if glob.matches(joined(alloc, front, one)?.as_str()) {
                 return Ok(Some((text, one)));
             }
         }
@@ -153,28 +163,42 @@ fn wrong(
     Ok(None)
 }
 
+fn joined(alloc: Global, front: &str, text: &str) -> Result<String, GlobFault> {
+    let mut whole = String::from_str(alloc, front).map_err(OutOfMemory::from)?;
+    whole.push_str(text).map_err(OutOfMemory::from)?;
+    Ok(whole)
+}
+
+/// The first case that is answered otherwise, over a short text or over a long one.
+fn wrong_anywhere(alloc: Global, cases: &'static [Case]) -> Result<Wrong, GlobFault> {
+    match wrong(alloc, cases, "", "")? {
+        Some(case) => Ok(Some(case)),
+        None => wrong(alloc, cases, DIRECTORIES, DIRECTORIES),
+    }
+}
+
 #[test]
 fn characters(rt: HostRuntime) -> Result<(), Fail> {
-    assert_eq!(rt; wrong(rt.alloc(), CHARACTERS)?, None);
+    assert_eq!(rt; wrong_anywhere(rt.alloc(), CHARACTERS)?, None);
     Ok(())
 }
 
 #[test]
 fn stars_and_ones(rt: HostRuntime) -> Result<(), Fail> {
-    assert_eq!(rt; wrong(rt.alloc(), STARS)?, None);
-    assert_eq!(rt; wrong(rt.alloc(), ONES)?, None);
+    assert_eq!(rt; wrong_anywhere(rt.alloc(), STARS)?, None);
+    assert_eq!(rt; wrong_anywhere(rt.alloc(), ONES)?, None);
     Ok(())
 }
 
 #[test]
 fn classes(rt: HostRuntime) -> Result<(), Fail> {
-    assert_eq!(rt; wrong(rt.alloc(), CLASSES)?, None);
+    assert_eq!(rt; wrong_anywhere(rt.alloc(), CLASSES)?, None);
     Ok(())
 }
 
 #[test]
 fn braces(rt: HostRuntime) -> Result<(), Fail> {
-    assert_eq!(rt; wrong(rt.alloc(), BRACES)?, None);
+    assert_eq!(rt; wrong_anywhere(rt.alloc(), BRACES)?, None);
     Ok(())
 }
 
@@ -221,6 +245,28 @@ fn lines_in_paths(rt: HostRuntime) -> Result<(), Fail> {
     Ok(())
 }
 
+/// The same, and where the glob isn't rooted with directories in front, which make the path long.
+#[test]
+fn lines_in_long_paths(rt: HostRuntime) -> Result<(), Fail> {
+    for (text, path, rooted, end, part) in LINES {
+        if !rooted {
+            let glob = Glob::read(rt.alloc(), text)?;
+            let long = joined(rt.alloc(), DIRECTORIES, path)?;
+            assert_eq!(rt;
+                glob.matches_end(long.as_str(), false),
+                *end,
+                "{text:?} {path:?}"
+            );
+            assert_eq!(rt;
+                glob.matches_part(long.as_str(), false),
+                *part,
+                "{text:?} {path:?}"
+            );
+        }
+    }
+    Ok(())
+}
+
 const FAULTS: &[(&str, Option<GlobFault>)] = &[
     ("{a", Some(GlobFault::Unbalanced { at: 0 })),
     ("a{b", Some(GlobFault::Unbalanced { at: 1 })),
@@ -248,6 +294,25 @@ const FAULTS: &[(&str, Option<GlobFault>)] = &[
 fn faults(rt: HostRuntime) -> Result<(), Fail> {
     for (text, fault) in FAULTS {
         assert_eq!(rt; Glob::read(rt.alloc(), text).err(), *fault, "{text:?}");
+    }
+    Ok(())
+}
+
+/// A path as long as a short one may be, and longer ones.
+#[test]
+fn where_short_ends(rt: HostRuntime) -> Result<(), Fail> {
+    let glob = Glob::read(rt.alloc(), "b*{c,[d-f]}/[α-γ]?")?;
+    let rooted = Glob::read(rt.alloc(), "*/b*{c,[d-f]}/[α-γ]?")?;
+    for times in [0, 1, 56, 57, 58, 59, 100] {
+        for (middle, is_in) in [("/bxe/βy", true), ("/bxg/βy", false), ("/bxe/δy", false)] {
+            let path = repeated(&rt, "", "ä", times, middle)?;
+            assert_eq!(rt;
+                glob.matches_end(path.as_str(), false),
+                is_in,
+                "{times} {middle}"
+            );
+            assert_eq!(rt; rooted.matches(path.as_str()), is_in, "{times} {middle}");
+        }
     }
     Ok(())
 }

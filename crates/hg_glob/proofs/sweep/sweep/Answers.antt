@@ -1,4 +1,4 @@
-use Rattle.std.proofs.Common.{◌-◌, ◌≤◌, length, refl, arith}
+use Rattle.std.proofs.Common.{◌-◌, length, refl, arith}
 use Rattle.hg_glob.specs.Column.{stack}
 use Rattle.hg_glob.specs.declared.part.Part.TheVariants as a_part
 use Rattle.hg_glob.proofs.Sweeps.{column_first, column_down, room_left, answer_rooted, answer_inside}

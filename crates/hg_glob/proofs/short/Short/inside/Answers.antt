@@ -1,7 +1,6 @@
-use Rattle.std.proofs.Common.{subst, take, get_or, not, ap, ◌∙◌, ◌==◌, ◌<◌, ℕ, length, arith, add-one, suc}
-use Rattle.std.specs.Prelude.{◌≡◌}
+use Rattle.std.proofs.Common.{subst, take, get_or, not, ◌==◌, arith}
 use Rattle.std.proofs.lemmas.List.{length-take}
-use Rattle.hg_glob.specs.Column.{bit, IsWord}
+use Rattle.hg_glob.specs.Column.{IsWord}
 use Rattle.hg_glob.proofs.Masks.{word_of_mask, word_not}
 use Rattle.hg_glob.proofs.short.Short.inside.Goals as goal
 

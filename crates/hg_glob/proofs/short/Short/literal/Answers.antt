@@ -1,12 +1,17 @@
 use Rattle.std.proofs.Common.{subst, take, get_or, ◌==◌, ◌&&◌, nat_le, arith}
 use Rattle.hg_glob.specs.Column.{IsWord}
-use Rattle.hg_glob.proofs.Masks.{word_of_mask, word_like, pinned}
+use Rattle.hg_glob.proofs.Masks.{word_of_mask, word_like, pinned, none_beyond}
 use Rattle.hg_glob.proofs.short.Short.literal.Goals as goal
 
 pub returns-then-code-lt128 : goal.returns-then-code-lt128
 returns-then-code-lt128 c =
     let t = c.self.inside in
     subst (λ xs. IsWord xs (λ d. d == c.args.x) (get_or t.table c.args.x 0)) c.self.view_is (word_of_mask (take t.count t.items) (λ d. d == c.args.x) (get_or t.table c.args.x 0) (c.self.invariant.at c.args.x (omega arith)))
+
+pub returns-then-self-eq0 : goal.returns-then-self-eq0
+returns-then-self-eq0 c =
+    let t = c.self.inside in
+    subst (λ xs. IsWord xs (λ d. d == c.args.x) 0) c.self.view_is (none_beyond (take t.count t.items) c.args.x t.wide c.if-code-lt128.false c.self.invariant.beyond c.if-self-eq0.true)
 
 pub returns : goal.returns
 returns c =

@@ -1,4 +1,4 @@
-use Rattle.std.proofs.Common.{take, get_or, ◌≡◌, ◌+◌, ◌==◌, ◌||◌, ◌&&◌, nat_le, subst, sym, ap, ◌∙◌, arith}
+use Rattle.std.proofs.Common.{take, ◌≡◌, ◌+◌, ◌==◌, ◌||◌, ◌&&◌, nat_le, subst, ap, ◌∙◌, arith}
 use Rattle.hg_glob.specs.Column.{bit, IsMask}
 use Rattle.hg_glob.proofs.Masks.{mask_none, spread_more}
 use Rattle.hg_glob.proofs.short.Short.spread.Goals as goal
