@@ -34,6 +34,8 @@ mod great_count;
 #[cfg(test)]
 mod identifiers;
 #[cfg(test)]
+mod ignoring;
+#[cfg(test)]
 mod letters;
 #[cfg(test)]
 mod listings;
