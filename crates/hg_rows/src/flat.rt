@@ -4,6 +4,7 @@ use crate::trees::three;
 use hg_base::PathRef;
 use hg_docket::Docket;
 use hg_flat::{Flat, Wanted, plain_status};
+use hg_ignore::Builds;
 use hg_image::Image;
 use hg_report::{Style, status_text};
 use hg_shelf::MemShelf;
@@ -61,17 +62,18 @@ fn lists_over_the_flat_map(rt: HostRuntime) -> Result<(), Fail> {
     let things = &[("d/0", What::File), ("d/3", What::Link)];
     let mut tree = tree_of(rt.alloc(), Setting { things, ..EMPTY })?;
     let mut shelf = MemShelf::new(rt.alloc())?;
-    let rows = plain_status(
+    let listed = plain_status(
         rt.alloc(),
         &flat,
         &flat.first_parent(),
         &mut tree,
         &mut shelf,
+        &mut Builds::new(),
         WANTED,
     )
     .ok()
     .ok_or("no failing call")?;
-    let text = status_text(rt.alloc(), &rows, STYLE)?;
+    let text = status_text(rt.alloc(), &listed.rows, STYLE)?;
     assert_eq!(rt; text.as_slice(), b"A d/0\n! a\n! d/1\n? d/3\n".as_slice());
     Ok(())
 }
