@@ -62,14 +62,13 @@ fn lists_over_the_flat_map(rt: HostRuntime) -> Result<(), Fail> {
     let things = &[("d/0", What::File), ("d/3", What::Link)];
     let mut tree = tree_of(rt.alloc(), Setting { things, ..EMPTY })?;
     let mut shelf = MemShelf::new(rt.alloc())?;
-    let mut builds = Builds::new();
     let listed = plain_status(
         rt.alloc(),
         &flat,
         &flat.first_parent(),
         &mut tree,
         &mut shelf,
-        &mut builds,
+        &mut Builds::new(),
         WANTED,
     )
     .ok()

@@ -44,6 +44,8 @@ mod manifests;
 #[cfg(test)]
 mod parents;
 #[cfg(test)]
+mod patterns;
+#[cfg(test)]
 mod records;
 #[cfg(test)]
 mod refusals;

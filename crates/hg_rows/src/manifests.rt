@@ -112,12 +112,13 @@ fn asks_for_no_contents_of_another_kind(rt: HostRuntime) -> Result<(), Fail> {
     Ok(())
 }
 
-// Patterns are looked for before anything is compared.
+// Patterns are read before anything is compared.
 #[test]
-fn looks_for_patterns_first(rt: HostRuntime) -> Result<(), Fail> {
+fn reads_patterns_first(rt: HostRuntime) -> Result<(), Fail> {
     let files = one(rt.alloc())?;
     let setting = Setting {
-        things: &[("f", What::Text("one\n")), (".hgignore", What::File)],
+        things: &[("f", What::Text("one\n"))],
+        ignore: Some(b"include:x"),
         ..EMPTY
     };
     expect(
@@ -126,7 +127,7 @@ fn looks_for_patterns_first(rt: HostRuntime) -> Result<(), Fail> {
         &files,
         setting,
         "",
-        "abort: not built yet\n",
+        "abort: .hgignore line 1: include\n",
     )?;
     let modified = Setting {
         words: &["status", "-m"],

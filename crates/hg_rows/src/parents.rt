@@ -172,7 +172,7 @@ const ASKED: &[(&[&str], &[&str], usize)] = &[
     (&["status", "-c"], &["a", "b"], 0),
     (&["status", "-a", "-r", "-d"], &[], 0),
     (&["status", "-u"], &[], 1),
-    (&["status", "-i"], &[], 0),
+    (&["status", "-i"], &[], 1),
 ];
 
 fn is_read_of(asked: &Asked, path: &str) -> bool {

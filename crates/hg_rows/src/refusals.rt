@@ -65,53 +65,24 @@ fn wants_status_and_flags(rt: HostRuntime) -> Result<(), Fail> {
     Ok(())
 }
 
-// Words that ask which untracked paths there are: the patterns would say whether they are ignored.
-const UNTRACKED: &[&[&str]] = &[
-    &["status"],
-    &["status", "-n"],
-    &["status", "-u"],
-    &["status", "--ignored"],
-    &["status", "-m", "-u"],
-    &["status", "-A"],
-];
-
-// Words that don't.
-const TRACKED: &[(&[&str], &str)] = &[
-    (&["status", "-a"], "A a\n"),
-    (&["status", "-m"], ""),
-    (&["status", "-r", "-d", "-c"], ""),
-    (&["status", "-a", "-n", "-0"], "a\0"),
-];
-
-#[test]
-fn reads_no_patterns(rt: HostRuntime) -> Result<(), Fail> {
-    let files = both(docket(rt.alloc(), ONE)?, data(rt.alloc(), b"a", &[NODE])?);
-    let setting = Setting {
-        things: &[("a", What::File), (".hgignore", What::File)],
-        ..EMPTY
-    };
-    for words in UNTRACKED {
-        let setting = Setting { words, ..setting };
-        expect(&rt, "without a dirstate", &NONE, setting, "", NOT_BUILT)?;
-        expect(&rt, "with a dirstate", &files, setting, "", NOT_BUILT)?;
-    }
-    for (words, out) in TRACKED {
-        expect(&rt, out, &files, Setting { words, ..setting }, out, "")?;
-    }
-    Ok(())
-}
-
-// The case, the docket without a data file, and the line.
-const GONE: &[(&str, DocketOf, &str)] = &[
-    ("gone", ONE, "abort: dirstate data gone: 0000000000000000\n"),
+// The case, the docket without a data file, and what is printed on both streams.
+const GONE: &[(&str, DocketOf, &str, &str)] = &[
+    (
+        "gone",
+        ONE,
+        "",
+        "abort: dirstate data gone: 0000000000000000\n",
+    ),
     (
         "gone under another name",
         DocketOf { id: "Az-_9", ..ONE },
+        "",
         "abort: dirstate data gone: Az-_9\n",
     ),
     (
         "a parent, and the data file is gone",
         DocketOf { p1: 1, ..ONE },
+        "",
         "abort: dirstate data gone: 0000000000000000\n",
     ),
     (
@@ -121,13 +92,14 @@ const GONE: &[(&str, DocketOf, &str)] = &[
             root_count: 0,
             ..ONE
         },
-        NOT_BUILT,
+        "? .hgignore\n? a\n",
+        "",
     ),
 ];
 
 #[test]
 fn misses_the_data_file(rt: HostRuntime) -> Result<(), Fail> {
-    for (name, of, line) in GONE {
+    for (name, of, out, line) in GONE {
         let files = Files {
             docket: Some(docket(rt.alloc(), *of)?),
             data: None,
@@ -136,7 +108,7 @@ fn misses_the_data_file(rt: HostRuntime) -> Result<(), Fail> {
             things: &[("a", What::File), (".hgignore", What::File)],
             ..EMPTY
         };
-        expect(&rt, name, &files, setting, "", line)?;
+        expect(&rt, name, &files, setting, out, line)?;
     }
     Ok(())
 }

@@ -19,6 +19,7 @@ ghost use Rattle.hgtrack.specs.Words.{asks_of_program};
 
 use hg_base::{Text, Words};
 use hg_cli::{RealShelf, RealTree, Root, enter_root, failed, run};
+use hg_ignore::Builds;
 use hg_report::Fault;
 use hg_stream::{ReaderSource, Sink, WriterSink, put_all};
 use std::alloc::{AllocError, Global};
@@ -164,7 +165,17 @@ fn command<'a, O: Sink, E: Sink>(
     let mut input = ReaderSource::new(rt.stdin());
     let mut tree = RealTree::new(rt, root);
     let mut shelf = RealShelf::new(rt, root);
-    let outcome = run(alloc, words, &mut tree, &mut shelf, &mut input, out, err);
+    let mut regexps = Builds::new();
+    let outcome = run(
+        alloc,
+        words,
+        &mut tree,
+        &mut shelf,
+        &mut regexps,
+        &mut input,
+        out,
+        err,
+    );
     match outcome.fault {
         Some(Fault::TreeFailed) => explain(alloc, err, tree.failure()),
         Some(Fault::ShelfFailed) => explain(alloc, err, shelf.failure()),
