@@ -1,12 +1,12 @@
 //! What compiles the regexps of an ignore text.
 
-ghost use Rattle.std.specs.Prelude.{◌≡◌, ℕ, false, IfOk, IfErr};
+ghost use Rattle.std.specs.Prelude.{◌≡◌, ℕ, false, IfOk, IfErr, IfSome};
 ghost use Rattle.hg_ignore.specs.Regexp.{IsBuiltFrom, is_regexp};
 ghost use Rattle.hg_ignore.specs.Building.{Counts, CountsOne};
 ghost use Rattle.hg_ignore.specs.declared.regexps.RegexpFault.TheVariants as a_fault;
 
 use hg_base::risen;
-use regex::{Error, Regex};
+use regex::{Error, Regex, RegexBuilder};
 use std::alloc::Global;
 
 /// Why a regexp isn't compiled.
@@ -31,12 +31,34 @@ pub trait Regexps {
         ensures counts { Counts (oversize self.old) (oversize self.new) result };
 }
 
-/// Compiles regexps by `regex`, within its size limit of 10 MiB each.
+/// The sizes within which a regexp is tried, in bytes.
+const SIZES: [usize; 5] = [2 << 10, 16 << 10, 128 << 10, 1 << 20, 10 << 20];
+
+/// What the sizes of all regexps may come to.
+const IN_ALL: usize = 64 << 20;
+
+/// Compiles regexps by `regex`, each within a size of 10 MiB, and all within 64 MiB. Each counts as the least of five sizes within which it is
+/// compiled: 2, 16 and 128 KiB, 1 and 10 MiB.
 #[derive(Debug, Drop)]
 pub struct Builds {
     failing: Option<u64>,
     made: u64,
     oversize: u64,
+    left: usize,
+}
+
+/// The regexp of a text, where it is compiled within that size.
+fn within(alloc: Global, text: &str, size: usize) -> Result<Option<Regex>, RegexpFault>
+    ensures built { IfOk result (λ regex. IfSome regex (IsBuiltFrom text.now)) }
+    ensures refused { IfErr result (λ e. e ≡ a_fault.Syntax → is_regexp text.now ≡ false) }
+    ensures sized { IfErr result (λ e. e ≡ a_fault.TooBig → ⊥) }
+{
+    match RegexBuilder::new(text).size_limit(size).build(alloc) {
+        Ok(regex) => Ok(Some(regex)),
+        Err(Error::OutOfMemory) => Err(RegexpFault::OutOfMemory),
+        Err(Error::Syntax(_)) => Err(RegexpFault::Syntax),
+        Err(Error::CompiledTooBig | Error::Internal) => Ok(None),
+    }
 }
 
 impl Builds {
@@ -48,6 +70,7 @@ impl Builds {
             failing: None,
             made: 0,
             oversize: 0,
+            left: IN_ALL,
         }
     }
 
@@ -65,22 +88,33 @@ impl Builds {
         self.oversize = risen(self.oversize);
         RegexpFault::TooBig
     }
+
+    /// Whether this call is to fail. It counts the call.
+    fn is_due(&mut self) -> bool
+        ensures { self.new.oversize ≡ self.old.oversize }
+    {
+        let call = self.made;
+        self.made = call.saturating_add(1);
+        self.failing == Some(call)
+    }
 }
 
 impl Regexps for Builds {
     ghost oversize = { λ b. b.oversize };
 
     fn build(&mut self, alloc: Global, text: &str) -> Result<Regex, RegexpFault> {
-        let call = self.made;
-        self.made = call.saturating_add(1);
-        if self.failing == Some(call) {
+        if self.is_due() {
             return Err(self.refuse());
         }
-        match Regex::new(alloc, text) {
-            Ok(regex) => Ok(regex),
-            Err(Error::OutOfMemory) => Err(RegexpFault::OutOfMemory),
-            Err(Error::Syntax(_)) => Err(RegexpFault::Syntax),
-            Err(Error::CompiledTooBig | Error::Internal) => Err(self.refuse()),
+        for size in SIZES {
+            if size > self.left {
+                return Err(self.refuse());
+            }
+            if let Some(regex) = within(alloc, text, size)? {
+                self.left -= size;
+                return Ok(regex);
+            }
         }
+        Err(self.refuse())
     }
 }
