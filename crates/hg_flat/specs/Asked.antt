@@ -91,12 +91,3 @@ pub record AsksBehind (first : List Asked) (Compared : List ℕ → Type 0) (Wit
 -- the patterns were read first, if at all
 abbrev pub AsksAll : Wanted → (List ℕ → Type 0) → (Option (List ℕ) → Type 0) → History → History → Type 0
 AsksAll wanted Compared Within old new = (first : List Asked) × IsPatternsRead wanted old new first × AsksBehind first Compared Within old new
-
--- these paths were read besides, and then these directories listed, each once; no directory is the root
-pub record AsksBoth (Compared : List ℕ → Type 0) (Within : Option (List ℕ) → Type 0) (old new : History) : Type 0 where
-  pub paths : List (List ℕ)
-  pub dirs : List (Option (List ℕ))
-  pub asked : new.asked ≡ old.asked ++ map an_ask.Read paths ++ map an_ask.List dirs
-  pub compared : (path : List ℕ) → Contains paths path → Compared path
-  pub once : IsDistinct is_same_dir dirs
-  pub within : (dir : Option (List ℕ)) → Contains dirs dir → Within dir

@@ -1,10 +1,10 @@
 //! The record of a dirstate as one map from path to entry, and the plain status over it.
 //!
 //! A status tells of each path whether it is tracked and what became of it since the first parent (help topic `status`): `M` modified, `A` added, `R`
-//! removed, `!` tracked but missing, `C` clean, `?` not tracked. The plain status looks at every tracked path and at everything that stands in
-//! the working copy, and compares all bytes with the first parent's, as the plain store below `.hg` has them; it trusts no recorded time and passes no
-//! directory over. `Flat` is the map, read from an `Image` by `Flat::read`; `plain_status` gives the rows, and its contract says that they are the
-//! full listing.
+//! removed, `!` tracked but missing, `C` clean, `?` not tracked, `I` not tracked and ignored. The plain status looks at every tracked path and at everything
+//! that stands in the working copy, but for what is in an ignored directory where `I` isn't wanted, and compares all bytes with the first parent's, as the plain
+//! store below `.hg` has them; it trusts no recorded time. `Flat` is the map, read from an `Image` by `Flat::read`; `plain_status` gives the rows, and its
+//! contract says that they are the full listing.
 //!
 //! ```text
 //! let flat = Flat::read(alloc, &image)?;
