@@ -16,7 +16,7 @@ use hg_mixed::{Mixed, SetFault};
 
 /// A path isn't tracked any more, and has no copy source. Where a parent has it an entry is left that says so.
 ///
-/// The working copy isn't asked, and needs no file there. Memory may be wanted for the copy of an entry alone.
+/// The working copy isn't asked, and needs no file there.
 pub fn forget(mixed: &mut Mixed<'_>, word: &str) -> Result<Option<Refusal>, OpFault>
     ensures stepped { IfOk result (λ refused. IsForget word.now (table mixed.old) refused (table mixed.new)) }
     ensures unchanged { IfOk result (λ refused. IfSome refused (λ r. IsUnchanged mixed.old mixed.new)) }
