@@ -5,7 +5,7 @@ use Rattle.std.specs.Str.{bytes_eq}
 use Rattle.hg_base.proofs.Within.{equal_bytes}
 use Rattle.hg_base.specs.PathText.{is_path}
 use Rattle.hg_base.specs.Within.{is_within}
-use Rattle.hg_entry.specs.Entry.{EntryData, StampData}
+use Rattle.hg_entry.specs.Entry.{EntryData}
 use Rattle.hg_entry.specs.Table.{Table}
 use Rattle.hg_mixed.specs.Drop.{IsPruned, after_clear}
 use Rattle.hg_mixed.specs.Edits.{IsSame, IsUnchanged, Marks, after_copy, after_set}

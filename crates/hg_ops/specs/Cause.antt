@@ -1,5 +1,5 @@
 -- Why a command stops.
-use Rattle.std.specs.Prelude.{ℕ, ◌≡◌, ◌≤◌, Option, Result, Ok, Err, ◌⊎◌, List, None}
+use Rattle.std.specs.Prelude.{ℕ, ◌≡◌, ◌≤◌, Result, Ok, Err, ◌⊎◌, List, None}
 use Rattle.hg_base.specs.Fault.{Rose}
 use Rattle.hg_entry.specs.Table.{Table}
 use Rattle.hg_mixed.specs.Edits.{IsSame, after_copy}
