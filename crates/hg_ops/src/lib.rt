@@ -1,0 +1,36 @@
+//! What commands do to a table, one word at a time (`hg help add`, `hg help forget`).
+//!
+//! A call takes the table of a dirstate (`hg_mixed`), the working copy where it has to be looked at, and a word that a user gave. It changes the
+//! table as the command says, or refuses the word and leaves all as it was. Each refusal comes exactly where it fits and none before it does.
+//!
+//! | command | refusals, the first that fits | what it does |
+//! |---|---|---|
+//! | `add` | no path; nothing there; neither a file nor a link; a tracked path above or below | the path is tracked, in its old entry or in a new one |
+//! | `forget` | no path; not tracked | the path isn't tracked; its entry goes where no parent has it, and its copy source in any case |
+//!
+//! A path that is tracked already is added without a look at the working copy, and stays as it is.
+//!
+//! ```text
+//! let mut table = Mixed::open(alloc, image)?;
+//! add(&mut table, &mut tree, "src/main.c")?;   // None: tracked
+//! add(&mut table, &mut tree, "src")?;          // Some(Refusal::Special): a directory
+//! forget(&mut table, "src/main.c")?;           // None
+//! forget(&mut table, "src/main.c")?;           // Some(Refusal::NotTracked)
+//! ```
+//!
+//! `specs/Step.antt` says what a word makes of a table, `specs/Look.antt` what was looked at and when, `specs/Cause.antt` why a command stops.
+#![tactic(auto)]
+
+mod adding;
+mod entries;
+mod forgetting;
+mod laws;
+mod refusal;
+
+pub use adding::add;
+pub use forgetting::forget;
+pub use laws::{one_add, one_forget};
+pub use refusal::{OpFault, Refusal};
+
+#[cfg(test)]
+mod tests;
