@@ -340,7 +340,7 @@ HOSTILE = {
     "choices": "{,a,?}" * 330 + "Z" + "{,a,?}" * 330,
     "deep braces": "{," * 1_300 + "**Z**" + "}" * 1_300,
     "classes": "**" + "{[!a],[!b]}" * 350 + "Z**",
-    "ranges": "**[" + "b-cd-ef-g" * 450 + "]Z",
+    "ranges": "**[" + "b-cd-ef-g" * 450 + "]Z**",
     "stars in choices": "{**,*}" * 600 + "Z**",
 }
 
