@@ -4,7 +4,7 @@ use crate::setting::{EMPTY, Setting, What, both, expect};
 use std::process::Abort;
 use std::test::Fail;
 
-// Runs over these two files; `a` is there, and a file of ignore patterns that is refused, which is read after the data.
+// Runs over these two files; `a` is there, and a file of ignore patterns, which is looked for after the data.
 pub(crate) fn expect_refused<R: Abort + AllocGlobal>(
     rt: &R,
     of: DocketOf,
@@ -13,8 +13,7 @@ pub(crate) fn expect_refused<R: Abort + AllocGlobal>(
 ) -> Result<(), Fail> {
     let files = both(docket(rt.alloc(), of)?, data);
     let setting = Setting {
-        things: &[("a", What::File)],
-        ignore: Some(b"include:x"),
+        things: &[("a", What::File), (".hgignore", What::File)],
         ..EMPTY
     };
     expect(rt, line, &files, setting, "", line)

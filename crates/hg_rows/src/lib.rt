@@ -44,8 +44,6 @@ mod manifests;
 #[cfg(test)]
 mod parents;
 #[cfg(test)]
-mod patterns;
-#[cfg(test)]
 mod records;
 #[cfg(test)]
 mod refusals;

@@ -117,8 +117,10 @@ fn asks_for_no_contents_of_another_kind(rt: HostRuntime) -> Result<(), Fail> {
 fn reads_patterns_first(rt: HostRuntime) -> Result<(), Fail> {
     let files = one(rt.alloc())?;
     let setting = Setting {
-        things: &[("f", What::Text("one\n"))],
-        ignore: Some(b"include:x"),
+        things: &[
+            ("f", What::Text("one\n")),
+            (".hgignore", What::Text("include:x")),
+        ],
         ..EMPTY
     };
     expect(

@@ -22,14 +22,12 @@ pub(crate) enum What<'a> {
     LinkTo(&'a str),
 }
 
-/// What stands before a run, but for the files; `ignore` is the text of `.hgignore`. A failing call is counted from 0.
+/// What stands before a run, but for the files. A failing call is counted from 0.
 #[derive(Clone, Copy)]
 pub(crate) struct Setting<'a> {
     pub words: &'a [&'a str],
     pub things: &'a [(&'a str, What<'a>)],
     pub plain: &'a [(&'a str, &'a str)],
-    pub ignore: Option<&'a [u8]>,
-    pub regexps_fail: Option<u64>,
     pub tree_fails: Option<u64>,
     pub shelf_fails: Option<u64>,
     pub out_fails: Option<u64>,
@@ -47,8 +45,6 @@ pub(crate) const EMPTY: Setting<'static> = Setting {
     words: &["status"],
     things: &[],
     plain: &[],
-    ignore: None,
-    regexps_fail: None,
     tree_fails: None,
     shelf_fails: None,
     out_fails: None,
@@ -85,10 +81,10 @@ fn place_file(
     alloc: Global,
     tree: &mut MemTree,
     path: PathRef<'_>,
-    text: &[u8],
+    text: &str,
     exec: bool,
 ) -> Result<(), Fail> {
-    let bytes = Blob::of(alloc, text)?;
+    let bytes = Blob::of(alloc, text.as_bytes())?;
     tree.place(path, Thing::File { exec, bytes }, NOON)?;
     Ok(())
 }
@@ -110,9 +106,9 @@ fn place_link(
 fn place(alloc: Global, tree: &mut MemTree, path: &str, what: What<'_>) -> Result<(), Fail> {
     let path = PathRef::read(path)?;
     match what {
-        What::File => place_file(alloc, tree, path, b"b", false),
-        What::Text(text) => place_file(alloc, tree, path, text.as_bytes(), false),
-        What::Exec(text) => place_file(alloc, tree, path, text.as_bytes(), true),
+        What::File => place_file(alloc, tree, path, "b", false),
+        What::Text(text) => place_file(alloc, tree, path, text, false),
+        What::Exec(text) => place_file(alloc, tree, path, text, true),
         What::Link => place_link(alloc, tree, path, "b"),
         What::LinkTo(text) => place_link(alloc, tree, path, text),
         What::Dir => Ok(tree.place(path, Thing::Dir, NOON)?),
@@ -124,9 +120,6 @@ pub(crate) fn tree_of(alloc: Global, setting: Setting<'_>) -> Result<MemTree, Fa
     let mut tree = MemTree::new(alloc, NOON)?;
     for (path, what) in setting.things {
         place(alloc, &mut tree, path, *what)?;
-    }
-    if let Some(text) = setting.ignore {
-        place_file(alloc, &mut tree, PathRef::read(".hgignore")?, text, false)?;
     }
     if let Some(call) = setting.tree_fails {
         tree.fail_at(call)?;
@@ -164,14 +157,6 @@ fn sink_of(alloc: Global, fails: Option<u64>) -> Result<MemSink, OutOfMemory> {
     Ok(sink)
 }
 
-fn regexps_of(setting: Setting<'_>) -> Builds {
-    let mut regexps = Builds::new();
-    if let Some(call) = setting.regexps_fail {
-        regexps.fail_at(call);
-    }
-    regexps
-}
-
 fn words_of(alloc: Global, setting: Setting<'_>) -> Result<Words, OutOfMemory> {
     let mut words = Words::new(alloc);
     for word in setting.words {
@@ -206,7 +191,7 @@ pub(crate) fn run_over(
     let mut input = MemSource::new(alloc, b"status\n", 1)?;
     let mut out = sink_of(alloc, setting.out_fails)?;
     let mut err = sink_of(alloc, setting.err_fails)?;
-    let mut regexps = regexps_of(setting);
+    let mut regexps = Builds::new();
     let outcome = run(
         alloc,
         &words,
