@@ -44,6 +44,13 @@ impl Calls {
         Ok(())
     }
 
+    /// How many calls were made.
+    pub fn made(&self) -> u64
+        ensures { result ≡ self.now.made }
+    {
+        self.made
+    }
+
     /// Counts a call, which fails where it was told to.
     pub fn begin(&mut self) -> Result<(), Failed>
         ensures due { is_err result ≡ is_due self.old }

@@ -34,7 +34,7 @@ use Rattle.hg_cli.specs.Call.{Call, Looked, Serves}
 use Rattle.hg_cli.specs.Command.{CommandCause, HasBadManifest, HasBadPatterns, IsExpected, IsReady, LacksContents, MetBefore, RefusesLines, RefusesPatterns, wanted_in}
 use Rattle.hg_cli.specs.Flags.{is_status}
 use Rattle.hg_cli.specs.Listed.{IsListable, IsListed, IsListedFor, IsLoaded, IsOwn, IsRecorded, IsUntouched, ListingCause, LoadMet, first_parent, status_over}
-use Rattle.hg_cli.specs.Load.{id_in, record_in}
+use Rattle.hg_save.specs.Record.{id_in, record_in}
 use Rattle.hg_cli.specs.Loaded.{Answers, IsFlatOf, Try}
 use Rattle.hg_cli.specs.declared.load_fault.LoadFault.{LoadFault}
 use Rattle.hg_cli.specs.declared.load_fault.LoadFault.TheVariants as a_load

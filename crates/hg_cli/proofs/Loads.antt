@@ -19,7 +19,9 @@ use Rattle.hg_shelf.specs.History.{Extends, Files, History, Passes, now}
 use Rattle.hg_base.specs.Reads.{ReadsBytes}
 use Rattle.hg_shelf.specs.Reads.{size_of}
 use Rattle.hg_shelf.proofs.Histories.{extends_trans}
-use Rattle.hg_cli.specs.Load.{content, data_in, data_name, docket_in, id_in, named_reading, needed_in, record_in}
+use Rattle.hg_shelf.specs.Rules.{content}
+use Rattle.hg_save.proofs.Tails.{front_same, short_of}
+use Rattle.hg_save.specs.Record.{data_in, data_name, docket_in, id_in, named_reading, needed_in, record_in}
 use Rattle.hg_cli.specs.Loaded.{Answers, Covers, DataFinds, DataFindsDuring, During, FileFinds, FileFindsDuring, FrontFinds, IsTry, IsUnread, Loads, NamedFinds, NodesFind, Tries, Try, bytes_of, files_at, found_by, id_by}
 use Rattle.hg_cli.specs.declared.load_fault.LoadFault.{LoadFault}
 use Rattle.hg_cli.specs.declared.load_fault.LoadFault.TheVariants as a_fault
@@ -137,31 +139,6 @@ file_rest old mid new id name used size want result first second named sized is 
     (size_some ((now mid).files (data_name id)) size (sized ∙ ap (λ (n : List ℕ). size_of ((now mid).files n)) named)) is refl finds
 
 -- ---- what the bytes lead to
-
-not_short : (used : ℕ) (bytes : List ℕ) → used ≤ length bytes → ltb (length bytes) used ≡ false
-not_short used bytes long = false_from_ne_true (ltb (length bytes) used) (λ short. let less = ltb-true (length bytes) used short in absurd (omega (arith, less, long)))
-
-walk_of : (d : Contents) (bytes : List ℕ) → d.used ≤ length bytes → data_reading d bytes ≡ sound_reading (list_fault levels (take d.used bytes) None d.root_start d.root_count) (table_of d (rows_of d bytes))
-walk_of d bytes long =
-    ap (λ (b : Bool). sound_reading (cond b (Some (a_node.DataShort (length bytes) d.used)) (list_fault levels (take d.used bytes) None d.root_start d.root_count)) (table_of d (rows_of d bytes)))
-    (not_short d.used bytes long)
-
-short_of : (d : Contents) (bytes : List ℕ) → length bytes < d.used → data_reading d bytes ≡ Err (a_node.DataShort (length bytes) d.used)
-short_of d bytes short =
-    ap (λ (b : Bool). sound_reading (cond b (Some (a_node.DataShort (length bytes) d.used)) (list_fault levels (take d.used bytes) None d.root_start d.root_count)) (table_of d (rows_of d bytes)))
-    (lt-ltb (length bytes) d.used short)
-
-front_same : (d : Contents) (bytes : List ℕ) → data_reading d (take d.used bytes) ≡ data_reading d bytes
-front_same d bytes =
-    elim (cases_lt (length bytes) d.used) [
-      | inl short ↦ ap (data_reading d) (take_all d.used bytes (omega (arith, short)))
-      | inr long ↦
-          let len = length-take d.used bytes in
-          walk_of d (take d.used bytes) (omega (arith, len, long))
-          ∙ ap (λ (l : List ℕ). sound_reading (list_fault levels l None d.root_start d.root_count) (table_of d (list_rows levels l d.root_start d.root_count)))
-          (take_all d.used (take d.used bytes) (omega (arith, len)))
-          ∙ sym (walk_of d bytes long)
-    ]
 
 covers_same : (d : Contents) (nodes bytes : List ℕ) → Covers d.used nodes bytes → data_reading d nodes ≡ data_reading d bytes
 covers_same d nodes bytes (inl is) = ap (data_reading d) is ∙ front_same d bytes

@@ -18,7 +18,8 @@ use Rattle.hg_cli.specs.Call.{Call, Fails, Serves, Watched}
 use Rattle.hg_cli.specs.Command.{Does, IsFaultOrMemory, IsSilent, Prints, Ran, Tells, TellsLine}
 use Rattle.hg_cli.specs.Debug.{HasText, IsExpectedOf, IsLeftAlone, IsRead, IsReadable, IsTextIn, LeavesRecord, LeavesText, MetReading, OneRecord, PrintsRecord, RanRecord, RecordCause, is_debug}
 use Rattle.hg_cli.specs.Listed.{LoadMet}
-use Rattle.hg_cli.specs.Load.{id_in, of_load, record_in}
+use Rattle.hg_save.specs.Record.{id_in, record_in}
+use Rattle.hg_cli.specs.Load.{of_load}
 use Rattle.hg_cli.specs.Loaded.{Answers, IsBytesOf, IsFlatOf, Loads, Try}
 use Rattle.hg_cli.specs.declared.load_fault.LoadFault.{LoadFault}
 use Rattle.hg_cli.specs.declared.load_fault.LoadFault.TheVariants as a_load

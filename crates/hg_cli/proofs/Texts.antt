@@ -11,7 +11,7 @@ use Rattle.hg_report.specs.Status.{text_of}
 use Rattle.hg_cli.specs.Command.{OneText}
 use Rattle.hg_cli.specs.Flags.{style_of, wanted_of}
 use Rattle.hg_cli.specs.Listed.{first_parent}
-use Rattle.hg_cli.specs.Load.{record_in}
+use Rattle.hg_save.specs.Record.{record_in}
 
 table_or : Table → Option (Result Table RecordFault) → Table
 table_or other None = other

@@ -35,7 +35,7 @@ use Rattle.hg_cli.specs.Call.{Call, Fails, Serves, Watched}
 use Rattle.hg_cli.specs.Debug.{IsLeftAlone, IsOutFault, PrintsRecord, RanRecord, is_debug}
 use Rattle.hg_cli.specs.Flags.{is_status, style_of, wanted_of}
 use Rattle.hg_cli.specs.Listed.{AsksLittle, AsksOwn, IsListable, IsListed, IsListedFor, IsOwn, ListingCause, first_parent}
-use Rattle.hg_cli.specs.Load.{id_in, record_in}
+use Rattle.hg_save.specs.Record.{id_in, record_in}
 
 -- ---- what was printed
 

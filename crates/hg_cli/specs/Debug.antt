@@ -12,7 +12,7 @@ use Rattle.hg_stream.specs.Stream.{Grown, GrownByFront}
 use Rattle.hg_tree.specs.History as tree
 use Rattle.hg_cli.specs.Call.{Fails, Serves, Watched}
 use Rattle.hg_cli.specs.Listed.{LoadMet}
-use Rattle.hg_cli.specs.Load.{id_in, record_in}
+use Rattle.hg_save.specs.Record.{id_in, record_in}
 use Rattle.hg_cli.specs.Loaded.{Tries, Try, found_by}
 use Rattle.hg_cli.specs.declared.load_fault.LoadFault.TheVariants as a_load
 

@@ -20,7 +20,7 @@ use Rattle.hg_shelf.specs.History as shelf
 use Rattle.hg_tree.specs.History as tree
 use Rattle.hg_tree.specs.Moment.{Moment}
 use Rattle.hg_cli.specs.Call.{Fails, Looked, Watched}
-use Rattle.hg_cli.specs.Load.{record_in}
+use Rattle.hg_save.specs.Record.{record_in}
 use Rattle.hg_cli.specs.Loaded.{IsFlatOf, Loads, Tries, Try, found_by}
 use Rattle.hg_cli.specs.declared.load_fault.LoadFault.{LoadFault}
 use Rattle.hg_cli.specs.declared.load_fault.LoadFault.TheVariants as a_load

@@ -12,7 +12,7 @@ use Rattle.hg_image.specs.Reading as a_record_fault
 use Rattle.hg_image.specs.declared.fault.NodeFault.{NodeFault}
 use Rattle.hg_report.specs.Debug.{IsDebugText}
 use Rattle.hg_shelf.specs.History.{Files, History}
-use Rattle.hg_cli.specs.Load.{data_in, data_name, id_in, named_reading, record_in}
+use Rattle.hg_save.specs.Record.{data_in, data_name, id_in, named_reading, record_in}
 use Rattle.hg_cli.specs.declared.load_fault.LoadFault.{LoadFault}
 use Rattle.hg_cli.specs.declared.load_fault.LoadFault.TheVariants as a_fault
 

@@ -29,6 +29,7 @@ mod flags;
 mod listing;
 mod load;
 mod load_fault;
+mod lock_file;
 mod look;
 mod place;
 mod printed;
@@ -37,6 +38,7 @@ mod real_tree;
 mod root;
 mod spot;
 mod way;
+mod writing;
 
 pub use command::{Outcome, failed, run};
 pub use printed::{one_record, one_text};

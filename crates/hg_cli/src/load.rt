@@ -6,7 +6,7 @@ ghost use Rattle.hg_docket.specs.Docket.{view};
 ghost use Rattle.hg_docket.specs.Name.{is_name};
 ghost use Rattle.hg_image.specs.Reading.{data_reading};
 ghost use Rattle.hg_shelf.specs.History.{Passes, now};
-ghost use Rattle.hg_cli.specs.Load.{data_name, docket_in};
+ghost use Rattle.hg_save.specs.Record.{data_name, docket_in};
 ghost use Rattle.hg_cli.specs.Loaded.{bytes_of, DataFindsDuring, FileFindsDuring, FrontFinds, IsFlatOf, Loads, NamedFinds, NodesFind, Try};
 ghost use Rattle.hg_cli.specs.declared.load_fault.LoadFault.TheVariants as a_fault;
 

@@ -1,15 +1,18 @@
 //! The files below `.hg` in the file system.
 
 ghost use Rattle.std.specs.Prelude.{◌≡◌, ◌≤◌, IfOk, Ok, length};
+ghost use Rattle.hg_base.specs.Fault.{HasCause};
 ghost use Rattle.hg_base.specs.Reads.{IsWithin};
 
 use crate::disk::{counted, is_absence};
 use crate::failure::{FirstFailure, Reason};
+use crate::lock_file::{give_back, take};
 use crate::root::Root;
-use hg_base::{Failed, Got};
+use crate::writing::{look, make_folder, remove_file, rename_seen, sync, sync_file, write_file};
+use hg_base::{Failed, Got, risen};
 use hg_shelf::Shelf;
 use std::alloc::{AllocError, Global};
-use std::fs;
+use std::fs::{self, File};
 use std::io::{Error, ErrorKind, Read, Seek, SeekFrom};
 use std::rt::Files;
 
@@ -18,25 +21,31 @@ const TRIES: u32 = 1000;
 
 /// The files below `.hg` in a root folder, which is reached by its absolute name where it has one that serves, and else is the current one.
 ///
-/// It tells nothing of its history, and counts each call that the file system failed. A file is absent where `.hg` or the file is
-/// missing, and where the system can't hold its name. Links are followed; what is no regular file behind them is a failure.
+/// It tells nothing of its history but whether it has the lock, and counts each call that the file system failed, and each lock that was
+/// refused. A file is absent where `.hg` or the file is missing, and where the system can't hold its name. What reads follows links;
+/// what is no regular file behind them is a failure. What writes follows none, and makes the folders that are missing. The lock is one of
+/// the system's on the file `wlock`, which it gives back at the end of the process.
 #[derive(Drop)]
 pub struct RealShelf<'a, R: Files> {
     rt: &'a R,
     root: &'a Root,
+    lock: Option<File>,
     faults: u64,
+    held: u64,
     failure: FirstFailure,
 }
 
 impl<'a, R: Files + AllocGlobal> RealShelf<'a, R> {
-    /// The files below `.hg` in this root. No call has failed yet.
+    /// The files below `.hg` in this root. No call has failed yet, and the lock isn't taken.
     pub fn new(rt: &'a R, root: &'a Root) -> RealShelf<'a, R>
         ensures { result.faults ≡ 0 }
     {
         RealShelf {
             rt,
             root,
+            lock: None,
             faults: 0,
+            held: 0,
             failure: FirstFailure::new(),
         }
     }
@@ -47,39 +56,201 @@ impl<'a, R: Files + AllocGlobal> RealShelf<'a, R> {
         self.failure.as_str()
     }
 
-    // Keeps why a call on a file failed.
-    fn told<T: Drop>(&mut self, name: &str, answer: Result<T, Reason>) -> Result<T, Failed>
+    // The answer of a call on a file. A failure is counted, and why it failed is kept.
+    fn answered<T: Drop>(&mut self, name: &str, answer: Result<T, Reason>) -> Result<T, Failed>
         ensures same { IfOk result (λ thing. answer ≡ Ok thing) }
-        ensures faults { self.new.faults ≡ self.old.faults }
+        ensures lock { self.new.lock ≡ self.old.lock }
+        ensures held { self.new.held ≡ self.old.held }
+        ensures cause { HasCause self.old.faults self.new.faults result (λ e. Unit {0}) }
     {
-        match answer {
+        let answer = match answer {
             Ok(thing) => Ok(thing),
             Err(reason) => {
                 self.failure
                     .keep(self.rt.alloc(), b".hg", name.as_bytes(), reason);
                 Err(Failed)
             }
-        }
+        };
+        counted(&mut self.faults, answer)
     }
 }
 
-impl<'a, R: Files + AllocGlobal> Shelf for RealShelf<'a, R> {
+impl<'a, R: Files<File = File> + AllocGlobal> Shelf for RealShelf<'a, R> {
+    ghost use Rattle.std.specs.Prelude.{is_some};
     ghost use Rattle.hg_shelf.specs.History.{untold};
+    ghost use Rattle.hg_shelf.specs.Images.{unknown};
 
-    ghost history = { λ _. untold };
+    ghost history = { λ s. untold (is_some s.lock) };
+
+    ghost images = { λ _. unknown };
 
     ghost faults = { λ s. s.faults };
 
+    ghost held = { λ s. s.held };
+
     fn size(&mut self, name: &str) -> Result<Option<u64>, Failed> {
         let answer = size_of(self.rt, self.root, name);
-        let answer = self.told(name, answer);
-        counted(&mut self.faults, answer)
+        self.answered(name, answer)
     }
 
     fn read_at(&mut self, name: &str, place: u64, buf: &mut [u8]) -> Result<Got, Failed> {
         let answer = read_file(self.rt, self.root, name, place, buf);
-        let answer = self.told(name, answer);
-        counted(&mut self.faults, answer)
+        self.answered(name, answer)
+    }
+
+    fn write_at(&mut self, name: &str, place: u64, bytes: &[u8]) -> Result<(), Failed> {
+        let answer = put(self.rt, self.root, name, place, bytes);
+        self.answered(name, answer)
+    }
+
+    fn sync(&mut self, name: &str) -> Result<(), Failed> {
+        let answer = make_sure(self.rt, self.root, name);
+        self.answered(name, answer)
+    }
+
+    fn rename(&mut self, from: &str, to: &str) -> Result<(), Failed> {
+        let answer = change_name(self.rt, self.root, from, to);
+        self.answered(from, answer)
+    }
+
+    fn sync_names(&mut self) -> Result<(), Failed> {
+        let answer = sync_folder(self.rt, self.root, "");
+        self.answered("", answer)
+    }
+
+    fn remove(&mut self, name: &str) -> Result<(), Failed> {
+        let answer = take_away(self.rt, self.root, name);
+        self.answered(name, answer)
+    }
+
+    fn lock(&mut self) -> Result<bool, Failed> {
+        if self.lock.is_some() {
+            return Ok(true);
+        }
+        let answer = take_lock(self.rt, self.root);
+        match self.answered(WLOCK, answer)? {
+            Some(file) => {
+                self.lock = Some(file);
+                Ok(true)
+            }
+            None => {
+                self.held = risen(self.held);
+                Ok(false)
+            }
+        }
+    }
+
+    fn unlock(&mut self) -> Result<(), Failed> {
+        let Some(file) = self.lock.take() else {
+            return Ok(());
+        };
+        let answer = give_lock_back(self.rt, self.root, file);
+        self.answered(WLOCK, answer)
+    }
+
+    ghost named_leaves = { λ s k c named. named };
+
+    ghost shown_named = { λ s k told below. tt };
+}
+
+// The file of the lock.
+const WLOCK: &str = "wlock";
+
+fn put<R: Files + AllocGlobal>(
+    rt: &R,
+    root: &Root,
+    name: &str,
+    place: u64,
+    bytes: &[u8],
+) -> Result<(), Reason> {
+    make_folders(rt, root, name)?;
+    let path = below_hg(rt, root, name)?;
+    write_file(rt, path.as_str(), place, bytes)
+}
+
+// The file, and that its folder names it.
+fn make_sure<R: Files + AllocGlobal>(rt: &R, root: &Root, name: &str) -> Result<(), Reason> {
+    let path = below_hg(rt, root, name)?;
+    sync_file(rt, path.as_str())?;
+    sync_folder(rt, root, folder_of(name))
+}
+
+fn change_name<R: Files + AllocGlobal>(
+    rt: &R,
+    root: &Root,
+    from: &str,
+    to: &str,
+) -> Result<(), Reason> {
+    let from = below_hg(rt, root, from)?;
+    let Some(seen) = look(rt, from.as_str())? else {
+        return Ok(());
+    };
+    make_folders(rt, root, to)?;
+    let to = below_hg(rt, root, to)?;
+    rename_seen(rt, from.as_str(), &seen, to.as_str())
+}
+
+fn take_away<R: Files + AllocGlobal>(rt: &R, root: &Root, name: &str) -> Result<(), Reason> {
+    let path = below_hg(rt, root, name)?;
+    remove_file(rt, path.as_str())
+}
+
+fn take_lock<R: Files<File = File> + AllocGlobal>(
+    rt: &R,
+    root: &Root,
+) -> Result<Option<File>, Reason> {
+    make_folders(rt, root, WLOCK)?;
+    let path = below_hg(rt, root, WLOCK)?;
+    take(rt, path.as_str())
+}
+
+fn give_lock_back<R: Files<File = File> + AllocGlobal>(
+    rt: &R,
+    root: &Root,
+    file: File,
+) -> Result<(), Reason> {
+    let path = below_hg(rt, root, WLOCK)?;
+    give_back(rt, path.as_str(), file)
+}
+
+// Makes sure which names a folder below `.hg` has; that is `.hg` itself for the empty name.
+fn sync_folder<R: Files + AllocGlobal>(rt: &R, root: &Root, folder: &str) -> Result<(), Reason> {
+    let path = below_hg(rt, root, folder)?;
+    match sync(rt, path.as_str()) {
+        Err(error) if !is_absence(&error) => Err(Reason::System(error)),
+        _ => Ok(()),
+    }
+}
+
+// The folder that a file stands in, below `.hg`.
+fn folder_of(name: &str) -> &str {
+    match name.rsplit_once('/') {
+        Some((folder, _)) => folder,
+        None => "",
+    }
+}
+
+// Makes the folders in which a file is to stand, where they are missing, `.hg` too; each is made sure in the folder above.
+fn make_folders<R: Files + AllocGlobal>(rt: &R, root: &Root, name: &str) -> Result<(), Reason> {
+    let hg = below_hg(rt, root, "")?;
+    if make_folder(rt, hg.as_str())? {
+        sync(rt, root_name(root))?;
+    }
+    let mut above = hg;
+    for (at, _) in name.match_indices('/') {
+        let folder = below_hg(rt, root, &name[..at])?;
+        if make_folder(rt, folder.as_str())? {
+            sync(rt, above.as_str())?;
+        }
+        above = folder;
+    }
+    Ok(())
+}
+
+fn root_name(root: &Root) -> &str {
+    match &root.named {
+        Some(named) => named.name.as_str(),
+        None => ".",
     }
 }
 

@@ -195,6 +195,114 @@ fn reads_below_hg(rt: HostRuntime) -> Result<(), Fail> {
     Ok(())
 }
 
+// What stands below `.hg` after each call, for each of which there is room.
+#[test]
+fn writes_below_hg(rt: HostRuntime) -> Result<(), Fail> {
+    let _ = fs::remove_dir_all(&rt, ".hg");
+    let root = Root::current(&rt);
+    let mut shelf = RealShelf::new(&rt, &root);
+    for (name, place, bytes, whole) in [
+        ("dirstate-new", 0, "abc", "abc"),
+        ("dirstate-new", 5, "x", "abc\0\0x"),
+        ("dirstate-new", 1, "BCD", "aBCD\0x"),
+        ("dirstate-new", 2, "", "aBCD\0x"),
+        ("data", 2, "", "\0\0"),
+        ("plain/f-1", 0, "one", "one"),
+    ] {
+        let wrote = shelf.write_at(name, place, bytes.as_bytes());
+        let synced = shelf.sync(name);
+        let read = read_below(&rt, name)?;
+        assert_eq!(rt; (wrote, synced), (Ok(()), Ok(())), "{name} at {place}");
+        assert_eq!(rt; read.as_str(), whole, "{name} at {place}");
+    }
+    let made = fs::metadata(&rt, ".hg/data")?.permissions().mode() & 0o777;
+    fs::write(&rt, ".hg/dirstate", b"old".as_slice())?;
+    fs::set_permissions(&rt, ".hg/dirstate", Permissions::from_mode(0o600))?;
+    let renamed = [
+        shelf.rename("dirstate-new", "dirstate"),
+        shelf.rename("dirstate-new", "dirstate"),
+        shelf.sync_names(),
+        shelf.sync("dirstate-new"),
+        shelf.remove("data"),
+        shelf.remove("data"),
+    ];
+    let kept = fs::metadata(&rt, ".hg/dirstate")?.permissions().mode() & 0o777;
+    let read = read_below(&rt, "dirstate")?;
+    let left = [
+        shelf.size("dirstate-new"),
+        shelf.size("data"),
+        shelf.size("dirstate"),
+    ];
+    fs::remove_dir_all(&rt, ".hg")?;
+    assert_eq!(rt; renamed, [Ok(()); 6]);
+    assert_eq!(rt; read.as_str(), "aBCD\0x");
+    assert_eq!(rt; left, [Ok(None), Ok(None), Ok(Some(6))]);
+    assert_eq!(rt; (made & 0o133, kept), (0, 0o600));
+    Ok(())
+}
+
+fn read_below(rt: &HostRuntime, name: &str) -> Result<String, Fail> {
+    let mut path = String::from_str(rt.alloc(), ".hg/")?;
+    path.push_str(name)?;
+    Ok(fs::read_to_string(rt, path.as_str())?)
+}
+
+// Nothing is written through a link or into a folder, and the reason is kept.
+#[test]
+fn writes_no_other_file(rt: HostRuntime) -> Result<(), Fail> {
+    let _ = fs::remove_dir_all(&rt, ".hg");
+    let root = Root::current(&rt);
+    let mut shelf = RealShelf::new(&rt, &root);
+    fs::create_dir_all(&rt, ".hg/folder")?;
+    symlink(&rt, "../outside_of_hg", ".hg/link")?;
+    let answers = [
+        shelf.write_at("link", 0, b"a"),
+        shelf.sync("link"),
+        shelf.write_at("folder", 0, b"a"),
+        shelf.sync("folder"),
+        shelf.rename("link", "folder"),
+        shelf.remove("folder"),
+    ];
+    let outside = fs::exists(&rt, "outside_of_hg")?;
+    let told = shelf.failure() == Some(".hg/link: not a regular file");
+    fs::remove_dir_all(&rt, ".hg")?;
+    assert_eq!(rt; answers, [Err(Failed); 6]);
+    assert!(rt; !outside);
+    assert!(rt; told);
+    Ok(())
+}
+
+// Two that share a working copy, and Mercurial's own lock, which is a link to nowhere.
+#[test]
+fn locks_below_hg(rt: HostRuntime) -> Result<(), Fail> {
+    let _ = fs::remove_dir_all(&rt, ".hg");
+    let root = Root::current(&rt);
+    let mut one = RealShelf::new(&rt, &root);
+    let mut other = RealShelf::new(&rt, &root);
+    let taken = [one.lock(), other.lock(), one.lock()];
+    let given = [one.unlock(), one.unlock(), other.unlock()];
+    let left = fs::exists(&rt, ".hg/wlock")?;
+    let again = [other.lock(), one.lock()];
+    let end = other.unlock();
+    symlink(&rt, "host:1", ".hg/wlock")?;
+    let beside = one.lock();
+    let target = fs::exists(&rt, ".hg/host:1")?;
+    fs::remove_file(&rt, ".hg/wlock")?;
+    fs::write(&rt, ".hg/wlock", b"".as_slice())?;
+    let stale = one.lock();
+    drop(one);
+    let dropped = other.lock();
+    drop(other);
+    fs::remove_dir_all(&rt, ".hg")?;
+    assert_eq!(rt; taken, [Ok(true), Ok(false), Ok(true)]);
+    assert_eq!(rt; given, [Ok(()); 3]);
+    assert!(rt; !left && !target);
+    assert_eq!(rt; again, [Ok(true), Ok(false)]);
+    assert_eq!(rt; end, Ok(()));
+    assert_eq!(rt; (beside, stale, dropped), (Ok(false), Ok(true), Ok(true)));
+    Ok(())
+}
+
 // Gives one byte at a call, and is interrupted before each.
 #[derive(Drop)]
 struct Slow<'a> {

@@ -157,16 +157,22 @@ fn asks_the_shelf(rt: HostRuntime) -> Result<(), Fail> {
     Ok(())
 }
 
-/// A shelf whose files all have this size, and can't be read.
+/// A shelf whose files all have this size, and can neither be read nor be written. Its count of failures stands at its end.
 #[derive(Drop)]
 struct Sized(u64);
 
 impl Shelf for Sized {
+    ghost use Rattle.std.specs.Prelude.{◌-◌, ◌^◌, false};
     ghost use Rattle.hg_shelf.specs.History.{untold};
+    ghost use Rattle.hg_shelf.specs.Images.{unknown};
 
-    ghost history = { λ _. untold };
+    ghost history = { λ _. untold false };
 
-    ghost faults = { λ _. 0 };
+    ghost images = { λ _. unknown };
+
+    ghost faults = { λ _. 2 ^ 64 - 1 };
+
+    ghost held = { λ _. 0 };
 
     fn size(&mut self, _: &str) -> Result<Option<u64>, Failed> {
         Ok(Some(self.0))
@@ -175,6 +181,38 @@ impl Shelf for Sized {
     fn read_at(&mut self, _: &str, _: u64, _: &mut [u8]) -> Result<Got, Failed> {
         Ok(Got::Absent)
     }
+
+    fn write_at(&mut self, _: &str, _: u64, _: &[u8]) -> Result<(), Failed> {
+        Err(Failed)
+    }
+
+    fn sync(&mut self, _: &str) -> Result<(), Failed> {
+        Err(Failed)
+    }
+
+    fn rename(&mut self, _: &str, _: &str) -> Result<(), Failed> {
+        Err(Failed)
+    }
+
+    fn sync_names(&mut self) -> Result<(), Failed> {
+        Err(Failed)
+    }
+
+    fn remove(&mut self, _: &str) -> Result<(), Failed> {
+        Err(Failed)
+    }
+
+    fn lock(&mut self) -> Result<bool, Failed> {
+        Err(Failed)
+    }
+
+    fn unlock(&mut self) -> Result<(), Failed> {
+        Err(Failed)
+    }
+
+    ghost named_leaves = { λ s k c named. named };
+
+    ghost shown_named = { λ s k told below. tt };
 }
 
 #[test]

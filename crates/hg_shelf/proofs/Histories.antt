@@ -1,7 +1,7 @@
 -- Histories over spans: what holds of two spans holds of both.
 use Rattle.std.proofs.Common.{◌≡◌, refl, ap, ◌∙◌, arith, inl, inr, Bool, true, false, sym}
 use Rattle.std.proofs.lemmas.Bool.{cases_lt}
-use Rattle.hg_shelf.specs.History.{History, Moment, Stays, Extends, Passes, IsOurs, us, label}
+use Rattle.hg_shelf.specs.History.{History, Moment, Stays, Extends, Passes, Waits, IsOurs, us, label}
 
 pub stays_same : (m : Moment) → Stays m m
 stays_same m = record { shown = refl }
@@ -33,9 +33,25 @@ passes_trans a b c p q = record {
   ];
 }
 
-us_apart : (ours : Bool) → us ≡ label ours → ⊥
+pub us_apart : (ours : Bool) → us ≡ label ours → ⊥
 us_apart true is = absurd (cc is)
 us_apart false is = absurd (cc is)
+
+-- where the caller made no step, its lock may have changed hands too
+pub passes_waits : (old new : History) → Passes old new → Waits old new
+passes_waits old new passes = record { past = passes.past; none = λ k from to is. us_apart old.ours (sym is ∙ passes.by_others k from to) }
+
+pub waits_same : (h : History) → Waits h h
+waits_same h = passes_waits h h (passes_same h)
+
+pub waits_trans : (a b c : History) → Waits a b → Waits b c → Waits a c
+waits_trans a b c p q = record {
+  past = extends_trans a b c p.past q.past;
+  none = λ k from to is. elim (cases_lt k b.last) [
+    | inl before ↦ p.none k from before (sym (q.past.who k before) ∙ is)
+    | inr behind ↦ q.none k behind to is
+  ];
+}
 
 -- the caller's part of a call that only asks is nothing, so where nobody else steps no step is made
 pub ours_unstepped : (old new : History) → Passes old new → IsOurs old new → new.last ≡ old.last

@@ -1,2 +1,13 @@
+pub mod Coming
+pub mod Courses
+pub mod CrashFiles
+pub mod CrashImages
+pub mod CrashPicks
+pub mod CrashPlaced
+pub mod CrashSteps
+pub mod CrashTorn
 pub mod Histories
+pub mod Locking
 pub mod Replay
+pub mod Rules
+pub mod Scenes

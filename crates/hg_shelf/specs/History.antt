@@ -27,9 +27,9 @@ pub record History : Type 0 where
 abbrev pub now : History → Moment
 now h = h.at h.last
 
--- the history of a shelf that tells nothing and has no lock
-abbrev pub untold : History
-untold = record { ours = false; told = false; last = 0; at = λ k. record { files = λ name. None }; who = λ k. others }
+-- the history of a shelf that tells nothing but whether the caller holds the lock
+abbrev pub untold : Bool → History
+untold ours = record { ours = ours; told = false; last = 0; at = λ k. record { files = λ name. None }; who = λ k. others }
 
 -- a moment stays as it was
 pub record Stays (old new : Moment) : Type 0 where
@@ -55,6 +55,11 @@ pub record Passes (old new : History) : Type 0 where
   pub past : Extends old new
   pub ours : new.ours ≡ old.ours
   pub by_others : By (label old.ours) new old.last new.last
+
+-- the lock may have changed hands, and the caller made no step
+pub record Waits (old new : History) : Type 0 where
+  pub past : Extends old new
+  pub none : (k : ℕ) → old.last ≤ k → k < new.last → new.who k ≡ us → ⊥
 
 -- every step between two states of a shelf that tells its moments was the caller's own
 pub record IsOurs (old new : History) : Type 0 where

@@ -1,4 +1,10 @@
+pub mod Crash
 pub mod History
+pub mod Images
+pub mod Lock
 pub mod Memory
 pub mod Polite
 pub mod Reads
+pub mod Rules
+pub mod Sound
+pub mod Torn

@@ -1,7 +1,7 @@
 use Rattle.std.proofs.Common.{◌∙◌, arith}
 use Rattle.std.proofs.lemmas.Result.{err_from_is_err_and}
 use Rattle.hg_shelf.specs.History.{now}
-use Rattle.hg_cli.specs.Load.{data_name}
+use Rattle.hg_save.specs.Record.{data_name}
 use Rattle.hg_cli.proofs.Loads.{cut_front, front_free, front_gone, front_read}
 use Rattle.hg_cli.proofs.load.read_front.Goals as goal
 

@@ -1,0 +1,131 @@
+//! Writing below `.hg` in the file system. Nothing is written through a link, nor to what is no regular file.
+
+use crate::disk::is_absence;
+use crate::failure::Reason;
+use crate::spot::spot_of;
+use std::fs::{self, File, Metadata, OpenFile};
+use std::io::{Error, ErrorKind, Seek, SeekFrom, Write};
+use std::os::unix::fs::OpenOptionsExt;
+use std::rt::Files;
+
+// How new files can be used, less what the user's mask takes away: as Mercurial makes them.
+const MODE: u32 = 0o644;
+
+// What keeps a name from being written.
+const OTHER: Reason = Reason::Words("not a regular file");
+
+/// What stands at the path, without following a link, where anything does.
+pub(crate) fn look<R: Files>(rt: &R, path: &str) -> Result<Option<Metadata>, Error> {
+    match fs::symlink_metadata(rt, path) {
+        Ok(metadata) => Ok(Some(metadata)),
+        Err(error) if is_absence(&error) => Ok(None),
+        Err(error) => Err(error),
+    }
+}
+
+/// Makes a regular file that isn't there yet, for writing.
+pub(crate) fn make<R: Files>(rt: &R, path: &str) -> Result<R::File, Error> {
+    File::options()
+        .write(true)
+        .create_new(true)
+        .mode(MODE)
+        .open(rt, path)
+}
+
+/// Opens the regular file that was seen at the path, to be written or only to be had; there is none where it went away, or another one
+/// stands there by now.
+pub(crate) fn open_seen<R: Files>(
+    rt: &R,
+    path: &str,
+    seen: &Metadata,
+    writes: bool,
+) -> Result<Option<R::File>, Reason> {
+    if !seen.is_file() {
+        return Err(OTHER);
+    }
+    let file = match File::options().read(!writes).write(writes).open(rt, path) {
+        Ok(file) => file,
+        Err(error) if is_absence(&error) => return Ok(None),
+        Err(error) => return Err(Reason::System(error)),
+    };
+    if spot_of(&file.metadata()?) != spot_of(seen) {
+        return Ok(None);
+    }
+    Ok(Some(file))
+}
+
+// Opens a file for writing, which is made where it is absent.
+fn open_or_make<R: Files>(rt: &R, path: &str) -> Result<R::File, Reason> {
+    let Some(seen) = look(rt, path)? else {
+        return Ok(make(rt, path)?);
+    };
+    match open_seen(rt, path, &seen, true)? {
+        Some(file) => Ok(file),
+        None => Err(Reason::Words("another file took its place")),
+    }
+}
+
+/// Writes bytes at a place of a file, which is made where it is absent. A place past the end has zeros before it.
+pub(crate) fn write_file<R: Files>(
+    rt: &R,
+    path: &str,
+    place: u64,
+    bytes: &[u8],
+) -> Result<(), Reason> {
+    let mut file = open_or_make(rt, path)?;
+    if file.metadata()?.len() < place {
+        file.set_len(place)?;
+    }
+    file.seek(SeekFrom::Start(place))?;
+    file.write_all(bytes)?;
+    Ok(())
+}
+
+/// Makes sure what a regular file holds; an absent one has nothing to be made sure.
+pub(crate) fn sync_file<R: Files>(rt: &R, path: &str) -> Result<(), Reason> {
+    match look(rt, path)? {
+        None => Ok(()),
+        Some(seen) if seen.is_file() => Ok(sync(rt, path)?),
+        Some(_) => Err(OTHER),
+    }
+}
+
+/// Makes sure what is open at the path: what a file holds, or which names a folder has.
+pub(crate) fn sync<R: Files>(rt: &R, path: &str) -> Result<(), Error> {
+    fs::open(rt, path)?.sync_all()
+}
+
+/// Makes a folder where nothing stands, and says whether it did.
+pub(crate) fn make_folder<R: Files>(rt: &R, path: &str) -> Result<bool, Error> {
+    match fs::create_dir(rt, path) {
+        Ok(()) => Ok(true),
+        Err(error) if error.kind() == ErrorKind::AlreadyExists => Ok(false),
+        Err(error) => Err(error),
+    }
+}
+
+/// Gives what was seen at a path another name. A file that takes the place of a regular one gets its rights, where they can be given.
+pub(crate) fn rename_seen<R: Files>(
+    rt: &R,
+    from: &str,
+    seen: &Metadata,
+    to: &str,
+) -> Result<(), Reason> {
+    match look(rt, to)? {
+        Some(before) if before.is_file() && seen.is_file() => {
+            let _ = fs::set_permissions(rt, from, before.permissions());
+        }
+        Some(before) if before.is_dir() => return Err(OTHER),
+        _ => {}
+    }
+    fs::rename(rt, from, to)?;
+    Ok(())
+}
+
+/// Takes a file away, where there is one.
+pub(crate) fn remove_file<R: Files>(rt: &R, path: &str) -> Result<(), Reason> {
+    match fs::remove_file(rt, path) {
+        Err(error) if !is_absence(&error) => Err(Reason::System(error)),
+        _ => Ok(()),
+    }
+}

@@ -1,0 +1,38 @@
+use Rattle.std.proofs.Common.{◌≡◌, ℕ, List, ap, sym, ◌∙◌, subst, None}
+use Rattle.std.proofs.lemmas.Result.{on_ok_weaker}
+use Rattle.hg_docket.specs.Docket.{Contents, docket_of}
+use Rattle.hg_shelf.specs.Images.{course, last_scene}
+use Rattle.hg_shelf.specs.Rules.{Perhaps, without}
+use Rattle.hg_save.specs.Leads.{Leads}
+use Rattle.hg_save.specs.Record.{data_name}
+use Rattle.hg_save.proofs.Names.{empty_id, read_id}
+use Rattle.hg_save.proofs.Parts.{either, gone_from, perhaps_itself, remove_leads, remove_shown, unstepped}
+use Rattle.hg_save.proofs.saving.clear.Goals as goal
+
+pub returns-then-is_empty-clause-leads : goal.returns-then-is_empty-clause-leads
+returns-then-is_empty-clause-leads g c = λ calm.
+    unstepped (Perhaps (without (data_name (docket_of c.args.docket.now).id))) (course (g.S.Shelf.history c.args.shelf.now) (g.S.Shelf.images c.args.shelf.now)) c.requires.held
+    (perhaps_itself (without (data_name (docket_of c.args.docket.now).id)))
+
+pub returns-then-is_empty-clause-gone : goal.returns-then-is_empty-clause-gone
+returns-then-is_empty-clause-gone g c = λ calm some.
+    absurd (some (ap (λ (d : Contents). d.id) (sym c.in-Ok.ensures.fields) ∙ empty_id c.in-Ok.docket.id.now c.is_empty.result c.is_empty.ensures c.if-is_empty.true))
+
+pub returns-clause-leads : goal.returns-clause-leads
+returns-clause-leads g c = λ calm.
+    let id = read_id c.in-Some.id c.in-Ok.docket.id.now c.in-Some.ensures ∙ ap (λ (d : Contents). d.id) c.in-Ok.ensures.fields in
+    subst (λ (name : List ℕ). Leads (Perhaps (without name)) (course (g.S.Shelf.history c.args.shelf.now) (g.S.Shelf.images c.args.shelf.now)) (course (g.S.Shelf.history c.remove.new.self) (g.S.Shelf.images c.remove.new.self)))
+    (c.as_str.ensures ∙ c.of.ensures ∙ ap data_name id)
+    (remove_leads c.as_str.result.now (course (g.S.Shelf.history c.args.shelf.now) (g.S.Shelf.images c.args.shelf.now)) (course (g.S.Shelf.history c.remove.new.self) (g.S.Shelf.images c.remove.new.self))
+    c.requires.held c.remove.ensures.ours c.remove.ensures.kept calm (either c.remove.result (c.remove.ensures.removed calm.told) (c.remove.ensures.perhaps calm.told)))
+
+pub returns-clause-gone : goal.returns-clause-gone
+returns-clause-gone g c = λ calm.
+    let id = read_id c.in-Some.id c.in-Ok.docket.id.now c.in-Some.ensures ∙ ap (λ (d : Contents). d.id) c.in-Ok.ensures.fields in
+    on_ok_weaker c.remove.result (λ own some.
+    subst (λ (name : List ℕ). (last_scene (course (g.S.Shelf.history c.remove.new.self) (g.S.Shelf.images c.remove.new.self))).files name ≡ None)
+    (c.as_str.ensures ∙ c.of.ensures ∙ ap data_name id)
+    (gone_from c.as_str.result.now _ _
+    (remove_shown c.as_str.result.now (course (g.S.Shelf.history c.args.shelf.now) (g.S.Shelf.images c.args.shelf.now)) (course (g.S.Shelf.history c.remove.new.self) (g.S.Shelf.images c.remove.new.self))
+    c.requires.held c.remove.ensures.ours c.remove.ensures.kept calm own)))
+    (c.remove.ensures.removed calm.told)

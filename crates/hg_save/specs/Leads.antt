@@ -1,0 +1,33 @@
+-- What a part of a publication changes: of what reads show, and of what a crash may leave.
+use Rattle.std.specs.Prelude.{ℕ, ◌≡◌, ◌≤◌, ◌⊎◌, List, Some}
+use Rattle.hg_shelf.specs.History.{Files}
+use Rattle.hg_shelf.specs.Images.{Course, last_scene, scene}
+use Rattle.hg_shelf.specs.Rules.{Surely}
+
+-- no other file is changed
+abbrev pub ButFor : List ℕ → Files → Files → Type 0
+ButFor name old new = (at : List ℕ) → (at ≡ name → ⊥) → new at ≡ old at
+
+-- what reads show at each moment since, and what a crash leaves, comes by a change from what was there at the start
+pub record Leads (change : Files → Files → Type 0) (old new : Course) : Type 0 where
+  pub shown : (k : ℕ) → old.history.last ≤ k → k ≤ new.history.last → change (last_scene old).files (scene new k).files
+  pub left : (k : ℕ) (c : Files) → old.history.last ≤ k → k ≤ new.history.last → (scene new k).leaves c → (d : Files) × (last_scene old).leaves d × change d c
+
+-- a file is shown with these bytes, and a crash leaves it so
+pub record IsSure (name bytes : List ℕ) (c : Course) : Type 0 where
+  pub shown : (last_scene c).files name ≡ Some bytes
+  pub left : (f : Files) → (last_scene c).leaves f → f name ≡ Some bytes
+
+-- a change is shown, and a crash leaves it done
+pub record IsDone (change : Files → Files) (old new : Course) : Type 0 where
+  pub shown : Surely change (last_scene old).files (last_scene new).files
+  pub left : (c : Files) → (last_scene new).leaves c → (d : Files) × (last_scene old).leaves d × Surely change d c
+
+-- nothing new is shown, and nothing new is left by a crash
+pub record IsStill (old new : Course) : Type 0 where
+  pub shown : (last_scene new).files ≡ (last_scene old).files
+  pub left : (c : Files) → (last_scene new).leaves c → (last_scene old).leaves c
+
+-- a change is shown, or it isn't left by a crash either
+abbrev pub IsWhole : (Files → Files) → Course → Course → Type 0
+IsWhole change old new = Surely change (last_scene old).files (last_scene new).files ⊎ IsStill old new

@@ -1,0 +1,68 @@
+-- What a publication leaves of the dirstate, at each moment and after a crash.
+use Rattle.std.specs.Prelude.{ℕ, zero, suc, ◌≡◌, ◌≤◌, ◌⊎◌, List, length, Option, Some, None, Result, codes}
+use Rattle.std.specs.Option.{option_and_then}
+use Rattle.hg_append.specs.declared.encoding.Encoded.{Encoded}
+use Rattle.hg_docket.specs.Docket.{docket_of, docket_refusal}
+use Rattle.hg_docket.specs.Number.{next_name}
+use Rattle.hg_entry.specs.Table.{Table}
+use Rattle.hg_image.specs.Reading.{RecordFault, reading_of}
+use Rattle.hg_shelf.specs.History.{Files}
+use Rattle.hg_shelf.specs.Images.{Course, Scene, last_scene, scene}
+use Rattle.hg_save.specs.Record.{data_name, docket_in, id_in, reading}
+
+-- the docket is written under this name first
+abbrev pub new_docket : List ℕ
+new_docket = codes "dirstate-new"
+
+-- a table was written anew over the record of a docket: as a data file of its own, under the next identifier and from its start; and the
+-- new docket, read again, names that file and as many used bytes as it has
+pub record IsOver (loaded : List ℕ) (new : Encoded) : Type 0 where
+  pub next : next_name (docket_of loaded).id ≡ Some new.id
+  pub place : new.place ≡ 0
+  pub few : length new.docket.items ≤ 512
+  pub whole : docket_refusal new.docket.items ≡ None
+  pub named : (docket_of new.docket.items).id ≡ new.id
+  pub used : (docket_of new.docket.items).used ≡ length new.bytes.items
+
+-- what is recorded once it is published
+abbrev pub published : Encoded → Option (Result Table RecordFault)
+published new = Some (reading_of new.docket.items new.bytes.items)
+
+-- no docket that a crash may leave names this identifier
+pub record IsFree (id : List ℕ) (s : Scene) : Type 0 where
+  pub free : (c : Files) → s.leaves c → id_in c ≡ id → ⊥
+
+-- the identifier that comes after another, one step on and so many more
+abbrev pub name_after : ℕ → List ℕ → Option (List ℕ)
+name_after zero id = next_name id
+name_after (suc n) id = option_and_then (name_after n) (next_name id)
+
+-- no docket that a crash may leave names an identifier that comes after that of the docket that stands
+pub record IsLatest (s : Scene) : Type 0 where
+  pub latest : (c : Files) → s.leaves c → (n : ℕ) → name_after n (id_in s.files) ≡ Some (id_in c) → ⊥
+
+-- the docket that stands is this one
+abbrev pub Stands : List ℕ → Scene → Type 0
+Stands docket s = docket_in s.files ≡ docket
+
+-- files record what a crash might have left at the start, or this
+abbrev pub ReadsAsBeforeOr : Scene → Option (Result Table RecordFault) → Files → Type 0
+ReadsAsBeforeOr start table c = ((d : Files) × start.leaves d × (reading c ≡ reading d)) ⊎ (reading c ≡ table)
+
+-- at each moment of a call, whatever a crash leaves records what it might have left at the start, or this
+pub record LeavesOnly (old new : Course) (table : Option (Result Table RecordFault)) : Type 0 where
+  pub each : (k : ℕ) (c : Files) → old.history.last ≤ k → k ≤ new.history.last → (scene new k).leaves c → ReadsAsBeforeOr (last_scene old) table c
+
+-- reads show a record of this, and so does whatever a crash leaves
+pub record Records (c : Course) (table : Option (Result Table RecordFault)) : Type 0 where
+  pub shown : reading (last_scene c).files ≡ table
+  pub left : (f : Files) → (last_scene c).leaves f → reading f ≡ table
+
+-- at each moment of a call, reads show a record of what they showed at the start, or of this
+pub record ShowsOnly (old new : Course) (table : Option (Result Table RecordFault)) : Type 0 where
+  pub each : (k : ℕ) → old.history.last ≤ k → k ≤ new.history.last → (reading (scene new k).files ≡ reading (last_scene old).files) ⊎ (reading (scene new k).files ≡ table)
+
+-- no file is changed but the docket, the one that is written first, and the data files with these identifiers
+abbrev pub KeepsOthers : List ℕ → List ℕ → Files → Files → Type 0
+KeepsOthers loaded id old new =
+    (at : List ℕ) → (at ≡ codes "dirstate" → ⊥) → (at ≡ new_docket → ⊥) → (at ≡ data_name loaded → ⊥) → (at ≡ data_name id → ⊥) → new at ≡ old at

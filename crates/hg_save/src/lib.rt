@@ -1,0 +1,23 @@
+//! Saving the dirstate of a working copy, so that a crash at any moment leaves it as it was before or as it is after.
+//!
+//! `publish` writes a table that was encoded anew over the record that was loaded: the data file first, under a name that nothing names
+//! yet, then a docket beside the one that stands, which takes its place by a rename, and at last the old data file goes. Each is made
+//! sure before the next. The caller holds the lock.
+//!
+//! ```text
+//! let encoded = encode(alloc, &table, plan(&table))?;
+//! publish(&mut shelf, &loaded, &encoded)?;            // Err(Failed): the dirstate is as before or as after
+//! ```
+//!
+//! `specs/Record.antt` says what the files below `.hg` record, `specs/Saved.antt` what a publication leaves of it.
+#![tactic(auto)]
+
+mod laws;
+mod saving;
+mod steps;
+
+pub use laws::encoded_over;
+pub use saving::{Loaded, publish};
+
+#[cfg(test)]
+mod tests;

@@ -1,0 +1,5 @@
+use Rattle.std.proofs.lemmas.Map.Text.{btree_map_updates_text}
+use Rattle.hg_shelf.proofs.crash.take_out.Goals as goal
+
+pub returns-clause-gone : goal.returns-clause-gone
+returns-clause-gone c = λ at. btree_map_updates_text c.args.name.now c.args.files.now c.remove.new.self _ c.remove.ensures.updates at
