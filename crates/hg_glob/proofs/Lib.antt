@@ -11,6 +11,7 @@ pub mod Masks
 pub mod Passes
 pub mod Rows
 pub mod Spelled
+pub mod Sums
 pub mod Sweeps
 pub mod Then
 pub mod Turns

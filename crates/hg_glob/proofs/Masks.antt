@@ -18,7 +18,7 @@ same_by a b c d false h there back = sym (ne_eqb c d (λ e. false≢true (sym h 
 same_test : (a b c d : ℕ) → (a ≡ b → c ≡ d) → (c ≡ d → a ≡ b) → (a == b) ≡ (c == d)
 same_test a b c d there back = same_by a b c d (a == b) refl there back
 
-and_true : (v : Bool) → v ≡ (v && true)
+pub and_true : (v : Bool) → v ≡ (v && true)
 and_true true = refl
 and_true false = refl
 
@@ -36,7 +36,7 @@ marked_more : (test : ℕ → Bool) (xs : List ℕ) (c i : ℕ) → marked test 
 marked_more test xs c zero = sym (and_false (test c)) ∙ ap (λ v. test c && v) (sym (ne_eqb 0 (length xs + 1) (λ e. omega arith)))
 marked_more test xs c (suc i) = passes_more test xs c i ∙ ap (λ v. passes test xs i || (test c && v)) (same_test i (length xs) (suc i) (length xs + 1) (λ e. omega arith) (λ e. omega arith))
 
-passes_at : (test : ℕ → Bool) (xs : List ℕ) (i : ℕ) → i < length xs → passes test xs i ≡ test (get_or xs i 0)
+pub passes_at : (test : ℕ → Bool) (xs : List ℕ) (i : ℕ) → i < length xs → passes test xs i ≡ test (get_or xs i 0)
 passes_at test [] i h = absurd (omega arith)
 passes_at test (x ∷ xs) zero h = refl
 passes_at test (x ∷ xs) (suc i) h = passes_at test xs i (omega arith)
@@ -96,18 +96,19 @@ zeros zero x = refl
 zeros (suc n) zero = refl
 zeros (suc n) (suc x) = zeros n x
 
-pub table_first : (items table : List ℕ) → length items ≡ 64 → table ≡ replicate 128 0 → length table ≡ 128 → IsTable items 0 table 0
-table_first items table room table_is words = record {
+pub table_first : (items table below : List ℕ) → length items ≡ 64 → table ≡ replicate 128 0 → length table ≡ 128 → IsTable items 0 table 0 below false
+table_first items table below room table_is words = record {
   few = omega arith;
   room = room;
   words = words;
   at = λ x _. subst (IsMask [] (λ c. c == x)) (sym (ap (λ t. get_or t x 0) table_is ∙ zeros 128 x)) (mask_none (λ c. c == x));
   beyond = mask_none (λ c. nat_le 128 c);
+  sums = λ e. absurd (false≢true e);
 }
 
-pub table_more : (items : List ℕ) (count c : ℕ) (table on : List ℕ) (wide on_wide : ℕ) → IsTable items count table wide → count < 63 → length on ≡ 128
-    → ((i : ℕ) → bit on_wide i ≡ (bit wide i || (nat_le 128 c && i == count + 1))) → ((x : ℕ) → x < 128 → (i : ℕ) → bit (get_or on x 0) i ≡ (bit (get_or table x 0) i || ((c == x) && i == count + 1))) → IsTable (set items count c) (count + 1) on on_wide
-table_more items count c table on wide on_wide h some words far put =
+pub table_more : (items : List ℕ) (count c : ℕ) (table on : List ℕ) (wide on_wide : ℕ) (below : List ℕ) (is_ready : Bool) → IsTable items count table wide below is_ready → count < 63 → length on ≡ 128
+    → ((i : ℕ) → bit on_wide i ≡ (bit wide i || (nat_le 128 c && i == count + 1))) → ((x : ℕ) → x < 128 → (i : ℕ) → bit (get_or on x 0) i ≡ (bit (get_or table x 0) i || ((c == x) && i == count + 1))) → IsTable (set items count c) (count + 1) on on_wide below false
+table_more items count c table on wide on_wide below is_ready h some words far put =
     let inside : count < length items = omega (arith, h.room) in
     let few : length (take count items) ≡ count = omega (arith, length-take count items) in
     record {
@@ -119,6 +120,7 @@ table_more items count c table on wide on_wide h some words far put =
           (λ i. put x below i ∙ ap (λ n. bit (get_or table x 0) i || ((c == x) && i == n + 1)) (sym few));
       beyond = mask_more (take count items) (take (count + 1) (set items count c)) (λ d. nat_le 128 d) c wide on_wide h.beyond (take_more_set items count c inside)
           (λ i. far i ∙ ap (λ n. bit wide i || (nat_le 128 c && i == n + 1)) (sym few));
+      sums = λ e. absurd (false≢true e);
     }
 
 -- the word of the others, at an ASCII character and at another

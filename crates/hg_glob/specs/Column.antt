@@ -1,5 +1,5 @@
 -- Words with one bit for each end of a path, and how those of a part follow from those of the part behind it; for the private functions alone.
-use Rattle.std.specs.Prelude.{◌≡◌, ◌≤◌, ◌<◌, slice_index_or, ℕ, zero, suc, Bool, true, false, ◌&&◌, ◌||◌, List, [], ◌∷◌, map, take, reverse, length, Some, None, ◌==◌, nat_le}
+use Rattle.std.specs.Prelude.{◌≡◌, ◌≤◌, ◌<◌, slice_index_or, ℕ, zero, suc, Bool, true, false, ◌&&◌, ◌||◌, List, [], ◌∷◌, map, take, reverse, length, Some, None, IsTrue, ◌==◌, nat_le, nat_lt}
 use Rattle.std.specs.Int.{bit_at}
 use Rattle.hg_glob.specs.declared.part.Part.{Part}
 use Rattle.hg_glob.specs.declared.mark.Brace.{Brace}
@@ -41,13 +41,23 @@ pub record IsWord (xs : List ℕ) (test : ℕ → Bool) (word : ℕ) : Type 0 wh
   pub front : bit word 0 ≡ false
   pub at : (i : ℕ) → i < length xs → bit word (suc i) ≡ test (slice_index_or xs i 0)
 
--- so many characters, a word for each ASCII character, and one for all others
-pub record IsTable (items : List ℕ) (count : ℕ) (table : List ℕ) (wide : ℕ) : Type 0 where
+-- for each ASCII character the ends that begin with it
+abbrev pub AreEach : List ℕ → List ℕ → Type 0
+AreEach xs table = (x : ℕ) → x < 128 → IsMask xs (λ c. c == x) (slice_index_or table x 0)
+
+-- for each number up to 128 the ends that begin with a character below it
+pub record IsSums (xs sums : List ℕ) : Type 0 where
+  pub room : length sums ≡ 129
+  pub at : (x : ℕ) → x ≤ 128 → IsWord xs (λ c. nat_lt c x) (slice_index_or sums x 0)
+
+-- so many characters, a word for each ASCII character, one for all others, and the sums where they are ready
+pub record IsTable (items : List ℕ) (count : ℕ) (table : List ℕ) (wide : ℕ) (below : List ℕ) (is_ready : Bool) : Type 0 where
   pub few : count ≤ 63
   pub room : length items ≡ 64
   pub words : length table ≡ 128
-  pub at : (x : ℕ) → x < 128 → IsMask (take count items) (λ c. c == x) (slice_index_or table x 0)
+  pub at : AreEach (take count items) table
   pub beyond : IsMask (take count items) (λ c. nat_le 128 c) wide
+  pub sums : IsTrue is_ready → IsSums (take count items) below
 
 -- the ends at which a match may end
 pub record IsEnd (inner : Bool) (xs : List ℕ) (word : ℕ) : Type 0 where

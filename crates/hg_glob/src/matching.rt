@@ -75,6 +75,10 @@ pub fn stands_marked(parts: &[Part], inner: bool, rooted: bool, path: &str) -> b
 {
     let mut short = Short::new();
     if short.read(path) {
+        // (which takes about as long as one range does without it)
+        if parts.len() >= 16 {
+            short.prepare();
+        }
         return stands_short(parts, inner, rooted, &short);
     }
     stands_long(parts, inner, rooted, path)

@@ -1,7 +1,7 @@
 //! The characters of a short path, from its end, and for each ASCII character the ends of the path that begin with it.
 
-ghost use Rattle.std.specs.Prelude.{◌≡◌, ◌+◌, ◌<◌, ◌≤◌, ◌++◌, [], ◌∷◌, ◌==◌, ◌&&◌, not, length, nat_le, reverse, chars, IsTrue};
-ghost use Rattle.hg_glob.specs.Column.{bit, IsMask, IsWord};
+ghost use Rattle.std.specs.Prelude.{◌≡◌, ◌+◌, ◌<◌, ◌≤◌, ◌++◌, [], ◌∷◌, ◌==◌, ◌&&◌, not, List, ℕ, length, nat_le, nat_lt, reverse, chars, IsTrue};
+ghost use Rattle.hg_glob.specs.Column.{bit, IsMask, IsWord, IsSums, AreEach};
 
 use crate::words::{others, put};
 use std::marker::Model;
@@ -12,6 +12,27 @@ fn lies(c: char, low: char, high: char) -> bool
     low <= c && c <= high
 }
 
+/// From the ends that begin with each ASCII character, those that begin below each.
+fn sums(table: &[u64; 128]) -> [u64; 129]
+    ensures { (xs : List ℕ) → AreEach xs table.now → IsSums xs result }
+{
+    let mut sums = [0; 129];
+    for x in 0..128 {
+        sums[x + 1] = sums[x] | table[x];
+    }
+    sums
+}
+
+/// The ends that begin with an ASCII character from `low` to `high`.
+#[inline(always)]
+fn span(sums: &[u64; 129], low: char, high: char) -> u64
+    ensures { (xs : List ℕ) → IsSums xs sums.now → length xs ≤ 63 → IsWord xs (λ c. nat_lt c 128 && (nat_le low c && nat_le c high)) result }
+{
+    let first = (low as usize).min(128);
+    let last = (high as usize).min(127);
+    sums[last + 1] & others(sums[first])
+}
+
 /// At most 63 characters; contracts see them, the last of the path first.
 #[derive(Debug, Drop)]
 pub struct Short {
@@ -20,6 +41,9 @@ pub struct Short {
     table: [u64; 128],
     /// The ends that begin with a character beyond ASCII.
     wide: u64,
+    /// For each number up to 128 the ends that begin with a character below it, where `is_ready` is set.
+    below: [u64; 129],
+    is_ready: bool,
 }
 
 impl Model for Short {
@@ -30,7 +54,7 @@ impl Model for Short {
 
     ghost view = { λ s. take s.count s.items };
 
-    ghost invariant = { λ s. IsTable s.items s.count s.table s.wide };
+    ghost invariant = { λ s. IsTable s.items s.count s.table s.wide s.below s.is_ready };
 }
 
 impl Short {
@@ -42,6 +66,8 @@ impl Short {
             count: 0,
             table: [0; 128],
             wide: 0,
+            below: [0; 129],
+            is_ready: false,
         }
     }
 
@@ -65,6 +91,15 @@ impl Short {
             self.wide = put(self.wide, self.count, true);
         }
         self.count += 1;
+        self.is_ready = false;
+    }
+
+    /// Makes ready for many ranges.
+    pub fn prepare(&mut self)
+        ensures { self.new ≡ self.old }
+    {
+        self.below = sums(&self.table);
+        self.is_ready = true;
     }
 
     /// The ends that begin with a character from `low` to `high`, by a look at each.
@@ -76,6 +111,21 @@ impl Short {
         for j in 0..self.count {
             let c = self.items[j];
             word = put(word, j, lies(c, low, high));
+        }
+        word
+    }
+
+    /// Those of them whose character is beyond ASCII, by a look at each of these.
+    #[inline(never)]
+    fn far(&self, low: char, high: char) -> u64
+        ensures { IsWord self.now (λ c. nat_le 128 c && (nat_le low c && nat_le c high)) result }
+    {
+        let mut word = 0;
+        let mut left = self.wide;
+        'wide: while left != 0 {
+            let at = left.trailing_zeros() as usize;
+            word = put(word, at - 1, lies(self.items[at - 1], low, high));
+            left &= !(1 << at);
         }
         word
     }
@@ -92,7 +142,7 @@ impl Short {
         if self.wide == 0 {
             return 0;
         }
-        self.spread(x, x)
+        self.far(x, x)
     }
 
     /// The ends that begin with a character from `low` to `high`.
@@ -103,7 +153,14 @@ impl Short {
         if low == high {
             return self.literal(low);
         }
-        self.spread(low, high)
+        if !self.is_ready {
+            return self.spread(low, high);
+        }
+        let near = span(&self.below, low, high);
+        if self.wide == 0 {
+            return near;
+        }
+        near | self.far(low, high)
     }
 
     /// The ends that begin with a slash.

@@ -317,6 +317,25 @@ fn where_short_ends(rt: HostRuntime) -> Result<(), Fail> {
     Ok(())
 }
 
+/// A class of many ranges: of ASCII characters, of others, and of both.
+#[test]
+fn many_ranges(rt: HostRuntime) -> Result<(), Fail> {
+    let text = repeated(&rt, "[", "x-z", 130, "\u{0}-\t!-#~-äα-γ😀-😂]*")?;
+    let glob = Glob::read(rt.alloc(), text.as_str())?;
+    for inside in [
+        "x", "y", "z", "\u{0}", "\t", "!", "#", "~", "\u{7f}", "\u{80}", "ä", "α", "β", "γ", "😁",
+        "yö", "~ö", "ää", "βa", "😂ö",
+    ] {
+        assert!(rt; glob.matches(inside), "{inside:?}");
+    }
+    for outside in [
+        "", "w", "{", "}", "\n", " ", "$", "å", "ΰ", "δ", "😃", "wä", "{ö", "}y", "åx", "δβ", "€",
+    ] {
+        assert!(rt; !glob.matches(outside), "{outside:?}");
+    }
+    Ok(())
+}
+
 /// The text so often between the two others.
 fn repeated(
     rt: &HostRuntime,
