@@ -44,6 +44,10 @@ mod manifests;
 #[cfg(test)]
 mod parents;
 #[cfg(test)]
+mod pattern_faults;
+#[cfg(test)]
+mod patterns;
+#[cfg(test)]
 mod records;
 #[cfg(test)]
 mod refusals;

@@ -77,14 +77,14 @@ const NOON: Time = Time {
     nanos: 0,
 };
 
-fn place_file(
+pub(crate) fn place_file(
     alloc: Global,
     tree: &mut MemTree,
     path: PathRef<'_>,
-    text: &str,
+    text: &[u8],
     exec: bool,
 ) -> Result<(), Fail> {
-    let bytes = Blob::of(alloc, text.as_bytes())?;
+    let bytes = Blob::of(alloc, text)?;
     tree.place(path, Thing::File { exec, bytes }, NOON)?;
     Ok(())
 }
@@ -106,9 +106,9 @@ fn place_link(
 fn place(alloc: Global, tree: &mut MemTree, path: &str, what: What<'_>) -> Result<(), Fail> {
     let path = PathRef::read(path)?;
     match what {
-        What::File => place_file(alloc, tree, path, "b", false),
-        What::Text(text) => place_file(alloc, tree, path, text, false),
-        What::Exec(text) => place_file(alloc, tree, path, text, true),
+        What::File => place_file(alloc, tree, path, b"b", false),
+        What::Text(text) => place_file(alloc, tree, path, text.as_bytes(), false),
+        What::Exec(text) => place_file(alloc, tree, path, text.as_bytes(), true),
         What::Link => place_link(alloc, tree, path, "b"),
         What::LinkTo(text) => place_link(alloc, tree, path, text),
         What::Dir => Ok(tree.place(path, Thing::Dir, NOON)?),
@@ -181,17 +181,23 @@ pub(crate) fn run_in(alloc: Global, files: &Files, setting: Setting<'_>) -> Resu
 }
 
 /// Runs once over these files below `.hg`.
-pub(crate) fn run_over(
+pub(crate) fn run_over(alloc: Global, shelf: MemShelf, setting: Setting<'_>) -> Result<Left, Fail> {
+    let tree = tree_of(alloc, setting)?;
+    run_on(alloc, tree, shelf, Builds::new(), setting)
+}
+
+/// Runs once over this working copy, these files below `.hg` and this compiler of regexps; things and files of the setting aren't placed.
+pub(crate) fn run_on(
     alloc: Global,
+    mut tree: MemTree,
     mut shelf: MemShelf,
+    mut regexps: Builds,
     setting: Setting<'_>,
 ) -> Result<Left, Fail> {
     let words = words_of(alloc, setting)?;
-    let mut tree = tree_of(alloc, setting)?;
     let mut input = MemSource::new(alloc, b"status\n", 1)?;
     let mut out = sink_of(alloc, setting.out_fails)?;
     let mut err = sink_of(alloc, setting.err_fails)?;
-    let mut regexps = Builds::new();
     let outcome = run(
         alloc,
         &words,
@@ -218,17 +224,15 @@ fn answered(alloc: Global, fault: &Option<Fault>) -> Result<Vec<u8>, OutOfMemory
     }
 }
 
-/// Runs once, and compares: what is printed on both streams, the line of the fault that is answered, and the status.
-pub(crate) fn expect_left<R: Abort + AllocGlobal>(
+/// Compares what a run left: what is printed on both streams, the line of the fault that is answered, and the status.
+pub(crate) fn compare<R: Abort + AllocGlobal>(
     rt: &R,
     name: &str,
-    files: &Files,
-    setting: Setting<'_>,
+    left: &Left,
     out: &str,
     err: &str,
     line: &str,
 ) -> Result<(), Fail> {
-    let left = run_in(rt.alloc(), files, setting)?;
     assert_eq!(rt; left.out.bytes(), out.as_bytes(), "{name}: standard output");
     assert_eq!(rt; left.err.bytes(), err.as_bytes(), "{name}: error stream");
     assert_eq!(rt;
@@ -242,6 +246,20 @@ pub(crate) fn expect_left<R: Abort + AllocGlobal>(
         "{name}: status"
     );
     Ok(())
+}
+
+/// Runs once, and compares.
+pub(crate) fn expect_left<R: Abort + AllocGlobal>(
+    rt: &R,
+    name: &str,
+    files: &Files,
+    setting: Setting<'_>,
+    out: &str,
+    err: &str,
+    line: &str,
+) -> Result<(), Fail> {
+    let left = run_in(rt.alloc(), files, setting)?;
+    compare(rt, name, &left, out, err, line)
 }
 
 /// The same where the line of the fault is printed.
