@@ -14,6 +14,7 @@ import shutil
 import subprocess
 import sys
 import tempfile
+from string import ascii_letters
 
 sys.dont_write_bytecode = True
 BENCH = os.path.dirname(os.path.abspath(__file__))
@@ -344,6 +345,9 @@ HOSTILE = {
     "stars in choices": "{**,*}" * 600 + "Z**",
 }
 
+# Globs of five characters that match nothing there and that no literal text at their ends decides: 140,608 of them.
+SHORT = [f"?{a}{b}{c}?" for a in ascii_letters for b in ascii_letters for c in ascii_letters]
+
 
 def ignore_text(syntax, lines):
     return f"syntax: {syntax}\n" + "".join(f"{it}\n" for it in lines)
@@ -373,6 +377,8 @@ def patterns(bench):
     for name, glob in HOSTILE.items():
         what, seconds, _, most = told(f"with a hostile text: {name}", ignore_text("glob", [glob] * (1_048_500 // (len(glob) + 1))), 20, 1)
         bench.tell(f"its time {what}", seconds, most, " s")
+    what, seconds, _, most = told(f"with {len(SHORT):,} short lines", ignore_text("glob", SHORT), 20, 1)
+    bench.tell(f"its time {what}", seconds, most, " s")
     shutil.rmtree(root)
 
 
