@@ -206,3 +206,9 @@ pub none_ends : (inner rooted : Bool) (view text : List ℕ) (parts : List Part)
 none_ends inner rooted view text parts path tail there may text_is parts_are utf8 tail_is same test never s =
     let s' : Stands inner rooted (reading parts).pattern (chars path) = subst (λ g. Stands inner rooted g (chars path)) (sym (glob_same view text parts text_is parts_are)) s in
     false≢true (sym never ∙ stands_end inner rooted parts path there may (glob_closed text parts parts_are) utf8 (same ∙ tail_is) test s')
+
+-- where the glob stands, its end may
+pub may_stand : (rooted : Bool) (view text : List ℕ) (parts : List Part) (path tail there : List ℕ) (may : Bool) → text ≡ view → parts ≡ parts_of (chars text) → IsUtf8 path → tail ≡ encode_utf8_all (tail_from [] parts) → there ≡ tail
+    → ((front c : List ℕ) → path ≡ (front ++ there) ++ c → IsBack false c → may ≡ true) → Stands false rooted (glob_of (chars view)) (chars path) → may ≡ true
+may_stand rooted view text parts path tail there may text_is parts_are utf8 tail_is same test s =
+    stands_end false rooted parts path there may (glob_closed text parts parts_are) utf8 (same ∙ tail_is) test (subst (λ g. Stands false rooted g (chars path)) (sym (glob_same view text parts text_is parts_are)) s)

@@ -1,5 +1,5 @@
--- What a glob keeps.
-use Rattle.std.specs.Prelude.{ℕ, ◌≡◌, ◌≤◌, List, [], length, chars, encode_utf8_all}
+-- What a glob keeps, and a text that was read for globs.
+use Rattle.std.specs.Prelude.{ℕ, ◌≡◌, ◌≤◌, Bool, IsTrue, List, [], length, reverse, chars, encode_utf8_all}
 use Rattle.hg_glob.specs.Part.{parts_of, head_of, tail_from}
 use Rattle.hg_glob.specs.declared.part.Part.{Part}
 
@@ -9,3 +9,7 @@ pub record IsKept (text : List ℕ) (parts : List Part) (head tail : List ℕ) :
   pub parts_are : parts ≡ parts_of (chars text)
   pub head_is : head ≡ encode_utf8_all (head_of parts)
   pub tail_is : tail ≡ encode_utf8_all (tail_from [] parts)
+
+-- a short text was read: its characters, the last one first
+pub record IsRead (text short : List ℕ) (is_short : Bool) : Type 0 where
+  pub all : IsTrue is_short → chars text ≡ reverse short

@@ -1,6 +1,6 @@
 //! Globs: read from a text, and asked for a text.
 
-ghost use Rattle.std.specs.Prelude.{true, false, ◌≡◌, ◌+◌, ◌≤◌, ◌↔◌, ◌++◌, [], List, ℕ, length, IsTrue, IfOk, chars, encode_utf8_all, string_bytes};
+ghost use Rattle.std.specs.Prelude.{true, false, ◌≡◌, ◌+◌, ◌≤◌, ◌↔◌, ◌++◌, [], List, ℕ, Bool, length, reverse, IsTrue, IfOk, chars, encode_utf8_all, string_bytes};
 ghost use Rattle.std.specs.Result.{result_err};
 ghost use Rattle.hg_glob.specs.Part.{parts_of, glob_of, head_of, tail_from, literal_of, ended};
 ghost use Rattle.hg_glob.specs.Line.{Stands};
@@ -9,10 +9,12 @@ ghost use Rattle.hg_glob.specs.Refusal.{refusal, Refuses};
 
 use crate::edge::{may_begin, may_end};
 use crate::fault::GlobFault;
-use crate::matching::stands_marked;
+use crate::matching::{stands_long, stands_marked, stands_read};
 use crate::part::Part;
 use crate::refusal::fault_of;
+use crate::short::Short;
 use crate::spell::spell;
+use crate::subject::Subject;
 use hg_base::OutOfMemory;
 use std::alloc::Global;
 use std::marker::Model;
@@ -114,6 +116,13 @@ impl Glob {
         }
     }
 
+    /// The text that spells the glob.
+    pub fn text(&self) -> &str
+        ensures { result.now ≡ self.now }
+    {
+        self.text.as_str()
+    }
+
     /// Whether the whole text is in the glob. It takes no memory.
     pub fn matches(&self, text: &str) -> bool
         ensures { IsTrue result ↔ InGlob (glob_of (chars self.now)) (chars text.now) }
@@ -134,6 +143,39 @@ impl Glob {
         ensures { IsTrue result ↔ Stands true rooted (glob_of (chars self.now)) (chars path.now) }
     {
         self.stands(true, rooted, path)
+    }
+
+    /// What `matches_end` answers, of a text that was read. It takes no memory.
+    pub fn matches_end_of(&self, subject: &Subject<'_>, rooted: bool) -> bool
+        ensures { IsTrue result ↔ Stands false rooted (glob_of (chars self.now)) (chars subject.now) }
+    {
+        self.stands_in(rooted, subject.text, &subject.short, subject.is_short)
+    }
+
+    /// Whether the end of the path leaves it possible that `matches_end` holds of it. Where it doesn't, the path needn't be read.
+    #[inline(always)]
+    pub fn may_match_end(&self, path: &str) -> bool
+        ensures { (rooted : Bool) → Stands false rooted (glob_of (chars self.now)) (chars path.now) → IsTrue result }
+    {
+        may_end(false, path, self.tail.as_str())
+    }
+
+    /// What a text is asked that was read where it is short; a short one is asked in less time than its beginning is looked for.
+    #[inline(always)]
+    fn stands_in(&self, rooted: bool, path: &str, short: &Short, is_short: bool) -> bool
+        requires read { IsTrue is_short → chars path.now ≡ reverse short.now }
+        ensures { IsTrue result ↔ Stands false rooted (glob_of (chars self.now)) (chars path.now) }
+    {
+        if !may_end(false, path, self.tail.as_str()) {
+            return false;
+        }
+        if is_short {
+            return stands_read(self.parts.as_slice(), false, rooted, path, short);
+        }
+        if !may_begin(rooted, path, self.head.as_str()) {
+            return false;
+        }
+        stands_long(self.parts.as_slice(), false, rooted, path)
     }
 
     /// What the three ask; the beginning and the end of the glob are looked for before any marks.

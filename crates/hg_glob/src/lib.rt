@@ -23,7 +23,7 @@
 //! Glob::read(alloc, "{a");          // Err(GlobFault::Unbalanced { at: 0 })
 //! ```
 //!
-//! `Glob` is the one type; contracts see its text. What a glob is and which texts stand in it is said in `specs/Pattern.antt`, how a
+//! `Glob` is the type that is asked; contracts see its text. A `Subject` is a text that was read once, for many globs. What a glob is and which texts stand in it is said in `specs/Pattern.antt`, how a
 //! text spells one in `specs/Part.antt`, why a text is none in `specs/Refusal.antt`, and where a glob line stands in a path in
 //! `specs/Line.antt`.
 //!
@@ -46,12 +46,14 @@ mod part;
 mod refusal;
 mod short;
 mod spell;
+mod subject;
 mod sweep;
 mod turn;
 mod words;
 
 pub use fault::GlobFault;
 pub use glob::Glob;
+pub use subject::Subject;
 
 #[cfg(test)]
 mod tests;

@@ -1,6 +1,6 @@
 //! Whether a glob stands in a path, by the marks over the path's ends, the shortest first.
 
-ghost use Rattle.std.specs.Prelude.{◌≡◌, ◌+◌, ◌<◌, nat_le, ◌≤◌, ◌==◌, ◌&&◌, not, ◌↔◌, length, IsTrue, chars};
+ghost use Rattle.std.specs.Prelude.{◌≡◌, ◌+◌, ◌<◌, nat_le, ◌≤◌, ◌==◌, ◌&&◌, not, ◌↔◌, length, reverse, IsTrue, chars};
 ghost use Rattle.hg_glob.specs.Row.{first};
 ghost use Rattle.hg_glob.specs.Part.{reading};
 ghost use Rattle.hg_glob.specs.Refusal.{closers};
@@ -51,7 +51,7 @@ fn stands(parts: &[Part], inner: bool, rooted: bool, path: &str, marks: &mut [Ma
 
 /// The same for a path of any length, with room of its own.
 #[inline(never)]
-fn stands_long(parts: &[Part], inner: bool, rooted: bool, path: &str) -> bool
+pub fn stands_long(parts: &[Part], inner: bool, rooted: bool, path: &str) -> bool
     requires few { length parts.now ≤ 4095 }
     requires closed { closers parts.now ≡ 0 }
     ensures { IsTrue result ↔ Stands inner rooted (reading parts.now).pattern (chars path.now) }
@@ -82,4 +82,16 @@ pub fn stands_marked(parts: &[Part], inner: bool, rooted: bool, path: &str) -> b
         return stands_short(parts, inner, rooted, &short);
     }
     stands_long(parts, inner, rooted, path)
+}
+
+/// The same for a short path that was read.
+#[inline(always)]
+pub fn stands_read(parts: &[Part], inner: bool, rooted: bool, path: &str, short: &Short) -> bool
+    requires few { length parts.now ≤ 4095 }
+    requires closed { closers parts.now ≡ 0 }
+    requires read { chars path.now ≡ reverse short.now }
+    ensures { IsTrue result ↔ Stands inner rooted (reading parts.now).pattern (chars path.now) }
+{
+    let _ = path;
+    stands_short(parts, inner, rooted, short)
 }

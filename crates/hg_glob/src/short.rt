@@ -33,6 +33,11 @@ fn span(sums: &[u64; 129], low: char, high: char) -> u64
     sums[last + 1] & others(sums[first])
 }
 
+/// Whether so many ends are marked that a look at each character takes less time than one at each of these.
+fn is_many(word: u64) -> bool {
+    word.count_ones() > 8
+}
+
 /// At most 63 characters; contracts see them, the last of the path first.
 #[derive(Debug, Drop)]
 pub struct Short {
@@ -94,10 +99,13 @@ impl Short {
         self.is_ready = false;
     }
 
-    /// Makes ready for many ranges.
+    /// Makes ready for many ranges; where many characters are beyond ASCII, a look at each character does as well.
     pub fn prepare(&mut self)
         ensures { self.new ≡ self.old }
     {
+        if is_many(self.wide) {
+            return;
+        }
         self.below = sums(&self.table);
         self.is_ready = true;
     }
@@ -141,6 +149,9 @@ impl Short {
         }
         if self.wide == 0 {
             return 0;
+        }
+        if is_many(self.wide) {
+            return self.spread(x, x);
         }
         self.far(x, x)
     }

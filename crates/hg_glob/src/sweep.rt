@@ -44,7 +44,19 @@ fn sweep(parts: &[Part], inner: bool, rooted: bool, short: &Short, forks: &mut [
     has(slashes(column.now, short), len)
 }
 
-/// The same for a glob of few parts, with room of its own.
+/// The same for a glob of very few parts, with room of its own, as little as a short line is worth.
+#[inline(never)]
+fn sweep_tiny(parts: &[Part], inner: bool, rooted: bool, short: &Short) -> bool
+    requires few { length parts.now < 8 }
+    requires closed { closers parts.now ≡ 0 }
+    ensures { IsTrue result ↔ Stands inner rooted (reading parts.now).pattern (reverse short.now) }
+{
+    let none = Fork { after: 0, found: 0 };
+    let mut forks = [none; 4];
+    sweep(parts, inner, rooted, short, &mut forks)
+}
+
+/// The same for a glob of few parts.
 #[inline(never)]
 fn sweep_few(parts: &[Part], inner: bool, rooted: bool, short: &Short) -> bool
     requires few { length parts.now < 128 }
@@ -74,6 +86,9 @@ pub fn stands_short(parts: &[Part], inner: bool, rooted: bool, short: &Short) ->
     requires closed { closers parts.now ≡ 0 }
     ensures { IsTrue result ↔ Stands inner rooted (reading parts.now).pattern (reverse short.now) }
 {
+    if parts.len() < 8 {
+        return sweep_tiny(parts, inner, rooted, short);
+    }
     if parts.len() < 128 {
         return sweep_few(parts, inner, rooted, short);
     }

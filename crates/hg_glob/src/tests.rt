@@ -236,6 +236,12 @@ fn lines_in_paths(rt: HostRuntime) -> Result<(), Fail> {
     for (text, path, rooted, end, part) in LINES {
         let glob = Glob::read(rt.alloc(), text)?;
         assert_eq!(rt; glob.matches_end(path, *rooted), *end, "{text:?} {path:?}");
+        let subject = Subject::new(path);
+        assert_eq!(rt;
+            glob.matches_end_of(&subject, *rooted),
+            *end,
+            "{text:?} {path:?}"
+        );
         assert_eq!(rt;
             glob.matches_part(path, *rooted),
             *part,
@@ -252,6 +258,12 @@ fn lines_in_long_paths(rt: HostRuntime) -> Result<(), Fail> {
         if !rooted {
             let glob = Glob::read(rt.alloc(), text)?;
             let long = joined(rt.alloc(), DIRECTORIES, path)?;
+            let subject = Subject::new(long.as_str());
+            assert_eq!(rt;
+                glob.matches_end_of(&subject, false),
+                *end,
+                "{text:?} {path:?}"
+            );
             assert_eq!(rt;
                 glob.matches_end(long.as_str(), false),
                 *end,

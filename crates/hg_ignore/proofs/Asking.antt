@@ -17,6 +17,7 @@ use Rattle.hg_ignore.specs.Regexp.{AreBytes, finds, found_by}
 use Rattle.hg_ignore.specs.State.{Piece, state_of, items_of, SomeMatches, Matches, Ignored, Hash}
 use Rattle.hg_ignore.specs.Taking.{globs_of, regexps_of, warnings_of, Reaches}
 use Rattle.hg_ignore.specs.Kept.{SomeStands, FindsAll, IsKept, DirIgnored, LawOfIgnored, patterns_kept, some_in}
+use Rattle.hg_ignore.specs.declared.glob_line.GlobLine.{GlobLine}
 use Rattle.hg_ignore.specs.declared.reading.Reading.{Reading}
 
 -- the regexps of a set, as they are searched for
@@ -25,13 +26,16 @@ by_set path [] = refl
 by_set path (r ∷ regexes) = ap (λ v. found_by path r ∷ v) (by_set path regexes)
 
 -- what was read of a text is kept of its state
-pub kept_of : (text kept : List ℕ) (reading : Reading) (sets : List RegexSet) (hash : List ℕ) → kept ≡ text → Reaches (lines_of text) [] reading → patterns_kept sets ≡ map regex_pattern reading.regexes.items → hash ≡ Hash (state_of (Some text))
-    → IsKept (state_of (Some kept)) reading.globs.items sets hash reading.warnings
-kept_of text kept reading sets hash same reaches patterns hashed =
-    let P : List ℕ → Type 0 = λ v. IsKept (state_of (Some v)) reading.globs.items sets hash reading.warnings in
+pub kept_of : (text kept : List ℕ) (reading : Reading) (globs : List GlobLine) (sets : List RegexSet) (hash : List ℕ) → kept ≡ text → Reaches (lines_of text) [] reading
+    → ((path : List ℕ) → SomeStands globs path ↔ SomeStands reading.globs.items path) → patterns_kept sets ≡ map regex_pattern reading.regexes.items → hash ≡ Hash (state_of (Some text))
+    → IsKept (state_of (Some kept)) globs sets hash reading.warnings
+kept_of text kept reading globs sets hash same reaches stand patterns hashed =
+    let P : List ℕ → Type 0 = λ v. IsKept (state_of (Some v)) globs sets hash reading.warnings in
     let all : items_of (state_of (Some text)) ≡ lines_of text = append-nil (lines_of text) in
     subst P (sym same) (record {
-      globs_are = sym (append-nil reading.globs.items) ∙ reaches.globs ∙ ap globs_of (sym all);
+      globs_stand = λ path.
+          let Q : List GlobLine → Type 0 = λ v. SomeStands globs path ↔ SomeStands v path in
+          subst Q (sym (append-nil reading.globs.items) ∙ reaches.globs ∙ ap globs_of (sym all)) (stand path);
       finds_are = λ path bytes.
           ap (map (λ re. is_some (find_str re path 0))) patterns ∙ by_set path reading.regexes.items ∙ sym (append-nil (map (found_by path) reading.regexes.items)) ∙ reaches.found path bytes
           ∙ ap (λ items. map (λ text. finds text path) (regexps_of items)) (sym all);

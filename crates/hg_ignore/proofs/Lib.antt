@@ -1,5 +1,6 @@
 pub mod Asking
 pub mod Compiled
+pub mod Globs
 pub mod Lines
 pub mod Sourced
 pub mod Steps

@@ -6,12 +6,14 @@ use Rattle.regex.specs.Strings.{set_matcher_patterns, set_patterns}
 use Rattle.regex.specs.declared.string.set.RegexSet.{RegexSet}
 use Rattle.regex.specs.declared.string.set.SetMatcher.{SetMatcher}
 use Rattle.std.specs.List.{flat_map, list_any}
+use Rattle.std.specs.BTreeSet.{contains_text}
 use Rattle.hg_base.specs.PathText.{is_path, parent_of}
 use Rattle.hg_glob.specs.Part.{glob_of}
 use Rattle.hg_glob.specs.Line.{Stands}
 use Rattle.hg_ignore.specs.Regexp.{AreBytes, finds}
 use Rattle.hg_ignore.specs.State.{Piece, items_of, Hash, Ignored, Matches}
 use Rattle.hg_ignore.specs.Taking.{globs_of, regexps_of, warnings_of}
+use Rattle.hg_ignore.specs.declared.distinct.Seen.{Seen}
 use Rattle.hg_ignore.specs.declared.glob_line.GlobLine.{GlobLine}
 use Rattle.hg_ignore.specs.declared.warnings.Warning.{Warning}
 
@@ -19,6 +21,11 @@ use Rattle.hg_ignore.specs.declared.warnings.Warning.{Warning}
 abbrev pub SomeStands : List GlobLine → List ℕ → Type 0
 SomeStands [] path = ⊥
 SomeStands (line ∷ more) path = Stands false line.rooted (glob_of (chars line.glob)) (chars path) ⊎ SomeStands more path
+
+-- the text of a glob was seen, of one that holds from the root alone or of another
+abbrev pub has : Seen → Bool → List ℕ → Bool
+has seen true text = contains_text seen.rooted text
+has seen false text = contains_text seen.free text
 
 -- patterns are found where the regexps of the state are, each
 abbrev pub FindsAll : List Re → List Piece → Type 0
@@ -38,7 +45,7 @@ some_in patterns text = list_any (λ b. b) (matches_of true patterns text 0)
 
 -- what is kept of a state
 pub record IsKept (state : List Piece) (globs : List GlobLine) (sets : List RegexSet) (hash : List ℕ) (warnings : List Warning) : Type 0 where
-  pub globs_are : globs ≡ globs_of (items_of state)
+  pub globs_stand : (path : List ℕ) → SomeStands globs path ↔ SomeStands (globs_of (items_of state)) path
   pub finds_are : FindsAll (patterns_kept sets) state
   pub hash_is : hash ≡ Hash state
   pub warnings_are : warnings ≡ warnings_of (items_of state)

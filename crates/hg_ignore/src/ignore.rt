@@ -14,6 +14,7 @@ ghost use Rattle.hg_ignore.specs.State.{Hash, Ignored, Matches, Texts, items_of,
 ghost use Rattle.hg_ignore.specs.Taking.{Counted, HasLineCause, first_fault, globs_of, warnings_of};
 ghost use Rattle.sha1.specs.Sha1.{sha1};
 
+use crate::distinct::distinct;
 use crate::fault::IgnoreFault;
 use crate::glob_line::GlobLine;
 use crate::matcher::Matcher;
@@ -23,6 +24,7 @@ use crate::sets::{matchers_of, sets_of};
 use crate::source::read_bytes;
 use crate::warnings::Warnings;
 use hg_base::{OutOfMemory, PathRef, Text};
+use hg_glob::Subject;
 use hg_tree::Tree;
 use regex::RegexSet;
 use sha1::Sha1;
@@ -65,14 +67,28 @@ fn hash_of(text: &[u8]) -> [u8; 20]
     hasher.finalize()
 }
 
-/// Whether some glob stands in the path.
+/// Whether some glob stands in a text that was read.
+fn some_stands_in(globs: &[GlobLine], subject: &Subject<'_>) -> bool
+    ensures { IsTrue result ↔ SomeStands globs.now subject.now }
+{
+    for line in globs {
+        if line.glob.matches_end_of(subject, line.rooted) {
+            return true;
+        }
+    }
+    false
+}
+
+/// Whether some glob stands in the path, which is read at the first glob that its end doesn't rule out.
 fn some_stands(globs: &[GlobLine], path: &str) -> bool
     ensures { IsTrue result ↔ SomeStands globs.now path.now }
 {
-    for line in globs {
-        if line.glob.matches_end(path, line.rooted) {
-            return true;
+    let mut left = globs;
+    'globs: while let Some((line, more)) = left.split_first() {
+        if line.glob.may_match_end(path) {
+            return some_stands_in(left, &Subject::new(path));
         }
+        left = more;
     }
     false
 }
@@ -106,10 +122,11 @@ impl Ignore {
         let reading = read_lines(alloc, regexps, text)?;
         let hash = hash_of(text.as_bytes());
         let text = Text::of(alloc, text)?;
+        let globs = distinct(alloc, reading.globs)?;
         let regexps = sets_of(alloc, reading.regexes)?;
         Ok(Ignore {
             text: Some(text),
-            globs: reading.globs,
+            globs,
             regexps,
             hash,
             warnings: reading.warnings,

@@ -27,6 +27,7 @@
 //! ignored and hashed in `specs/State.antt`, which lines are refused in `specs/Taking.antt`, and what is read when in `specs/Source.antt`.
 #![tactic(auto)]
 
+mod distinct;
 mod fault;
 mod glob_line;
 mod ignore;

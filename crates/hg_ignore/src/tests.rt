@@ -102,6 +102,8 @@ const CASES: &[Case] = &[
     ("glob:*.o\nx.y\n", &["a.o", "xzy"], &["xy"]),
     ("relglob:b\n", &["a/b"], &["ab"]),
     ("rootglob:b\n", &["b/c"], &["a/b"]),
+    ("rootglob:b\nglob:c\nrootglob:b\n", &["b", "c"], &["a/b"]),
+    ("rootglob:b\nglob:b\nglob:b\n", &["a/b"], &["ab"]),
     (
         "syntax: glob\nre:^a\nregexp:b$\nrelre:c.d\n*.o\n",
         &["ax", "xb", "c/d", "p.o"],

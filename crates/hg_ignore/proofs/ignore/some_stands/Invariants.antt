@@ -1,7 +1,10 @@
-use Rattle.std.proofs.Common.{◌↔◌, drop}
+use Rattle.std.proofs.Common.{◌↔◌, length}
 use Rattle.hg_ignore.specs.Kept.{SomeStands}
 use Rattle.hg_ignore.proofs.ignore.some_stands.Given as goal
 
 -- no glob so far stands in the path
-abbrev pub invariant-loop-line : goal.invariant-loop-line
-invariant-loop-line l = SomeStands l.globs l.path ↔ SomeStands (drop l.line-index l.globs) l.path
+abbrev pub invariant-globs : goal.invariant-globs
+invariant-globs l = SomeStands l.globs l.path ↔ SomeStands l.left l.path
+
+abbrev pub decreases-globs : goal.decreases-globs
+decreases-globs l = length l.left

@@ -1,6 +1,6 @@
-use Rattle.std.proofs.Common.{subst, take, get_or, ◌==◌, arith}
+use Rattle.std.proofs.Common.{subst, take, get_or, ◌==◌, ◌&&◌, nat_le, arith}
 use Rattle.hg_glob.specs.Column.{IsWord}
-use Rattle.hg_glob.proofs.Masks.{word_of_mask, none_beyond}
+use Rattle.hg_glob.proofs.Masks.{word_of_mask, word_like, pinned, none_beyond}
 use Rattle.hg_glob.proofs.Sums.{far_one}
 use Rattle.hg_glob.proofs.short.Short.literal.Goals as goal
 
@@ -16,3 +16,8 @@ returns-then-self-eq0 c =
 
 pub returns : goal.returns
 returns c = far_one c.args.self.now c.args.x c.far.result c.if-code-lt128.false c.far.ensures
+
+pub returns-then-is_many : goal.returns-then-is_many
+returns-then-is_many c =
+    word_like c.args.self.now (λ d. nat_le c.args.x d && nat_le d c.args.x) (λ d. d == c.args.x) c.spread.result (pinned c.args.x)
+    (word_of_mask c.args.self.now (λ d. nat_le c.args.x d && nat_le d c.args.x) c.spread.result c.spread.ensures)

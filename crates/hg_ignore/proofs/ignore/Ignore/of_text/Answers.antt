@@ -5,4 +5,4 @@ use Rattle.hg_ignore.proofs.ignore.Ignore.of_text.Goals as goal
 
 pub invariant_of-result : goal.invariant_of-result
 invariant_of-result g c =
-    kept_of c.args.text.now c.in_ok-text.text c.in_ok-reading.reading c.in_ok-regexps.regexps.items c.hash_of-hash.result c.in_ok-text.ensures c.in_ok-reading.ensures.read c.in_ok-regexps.ensures (c.hash_of-hash.ensures ∙ ap (λ v. Hash (state_of (Some v))) c.as_bytes.ensures.value)
+    kept_of c.args.text.now c.in_ok-text.text c.in_ok-reading.reading c.in_ok-globs.globs.items c.in_ok-regexps.regexps.items c.hash_of-hash.result c.in_ok-text.ensures c.in_ok-reading.ensures.read c.in_ok-globs.ensures c.in_ok-regexps.ensures (c.hash_of-hash.ensures ∙ ap (λ v. Hash (state_of (Some v))) c.as_bytes.ensures.value)
