@@ -11,11 +11,13 @@
 //! ```
 #![tactic(auto)]
 
+mod filling;
 mod memory;
 mod outside;
 mod sink;
 mod source;
 
+pub use filling::fill;
 pub use memory::{MemSink, MemSource};
 pub use outside::{ReaderSource, WriterSink};
 pub use sink::{Sink, put_all};

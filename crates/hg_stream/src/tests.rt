@@ -1,7 +1,7 @@
 // What no clause says: that the streams in memory find memory, and what the outer ones make of the answers of std's.
 use super::*;
 use hg_base::Failed;
-use std::io::{self, ErrorKind, Read, Write};
+use std::io::{self, Error, ErrorKind, Read, Write};
 use std::test::Fail;
 
 #[test]
@@ -125,6 +125,39 @@ fn writes_through(rt: HostRuntime) -> Result<(), Fail> {
     });
     for answer in [Ok(2), Ok(4), Err(Failed), Err(Failed), Err(Failed)] {
         assert_eq!(rt; sink.put(b"abcd"), answer);
+    }
+    Ok(())
+}
+
+// Gives one byte at a call, and is interrupted before each.
+#[derive(Drop)]
+struct Slow<'a> {
+    left: &'a [u8],
+    ready: bool,
+}
+
+impl Read for Slow<'_> {
+    fn read(&mut self, buf: &mut [u8]) -> io::Result<usize> {
+        self.ready = !self.ready;
+        if self.ready {
+            return Err(Error::from(ErrorKind::Interrupted));
+        }
+        let mut one = self.left.split_at(self.left.len().min(1)).0;
+        self.left = self.left.split_at(one.len()).1;
+        one.read(buf)
+    }
+}
+
+#[test]
+fn reads_on_after_little(rt: HostRuntime) -> Result<(), Fail> {
+    for (bytes, n, full) in [("", 0, "...."), ("ab", 2, "ab.."), ("abcdef", 4, "abcd")] {
+        let mut slow = Slow {
+            left: bytes.as_bytes(),
+            ready: false,
+        };
+        let mut buf = [b'.'; 4];
+        assert_eq!(rt; fill(&mut slow, &mut buf)?, n, "{bytes}");
+        assert_eq!(rt; &buf[..], full.as_bytes(), "{bytes}");
     }
     Ok(())
 }
