@@ -1,24 +1,34 @@
 -- A walk has as many levels as it needs: each list stands in a directory with one component more, of which a path has 2,048 at most.
-use Rattle.std.proofs.Common.{◌≡◌, ℕ, zero, suc, ◌+◌, ◌*◌, ◌≤◌, false, cond, List, [], ◌∷◌, length, Option, Some, None, refl, sym, ap, ◌∙◌, arith, eqb, ltb}
+use Rattle.std.proofs.Common.{◌≡◌, ℕ, zero, suc, ◌+◌, ◌-◌, ◌*◌, ◌<◌, ◌≤◌, false, cond, List, [], ◌∷◌, length, Option, Some, None, refl, sym, ap, ◌∙◌, arith, eqb, ltb}
 use Rattle.std.proofs.lemmas.List.{length-append}
 use Rattle.hg_base.specs.PathText.{components, has_slash, joined, base_of}
 use Rattle.hg_base.proofs.Components.{components_name, components_more, joined_parent}
 use Rattle.hg_base.proofs.Paths.{path_parts, path_base_plain}
+use Rattle.hg_node.specs.declared.record.Rec.{Rec}
 use Rattle.hg_image.specs.declared.fault.NodeFault.{NodeFault}
 use Rattle.hg_image.specs.declared.fault.NodeFault.TheVariants as a_fault
 use Rattle.hg_image.specs.Node.{record_at, path_of, name_of, first_of, node_fault}
-use Rattle.hg_image.specs.Walk.{nodes_fault, list_fault, levels}
+use Rattle.hg_image.specs.Walk.{nodes_fault, list_fault, depth_of, levels}
 use Rattle.hg_image.proofs.Walk.{below}
-use Rattle.hg_image.proofs.Sound.{node_sound}
-
--- how many components a directory has, none for the root
-abbrev depth_of : Option (List ℕ) → ℕ
-depth_of None = 0
-depth_of (Some dir) = length (components dir)
+use Rattle.hg_image.proofs.Sound.{Sound, node_sound}
 
 one_more : (dir : Option (List ℕ)) (name : List ℕ) → has_slash name ≡ false → length (components (joined dir name)) ≡ depth_of dir + 1
 one_more None name plain = ap length (components_name name plain)
 one_more (Some dir) name plain = ap length (components_more dir name plain) ∙ length-append (components dir) (name ∷ [])
+
+-- a node that passes has one component more than its directory
+node_more : (bytes : List ℕ) (dir before : Option (List ℕ)) (rec : Rec) → Sound bytes dir before rec → length (components (path_of bytes rec)) ≡ depth_of dir + 1
+node_more bytes dir before rec node =
+    let path = path_of bytes rec in
+    let whole : path ≡ joined dir (base_of path) = sym (joined_parent path) ∙ ap (λ (d : Option (List ℕ)). joined d (base_of path)) node.parent in
+    ap (λ (p : List ℕ). length (components p)) whole ∙ one_more dir (base_of path) (path_base_plain path node.path)
+
+-- so the list below it may be as deep as its own had room for
+pub level_below : (bytes : List ℕ) (dir before : Option (List ℕ)) (rec : Rec) (path : List ℕ) (depth : ℕ) → None ≡ node_fault bytes dir before rec → path ≡ path_of bytes rec → 0 < depth → depth_of dir + depth ≤ levels
+    → length (components path) + (depth - 1) ≤ levels
+level_below bytes dir before rec path depth good named deep room =
+    let more : length (components path) ≡ depth_of dir + 1 = ap (λ (p : List ℕ). length (components p)) named ∙ node_more bytes dir before rec (node_sound bytes dir before rec (sym good)) in
+    omega (arith, more, deep, room)
 
 -- two readings of what is below nodes, which agree wherever a node passes
 same_nodes : (one other : List ℕ → ℕ → ℕ → Option NodeFault) (bytes : List ℕ) (dir : Option (List ℕ))
@@ -51,8 +61,7 @@ deep_enough (suc depth) more bytes dir start count enough shallow =
     let rec = record_at bytes at in
     let path = path_of bytes rec in
     let node = node_sound bytes dir before rec none in
-    let whole : path ≡ joined dir (base_of path) = sym (joined_parent path) ∙ ap (λ (d : Option (List ℕ)). joined d (base_of path)) node.parent in
-    let parts : length (components path) ≡ depth_of dir + 1 = ap (λ (p : List ℕ). length (components p)) whole ∙ one_more dir (base_of path) (path_base_plain path node.path) in
+    let parts : length (components path) ≡ depth_of dir + 1 = node_more bytes dir before rec node in
     let most : length (components path) ≤ 2048 = (path_parts path node.path).shallow in
     deep_enough depth more bytes (Some path) rec.kids_start rec.kids_count (omega (arith, parts, enough)) most in
     rw next

@@ -4,6 +4,7 @@ pub mod Levels
 pub mod Names
 pub mod Parted
 pub mod RowsOf
+pub mod Seen
 pub mod Sound
 pub mod Sourced
 pub mod Tallies

@@ -4,7 +4,6 @@ use Rattle.std.proofs.lemmas.Bool.{ne_eqb}
 use Rattle.std.proofs.lemmas.Bool.Decides.{nat_tests}
 use Rattle.hg_image.specs.declared.fault.NodeFault.{NodeFault}
 use Rattle.hg_image.specs.declared.fault.NodeFault.TheVariants as a_fault
-use Rattle.hg_base.specs.PathText.{base_of}
 use Rattle.hg_node.specs.declared.record.Rec.{Rec}
 use Rattle.hg_image.specs.Node.{record_at, path_of, name_of, node_fault}
 use Rattle.hg_image.specs.Walk.{nodes_fault, list_fault}
@@ -100,10 +99,10 @@ module _ (depth : ℕ) (bytes : List ℕ) (dir : Option (List ℕ)) (start count
       (ap (λ r. list_fault (depth - 1) bytes (Some (path_of bytes r)) r.kids_start r.kids_count) (sym is) ∙ ap (λ (p : List ℕ). list_fault (depth - 1) bytes (Some p) rec.kids_start rec.kids_count) (sym named) ∙ sym bad))
 
   -- the node passes, and all that is below it
-  pub list_goes_on : (rec : Rec) (path name : List ℕ) → 0 < n → rec ≡ record_at bytes at → None ≡ node_fault bytes dir before rec → path ≡ path_of bytes rec → name ≡ base_of path
+  pub list_goes_on : (rec : Rec) (path name : List ℕ) → 0 < n → rec ≡ record_at bytes at → None ≡ node_fault bytes dir before rec → path ≡ path_of bytes rec → name ≡ name_of bytes rec
       → None ≡ list_fault (depth - 1) bytes (Some path) rec.kids_start rec.kids_count
       → nodes_fault (below (depth - 1) bytes) bytes dir None start count ≡ nodes_fault (below (depth - 1) bytes) bytes dir (Some name) (at + 44) (n - 1)
   list_goes_on rec path name some is good named base fine =
       far.rest ∙ nodes_pass (below (depth - 1) bytes) bytes dir before at n some (ap (node_fault bytes dir before) (sym is) ∙ sym good)
       (ap (λ r. list_fault (depth - 1) bytes (Some (path_of bytes r)) r.kids_start r.kids_count) (sym is) ∙ ap (λ (p : List ℕ). list_fault (depth - 1) bytes (Some p) rec.kids_start rec.kids_count) (sym named) ∙ sym fine)
-      ∙ ap (λ (m : List ℕ). nodes_fault (below (depth - 1) bytes) bytes dir (Some m) (at + 44) (n - 1)) (ap (name_of bytes) (sym is) ∙ ap base_of (sym named) ∙ sym base)
+      ∙ ap (λ (m : List ℕ). nodes_fault (below (depth - 1) bytes) bytes dir (Some m) (at + 44) (n - 1)) (ap (name_of bytes) (sym is) ∙ sym base)

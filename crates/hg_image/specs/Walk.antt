@@ -1,6 +1,7 @@
 -- The walk of a data file (Mercurial help, internals.dirstate-v2, "The data file format"): lists of nodes, each node before its children
 -- and its children before the next sibling, and the first fault on the way.
 use Rattle.std.specs.Prelude.{◌≡◌, ℕ, zero, suc, ◌+◌, ◌*◌, if◌then◌else◌, List, length, take, Option, Some, None, ◌==◌, nat_lt}
+use Rattle.hg_base.specs.PathText.{components}
 use Rattle.hg_docket.specs.Docket.{Contents}
 use Rattle.hg_image.specs.declared.fault.NodeFault.{NodeFault}
 use Rattle.hg_image.specs.declared.fault.NodeFault.TheVariants as a_fault
@@ -27,6 +28,11 @@ list_fault (suc depth) bytes dir start count =
     then Some (a_fault.List start count)
     else nodes_fault (λ path. list_fault depth bytes (Some path)) bytes dir None start count
     )
+
+-- how many components a directory has, none for the root
+abbrev pub depth_of : Option (List ℕ) → ℕ
+depth_of None = 0
+depth_of (Some dir) = length (components dir)
 
 -- how many levels of lists a walk looks at: a path has at most 2,048 components, and below such a one a list is looked at still
 unfoldable pub levels : ℕ

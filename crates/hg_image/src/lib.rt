@@ -30,6 +30,7 @@
 //! ```
 #![tactic(auto)]
 
+mod below;
 mod counts;
 mod fault;
 mod image;

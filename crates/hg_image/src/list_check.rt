@@ -1,8 +1,8 @@
 //! The check of a list of nodes and of all that is below it.
 
-ghost use Rattle.std.specs.Prelude.{◌≡◌, ◌<◌, ◌^◌, length, option_map};
+ghost use Rattle.std.specs.Prelude.{◌≡◌, ◌+◌, ◌<◌, ◌≤◌, ◌^◌, length, option_map};
 ghost use Rattle.std.specs.Result.{result_err};
-ghost use Rattle.hg_image.specs.Walk.{list_fault};
+ghost use Rattle.hg_image.specs.Walk.{depth_of, levels, list_fault};
 
 use crate::fault::NodeFault;
 use crate::node_check::check_node;
@@ -18,7 +18,8 @@ pub fn check_list(
     count: u32,
     depth: u32,
 ) -> Result<(), NodeFault>
-    requires { length bytes.now < 2 ^ 32 }
+    requires used { length bytes.now < 2 ^ 32 }
+    requires levels { depth_of (option_map (λ d. d.text.now) dir) + depth ≤ levels }
     ensures { result_err result ≡ list_fault depth bytes.now (option_map (λ d. d.text.now) dir.entry) start count }
 {
     if count == 0 {
@@ -34,10 +35,20 @@ pub fn check_list(
     let mut at = start;
     for i in 0..count {
         let rec = read_record(bytes, at);
-        let path = check_node(bytes, dir, before, rec)?;
-        check_list(bytes, Some(path), rec.kids_start, rec.kids_count, depth - 1)?;
-        before = Some(path.base());
+        let found = check_node(bytes, dir, depth, before, rec)?;
+        before = Some(found.name);
         at += 44;
+        // (most nodes are files, which cost no call)
+        if rec.kids_count == 0 {
+            continue;
+        }
+        check_list(
+            bytes,
+            Some(found.path),
+            rec.kids_start,
+            rec.kids_count,
+            depth - 1,
+        )?;
     }
     Ok(())
 }

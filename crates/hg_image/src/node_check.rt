@@ -1,13 +1,15 @@
 //! The check of one node: the rows of the table of faults, from the top.
 
-ghost use Rattle.std.specs.Prelude.{◌≡◌, ◌+◌, ◌<◌, ◌^◌, length, IfOk, option_map};
+ghost use Rattle.std.specs.Prelude.{◌≡◌, ◌+◌, ◌<◌, ◌≤◌, ◌^◌, length, IfOk, option_map};
 ghost use Rattle.std.specs.Result.{result_err};
 ghost use Rattle.hg_base.specs.PathText as paths;
 ghost use Rattle.hg_base.specs.PathText.{is_same_dir, parent_of};
 ghost use Rattle.hg_image.specs.Node as node;
-ghost use Rattle.hg_image.specs.Node.{path_of, path_fault, node_fault, fields_of};
+ghost use Rattle.hg_image.specs.Node.{path_of, name_of, path_fault, node_fault, fields_of};
+ghost use Rattle.hg_image.specs.Walk.{depth_of, levels};
 ghost use Rattle.hg_entry.specs.Entry as entry;
 
+use crate::below::{Found, find_below};
 use crate::fault::NodeFault;
 use crate::parts::read_text;
 use hg_base::{PathFault, PathRef, child_name};
@@ -15,28 +17,31 @@ use hg_entry::bits as bit;
 use hg_node::Rec;
 use std::cmp::Ordering;
 
-/// The path of a node in a directory, none for the root, behind the name before it in its list; else the first fault.
+/// The path of a node and its name, in a directory that has room for so many levels of lists, none for the root, behind the name before
+/// it in its list; else the first fault.
 #[tactic(auto, unfolding(crate::specs::Node::node_fault))]
 pub fn check_node<'a>(
     bytes: &'a [u8],
     dir: Option<PathRef<'_>>,
+    depth: u32,
     before: Option<&str>,
     rec: Rec,
-) -> Result<PathRef<'a>, NodeFault>
-    requires { length bytes.now < 2 ^ 32 }
+) -> Result<Found<'a>, NodeFault>
+    requires used { length bytes.now < 2 ^ 32 }
+    requires levels { depth_of (option_map (λ d. d.text.now) dir) + depth ≤ levels }
     ensures fault { result_err result ≡ node_fault bytes.entry.now (option_map (λ d. d.text.now) dir.entry) (option_map (λ b. b.now) before.entry) rec }
-    ensures path { IfOk result (λ p. p.text.now ≡ path_of bytes.entry.now rec) }
+    ensures path { IfOk result (λ f. f.path.text.now ≡ path_of bytes.entry.now rec) }
+    ensures name { IfOk result (λ f. f.name.now ≡ name_of bytes.entry.now rec) }
 {
     let node = rec.place;
-    let path = read_path(bytes, rec)?;
-    let name = path.base();
-    if rec.base_at as usize + name.len() != path.text.len() {
+    let found = find_path(bytes, dir, depth, rec)?;
+    if rec.base_at as usize + found.name.len() != found.path.text.len() {
         return Err(NodeFault::Base { node });
     }
-    if !stands_in(dir, path) {
+    if !found.stands {
         return Err(NodeFault::Parent { node });
     }
-    if !is_after(before, name) {
+    if !is_after(before, found.name) {
         return Err(NodeFault::Order { node });
     }
     if !is_sourced(bytes, rec) {
@@ -45,7 +50,32 @@ pub fn check_node<'a>(
     if !is_timely(rec) {
         return Err(NodeFault::Times { node });
     }
-    Ok(path)
+    Ok(found)
+}
+
+// The path that a node names: by its name alone where that is enough, else from its beginning.
+fn find_path<'a>(
+    bytes: &'a [u8],
+    dir: Option<PathRef<'_>>,
+    depth: u32,
+    rec: Rec,
+) -> Result<Found<'a>, NodeFault>
+    requires used { length bytes.now < 2 ^ 32 }
+    requires levels { depth_of (option_map (λ d. d.text.now) dir) + depth ≤ levels }
+    ensures fault { result_err result ≡ path_fault bytes.entry.now rec }
+    ensures path { IfOk result (λ f. f.path.text.now ≡ path_of bytes.entry.now rec) }
+    ensures name { IfOk result (λ f. f.name.now ≡ name_of bytes.entry.now rec) }
+    ensures stands { IfOk result (λ f. f.stands ≡ is_same_dir (option_map (λ d. d.text.now) dir.entry) (parent_of (path_of bytes.entry.now rec))) }
+{
+    if let Some(found) = find_below(bytes, dir, depth, rec) {
+        return Ok(found);
+    }
+    let path = read_path(bytes, rec)?;
+    Ok(Found {
+        path,
+        name: path.base(),
+        stands: stands_in(dir, path),
+    })
 }
 
 // The path that a node names.

@@ -34,17 +34,17 @@ pub fn read_text(bytes: &[u8], start: u32, len: u16) -> Option<&str>
     valid_text(part(bytes, start, len))
 }
 
-// So many bytes from a place on.
-fn part(bytes: &[u8], start: u32, len: u16) -> &[u8]
+/// So many bytes from a place on.
+pub fn part(bytes: &[u8], start: u32, len: u16) -> &[u8]
     requires { start + len ≤ length bytes.now }
     ensures { result.now ≡ part_at bytes.now start len }
 {
     bytes.split_at(start as usize).1.split_at(len as usize).0
 }
 
-// The bytes as a text, where they are UTF-8.
+/// The bytes as a text, where they are UTF-8.
 #[tactic(auto, using(crate::proofs::Texts::utf8_true, crate::proofs::Texts::utf8_false))]
-fn valid_text(bytes: &[u8]) -> Option<&str>
+pub fn valid_text(bytes: &[u8]) -> Option<&str>
     ensures { option_map (λ t. t.now) result ≡ (if text.is_utf8 bytes.now then Some bytes.now else None) }
 {
     match std::str::from_utf8(bytes) {
