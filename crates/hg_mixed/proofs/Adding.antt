@@ -1,79 +1,25 @@
--- The rows of an image are taken one after the other.
-use Rattle.std.proofs.Common.{ℕ, ◌≡◌, Bool, true, false, cond, ◌&&◌, not, List, [], ◌∷◌, ◌++◌, map, Option, Some, None, refl, sym, ap, ◌∙◌, subst, true≢false, inl, inr}
-use Rattle.std.specs.Prelude.{is_some}
-use Rattle.std.specs.Option.{option_and_then}
-use Rattle.std.specs.List.{AllByRecursion, IsDistinct}
+-- The nodes of a list of an image are taken one after the other.
+use Rattle.std.proofs.Common.{ℕ, ◌≡◌, ◌+◌, Bool, true, false, cond, ◌&&◌, not, List, Option, Some, None, refl, sym, ap, ◌∙◌, true≢false, inl, inr, ◌⊎◌, arith}
+use Rattle.std.specs.Prelude.{is_some, Result, Ok, Err, OnErr}
 use Rattle.std.specs.Str.{bytes_eq}
-use Rattle.std.proofs.lemmas.Bool.{cases_Bool, cond-true, cond-false, both_ways, false_from_ne_true}
+use Rattle.std.proofs.lemmas.Bool.{cases_Bool, cases_order, cond-true, cond-false, both_ways}
 use Rattle.hg_base.specs.PathText.{is_below, is_path, parent_of}
-use Rattle.hg_base.proofs.Within.{above_is, above_none, equal_bytes, same_bytes, within_split}
-use Rattle.hg_docket.specs.Docket.{Contents}
+use Rattle.hg_base.proofs.Within.{above_is, above_none, same_bytes, within_split}
 use Rattle.hg_entry.specs.Entry.{EntryData, StampData, cache_of, entry_of, has_entry}
-use Rattle.hg_image.specs.Node.{fields_of}
+use Rattle.hg_image.specs.Node.{fields_of, path_of}
 use Rattle.hg_image.specs.Reading.{row_at}
-use Rattle.hg_image.specs.Reading as reading
-use Rattle.hg_image.specs.Rows.{AreDistinct, Row}
+use Rattle.hg_image.specs.Rows.{Row}
+use Rattle.hg_image.specs.View.{IsMember, dir_of, row, rows_in}
+use Rattle.hg_image.specs.declared.opened.List.{List as NodeList}
+use Rattle.hg_image.specs.declared.opened.NodeRef.{NodeRef}
 use Rattle.hg_mixed.specs.Drop.{bare}
-use Rattle.hg_mixed.specs.Edits.{IsFormed, IsSame}
-use Rattle.hg_mixed.specs.Held.{table_of}
-use Rattle.hg_mixed.specs.Node.{IsPut, NodeData, entry_in, node_at, source_in}
-use Rattle.hg_mixed.specs.Opened.{Adds, IsThere, last_at, node_of, or_else, row_or}
+use Rattle.hg_mixed.specs.Edits.{IsFormed}
+use Rattle.hg_mixed.specs.Node.{AreSame, IsPut, NodeData, entry_in, node_at, source_in}
+use Rattle.hg_mixed.specs.Opened.{IsThere, node_of}
+use Rattle.hg_mixed.specs.Taken.{AddsNodes, AddsOwn, AddsSome, HasRow, IsAsBefore, IsElsewhere, IsNotOf, path_at}
 use Rattle.hg_mixed.specs.Times.{IsTimed, time_at}
-
--- ---- one after the other
-
-or_none : (o : Option Row) → or_else o None ≡ o
-or_none None = refl
-or_none (Some row) = refl
-
-or_assoc : (a b c : Option Row) → or_else (or_else a b) c ≡ or_else a (or_else b c)
-or_assoc None b c = refl
-or_assoc (Some row) b c = refl
-
-last_append : (xs ys : List Row) (at : List ℕ) → last_at (xs ++ ys) at ≡ or_else (last_at ys at) (last_at xs at)
-last_append [] ys at = sym (or_none (last_at ys at))
-last_append (x ∷ xs) ys at =
-    ap (λ (o : Option Row). or_else o (cond (bytes_eq x.path at) (Some x) None)) (last_append xs ys at)
-    ∙ or_assoc (last_at ys at) (last_at xs at) (cond (bytes_eq x.path at) (Some x) None)
-
-row_or_else : {X : Type 0} (a b : Option Row) (says : Row → X) (was : X) → row_or a says (row_or b says was) ≡ row_or (or_else a b) says was
-row_or_else None b says was = refl
-row_or_else (Some row) b says was = refl
-
-pub adds_none : (rows : List (List ℕ × NodeData)) (times : List (List ℕ × StampData)) → IsFormed (bare rows times) → Adds [] rows times rows times
-adds_none rows times formed = record { nodes = λ at. refl; times = λ at. refl; formed = formed }
-
-pub adds_trans : (xs ys : List Row) (a : List (List ℕ × NodeData)) (s : List (List ℕ × StampData)) (b : List (List ℕ × NodeData)) (t : List (List ℕ × StampData)) (c : List (List ℕ × NodeData)) (u : List (List ℕ × StampData))
-    → Adds xs a s b t → Adds ys b t c u → Adds (xs ++ ys) a s c u
-adds_trans xs ys a s b t c u p q = record {
-  nodes = λ at.
-      q.nodes at
-      ∙ ap (row_or (last_at ys at) (λ row. Some (node_of row))) (p.nodes at)
-      ∙ row_or_else (last_at ys at) (last_at xs at) (λ row. Some (node_of row)) (node_at a at)
-      ∙ sym (ap (λ (o : Option Row). row_or o (λ row. Some (node_of row)) (node_at a at)) (last_append xs ys at));
-  times = λ at.
-      q.times at
-      ∙ ap (row_or (last_at ys at) (λ row. cache_of (fields_of row.rec))) (p.times at)
-      ∙ row_or_else (last_at ys at) (last_at xs at) (λ row. cache_of (fields_of row.rec)) (time_at s at)
-      ∙ sym (ap (λ (o : Option Row). row_or o (λ row. cache_of (fields_of row.rec)) (time_at s at)) (last_append xs ys at));
-  formed = q.formed;
-}
-
-some_stays : (o : Option Row) (was : Option NodeData) → is_some was ≡ true → is_some (row_or o (λ row. Some (node_of row)) was) ≡ true
-some_stays None was h = h
-some_stays (Some row) was h = refl
-
--- what stood stands still
-pub there_still : (added : List Row) (a : List (List ℕ × NodeData)) (s : List (List ℕ × StampData)) (b : List (List ℕ × NodeData)) (t : List (List ℕ × StampData)) (dir : Option (List ℕ)) → Adds added a s b t → IsThere a dir → IsThere b dir
-there_still added a s b t dir adds there = λ d h. ap is_some (adds.nodes d) ∙ some_stays (last_at added d) (node_at a d) (there d h)
-
-one_step : (b : Bool) (row : Row) (was : Option NodeData) → cond b (Some (node_of row)) was ≡ row_or (cond b (Some row) None) (λ r. Some (node_of r)) was
-one_step true row was = refl
-one_step false row was = refl
-
-time_step : (b : Bool) (row : Row) (was : Option StampData) → cond b (cache_of (fields_of row.rec)) was ≡ row_or (cond b (Some row) None) (λ r. cache_of (fields_of r.rec)) was
-time_step true row was = refl
-time_step false row was = refl
+use Rattle.hg_mixed.proofs.Edited.{update_other, update_same}
+use Rattle.hg_mixed.proofs.ImageRows.{dir_member, row_member}
 
 -- ---- what is formed
 
@@ -86,17 +32,31 @@ module _ (row : Row) (sourced : has_entry row.rec.flags ≡ false → row.source
   no_source none = source_only (has_entry row.rec.flags) _ row.source none sourced
 
 -- no cache where an entry is
-apart : (b x y z : Bool) (time : StampData) (entry : EntryData) → is_some (cond (not b && x && y && z) (Some time) None) ≡ true → cond b (Some entry) None ≡ None
+pub apart : (b x y z : Bool) (time : StampData) (entry : EntryData) → is_some (cond (not b && x && y && z) (Some time) None) ≡ true → cond b (Some entry) None ≡ None
 apart true x y z time entry h = absurd (true≢false (sym h))
 apart false x y z time entry h = refl
+
+no_entry : (row : Row) → is_some (cache_of (fields_of row.rec)) ≡ true → entry_of (fields_of row.rec) ≡ None
+no_entry row h = apart (has_entry row.rec.flags) _ _ _ _ _ h
 
 -- no source where none is
 pub source_false : (b c : Bool) (source : List ℕ) → b ≡ false → cond (b && c) (Some source) None ≡ None
 source_false true c source h = absurd (true≢false h)
 source_false false c source h = refl
 
+-- the same nodes, and no time that wasn't there
+pub formed_less : (rows : List (List ℕ × NodeData)) (times : List (List ℕ × StampData)) (new : List (List ℕ × NodeData)) (after : List (List ℕ × StampData)) → IsFormed (bare rows times) → AreSame rows new
+    → ((at : List ℕ) → is_some (time_at after at) ≡ true → is_some (time_at times at) ≡ true) → IsFormed (bare new after)
+formed_less rows times new after formed same less = record {
+  paths = λ at h. formed.paths at (sym (ap is_some (same at)) ∙ h);
+  rooted = λ dir at below h. ap is_some (same dir) ∙ formed.rooted dir at below (sym (ap is_some (same at)) ∙ h);
+  entries = λ at h. ap entry_in (same at) ∙ formed.entries at (sym (ap is_some (same at)) ∙ h);
+  sources = λ at h. ap source_in (same at) ∙ formed.sources at (sym (ap entry_in (same at)) ∙ h);
+  caches = λ at h. let had = formed.caches at (less at h) in (ap is_some (same at) ∙ had.0, ap entry_in (same at) ∙ had.1);
+}
+
 module _ (row : Row) (rows : List (List ℕ × NodeData)) (times : List (List ℕ × StampData)) (new : List (List ℕ × NodeData)) (after : List (List ℕ × StampData)) (good : is_path row.path ≡ true)
-    (formed : IsFormed (bare rows times)) (there : IsThere rows (parent_of row.path)) (put : IsPut row.path (Some (node_of row)) rows new) (timed : IsTimed row.path (cache_of (fields_of row.rec)) times after)
+    (formed : IsFormed (bare rows times)) (there : IsThere rows (parent_of row.path)) (put : IsPut row.path (Some (node_of row)) rows new)
     (sourced : has_entry row.rec.flags ≡ false → row.source ≡ None) where
   at_path : (at : List ℕ) → bytes_eq row.path at ≡ true → node_at new at ≡ Some (node_of row)
   at_path at h = put at ∙ cond-true (bytes_eq row.path at) (Some (node_of row)) (node_at rows at) h
@@ -117,14 +77,9 @@ module _ (row : Row) (rows : List (List ℕ × NodeData)) (times : List (List �
     | inr more ↦ formed.rooted dir d more (there d is)
   ]
 
-  cache_here : cache_of (fields_of row.rec) ≡ None → is_some (time_at after row.path) ≡ true → ⊥
-  cache_here none h = true≢false (sym h ∙ ap is_some (timed row.path ∙ cond-true (bytes_eq row.path row.path) (cache_of (fields_of row.rec)) (time_at times row.path) (equal_bytes row.path) ∙ none))
-
-  no_entry : is_some (cache_of (fields_of row.rec)) ≡ true → entry_of (fields_of row.rec) ≡ None
-  no_entry h = apart (has_entry row.rec.flags) _ _ _ _ _ h
-
-  own_formed : IsFormed (bare new after)
-  own_formed = record {
+  -- with any time that no entry stands beside
+  own_formed : (time : Option StampData) → IsTimed row.path time times after → (is_some time ≡ true → entry_of (fields_of row.rec) ≡ None) → IsFormed (bare new after)
+  own_formed time timed fit = record {
     paths = λ at h. elim (cases_Bool (bytes_eq row.path at)) [
       | inl here ↦ ap is_path (sym (same_bytes row.path at here)) ∙ good
       | inr other ↦ formed.paths at (sym (ap is_some (at_other at other)) ∙ h)
@@ -144,90 +99,106 @@ module _ (row : Row) (rows : List (List ℕ × NodeData)) (times : List (List �
     caches = λ at h. elim (cases_Bool (bytes_eq row.path at)) [
       | inl here ↦ (
         ap is_some (at_path at here),
-        ap entry_in (at_path at here)
-            ∙ no_entry (sym (ap is_some (timed at ∙ cond-true (bytes_eq row.path at) (cache_of (fields_of row.rec)) (time_at times at) here)) ∙ h),
+        ap entry_in (at_path at here) ∙ fit (sym (ap is_some (timed at ∙ cond-true (bytes_eq row.path at) time (time_at times at) here)) ∙ h),
       )
       | inr other ↦
-          let had = formed.caches at (sym (ap is_some (timed at ∙ cond-false (bytes_eq row.path at) (cache_of (fields_of row.rec)) (time_at times at) other)) ∙ h) in
+          let had = formed.caches at (sym (ap is_some (timed at ∙ cond-false (bytes_eq row.path at) time (time_at times at) other)) ∙ h) in
           (ap is_some (at_other at other) ∙ had.0, ap entry_in (at_other at other) ∙ had.1)
     ];
   }
 
-  -- one row is taken
-  pub adds_own : Adds (row ∷ []) rows times new after
-  adds_own = record {
-    nodes = λ at. put at ∙ one_step (bytes_eq row.path at) row (node_at rows at);
-    times = λ at. timed at ∙ time_step (bytes_eq row.path at) row (time_at times at);
-    formed = own_formed;
+  -- the node is taken
+  pub adds_own : IsTimed row.path (cache_of (fields_of row.rec)) times after → AddsOwn row rows times new after
+  adds_own timed = record { put = put; timed = timed; formed = own_formed (cache_of (fields_of row.rec)) timed (no_entry row) }
+
+  -- it is taken without its time, for which there was no memory
+  pub adds_untimed : is_some (cache_of (fields_of row.rec)) ≡ true → ((at : List ℕ) → time_at after at ≡ time_at times at) → IsElsewhere row.path rows times new after
+  adds_untimed cached same = record {
+    others = λ at other. record { node = at_other at other; time = same at };
+    formed = own_formed (time_at times row.path) (λ at. same at ∙ sym (update_same (time_at times) row.path (time_at times row.path) refl at)) (λ _. no_entry row cached);
   }
 
--- ---- all rows
+less_time : (b : Bool) (was : Option StampData) → is_some (cond b None was) ≡ true → is_some was ≡ true
+less_time true was h = absurd (true≢false (sym h))
+less_time false was h = h
 
-none_later : (rows : List Row) (path : List ℕ) → AllByRecursion (λ p. bytes_eq path p ≡ false) (map (λ row. row.path) rows) → last_at rows path ≡ None
-none_later [] path apart = refl
-none_later (row ∷ rows) path apart =
-    ap (λ (o : Option Row). or_else o (cond (bytes_eq row.path path) (Some row) None)) (none_later rows path apart.1)
-    ∙ cond-false (bytes_eq row.path path) (Some row) None (false_from_ne_true (bytes_eq row.path path) (λ h.
-    both_ways (bytes_eq path row.path) apart.0 (ap (bytes_eq path) (same_bytes row.path path h) ∙ equal_bytes path)))
-
-first_last : (rows : List Row) → AreDistinct rows → (path : List ℕ) → last_at rows path ≡ row_at rows path
-unfolding IsDistinct
-first_last [] apart path = refl
-first_last (row ∷ rows) apart path = elim (cases_Bool (bytes_eq row.path path)) [
-  | inl same ↦
-      ap (λ (o : Option Row). or_else o (cond (bytes_eq row.path path) (Some row) None))
-      (none_later rows path (subst (λ (p : List ℕ). AllByRecursion (λ q. bytes_eq p q ≡ false) (map (λ r. r.path) rows)) (same_bytes row.path path same) apart.0))
-      ∙ cond-true (bytes_eq row.path path) (Some row) None same
-      ∙ sym (cond-true (bytes_eq row.path path) (Some row) (row_at rows path) same)
-  | inr other ↦
-      ap (or_else (last_at rows path)) (cond-false (bytes_eq row.path path) (Some row) None other)
-      ∙ or_none (last_at rows path)
-      ∙ first_last rows apart.1 path
-      ∙ sym (cond-false (bytes_eq row.path path) (Some row) (row_at rows path) other)
-]
-
-entry_row : (o : Option Row) → entry_in (row_or o (λ row. Some (node_of row)) None) ≡ option_and_then (λ row. entry_of (fields_of row.rec)) o
-entry_row None = refl
-entry_row (Some row) = refl
-
-source_row : (o : Option Row) → source_in (row_or o (λ row. Some (node_of row)) None) ≡ option_and_then (λ row. row.source) o
-source_row None = refl
-source_row (Some row) = refl
-
-node_row : (o : Option Row) → is_some (row_or o (λ row. Some (node_of row)) None) ≡ is_some o
-node_row None = refl
-node_row (Some row) = refl
-
-cache_row : (o : Option Row) → row_or o (λ row. cache_of (fields_of row.rec)) None ≡ option_and_then (λ row. cache_of (fields_of row.rec)) o
-cache_row None = refl
-cache_row (Some row) = refl
-
-pub nothing_formed : (rows : List (List ℕ × NodeData)) (times : List (List ℕ × StampData)) → ((at : List ℕ) → node_at rows at ≡ None) → ((at : List ℕ) → time_at times at ≡ None) → IsFormed (bare rows times)
-nothing_formed rows times none no_time = record {
-  paths = λ at h. absurd (true≢false (sym h ∙ ap is_some (none at)));
-  rooted = λ dir at below h. absurd (true≢false (sym h ∙ ap is_some (none at)));
-  entries = λ at h. ap entry_in (none at);
-  sources = λ at h. ap source_in (none at);
-  caches = λ at h. absurd (true≢false (sym h ∙ ap is_some (no_time at)));
+-- the time of a path is gone, and no node was taken
+pub untimed : (path : List ℕ) (rows : List (List ℕ × NodeData)) (times : List (List ℕ × StampData)) (new : List (List ℕ × NodeData)) (after : List (List ℕ × StampData)) → IsFormed (bare rows times) → AreSame rows new
+    → IsTimed path None times after → IsElsewhere path rows times new after
+untimed path rows times new after formed same timed = record {
+  others = λ at other. record { node = same at; time = timed at ∙ update_other (time_at times) path None at other };
+  formed = formed_less rows times new after formed same (λ at h. less_time (bytes_eq path at) (time_at times at) (sym (ap is_some (timed at)) ∙ h));
 }
 
--- all rows of an image make its table
-pub opened_table : (docket : Contents) (all : List Row) (old : List (List ℕ × NodeData)) (before : List (List ℕ × StampData)) (new : List (List ℕ × NodeData)) (after : List (List ℕ × StampData)) → AreDistinct all
-    → ((at : List ℕ) → node_at old at ≡ None) → ((at : List ℕ) → time_at before at ≡ None) → Adds all old before new after
-    → IsSame (table_of docket.p1 docket.p2 docket.hash new after) (reading.table_of docket all)
-opened_table docket all old before new after distinct none no_time adds =
-    let node : (at : List ℕ) → node_at new at ≡ row_or (row_at all at) (λ row. Some (node_of row)) None = λ at.
-    adds.nodes at ∙ ap (row_or (last_at all at) (λ row. Some (node_of row))) (none at) ∙ ap (λ (o : Option Row). row_or o (λ row. Some (node_of row)) None) (first_last all distinct at) in
-    record {
-      p1 = refl;
-      p2 = refl;
-      hash = refl;
-      entries = λ at. ap entry_in (node at) ∙ entry_row (row_at all at);
-      sources = λ at. ap source_in (node at) ∙ source_row (row_at all at);
-      nodes = λ at. ap is_some (node at) ∙ node_row (row_at all at);
-      caches = λ at.
-          adds.times at
-          ∙ ap (row_or (last_at all at) (λ row. cache_of (fields_of row.rec))) (no_time at)
-          ∙ ap (λ (o : Option Row). row_or o (λ row. cache_of (fields_of row.rec)) None) (first_last all distinct at)
-          ∙ cache_row (row_at all at);
-    }
+-- ---- one after the other
+
+pub before_trans : (at : List ℕ) (a : List (List ℕ × NodeData)) (s : List (List ℕ × StampData)) (b : List (List ℕ × NodeData)) (t : List (List ℕ × StampData)) (c : List (List ℕ × NodeData)) (u : List (List ℕ × StampData))
+    → IsAsBefore at a s b t → IsAsBefore at b t c u → IsAsBefore at a s c u
+before_trans at a s b t c u p q = record { node = q.node ∙ p.node; time = q.time ∙ p.time }
+
+module _ (list : NodeList) (i : ℕ) (node : NodeRef) (member : IsMember list node) (place : member.place ≡ i) where
+  pub member_path : path_at list i ≡ (row node).path
+  member_path = (λ k. path_at list (sym place k)) ∙ (λ k. path_of (sym member.bytes k) (sym member.rec k))
+
+module _ (list : NodeList) (i : ℕ) (node : NodeRef) (member : IsMember list node) (place : member.place ≡ i) (a : List (List ℕ × NodeData)) (s : List (List ℕ × StampData)) (b : List (List ℕ × NodeData)) (t : List (List ℕ × StampData))
+    (adds : AddsNodes list i a s b t) where
+  -- one node more
+  pub adds_step : (c : List (List ℕ × NodeData)) (u : List (List ℕ × StampData)) → AddsOwn (row node) b t c u → AddsNodes list (i + 1) a s c u
+  adds_step c u own = record {
+    each = λ at. elim (cases_Bool (bytes_eq (row node).path at)) [
+      | inl here ↦ inr (record {
+        row = row node;
+        there = ap (row_at (rows_in list)) (sym (same_bytes (row node).path at here)) ∙ row_member list node member;
+        dir = ap parent_of (sym (same_bytes (row node).path at here)) ∙ dir_member list node member;
+        node = own.put at ∙ cond-true (bytes_eq (row node).path at) (Some (node_of (row node))) (node_at b at) here;
+        time = own.timed at ∙ cond-true (bytes_eq (row node).path at) (cache_of (fields_of node.rec)) (time_at t at) here;
+      })
+      | inr other ↦ on at other (adds.each at)
+    ];
+    formed = own.formed;
+  }
+    where
+      still : (at : List ℕ) → bytes_eq (row node).path at ≡ false → IsAsBefore at b t c u
+      still at other = record {
+        node = own.put at ∙ cond-false (bytes_eq (row node).path at) (Some (node_of (row node))) (node_at b at) other;
+        time = own.timed at ∙ cond-false (bytes_eq (row node).path at) (cache_of (fields_of node.rec)) (time_at t at) other;
+      }
+
+      on : (at : List ℕ) → bytes_eq (row node).path at ≡ false → (IsNotOf list i at a s b t) ⊎ (HasRow list at b t) → (IsNotOf list (i + 1) at a s c u) ⊎ (HasRow list at c u)
+      on at other (inl was) = inl (record {
+        stays = before_trans at a s b t c u was.stays (still at other);
+        none = λ k less. elim (cases_order k i) [
+          | inl e ↦ ap (λ (n : ℕ). bytes_eq (path_at list n) at) e ∙ ap (λ (p : List ℕ). bytes_eq p at) (member_path list i node member place) ∙ other
+          | inr (inl l) ↦ was.none k l
+          | inr (inr g) ↦ absurd (omega (arith, less, g))
+        ];
+      })
+      on at other (inr was) = inr (record {
+        row = was.row;
+        there = was.there;
+        dir = was.dir;
+        node = (still at other).node ∙ was.node;
+        time = (still at other).time ∙ was.time;
+      })
+
+  -- memory was wanting
+  pub adds_some : (c : List (List ℕ × NodeData)) (u : List (List ℕ × StampData)) → IsElsewhere (row node).path b t c u → AddsSome list a s c u
+  adds_some c u own = record {
+    each = λ at. elim (cases_Bool (bytes_eq (row node).path at)) [
+      | inl here ↦ inr (
+        ap parent_of (sym (same_bytes (row node).path at here)) ∙ dir_member list node member,
+        ap is_some (ap (row_at (rows_in list)) (sym (same_bytes (row node).path at here)) ∙ row_member list node member),
+      )
+      | inr other ↦ on at other (adds.each at)
+    ];
+    formed = own.formed;
+  }
+    where
+      on : (at : List ℕ) → bytes_eq (row node).path at ≡ false → (IsNotOf list i at a s b t) ⊎ (HasRow list at b t) → (IsAsBefore at a s c u) ⊎ ((parent_of at ≡ dir_of list) × (is_some (row_at (rows_in list) at) ≡ true))
+      on at other (inl was) = inl (before_trans at a s b t c u was.stays (own.others at other))
+      on at other (inr was) = inr (was.dir, ap is_some was.there)
+
+-- what is so of any result is so where it is an error
+pub on_err_of : {T E : Type 0} (r : Result T E) (P : Type 0) → P → OnErr r P
+on_err_of (Ok done) P p = tt
+on_err_of (Err fault) P p = p

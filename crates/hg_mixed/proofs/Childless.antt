@@ -1,14 +1,14 @@
 -- The mark of nodes that have both an entry and children.
-use Rattle.std.proofs.Common.{ℕ, ◌≡◌, ◌<◌, ◌≤◌, ◌⊎◌, inl, inr, Bool, true, false, true≢false, ◌&&◌, ◌||◌, cond, List, length, Option, Some, None, refl, sym, ap, ◌∙◌, subst, arith}
+use Rattle.std.proofs.Common.{ℕ, ◌≡◌, ◌<◌, inl, inr, Bool, true, false, true≢false, ◌&&◌, ◌||◌, List, length, Option, Some, None, sym, ap, ◌∙◌, arith}
 use Rattle.std.specs.Prelude.{is_some}
 use Rattle.std.specs.Str.{bytes_eq}
-use Rattle.std.proofs.lemmas.Bool.{both_ways, cases_Bool, cond-false, cond-true, false_from_ne_true, or_parts}
+use Rattle.std.proofs.lemmas.Bool.{cases_Bool, cond-false, cond-true, false_from_ne_true, or_parts}
 use Rattle.hg_base.specs.PathText.{is_path, parent_of}
 use Rattle.hg_base.proofs.Children.{parent_length}
 use Rattle.hg_base.proofs.Paths.{path_some}
-use Rattle.hg_base.proofs.Within.{equal_bytes, same_bytes}
+use Rattle.hg_base.proofs.Within.{same_bytes}
 use Rattle.hg_mixed.specs.Kids.{AreChildless, IsMarked, has_entry_in, is_below_entry}
-use Rattle.hg_mixed.specs.Lists.{dir_text, has_rows_in, or_root}
+use Rattle.hg_mixed.specs.Lists.{dir_text, has_rows_in}
 use Rattle.hg_mixed.specs.Node.{AreSame, IsPut, NodeData, entry_in, node_at}
 use Rattle.hg_mixed.proofs.LeftBefore.{beside_in}
 use Rattle.hg_mixed.proofs.Listed.{rows_none, rows_some}

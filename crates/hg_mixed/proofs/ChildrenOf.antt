@@ -13,9 +13,9 @@ use Rattle.hg_base.proofs.Children.{below_parent}
 use Rattle.hg_base.proofs.Paths.{path_above, path_some}
 use Rattle.hg_entry.specs.Entry.{StampData}
 use Rattle.hg_mixed.specs.ChildOf.{children_of}
-use Rattle.hg_mixed.specs.Children.{AreChildren, IsChild}
+use Rattle.hg_mixed.specs.Children.{AreNodesIn, IsNodeIn}
 use Rattle.hg_mixed.specs.Edits.{IsFormed}
-use Rattle.hg_mixed.specs.Held.{Held, source_at, table, text_at}
+use Rattle.hg_mixed.specs.Memory.{InMemory, memory_table}
 use Rattle.hg_mixed.specs.Kids.{AreKids}
 use Rattle.hg_mixed.specs.Lists.{dir_text, has_rows_in, or_root}
 use Rattle.hg_mixed.specs.Node.{NodeData, entry_in, node_at, source_in}
@@ -48,13 +48,13 @@ any_of rows times at (kid ∷ kids) = ap (λ (b : Bool). bytes_eq at kid.0 || b)
 not_some : (o : Option NodeData) → o ≡ None → is_some o ≡ false
 not_some o h = ap is_some h
 
-module _ (old was : Held) (same : was ≡ old) (formed : IsFormed (table was)) (texts : (at : List ℕ) → text_at was at ≡ None) (sources : (at : List ℕ) → source_at was at ≡ None) (dir : Option (List ℕ))
+module _ (old was : InMemory) (same : was ≡ old) (formed : IsFormed (memory_table was)) (dir : Option (List ℕ))
     (dirs : (d : List ℕ) → dir ≡ Some d → is_path d ≡ true) where
   dir_some : (d : List ℕ) → dir ≡ Some d → 0 < length d
   dir_some d h = path_some d (dirs d h)
 
   has_kids : (path : List ℕ) → is_path path ≡ true → (b : Bool) → has_rows_in was.rows path ≡ b
-      → MatchBool b ((kid : List ℕ) × ((table was).nodes kid ≡ true) × (parent_of kid ≡ Some path)) ((kid : List ℕ) → parent_of kid ≡ Some path → (table was).nodes kid ≡ false)
+      → MatchBool b ((kid : List ℕ) × ((memory_table was).nodes kid ≡ true) × (parent_of kid ≡ Some path)) ((kid : List ℕ) → parent_of kid ≡ Some path → (memory_table was).nodes kid ≡ false)
   has_kids path good true is =
       let kid = rows_some was.rows path is in
       let kid_good = formed.paths kid.0 kid.2 in
@@ -65,10 +65,10 @@ module _ (old was : Held) (same : was ≡ old) (formed : IsFormed (table was)) (
   has_kids path good false is = λ kid parent. not_some (node_at was.rows kid) (rows_none was.rows path kid is (ap or_root parent))
 
   each_child : (kids : List (List ℕ × NodeData)) → AllByRecursion (λ kid. (dir_text kid.0 ≡ or_root dir) × (node_at was.rows kid.0 ≡ Some kid.1)) kids
-      → AllByRecursion (IsChild was dir) (children_of was.rows was.times kids)
+      → AllByRecursion (IsNodeIn (memory_table was) dir) (children_of was.rows was.times kids)
   each_child [] all = tt
   each_child (kid ∷ kids) all =
-      let node : (table was).nodes kid.0 ≡ true = ap is_some all.0.1 in
+      let node : (memory_table was).nodes kid.0 ≡ true = ap is_some all.0.1 in
       let good = formed.paths kid.0 node in (
         record {
           parent = same_dirs (parent_of kid.0) dir (parent_some kid.0 good) dir_some all.0.0;
@@ -77,14 +77,14 @@ module _ (old was : Held) (same : was ≡ old) (formed : IsFormed (table was)) (
           source = sym (ap source_in all.0.1);
           cache = refl;
           kids = has_kids kid.0 good (has_rows_in was.rows kid.0) refl;
-          text = sym (texts kid.0);
-          source_text = sym (sources kid.0);
+          text = refl;
+          source_text = refl;
         },
         each_child kids all.1,
       )
 
-  pub children_are : (kids : List (List ℕ × NodeData)) → AreKids was.rows (or_root dir) kids → AreChildren old dir (children_of was.rows was.times kids)
-  children_are kids are = subst (λ (h : Held). AreChildren h dir (children_of was.rows was.times kids)) same (record {
+  pub children_are : (kids : List (List ℕ × NodeData)) → AreKids was.rows (or_root dir) kids → AreNodesIn (memory_table old) dir (children_of was.rows was.times kids)
+  children_are kids are = subst (λ (h : InMemory). AreNodesIn (memory_table h) dir (children_of was.rows was.times kids)) same (record {
     ascending = subst (IsStrictlySortedBy (slice_cmp nat_cmp)) (sym (paths_of was.rows was.times kids)) are.sorted;
     each = each_child kids are.each;
     all = λ path node parent. any_of was.rows was.times path kids ∙ are.all path (ap or_root parent) node;

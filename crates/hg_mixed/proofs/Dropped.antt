@@ -7,7 +7,8 @@ use Rattle.hg_entry.specs.Entry.{EntryData, StampData}
 use Rattle.hg_entry.specs.Table.{Table}
 use Rattle.hg_mixed.specs.Drop.{Goes, IsPruned, after_clear, bare}
 use Rattle.hg_mixed.specs.Edits.{IsFormed, IsSame}
-use Rattle.hg_mixed.specs.Held.{Held, table, table_of}
+use Rattle.hg_mixed.specs.Held.{table_of}
+use Rattle.hg_mixed.specs.Memory.{InMemory, memory_table}
 use Rattle.hg_mixed.specs.Node.{IsPut, NodeData, blank, entry_in, node_at, source_in}
 use Rattle.hg_mixed.proofs.Edited.{entry_node}
 
@@ -33,7 +34,7 @@ alike_back a b alike = record {
 }
 
 -- what is left of one is left of the other
-alike_pruned : (path : List ℕ) (a b left end : Table) → AreAlike a b → AreAlike left end → end.p1 ≡ b.p1 → end.p2 ≡ b.p2 → end.hash ≡ b.hash → IsPruned path a left → IsPruned path b end
+pub alike_pruned : (path : List ℕ) (a b left end : Table) → AreAlike a b → AreAlike left end → end.p1 ≡ b.p1 → end.p2 ≡ b.p2 → end.hash ≡ b.hash → IsPruned path a left → IsPruned path b end
 alike_pruned path a b left end alike ends p1 p2 hash p = record {
   gone = p.gone;
   stale = p.stale;
@@ -70,11 +71,11 @@ none_of_entry : (b : Bool) (entry : Option EntryData) (source : Option (List ℕ
 none_of_entry true entry source h none = refl
 none_of_entry false entry source h none = h none
 
-module _ (path : List ℕ) (was old : Held) (same : was ≡ old) (mid : List (List ℕ × NodeData)) (put : IsPut path (Some blank) was.rows mid) (some : is_some (entry_in (node_at old.rows path)) ≡ true) where
+module _ (path : List ℕ) (was old : InMemory) (same : was ≡ old) (mid : List (List ℕ × NodeData)) (put : IsPut path (Some blank) was.rows mid) (some : is_some (entry_in (node_at old.rows path)) ≡ true) where
   some_was : is_some (entry_in (node_at was.rows path)) ≡ true
-  some_was = ap (λ (h : Held). is_some (entry_in (node_at h.rows path))) same ∙ some
+  some_was = ap (λ (h : InMemory). is_some (entry_in (node_at h.rows path))) same ∙ some
 
-  clear_alike : AreAlike (bare mid was.times) (after_clear path (table was))
+  clear_alike : AreAlike (bare mid was.times) (after_clear path (memory_table was))
   clear_alike = record {
     entries = λ at. ap entry_in (put at) ∙ entry_clear (bytes_eq path at) (node_at was.rows at);
     sources = λ at. ap source_in (put at) ∙ source_clear (bytes_eq path at) (node_at was.rows at);
@@ -85,22 +86,22 @@ module _ (path : List ℕ) (was old : Held) (same : was ≡ old) (mid : List (Li
     caches = λ at. refl;
   }
 
-  pub clear_formed : IsFormed (table was) → IsFormed (bare mid was.times)
+  pub clear_formed : IsFormed (memory_table was) → IsFormed (bare mid was.times)
   clear_formed formed = record {
     paths = λ at is. formed.paths at (sym (clear_alike.nodes at) ∙ is);
     rooted = λ dir at below is. clear_alike.nodes dir ∙ formed.rooted dir at below (sym (clear_alike.nodes at) ∙ is);
-    entries = λ at none. clear_alike.entries at ∙ none_or (bytes_eq path at) ((table was).entries at) (formed.entries at (sym (clear_alike.nodes at) ∙ none));
+    entries = λ at none. clear_alike.entries at ∙ none_or (bytes_eq path at) ((memory_table was).entries at) (formed.entries at (sym (clear_alike.nodes at) ∙ none));
     sources = λ at none.
         clear_alike.sources at
-        ∙ none_of_entry (bytes_eq path at) ((table was).entries at) ((table was).sources at) (formed.sources at) (sym (clear_alike.entries at) ∙ none);
+        ∙ none_of_entry (bytes_eq path at) ((memory_table was).entries at) ((memory_table was).sources at) (formed.sources at) (sym (clear_alike.entries at) ∙ none);
     caches = λ at is.
-        let had = formed.caches at is in (clear_alike.nodes at ∙ had.0, clear_alike.entries at ∙ none_or (bytes_eq path at) ((table was).entries at) had.1);
+        let had = formed.caches at is in (clear_alike.nodes at ∙ had.0, clear_alike.entries at ∙ none_or (bytes_eq path at) ((memory_table was).entries at) had.1);
   }
 
   pub clear_pruned : (left : List (List ℕ × NodeData)) (times : List (List ℕ × StampData)) → IsPruned path (bare mid was.times) (bare left times)
-      → IsPruned path (after_clear path (table old)) (table_of was.p1 was.p2 was.hash left times)
-  clear_pruned left times p = subst (λ (h : Held). IsPruned path (after_clear path (table h)) (table_of was.p1 was.p2 was.hash left times)) same
-      (alike_pruned path (bare mid was.times) (after_clear path (table was)) (bare left times) (table_of was.p1 was.p2 was.hash left times) clear_alike
+      → IsPruned path (after_clear path (memory_table old)) (table_of was.p1 was.p2 was.hash left times)
+  clear_pruned left times p = subst (λ (h : InMemory). IsPruned path (after_clear path (memory_table h)) (table_of was.p1 was.p2 was.hash left times)) same
+      (alike_pruned path (bare mid was.times) (after_clear path (memory_table was)) (bare left times) (table_of was.p1 was.p2 was.hash left times) clear_alike
       (record { entries = λ at. refl; sources = λ at. refl; nodes = λ at. refl; caches = λ at. refl }) refl refl refl p)
 
 -- ---- the law: the conditions fix what is left

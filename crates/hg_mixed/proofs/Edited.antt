@@ -10,7 +10,8 @@ use Rattle.hg_base.proofs.Within.{equal_bytes, same_bytes, within_below, within_
 use Rattle.hg_entry.specs.Entry.{EntryData, StampData}
 use Rattle.hg_entry.specs.Table.{Table}
 use Rattle.hg_mixed.specs.Edits.{IsFormed, IsSame, Marks, after_cache, after_copy, after_set}
-use Rattle.hg_mixed.specs.Held.{Held, table, table_of}
+use Rattle.hg_mixed.specs.Held.{table_of}
+use Rattle.hg_mixed.specs.Memory.{InMemory, memory_table}
 use Rattle.hg_mixed.specs.Node.{IsPut, NodeData, entry_in, node_at, or_blank, planted, source_in, with_entry}
 use Rattle.hg_mixed.specs.Times.{AreNone, IsTimed, time_at}
 
@@ -196,9 +197,9 @@ some_step false true entry first o = sym (or_right (is_some o) true refl)
 some_step false false entry first None = refl
 some_step false false entry first (Some node) = refl
 
-module _ (path : List ℕ) (entry : EntryData) (old was : Held) (same : was ≡ old) (rows : List (List ℕ × NodeData)) (times : List (List ℕ × StampData))
+module _ (path : List ℕ) (entry : EntryData) (old was : InMemory) (same : was ≡ old) (rows : List (List ℕ × NodeData)) (times : List (List ℕ × StampData))
     (as_planted : (at : List ℕ) → node_at rows at ≡ planted path (with_entry entry (node_at was.rows path)) (node_at was.rows) at) (timed : IsTimed path None was.times times) where
-  here : IsSame (table_of was.p1 was.p2 was.hash rows times) (after_set path entry (table was))
+  here : IsSame (table_of was.p1 was.p2 was.hash rows times) (after_set path entry (memory_table was))
   here = record {
     p1 = refl;
     p2 = refl;
@@ -211,35 +212,35 @@ module _ (path : List ℕ) (entry : EntryData) (old was : Held) (same : was ≡ 
     caches = timed;
   }
 
-  pub set_table : IsSame (table_of was.p1 was.p2 was.hash rows times) (after_set path entry (table old))
-  set_table = subst (λ (h : Held). IsSame (table_of was.p1 was.p2 was.hash rows times) (after_set path entry (table h))) same here
+  pub set_table : IsSame (table_of was.p1 was.p2 was.hash rows times) (after_set path entry (memory_table old))
+  set_table = subst (λ (h : InMemory). IsSame (table_of was.p1 was.p2 was.hash rows times) (after_set path entry (memory_table h))) same here
 
-  module _ (good : is_path path ≡ true) (formed : IsFormed (table was)) where
+  module _ (good : is_path path ≡ true) (formed : IsFormed (memory_table was)) where
     pub set_formed : IsFormed (table_of was.p1 was.p2 was.hash rows times)
-    set_formed = formed_set path entry (table was) (table_of was.p1 was.p2 was.hash rows times) good formed here
+    set_formed = formed_set path entry (memory_table was) (table_of was.p1 was.p2 was.hash rows times) good formed here
 
     pub set_marks : (differs : Bool) → MatchBool differs (entry_in (node_at was.rows path) ≡ Some entry → ⊥) (entry_in (node_at was.rows path) ≡ Some entry)
-        → Marks (IsSame (table_of was.p1 was.p2 was.hash rows times) (table old)) old.changed (was.changed || differs)
-    set_marks differs m = subst (λ (h : Held). Marks (IsSame (table_of was.p1 was.p2 was.hash rows times) (table h)) h.changed (was.changed || differs)) same
-        (marks (IsSame (table_of was.p1 was.p2 was.hash rows times) (table was)) was.changed differs
-        (decided differs (entry_in (node_at was.rows path) ≡ Some entry) (IsSame (table_of was.p1 was.p2 was.hash rows times) (table was))
-        (set_stays path entry (table was) (table_of was.p1 was.p2 was.hash rows times) good formed here)
-        (set_was path entry (table was) (table_of was.p1 was.p2 was.hash rows times) good formed here) m))
+        → Marks (IsSame (table_of was.p1 was.p2 was.hash rows times) (memory_table old)) old.changed (was.changed || differs)
+    set_marks differs m = subst (λ (h : InMemory). Marks (IsSame (table_of was.p1 was.p2 was.hash rows times) (memory_table h)) h.changed (was.changed || differs)) same
+        (marks (IsSame (table_of was.p1 was.p2 was.hash rows times) (memory_table was)) was.changed differs
+        (decided differs (entry_in (node_at was.rows path) ≡ Some entry) (IsSame (table_of was.p1 was.p2 was.hash rows times) (memory_table was))
+        (set_stays path entry (memory_table was) (table_of was.p1 was.p2 was.hash rows times) good formed here)
+        (set_was path entry (memory_table was) (table_of was.p1 was.p2 was.hash rows times) good formed here) m))
 
 -- ---- the table with another cache
 
-module _ (dir : List ℕ) (time : Option StampData) (old was : Held) (same : was ≡ old) (times : List (List ℕ × StampData)) (timed : IsTimed dir time was.times times) where
+module _ (dir : List ℕ) (time : Option StampData) (old was : InMemory) (same : was ≡ old) (times : List (List ℕ × StampData)) (timed : IsTimed dir time was.times times) where
   pub cache_marks : (b : Bool) → MatchBool b (time_at was.times dir ≡ time) (time_at was.times dir ≡ time → ⊥)
-      → Marks (IsSame (table_of was.p1 was.p2 was.hash was.rows times) (table old)) old.changed (was.changed || not b)
-  cache_marks b m = subst (λ (h : Held). Marks (IsSame (table_of was.p1 was.p2 was.hash was.rows times) (table h)) h.changed (was.changed || not b)) same
-      (marks (IsSame (table_of was.p1 was.p2 was.hash was.rows times) (table was)) was.changed (not b)
-      (cache_decided dir time (table was) (table_of was.p1 was.p2 was.hash was.rows times)
+      → Marks (IsSame (table_of was.p1 was.p2 was.hash was.rows times) (memory_table old)) old.changed (was.changed || not b)
+  cache_marks b m = subst (λ (h : InMemory). Marks (IsSame (table_of was.p1 was.p2 was.hash was.rows times) (memory_table h)) h.changed (was.changed || not b)) same
+      (marks (IsSame (table_of was.p1 was.p2 was.hash was.rows times) (memory_table was)) was.changed (not b)
+      (cache_decided dir time (memory_table was) (table_of was.p1 was.p2 was.hash was.rows times)
       (record { p1 = refl; p2 = refl; hash = refl; entries = λ at. refl; sources = λ at. refl; nodes = λ at. refl; caches = timed }) b m))
 
 -- ---- no caches
 
-module _ (old was : Held) (same : was ≡ old) (times : List (List ℕ × StampData)) (none : (at : List ℕ) → time_at times at ≡ None) where
-  all_none : (b : Bool) → AreNone b was.times → MatchBool (not b) (IsSame (table_of was.p1 was.p2 was.hash was.rows times) (table was) → ⊥) (IsSame (table_of was.p1 was.p2 was.hash was.rows times) (table was))
+module _ (old was : InMemory) (same : was ≡ old) (times : List (List ℕ × StampData)) (none : (at : List ℕ) → time_at times at ≡ None) where
+  all_none : (b : Bool) → AreNone b was.times → MatchBool (not b) (IsSame (table_of was.p1 was.p2 was.hash was.rows times) (memory_table was) → ⊥) (IsSame (table_of was.p1 was.p2 was.hash was.rows times) (memory_table was))
   all_none true were = record {
     p1 = refl;
     p2 = refl;
@@ -251,13 +252,13 @@ module _ (old was : Held) (same : was ≡ old) (times : List (List ℕ × StampD
   }
   all_none false were = λ stays. true≢false (sym were.1 ∙ ap is_some (sym (stays.caches were.0) ∙ none were.0))
 
-  pub no_cache_marks : (b : Bool) → AreNone b was.times → Marks (IsSame (table_of was.p1 was.p2 was.hash was.rows times) (table old)) old.changed (was.changed || not b)
-  no_cache_marks b were = subst (λ (h : Held). Marks (IsSame (table_of was.p1 was.p2 was.hash was.rows times) (table h)) h.changed (was.changed || not b)) same
-      (marks (IsSame (table_of was.p1 was.p2 was.hash was.rows times) (table was)) was.changed (not b) (all_none b were))
+  pub no_cache_marks : (b : Bool) → AreNone b was.times → Marks (IsSame (table_of was.p1 was.p2 was.hash was.rows times) (memory_table old)) old.changed (was.changed || not b)
+  no_cache_marks b were = subst (λ (h : InMemory). Marks (IsSame (table_of was.p1 was.p2 was.hash was.rows times) (memory_table h)) h.changed (was.changed || not b)) same
+      (marks (IsSame (table_of was.p1 was.p2 was.hash was.rows times) (memory_table was)) was.changed (not b) (all_none b were))
 
 -- ---- another copy source
 
-formed_copy : (path : List ℕ) (source : Option (List ℕ)) (old new : Table) → IsFormed old → is_some (old.entries path) ≡ true → IsSame new (after_copy path source old) → IsFormed new
+pub formed_copy : (path : List ℕ) (source : Option (List ℕ)) (old new : Table) → IsFormed old → is_some (old.entries path) ≡ true → IsSame new (after_copy path source old) → IsFormed new
 formed_copy path source old new formed some same = record {
   paths = λ at is. formed.paths at (sym (same.nodes at) ∙ is);
   rooted = λ dir at below is. same.nodes dir ∙ formed.rooted dir at below (sym (same.nodes at) ∙ is);
@@ -286,12 +287,12 @@ pub entry_node : (o : Option NodeData) → is_some (entry_in o) ≡ true → is_
 entry_node None h = absurd (true≢false (sym h))
 entry_node (Some node) h = refl
 
-module _ (path : List ℕ) (source : Option (List ℕ)) (old was : Held) (same : was ≡ old) (rows : List (List ℕ × NodeData))
+module _ (path : List ℕ) (source : Option (List ℕ)) (old was : InMemory) (same : was ≡ old) (rows : List (List ℕ × NodeData))
     (put : IsPut path (Some (record { entry = entry_in (node_at was.rows path); source = source })) was.rows rows) (some : is_some (entry_in (node_at old.rows path)) ≡ true) where
   some_was : is_some (entry_in (node_at was.rows path)) ≡ true
-  some_was = ap (λ (h : Held). is_some (entry_in (node_at h.rows path))) same ∙ some
+  some_was = ap (λ (h : InMemory). is_some (entry_in (node_at h.rows path))) same ∙ some
 
-  copied : IsSame (table_of was.p1 was.p2 was.hash rows was.times) (after_copy path source (table was))
+  copied : IsSame (table_of was.p1 was.p2 was.hash rows was.times) (after_copy path source (memory_table was))
   copied = record {
     p1 = refl;
     p2 = refl;
@@ -305,19 +306,19 @@ module _ (path : List ℕ) (source : Option (List ℕ)) (old was : Held) (same :
     caches = λ at. refl;
   }
 
-  pub copy_table : (wanted : Option (List ℕ)) → source ≡ wanted → IsSame (table_of was.p1 was.p2 was.hash rows was.times) (after_copy path wanted (table old))
+  pub copy_table : (wanted : Option (List ℕ)) → source ≡ wanted → IsSame (table_of was.p1 was.p2 was.hash rows was.times) (after_copy path wanted (memory_table old))
   copy_table wanted is =
-      subst (λ (s : Option (List ℕ)). IsSame (table_of was.p1 was.p2 was.hash rows was.times) (after_copy path s (table old))) is
-      (subst (λ (h : Held). IsSame (table_of was.p1 was.p2 was.hash rows was.times) (after_copy path source (table h))) same copied)
+      subst (λ (s : Option (List ℕ)). IsSame (table_of was.p1 was.p2 was.hash rows was.times) (after_copy path s (memory_table old))) is
+      (subst (λ (h : InMemory). IsSame (table_of was.p1 was.p2 was.hash rows was.times) (after_copy path source (memory_table h))) same copied)
 
-  pub copy_formed : IsFormed (table was) → IsFormed (table_of was.p1 was.p2 was.hash rows was.times)
-  copy_formed formed = formed_copy path source (table was) (table_of was.p1 was.p2 was.hash rows was.times) formed some_was copied
+  pub copy_formed : IsFormed (memory_table was) → IsFormed (table_of was.p1 was.p2 was.hash rows was.times)
+  copy_formed formed = formed_copy path source (memory_table was) (table_of was.p1 was.p2 was.hash rows was.times) formed some_was copied
 
   pub copy_marks : (b : Bool) → MatchBool b (source_in (node_at was.rows path) ≡ source) (source_in (node_at was.rows path) ≡ source → ⊥)
-      → Marks (IsSame (table_of was.p1 was.p2 was.hash rows was.times) (table old)) old.changed (was.changed || not b)
-  copy_marks b m = subst (λ (h : Held). Marks (IsSame (table_of was.p1 was.p2 was.hash rows was.times) (table h)) h.changed (was.changed || not b)) same
-      (marks (IsSame (table_of was.p1 was.p2 was.hash rows was.times) (table was)) was.changed (not b)
-      (decided (not b) (source_in (node_at was.rows path) ≡ source) (IsSame (table_of was.p1 was.p2 was.hash rows was.times) (table was))
-      (copy_stays path source (table was) (table_of was.p1 was.p2 was.hash rows was.times) copied)
-      (copy_was path source (table was) (table_of was.p1 was.p2 was.hash rows was.times) copied)
+      → Marks (IsSame (table_of was.p1 was.p2 was.hash rows was.times) (memory_table old)) old.changed (was.changed || not b)
+  copy_marks b m = subst (λ (h : InMemory). Marks (IsSame (table_of was.p1 was.p2 was.hash rows was.times) (memory_table h)) h.changed (was.changed || not b)) same
+      (marks (IsSame (table_of was.p1 was.p2 was.hash rows was.times) (memory_table was)) was.changed (not b)
+      (decided (not b) (source_in (node_at was.rows path) ≡ source) (IsSame (table_of was.p1 was.p2 was.hash rows was.times) (memory_table was))
+      (copy_stays path source (memory_table was) (table_of was.p1 was.p2 was.hash rows was.times) copied)
+      (copy_was path source (memory_table was) (table_of was.p1 was.p2 was.hash rows was.times) copied)
       (negated b (source_in (node_at was.rows path) ≡ source) (source_in (node_at was.rows path) ≡ source → ⊥) m)))

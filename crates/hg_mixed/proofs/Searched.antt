@@ -58,7 +58,7 @@ upto_within at path h = elim (within_split at path h) [
 ]
 
 -- two tests that agree have the same least path
-least_same : (s t : List ℕ → Bool) (found : Option (List ℕ)) → ((at : List ℕ) → t at ≡ s at) → IsLeast s found → IsLeast t found
+pub least_same : (s t : List ℕ → Bool) (found : Option (List ℕ)) → ((at : List ℕ) → t at ≡ s at) → IsLeast s found → IsLeast t found
 least_same s t None same least = λ other. same other ∙ least other
 least_same s t (Some l) same least = (same l ∙ least.0, λ other h. least.1 other (sym (same other) ∙ h))
 

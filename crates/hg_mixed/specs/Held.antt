@@ -1,5 +1,5 @@
 -- What a table in memory holds, as contracts see it.
-use Rattle.std.specs.Prelude.{ℕ, Bool, List, Option, is_some}
+use Rattle.std.specs.Prelude.{ℕ, Bool, if◌then◌else◌, List, Option, is_some}
 use Rattle.std.specs.Option.{option_and_then}
 use Rattle.std.specs.List.{list_any}
 use Rattle.std.specs.Map.{lookup}
@@ -8,12 +8,16 @@ use Rattle.hg_base.specs.PathText.{is_same_dir}
 use Rattle.hg_docket.specs.Docket.{Contents}
 use Rattle.hg_entry.specs.Entry.{StampData}
 use Rattle.hg_entry.specs.Table.{Table}
+use Rattle.hg_image.specs.Reading as reading
+use Rattle.hg_image.specs.Rows.{Row, rows_of}
+use Rattle.hg_mixed.specs.Lent.{covers}
 use Rattle.hg_mixed.specs.Node.{NodeData, node_at}
 use Rattle.hg_mixed.specs.Times.{time_at}
 
 -- the docket and the used bytes of the image that was opened; the parents and the hash; whether an edit has changed anything; the nodes
--- and the times of cached directories, by path; the directories whose list of children is still lent from the image (none for the
--- root), and the places in it of the texts that are still lent: of paths, and of copy sources by the path of their node
+-- and the times of cached directories that are in memory, by path; the lists of the image that aren't in memory, each by its directory (empty for the
+-- root) with all that stands below it; the directories whose list of children counts as lent (none for the root), and the places in the image of the texts that do: of paths, and
+-- of copy sources by the path of their node
 pub record Held : Type 0 where
   pub docket : Contents
   pub bytes : List ℕ
@@ -23,6 +27,7 @@ pub record Held : Type 0 where
   pub changed : Bool
   pub rows : List (List ℕ × NodeData)
   pub times : List (List ℕ × StampData)
+  pub left : List (List ℕ × List Row)
   pub lent : List (Option (List ℕ))
   pub texts : List (List ℕ × ℕ)
   pub sources : List (List ℕ × ℕ)
@@ -40,9 +45,23 @@ table_of p1 p2 hash rows times =
       caches = time_at times;
     }
 
+-- at some paths what an image says, and at all others what is in memory
+abbrev pub merged : (List ℕ → Bool) → Table → Table → Table
+merged left image own =
+    record own {
+      entries = λ at. if left at then image.entries at else own.entries at;
+      sources = λ at. if left at then image.sources at else own.sources at;
+      nodes = λ at. if left at then image.nodes at else own.nodes at;
+      caches = λ at. if left at then image.caches at else own.caches at;
+    }
+
+-- the table of the image
+abbrev pub image_table : Held → Table
+image_table held = reading.table_of held.docket (rows_of held.docket held.bytes)
+
 -- all that is recorded
 abbrev pub table : Held → Table
-table held = table_of held.p1 held.p2 held.hash held.rows held.times
+table held = merged (covers held.left) (image_table held) (table_of held.p1 held.p2 held.hash held.rows held.times)
 
 -- the list of a directory's children is lent
 abbrev pub is_lent : Held → Option (List ℕ) → Bool

@@ -6,9 +6,15 @@ pub mod Drop
 pub mod Edits
 pub mod Held
 pub mod Kids
+pub mod Lent
 pub mod Lists
+pub mod Memory
+pub mod Near
 pub mod Node
 pub mod Opened
+pub mod Parted
+pub mod Rest
 pub mod Search
 pub mod Shown
+pub mod Taken
 pub mod Times

@@ -26,6 +26,6 @@ pub record IsListOfImage (held : Held) (dir : Option (List ℕ)) (list : NodeLis
   pub rows : (path : List ℕ) → is_above dir path ≡ true → row_at (rows_in list) path ≡ row_at (rows_of held.docket held.bytes) path
 
 -- the list that is lent, where one is
-abbrev pub Lent : Held → Option (List ℕ) → Option NodeList → Type 0
-Lent held dir None = is_lent held dir ≡ false
-Lent held dir (Some list) = (is_lent held dir ≡ true) × IsListOfImage held dir list
+abbrev pub AnswersLent : Held → Option (List ℕ) → Option NodeList → Type 0
+AnswersLent held dir None = is_lent held dir ≡ false
+AnswersLent held dir (Some list) = (is_lent held dir ≡ true) × IsListOfImage held dir list

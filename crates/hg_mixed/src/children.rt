@@ -1,151 +1,157 @@
 //! The children of a directory, one after the other.
 
-ghost use Rattle.std.specs.Prelude.{◌≡◌, true, Some, option_map};
-ghost use Rattle.hg_base.specs.PathText.{is_path};
+ghost use Rattle.std.specs.Prelude.{◌≡◌, None, Some, option_map};
+ghost use Rattle.hg_image.specs.View.{row};
 ghost use Rattle.hg_mixed.specs.Child.{shown_child};
+ghost use Rattle.hg_mixed.specs.ChildOf.{lends, row_child, with_lent};
 ghost use Rattle.hg_mixed.specs.Children.{AreChildren};
-ghost use Rattle.std.specs.String.{string_bytes};
-ghost use Rattle.hg_mixed.specs.Kids.{Looks, Takes, beside, is_before};
-ghost use Rattle.hg_mixed.specs.Lists.{data_of, or_root};
-ghost use Rattle.hg_mixed.specs.Node.{node_at};
+ghost use Rattle.hg_mixed.specs.Lent.{lent_at};
+ghost use Rattle.hg_mixed.specs.Parted.{IsLentIn, IsOwn, image_of};
+ghost use Rattle.hg_mixed.specs.Kids.{Takes};
 
 use crate::child::Child;
-use crate::kids::Kids;
+use crate::lent::{Lent, Place};
 use crate::mixed::Mixed;
-use crate::node::Node;
-use crate::nodes::Nodes;
-use crate::times::Times;
-use hg_base::{PathRef, is_below};
+use crate::own_children::{OwnChildren, text_of};
+use hg_base::PathRef;
+use hg_image::{List, NodeRef};
 use std::marker::Model;
 
 /// What is left of a directory's children.
 #[derive(Drop)]
-pub struct Children<'t> {
-    nodes: &'t Nodes,
-    times: &'t Times,
-    kids: Kids<'t>,
-    // (so that not each child is looked for among the directories: none before this one has nodes, and none at all where it is none)
-    next: Option<&'t str>,
+pub struct Children<'t, 'a> {
+    // (those in memory, where the directory's list is there; a node's own children may be the image's)
+    kids: Option<OwnChildren<'t>>,
+    left: &'t Lent<'a>,
+    // (those in a list of the image, from a place on)
+    list: Option<List<'a>>,
+    at: u32,
 }
 
-impl<'t> Model for Children<'t> {
+impl<'t, 'a> Model for Children<'t, 'a> {
     ghost use Rattle.std.specs.Prelude.{List};
     ghost use Rattle.hg_mixed.specs.Children.{ChildData};
-    ghost use Rattle.std.specs.Option.{option_map};
-    ghost use Rattle.hg_mixed.specs.ChildOf.{AreAtPaths, children_of};
-    ghost use Rattle.hg_mixed.specs.Kids.{AreLeftBefore};
+    ghost use Rattle.hg_mixed.specs.Rest.{IsRest, children_in};
 
     ghost Value = { List ChildData };
 
-    ghost view = { λ c. children_of c.nodes.now c.times.now c.kids };
+    ghost view = { λ c. children_in c.kids c.left.now c.list c.at };
 
-    ghost invariant = { λ c. AreAtPaths c.kids × AreLeftBefore c.nodes.now (option_map (λ n. n.now) c.next) c.kids };
+    ghost invariant = { λ c. IsRest c.list c.at };
 }
 
-// The copy source of a node.
-fn source_of(node: &Node) -> Option<PathRef<'_>>
-    ensures { option_map (λ s. s.text.now) result ≡ (data_of node.now).source }
+// Whether the image has something below a path whose list is lent.
+fn lends(left: &Lent<'_>, path: PathRef<'_>) -> bool
+    ensures { result ≡ lends left.now path.entry.text.now }
 {
-    match &node.source {
-        None => None,
-        Some(source) => Some(source.as_ref()),
-    }
-}
-
-// Whether a path stands before the next directory that has nodes.
-fn is_before(next: Option<&str>, path: &str) -> bool
-    ensures { result ≡ is_before (option_map (λ n. n.now) next.entry) path.now }
-{
-    match next {
-        None => true,
-        Some(next) => path.cmp(next).is_lt(),
-    }
-}
-
-// The next directory that has nodes, none where it stands behind all that stands beside a path.
-fn beside<'t>(path: PathRef<'_>, next: Option<&'t str>) -> Option<&'t str>
-    ensures { option_map (λ n. n.now) result ≡ beside path.entry.text.now (option_map (λ n. n.now) next.entry) }
-{
-    let Some(dir) = path.parent() else {
-        return next;
+    let Some(list) = left.get(path.text) else {
+        return false;
     };
-    match next {
-        None => None,
-        Some(found) => if is_below(dir.text, found) {
-            next
-        } else {
-            None
-        },
+    if list.len() == 0 {
+        return false;
     }
+    let _ = list.get(0);
+    true
 }
 
-// Whether nodes stand in a directory, and the next one that has any; `next` is the one that was known.
-fn look<'t>(
-    nodes: &'t Nodes,
-    next: Option<&'t str>,
-    dir: &String,
-    node: &Node,
-) -> (bool, Option<&'t str>)
-    requires path { is_path (string_bytes dir.now) ≡ true }
-    requires there { node_at nodes.now (string_bytes dir.now) ≡ Some (data_of node.now) }
-    ensures { Looks nodes.entry.now (option_map (λ n. n.now) next.entry) (string_bytes dir.now) result.0 (option_map (λ n. n.now) result.1) }
+// A child in memory, with what the image has below it.
+fn with_lent<'t>(child: Child<'t>, left: &Lent<'_>) -> Child<'t>
+    ensures { shown_child result ≡ with_lent left.now (shown_child child.entry) }
 {
-    let path = PathRef { text: dir.as_str() };
-    if nodes.is_childless(path.text, node) {
-        return (false, next);
+    if child.has_kids {
+        return child;
     }
-    if is_before(next, path.text) {
-        return (false, next);
+    Child {
+        has_kids: lends(left, child.path),
+        ..child
     }
-    let (has, next) = nodes.seek(dir);
-    (has, beside(path, next))
 }
 
-impl<'t> Children<'t> {
+// A child in the image.
+fn child_of(node: NodeRef<'_>) -> Child<'_>
+    ensures { shown_child result ≡ row_child (row node.entry) }
+{
+    Child {
+        path: node.path(),
+        entry: node.entry(),
+        source: node.source(),
+        cache: node.cache(),
+        has_kids: node.children().len() != 0,
+        text_at: None,
+        source_at: None,
+    }
+}
+
+impl<'t, 'a> Children<'t, 'a> {
     /// The next child, if any is left.
     pub fn next(&mut self) -> Option<Child<'t>>
         ensures { Takes self.old self.new (option_map shown_child result) }
     {
-        match self.kids.next_held() {
-            None => None,
-            Some((held, node)) => {
-                let (has_kids, next) = look(self.nodes, self.next, held, node);
-                self.next = next;
-                let text = held.as_str();
-                Some(Child {
-                    path: PathRef { text },
-                    entry: node.entry,
-                    source: source_of(node),
-                    cache: self.times.get(text),
-                    has_kids,
-                    text_at: None,
-                    source_at: None,
-                })
-            }
+        if let Some(kids) = &mut self.kids {
+            return match kids.next() {
+                None => None,
+                Some(child) => Some(with_lent(child, self.left)),
+            };
         }
+        let list = self.list?;
+        let at = self.at;
+        if at == list.len() {
+            return None;
+        }
+        self.at = at + 1;
+        Some(child_of(list.get(at)))
     }
 }
 
-// A directory as a text, empty for the root.
-fn text_of<'a>(dir: Option<PathRef<'a>>) -> &'a str
-    ensures { result.now ≡ or_root (option_map (λ d. d.text.now) dir.entry) }
-{
-    match dir {
-        None => "",
-        Some(dir) => dir.text,
-    }
-}
-
-impl Mixed<'_> {
-    /// The nodes right in a directory, ascending by name, where no directory is the root.
-    pub fn children(&self, dir: Option<PathRef<'_>>) -> Children<'_>
+impl<'a> Mixed<'a> {
+    // All children of a directory whose list is in memory.
+    fn own_children(&self, dir: Option<PathRef<'_>>) -> Children<'_, 'a>
+        requires { IsOwn self.now.left (option_map (λ d. d.text.now) dir) }
         ensures { AreChildren self.now (option_map (λ d. d.text.now) dir.entry) result }
     {
         Children {
-            nodes: &self.nodes,
-            times: &self.times,
-            kids: self.nodes.kids(text_of(dir)),
-            next: Some(""),
+            kids: Some(self.memory.children(dir)),
+            left: &self.left,
+            list: None,
+            at: 0,
+        }
+    }
+
+    // All children of a directory, of which the image has the list, none where it has no node.
+    fn lent_children(&self, dir: Option<PathRef<'_>>, list: Option<List<'a>>) -> Children<'_, 'a>
+        requires { IsLentIn self.now.left (image_of self.now) (option_map (λ d. d.text.now) dir) list }
+        ensures { AreChildren self.now (option_map (λ d. d.text.now) dir.entry) result }
+    {
+        Children {
+            kids: None,
+            left: &self.left,
+            list,
+            at: 0,
+        }
+    }
+
+    // All children of a directory whose list isn't lent itself.
+    fn children_below(&self, dir: PathRef<'_>) -> Children<'_, 'a>
+        requires { lent_at self.now.left dir.text.now ≡ None }
+        ensures { AreChildren self.now (Some dir.entry.text.now) result }
+    {
+        match self.left.find(dir) {
+            Place::Memory => self.own_children(Some(dir)),
+            Place::Image(None) => self.lent_children(Some(dir), None),
+            Place::Image(Some(node)) => self.lent_children(Some(dir), Some(node.children())),
+        }
+    }
+
+    /// The nodes right in a directory, ascending by name, where no directory is the root.
+    pub fn children(&self, dir: Option<PathRef<'_>>) -> Children<'_, 'a>
+        ensures { AreChildren self.now (option_map (λ d. d.text.now) dir.entry) result }
+    {
+        if let Some(list) = self.left.get(text_of(dir)) {
+            return self.lent_children(dir, Some(list));
+        }
+        match dir {
+            None => self.own_children(None),
+            Some(dir) => self.children_below(dir),
         }
     }
 }

@@ -7,14 +7,11 @@ ghost use Rattle.hg_mixed.specs.Drop.{IsPruned, PlacesDrop, after_clear};
 ghost use Rattle.hg_mixed.specs.Edits.{AreLentAsBefore, ArePlacedAsBefore, EndsAbove, IsOfSameImage, IsSame, IsUnchanged, Lends, LendsUncached, Marks, PlacesCopy, after_cache, after_copy, after_hash, after_ids, after_no_caches, after_set};
 ghost use Rattle.hg_mixed.specs.Held.{table};
 
-use crate::clash::clash;
 use crate::fault::SetFault;
 use crate::mixed::Mixed;
-use crate::planting::{clear, write_source};
-use crate::pruning::prune;
-use crate::same::{copy_of, has_source, same_hash, same_ids, same_time};
-use crate::setting::put_entry;
-use hg_base::{Id20, OutOfMemory, Path, PathRef, Stamp};
+use crate::near::take_near;
+use crate::taking::{take_all, take_for};
+use hg_base::{Id20, OutOfMemory, PathRef, Stamp};
 use hg_entry::Entry;
 
 impl Mixed<'_> {
@@ -28,17 +25,9 @@ impl Mixed<'_> {
         ensures image { IsOfSameImage self.old self.new }
         ensures err { OnErr result (IsUnchanged self.old self.new) }
     {
-        if let Some(other) = clash(&self.nodes, path, entry) {
-            let other = Path::of(self.alloc, other)?;
-            return Err(SetFault::Clash { other });
-        }
-        match put_entry(self.alloc, &mut self.nodes, path, entry) {
+        match take_near(&mut self.memory, &mut self.left, self.image, path) {
             Err(OutOfMemory) => Err(SetFault::OutOfMemory),
-            Ok(differs) => {
-                self.times.remove(path.text);
-                self.changed |= differs;
-                Ok(())
-            }
+            Ok(()) => self.memory.set(path, entry),
         }
     }
 
@@ -53,13 +42,9 @@ impl Mixed<'_> {
         ensures image { IsOfSameImage self.old self.new }
         ensures err { OnErr result (IsUnchanged self.old self.new) }
     {
-        let same = same_time(self.times.get(dir.text), Some(time));
-        match self.times.put(self.alloc, dir.text, time) {
+        match take_for(&mut self.memory, &mut self.left, self.image, dir) {
             Err(fault) => Err(fault),
-            Ok(()) => {
-                self.changed |= !same;
-                Ok(())
-            }
+            Ok(()) => self.memory.note_dir(dir, time),
         }
     }
 
@@ -74,10 +59,10 @@ impl Mixed<'_> {
         ensures image { IsOfSameImage self.old self.new }
         ensures err { OnErr result (IsUnchanged self.old self.new) }
     {
-        let same = same_time(self.times.get(dir.text), None);
-        self.times.remove(dir.text);
-        self.changed |= !same;
-        Ok(())
+        match take_for(&mut self.memory, &mut self.left, self.image, dir) {
+            Err(fault) => Err(fault),
+            Ok(()) => self.memory.forget_dir(dir),
+        }
     }
 
     /// No directory is cached any more.
@@ -89,10 +74,10 @@ impl Mixed<'_> {
         ensures image { IsOfSameImage self.old self.new }
         ensures err { OnErr result (IsUnchanged self.old self.new) }
     {
-        let same = self.times.is_empty();
-        self.times.clear();
-        self.changed |= !same;
-        Ok(())
+        match take_all(&mut self.memory, &mut self.left, self.image) {
+            Err(fault) => Err(fault),
+            Ok(()) => self.memory.drop_caches(),
+        }
     }
 
     /// Writes the copy source of a path, which has an entry.
@@ -111,14 +96,9 @@ impl Mixed<'_> {
         ensures image { IsOfSameImage self.old self.new }
         ensures err { OnErr result (IsUnchanged self.old self.new) }
     {
-        let same = has_source(&self.nodes, path, source);
-        match copy_of(self.alloc, source) {
+        match take_for(&mut self.memory, &mut self.left, self.image, path) {
             Err(fault) => Err(fault),
-            Ok(source) => {
-                write_source(&mut self.nodes, path, source);
-                self.changed |= !same;
-                Ok(())
-            }
+            Ok(()) => self.memory.copy_from(path, source),
         }
     }
 
@@ -130,10 +110,7 @@ impl Mixed<'_> {
         ensures places { ArePlacedAsBefore self.old self.new }
         ensures image { IsOfSameImage self.old self.new }
     {
-        let same = same_ids(self.p1, p1, self.p2, p2);
-        self.p1 = p1;
-        self.p2 = p2;
-        self.changed |= !same;
+        self.memory.set_ids(p1, p2);
     }
 
     /// Writes the hash of the ignore patterns.
@@ -144,9 +121,7 @@ impl Mixed<'_> {
         ensures places { ArePlacedAsBefore self.old self.new }
         ensures image { IsOfSameImage self.old self.new }
     {
-        let same = same_hash(self.hash, hash);
-        self.hash = hash;
-        self.changed |= !same;
+        self.memory.set_hash(hash);
     }
 
     /// Drops the entry of a path, which has one, with its copy source, then the node where it has no children, and then each
@@ -160,9 +135,9 @@ impl Mixed<'_> {
         ensures image { IsOfSameImage self.old self.new }
         ensures err { OnErr result (IsUnchanged self.old self.new) }
     {
-        clear(&mut self.nodes, path);
-        prune(&mut self.nodes, &mut self.times, path);
-        self.changed = true;
-        Ok(())
+        match take_for(&mut self.memory, &mut self.left, self.image, path) {
+            Err(fault) => Err(fault),
+            Ok(()) => self.memory.drop_entry(path),
+        }
     }
 }

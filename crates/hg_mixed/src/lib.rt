@@ -1,7 +1,8 @@
 //! The record of a dirstate as a table that can be changed, entry by entry.
 //!
 //! `Mixed::open` takes what an image records: the parents, the hash of the ignore patterns, and by path the entries, their copy sources,
-//! the nodes and the times of cached directories. Each edit says what it makes of the whole table, so all that it doesn't name stays.
+//! the nodes and the times of cached directories. Nothing of it is copied then. An edit takes the lists of the directories above its path into
+//! memory, and the rest stays where it lies in the image. Each edit says what it makes of the whole table, so all that it doesn't name stays.
 //!
 //! | edit | what it makes of the table |
 //! |---|---|
@@ -16,7 +17,7 @@
 //! an untracked path tracked beside one above or below it, and names the least such path. Each refused edit leaves all as it was.
 //!
 //! What a table still lends from its image is told by `is_lent`, `lent` and the places of a `Child`: the lists of children that no edit has touched,
-//! and the texts that have stayed. This body copies all when it opens, and lends nothing.
+//! and the texts that have stayed. None counts as lent, since a table is written anew as a whole.
 //!
 //! ```text
 //! let mut table = Mixed::open(alloc, image)?;
@@ -25,7 +26,8 @@
 //! children.next();                                   // the child `src`, which has_kids
 //! ```
 //!
-//! `specs/Edits.antt` and `specs/Drop.antt` say what edits do, `specs/Held.antt` what contracts see of a table.
+//! `specs/Edits.antt` and `specs/Drop.antt` say what edits do, `specs/Held.antt` what contracts see of a table, and `specs/Parted.antt` how it is
+//! parted between the image and memory.
 #![tactic(auto)]
 
 mod child;
@@ -35,15 +37,21 @@ mod edits;
 mod fault;
 mod kids;
 mod laws;
+mod lent;
 mod lists;
+mod memory;
+mod memory_edits;
 mod mixed;
+mod near;
 mod node;
 mod nodes;
 mod opening;
+mod own_children;
 mod planting;
 mod pruning;
 mod same;
 mod setting;
+mod taking;
 mod times;
 
 pub use child::Child;

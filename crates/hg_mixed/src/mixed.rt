@@ -1,66 +1,80 @@
 //! The table, and what can be asked of it.
 
-ghost use Rattle.std.specs.Prelude.{◌≡◌, is_some, option_map};
+ghost use Rattle.std.specs.Prelude.{◌≡◌, IfOk, false, is_some, option_map};
 ghost use Rattle.hg_docket.specs.Docket as docket;
-ghost use Rattle.hg_entry.specs.Entry.{stamp_view, view};
-ghost use Rattle.hg_mixed.specs.Edits.{IsFormed};
+ghost use Rattle.hg_entry.specs.Entry.{entry_of, stamp_view};
+ghost use Rattle.hg_image.specs.Node.{fields_of};
+ghost use Rattle.hg_image.specs.Reading as reading;
+ghost use Rattle.hg_image.specs.View.{row, rows};
+ghost use Rattle.hg_mixed.specs.Edits.{IsFormed, IsSame};
 ghost use Rattle.hg_mixed.specs.Held.{is_lent, table};
-ghost use Rattle.hg_mixed.specs.Shown.{Lent, shown_item, shown_in};
+ghost use Rattle.hg_mixed.specs.Shown.{AnswersLent, shown_item, shown_in};
 
-use crate::node::Node;
-use crate::nodes::Nodes;
-use crate::times::Times;
-use hg_base::{Id20, PathRef, Stamp};
+use crate::lent::{Lent, Place};
+use crate::memory::Memory;
+use hg_base::{Id20, OutOfMemory, PathRef, Stamp};
 use hg_entry::Item;
-use hg_image::{Image, List};
+use hg_image::{Image, List, NodeRef};
 use std::alloc::Global;
 use std::marker::Model;
 
-/// All that a dirstate records, in memory, and what has become of the image that it was opened over.
+/// All that a dirstate records: what an edit has touched is in memory, and the rest is read where it lies in the image.
 #[derive(Drop)]
 pub struct Mixed<'a> {
-    pub(crate) alloc: Global,
     pub(crate) image: Image<'a>,
-    pub(crate) p1: Id20,
-    pub(crate) p2: Id20,
-    pub(crate) hash: [u8; 20],
-    pub(crate) changed: bool,
-    pub(crate) nodes: Nodes,
-    pub(crate) times: Times,
+    pub(crate) memory: Memory,
+    pub(crate) left: Lent<'a>,
 }
 
 impl<'a> Model for Mixed<'a> {
     ghost use Rattle.std.specs.Prelude.{[]};
     ghost use Rattle.hg_docket.specs.Docket as docket;
-    ghost use Rattle.hg_mixed.specs.Held.{Held, table_of};
+    ghost use Rattle.hg_mixed.specs.Held.{Held};
+    ghost use Rattle.hg_mixed.specs.Memory.{memory_table};
+    ghost use Rattle.hg_mixed.specs.Parted.{IsParted, image_rows};
 
     ghost Value = { Held };
-
-    ghost use Rattle.hg_mixed.specs.Edits.{IsFormed};
 
     ghost view = { λ m. record {
       docket = docket.view m.image.docket;
       bytes = m.image.bytes.now;
-      p1 = m.p1.0;
-      p2 = m.p2.0;
-      hash = m.hash;
-      changed = m.changed;
-      rows = m.nodes;
-      times = m.times;
+      p1 = m.memory.p1;
+      p2 = m.memory.p2;
+      hash = m.memory.hash;
+      changed = m.memory.changed;
+      rows = m.memory.rows;
+      times = m.memory.times;
+      left = m.left;
       lent = [];
       texts = [];
       sources = [];
     } };
 
-    ghost invariant = { λ m. IsFormed (table_of m.p1.0 m.p2.0 m.hash m.nodes m.times) };
+    ghost invariant = { λ m. IsParted (docket.view m.image.docket) (image_rows m.image) m.left (memory_table m.memory) };
 }
 
 impl<'a> Mixed<'a> {
+    /// The table that an image records, in which nothing is changed. Nothing of it is copied.
+    pub fn open(alloc: Global, image: Image<'a>) -> Result<Mixed<'a>, OutOfMemory>
+        ensures table { IfOk result (λ m. IsSame (table m) (reading.table_of (docket.view image.entry.docket) (rows image.entry))) }
+        ensures changed { IfOk result (λ m. m.changed ≡ false) }
+        ensures docket { IfOk result (λ m. m.docket ≡ docket.view image.entry.docket) }
+        ensures bytes { IfOk result (λ m. m.bytes ≡ image.entry.bytes.now) }
+    {
+        let mut left = Lent::new(alloc);
+        left.put(alloc, "", image.root())?;
+        Ok(Mixed {
+            image,
+            memory: Memory::new(alloc, image.docket()),
+            left,
+        })
+    }
+
     /// Whether an edit has changed anything since the table was opened.
     pub fn changed(&self) -> bool
         ensures { result ≡ self.now.changed }
     {
-        self.changed
+        self.memory.changed()
     }
 
     /// The parents of the working copy.
@@ -69,14 +83,14 @@ impl<'a> Mixed<'a> {
         ensures p2 { result.1.0 ≡ self.now.p2 }
         ensures formed { IsFormed (table self.now) }
     {
-        (self.p1, self.p2)
+        self.memory.parents()
     }
 
     /// The hash of the ignore patterns under which directories were cached.
     pub fn hash(&self) -> [u8; 20]
         ensures { result ≡ self.now.hash }
     {
-        self.hash
+        self.memory.hash()
     }
 
     /// The image that the table was opened over.
@@ -87,20 +101,19 @@ impl<'a> Mixed<'a> {
         self.image
     }
 
-    /// Whether the list of a directory's children is still lent from the image, where no directory is the root. A list without
-    /// nodes isn't.
+    /// Whether the list of a directory's children counts as lent from the image, where no directory is the root: none does, since a table is written anew.
     pub fn is_lent(&self, dir: Option<PathRef<'_>>) -> bool
         ensures { result ≡ is_lent self.now (option_map (λ d. d.text.now) dir.entry) }
     {
-        let _ = &self.alloc;
+        let _ = &self.image;
         false
     }
 
-    /// The image's list of a directory's children, where it is lent.
+    /// The image's list of a directory's children, where it counts as lent.
     pub fn lent(&self, dir: Option<PathRef<'_>>) -> Option<List<'a>>
-        ensures { Lent self.now (option_map (λ d. d.text.now) dir.entry) result }
+        ensures { AnswersLent self.now (option_map (λ d. d.text.now) dir.entry) result }
     {
-        let _ = &self.alloc;
+        let _ = &self.image;
         None
     }
 
@@ -110,38 +123,42 @@ impl<'a> Mixed<'a> {
         ensures there { is_some result ≡ is_some ((table self.now).entries path.entry.text.now) }
         ensures formed { IsFormed (table self.now) }
     {
-        let node = self.nodes.get(path)?;
-        item_of(node)
+        match self.left.find(path) {
+            Place::Memory => self.memory.get(path),
+            Place::Image(None) => None,
+            Place::Image(Some(node)) => item_of(node),
+        }
     }
 
     /// The time of a cached directory.
     pub fn cache(&self, dir: PathRef<'_>) -> Option<Stamp>
         ensures { option_map stamp_view result ≡ (table self.now).caches dir.entry.text.now }
     {
-        self.times.get(dir.text)
+        match self.left.find(dir) {
+            Place::Memory => self.memory.cache(dir),
+            Place::Image(None) => None,
+            Place::Image(Some(node)) => node.cache(),
+        }
     }
 
     /// Whether a node stands at the path.
     pub fn has_node(&self, path: PathRef<'_>) -> bool
         ensures { result ≡ (table self.now).nodes path.entry.text.now }
     {
-        self.nodes.get(path).is_some()
+        match self.left.find(path) {
+            Place::Memory => self.memory.has_node(path),
+            Place::Image(node) => node.is_some(),
+        }
     }
 }
 
-// What a node shows, where it has an entry.
-fn item_of(node: &Node) -> Option<Item<'_>>
-    ensures { option_map shown_item result ≡ option_map (λ entry. (view entry, node.now.source)) node.now.entry }
+// What a node of the image shows, where it has an entry.
+fn item_of(node: NodeRef<'_>) -> Option<Item<'_>>
+    ensures { option_map shown_item result ≡ option_map (λ entry. (entry, (row node.entry).source)) (entry_of (fields_of node.entry.rec)) }
 {
-    let entry = node.entry?;
-    match &node.source {
-        None => Some(Item {
-            entry,
-            source: None,
-        }),
-        Some(source) => Some(Item {
-            entry,
-            source: Some(source.as_ref()),
-        }),
-    }
+    let entry = node.entry()?;
+    Some(Item {
+        entry,
+        source: node.source(),
+    })
 }

@@ -5,6 +5,7 @@ use hg_docket::Docket;
 use hg_entry::Entry;
 use hg_image::Image;
 use hg_node::Rec;
+use std::alloc::Global;
 use std::string::String;
 use std::test::Fail;
 use std::vec::Vec;
@@ -26,6 +27,12 @@ const ADDED: Entry = Entry {
     modified: false,
     fallback: 0,
 };
+
+// (A function of its own, so that a test doesn't carry what opening says.)
+fn opened<'a>(alloc: Global, docket: &Docket<'a>, bytes: &'a [u8]) -> Result<Mixed<'a>, Fail> {
+    let image = Image::open(docket, bytes)?;
+    Ok(Mixed::open(alloc, image)?)
+}
 
 fn set(m: &mut Mixed<'_>, path: &str, entry: Entry) -> Result<(), Fail> {
     m.set(PathRef::read(path)?, entry)?;
@@ -66,6 +73,11 @@ fn drop(m: &mut Mixed<'_>, path: &str) -> Result<(), Fail> {
     Ok(())
 }
 
+fn uncache(m: &mut Mixed<'_>) -> Result<(), Fail> {
+    m.drop_caches()?;
+    Ok(())
+}
+
 fn copy(m: &mut Mixed<'_>, path: &str, source: &str) -> Result<(), Fail> {
     let path = PathRef::read(path)?;
     if m.get(path).is_none() {
@@ -73,25 +85,6 @@ fn copy(m: &mut Mixed<'_>, path: &str, source: &str) -> Result<(), Fail> {
     }
     m.copy_from(path, Some(PathRef::read(source)?))?;
     Ok(())
-}
-
-// What stands at some paths: an entry, a cached directory, a node, or nothing.
-fn shown(rt: &HostRuntime, m: &Mixed<'_>, paths: &[&str]) -> Result<String, Fail> {
-    let mut text = String::new(rt.alloc());
-    for path in paths {
-        text.push_str(mark(m, PathRef::read(*path)?))?;
-    }
-    Ok(text)
-}
-
-fn mark(m: &Mixed<'_>, path: PathRef<'_>) -> &'static str {
-    if m.get(path).is_some() {
-        return "!";
-    }
-    if m.cache(path).is_some() {
-        return "*";
-    }
-    if m.has_node(path) { "." } else { "-" }
 }
 
 // A file of a parent that isn't tracked any more.
@@ -107,29 +100,96 @@ const REMOVED: Entry = Entry {
     fallback: 0,
 };
 
-// What is left once the entry of a path is dropped.
-fn left(rt: &HostRuntime, m: &mut Mixed<'_>, path: &str) -> Result<String, Fail> {
-    drop(m, path)?;
-    shown(rt, m, &["a", "a/b", "a/b/c", "a/b/d", "a/x"])
+// One edit: its sign and the path.
+fn step(m: &mut Mixed<'_>, word: &str) -> Result<(), Fail> {
+    if let Some(path) = word.strip_prefix('+') {
+        return set(m, path, ADDED);
+    }
+    if let Some(path) = word.strip_prefix('!') {
+        return set(m, path, REMOVED);
+    }
+    if let Some(path) = word.strip_prefix('*') {
+        return note(m, path);
+    }
+    if let Some(path) = word.strip_prefix('/') {
+        return forget(m, path);
+    }
+    if let Some(path) = word.strip_prefix('-') {
+        return drop(m, path);
+    }
+    if let Some(path) = word.strip_prefix('=') {
+        return copy(m, path, "c");
+    }
+    if word == "uncache" {
+        uncache(m)
+    } else {
+        Ok(())
+    }
+}
+
+fn steps(m: &mut Mixed<'_>, words: &str) -> Result<(), Fail> {
+    for word in words.split(' ') {
+        step(m, word)?;
+    }
+    Ok(())
+}
+
+// What stands at a path: an entry with or without a source, a cached directory, a node, or nothing.
+fn mark(m: &Mixed<'_>, path: PathRef<'_>) -> &'static str {
+    if let Some(item) = m.get(path) {
+        return if item.source.is_some() { "&" } else { "!" };
+    }
+    if m.cache(path).is_some() {
+        return "*";
+    }
+    if m.has_node(path) { "." } else { "-" }
+}
+
+fn shown(m: &Mixed<'_>, text: &mut String, paths: &str) -> Result<(), Fail> {
+    for path in paths.split(' ') {
+        text.push_str(mark(m, PathRef::read(path)?))?;
+    }
+    Ok(())
+}
+
+// The children of a directory behind a bar, each with a slash where it has children.
+fn listed(m: &Mixed<'_>, text: &mut String, dir: Option<PathRef<'_>>) -> Result<(), Fail> {
+    text.push_str("|")?;
+    let mut children = m.children(dir);
+    for _ in 0..9 {
+        let Some(child) = children.next() else {
+            return Ok(());
+        };
+        text.push_str(child.path.as_str())?;
+        text.push_str(if child.has_kids { "/ " } else { " " })?;
+    }
+    Err("too many".into())
+}
+
+fn edited(rt: &HostRuntime, words: &str) -> Result<String, Fail> {
+    let mut text = String::new(rt.alloc());
+    let docket = Docket::read(b"")?;
+    let mut m = opened(rt.alloc(), &docket, b"")?;
+    steps(&mut m, words)?;
+    shown(&m, &mut text, "a a/b a/b/c a/b/d a/x")?;
+    Ok(text)
 }
 
 #[test]
-fn drops_what_is_left_empty(rt: HostRuntime) -> Result<(), Fail> {
-    let docket = Docket::read(b"")?;
-    let mut m = Mixed::open(rt.alloc(), Image::open(&docket, b"")?)?;
-    set(&mut m, "a/b/c", ADDED)?;
-    set(&mut m, "a/b/d", ADDED)?;
-    set(&mut m, "a/x", ADDED)?;
-    note(&mut m, "a")?;
-    note(&mut m, "a/b")?;
-    assert_eq!(rt; left(&rt, &mut m, "a/b/c")?.as_str(), "*.-!!");
-    assert_eq!(rt; left(&rt, &mut m, "a/b/d")?.as_str(), ".---!");
-    assert_eq!(rt; left(&rt, &mut m, "a/x")?.as_str(), "-----");
-    set(&mut m, "a", REMOVED)?;
-    set(&mut m, "a/b", ADDED)?;
-    set(&mut m, "a/x", ADDED)?;
-    assert_eq!(rt; left(&rt, &mut m, "a/b")?.as_str(), "!---!");
-    assert_eq!(rt; left(&rt, &mut m, "a")?.as_str(), ".---!");
+fn edits_each_part(rt: HostRuntime) -> Result<(), Fail> {
+    for (words, marks) in [
+        ("+a/b/c +a/b/d +a/x *a *a/b -a/b/c", "*.-!!"),
+        ("+a/b/c +a/b/d +a/x *a *a/b -a/b/c -a/b/d", ".---!"),
+        ("+a/b/c +a/b/d +a/x -a/b/c -a/b/d -a/x", "-----"),
+        ("!a +a/b +a/x -a/b", "!---!"),
+        ("!a +a/b +a/x -a/b -a", ".---!"),
+        ("+a/b *a", "*!---"),
+        ("+a/b *a /a", ".!---"),
+        ("+a/b *a uncache", ".!---"),
+        ("+a/b =a/b", ".&---"),
+    ] {
+        assert_eq!(rt; edited(&rt, words)?.as_str(), marks, "{words}");
+    }
     Ok(())
 }
 
@@ -142,54 +202,24 @@ fn clash(m: &mut Mixed<'_>, path: &str) -> Result<Option<Path>, Fail> {
     }
 }
 
+fn clash_with(rt: &HostRuntime, words: &str, path: &str) -> Result<Option<Path>, Fail> {
+    let docket = Docket::read(b"")?;
+    let mut m = opened(rt.alloc(), &docket, b"")?;
+    steps(&mut m, words)?;
+    clash(&mut m, path)
+}
+
 #[test]
 fn names_the_least_clash(rt: HostRuntime) -> Result<(), Fail> {
-    let docket = Docket::read(b"")?;
-    let mut m = Mixed::open(rt.alloc(), Image::open(&docket, b"")?)?;
-    set(&mut m, "d", REMOVED)?;
-    set(&mut m, "d/b/z", ADDED)?;
-    set(&mut m, "d/b-c", ADDED)?;
-    set(&mut m, "d/e", ADDED)?;
     for (path, other) in [
         ("d", Some("d/b-c")),
         ("d/b", Some("d/b/z")),
         ("d/e/f/g", Some("d/e")),
         ("d-", None),
     ] {
-        let name = clash(&mut m, path)?;
+        let name = clash_with(&rt, "!d +d/b/z +d/b-c +d/e", path)?;
         assert_eq!(rt; name.as_ref().map(|name| name.as_str()), other, "{path}");
     }
-    Ok(())
-}
-
-// The time of a cached directory.
-fn time(m: &Mixed<'_>, dir: &str) -> Result<Option<Stamp>, Fail> {
-    Ok(m.cache(PathRef::read(dir)?))
-}
-
-fn is_copied(m: &Mixed<'_>, path: &str, source: &str) -> Result<bool, Fail> {
-    let item = m.get(PathRef::read(path)?).ok_or("no entry")?;
-    match item.source {
-        None => Ok(false),
-        Some(found) => Ok(found.as_str() == source),
-    }
-}
-
-#[test]
-fn edits_each_part(rt: HostRuntime) -> Result<(), Fail> {
-    let docket = Docket::read(b"")?;
-    let mut m = Mixed::open(rt.alloc(), Image::open(&docket, b"")?)?;
-    set(&mut m, "d/b", ADDED)?;
-    copy(&mut m, "d/b", "c")?;
-    assert!(rt; is_copied(&m, "d/b", "c")?);
-    note(&mut m, "d")?;
-    forget(&mut m, "d")?;
-    assert_eq!(rt; time(&m, "d")?, None);
-    note(&mut m, "d")?;
-    assert_eq!(rt; time(&m, "d")?, Some(NOON));
-    m.drop_caches()?;
-    assert_eq!(rt; time(&m, "d")?, None);
-    assert_eq!(rt; shown(&rt, &m, &["d", "d/b"])?.as_str(), ".!");
     Ok(())
 }
 
@@ -229,30 +259,67 @@ const RECORDS: [Rec; 2] = [
     },
 ];
 
-#[test]
-fn opens_an_image(rt: HostRuntime) -> Result<(), Fail> {
-    let mut bytes = Vec::from_slice(rt.alloc(), b"d/esrc")?;
+// The bytes of these records, behind their texts.
+fn bytes_of(alloc: Global) -> Result<Vec<u8>, Fail> {
+    let mut bytes = Vec::from_slice(alloc, b"d/esrc")?;
     for rec in RECORDS {
         bytes.extend_from_slice(&rec.write())?;
     }
-    let docket = Docket {
-        p1: Id20([1; 20]),
-        p2: Id20([2; 20]),
-        root_start: 50,
-        root_count: 1,
-        entries: 1,
-        copies: 1,
-        unreachable: 0,
-        hash: [3; 20],
-        used: 94,
-        id: b"0",
-    };
-    let m = Mixed::open(rt.alloc(), Image::open(&docket, &bytes)?)?;
-    assert_eq!(rt; shown(&rt, &m, &["d", "d/e"])?.as_str(), "*!");
-    let child = m.children(None).next().ok_or("no child")?;
-    assert_eq!(rt; (child.path.as_str(), child.has_kids), ("d", true));
-    assert!(rt; is_copied(&m, "d/e", "src")?);
-    assert_eq!(rt; time(&m, "d")?, Some(NOON));
-    assert!(rt; !m.is_lent(None));
+    Ok(bytes)
+}
+
+const DOCKET: Docket<'static> = Docket {
+    p1: Id20([1; 20]),
+    p2: Id20([2; 20]),
+    root_start: 50,
+    root_count: 1,
+    entries: 1,
+    copies: 1,
+    unreachable: 0,
+    hash: [3; 20],
+    used: 94,
+    id: b"0",
+};
+
+fn image_edited(rt: &HostRuntime, words: &str) -> Result<String, Fail> {
+    let mut text = String::new(rt.alloc());
+    let bytes = bytes_of(rt.alloc())?;
+    let mut m = opened(rt.alloc(), &DOCKET, &bytes)?;
+    steps(&mut m, words)?;
+    shown(&m, &mut text, "d d/e d/f e")?;
+    listed(&m, &mut text, None)?;
+    listed(&m, &mut text, Some(PathRef::read("d")?))?;
+    Ok(text)
+}
+
+#[test]
+fn takes_what_an_edit_needs(rt: HostRuntime) -> Result<(), Fail> {
+    for (words, text) in [
+        ("", "*&--|d/ |d/e "),
+        ("+e", "*&-!|d/ e |d/e "),
+        ("+d/f", "*&!-|d/ |d/e d/f "),
+        ("-d/e", "----||"),
+        ("+d/f -d/e", ".-!-|d/ |d/f "),
+        ("!d", "!&--|d/ |d/e "),
+        ("!d uncache -d/e", "!---|d |"),
+        ("uncache", ".&--|d/ |d/e "),
+    ] {
+        assert_eq!(rt; image_edited(&rt, words)?.as_str(), text, "{words}");
+    }
+    Ok(())
+}
+
+fn image_clash(rt: &HostRuntime, path: &str) -> Result<Option<Path>, Fail> {
+    let bytes = bytes_of(rt.alloc())?;
+    let mut m = opened(rt.alloc(), &DOCKET, &bytes)?;
+    clash(&mut m, path)
+}
+
+#[test]
+fn finds_what_clashes_in_an_image(rt: HostRuntime) -> Result<(), Fail> {
+    for (path, other) in [("d", Some("d/e")), ("d/e/x", Some("d/e")), ("d/f", None)] {
+        let name = image_clash(&rt, path)?;
+        assert_eq!(rt; name.as_ref().map(|name| name.as_str()), other, "{path}");
+    }
     Ok(())
 }

@@ -1,11 +1,12 @@
-use Rattle.hg_mixed.proofs.LeftBefore.{first_path, first_there, left_on}
+use Rattle.hg_mixed.proofs.LentChildren.{lent_next, lent_none}
 use Rattle.hg_mixed.proofs.children.Children.next.Goals as goal
 
-pub look-has_kids-requires-clause-path : goal.look-has_kids-requires-clause-path
-look-has_kids-requires-clause-path c = first_path _ _ _ _ _ c.in-Some.ensures c.self.invariant
+pub returns-then-at-len : goal.returns-then-at-len
+returns-then-at-len c =
+    lent_none c.self.inside.kids _ c.self.inside.list c.self.inside.at c.args.self.now c.in_ok-list.list c.len.result c.in_default.is c.in_ok-list.was c.len.ensures.count c.self.view_is
+    c.if-at-len.true
 
-pub look-has_kids-requires-clause-there : goal.look-has_kids-requires-clause-there
-look-has_kids-requires-clause-there c = first_there _ _ _ _ _ c.in-Some.ensures c.self.invariant
-
-pub invariant_of-self-in-Some : goal.invariant_of-self-in-Some
-invariant_of-self-in-Some c = left_on _ _ _ _ _ c.in-Some.ensures c.self.invariant _ _ c.look-has_kids.ensures
+pub returns : goal.returns
+returns c =
+    lent_next c.self.inside.kids _ c.self.inside.list c.self.inside.at c.args.self.now c.in_ok-list.list c.len.result c.in_default.is c.in_ok-list.was c.len.ensures.count c.self.view_is
+    c.get.result _ c.self.invariant c.if-at-len.false c.get.ensures.record c.get.ensures.bytes c.child_of.ensures

@@ -1,15 +1,6 @@
-use Rattle.std.proofs.Common.{refl, subst, List, ℕ}
-use Rattle.std.specs.Option.{option_map}
-use Rattle.hg_mixed.specs.Kids.{AreKids}
-use Rattle.hg_mixed.proofs.ChildrenOf.{children_are, dir_path}
-use Rattle.hg_mixed.proofs.LeftBefore.{at_paths, left_at_first}
+use Rattle.hg_mixed.proofs.LentChildren.{children_listed}
 use Rattle.hg_mixed.proofs.mixed.Mixed.children.Goals as goal
 
-pub returns : goal.returns
-returns c =
-    children_are _ _ c.self.view_is c.self.invariant (λ at. refl) (λ at. refl) (option_map (λ d. d.text.now) c.args.dir) (dir_path c.args.dir) c.kids.result
-    (subst (λ (d : List ℕ). AreKids c.self.inside.nodes d c.kids.result) c.text_of.ensures c.kids.ensures)
-
-pub invariant_of-result : goal.invariant_of-result
-invariant_of-result c =
-    (at_paths c.self.inside.nodes _ c.kids.result c.self.invariant.paths c.kids.ensures.each, left_at_first c.self.inside.nodes _ c.kids.result c.kids.ensures)
+pub lent_children-requires : goal.lent_children-requires
+lent_children-requires c =
+    children_listed c.args.self.now _ c.self.view_is c.self.invariant c.args.dir c.in-Some.list c.text_of.result.now c.text_of.ensures c.in-Some.ensures.rows c.in-Some.ensures.dir

@@ -1,19 +1,27 @@
-use Rattle.std.proofs.Common.{◌≡◌, sym, Option, List, ℕ, subst}
-use Rattle.std.specs.Bool.{MatchBool}
+use Rattle.std.proofs.Common.{refl}
 use Rattle.std.specs.Option.{option_map}
-use Rattle.hg_mixed.specs.Node.{node_at, source_in}
-use Rattle.hg_mixed.proofs.Edited.{copy_formed, copy_marks, copy_table}
+use Rattle.std.proofs.lemmas.Result.{on_ok_weaker}
+use Rattle.hg_mixed.specs.Edits.{after_copy}
+use Rattle.hg_mixed.proofs.Lifted.{copy_marks, copy_parted, copy_table, edit_of, kept_parted, marks_of, ok_always, ok_both, ok_or_err, places_copy, some_of}
 use Rattle.hg_mixed.proofs.mixed.Mixed.copy_from.Goals as goal
 
-pub invariant_of-self : goal.invariant_of-self
-invariant_of-self c = copy_formed c.args.path.text.now c.in-Ok.source _ _ c.self.view_is c.write_source.new.nodes c.write_source.ensures c.requires c.self.invariant
+pub invariant_of-self-in-Ok : goal.invariant_of-self-in-Ok
+invariant_of-self-in-Ok c =
+    ok_or_err c.copy_from.result
+    (λ same. copy_parted _ _ _ _ _ _ c.copy_from.new.self c.take_for.ensures.moved c.args.path.text.now c.in-Ok.ensures.free.above (option_map (λ s. s.text.now) c.args.source) same (some_of _ _ c.self.view_is c.args.path.text.now c.requires))
+    (λ kept. kept_parted _ _ _ _ _ _ c.copy_from.new.self c.take_for.ensures.moved kept.table) c.copy_from.ensures.table c.copy_from.ensures.err
 
 pub returns-in-Ok-clause-table : goal.returns-in-Ok-clause-table
 returns-in-Ok-clause-table c =
-    copy_table c.args.path.text.now c.in-Ok.source _ _ c.self.view_is c.write_source.new.nodes c.write_source.ensures c.requires (option_map (λ s. s.text.now) c.args.source) c.in-Ok.ensures
+    on_ok_weaker c.copy_from.result
+    (λ same. edit_of _ _ c.self.view_is (after_copy c.args.path.text.now (option_map (λ s. s.text.now) c.args.source)) _ (copy_table _ _ _ _ _ _ c.copy_from.new.self c.take_for.ensures.moved c.args.path.text.now c.in-Ok.ensures.free.above (option_map (λ s. s.text.now) c.args.source) same))
+    c.copy_from.ensures.table
 
 pub returns-in-Ok-clause-changed : goal.returns-in-Ok-clause-changed
 returns-in-Ok-clause-changed c =
-    copy_marks c.args.path.text.now c.in-Ok.source _ _ c.self.view_is c.write_source.new.nodes c.write_source.ensures c.requires c.has_source-same.result
-    (subst (λ (s : Option (List ℕ)). MatchBool c.has_source-same.result (source_in (node_at c.self.inside.nodes c.args.path.text.now) ≡ s) (source_in (node_at c.self.inside.nodes c.args.path.text.now) ≡ s → ⊥))
-    (sym c.in-Ok.ensures) c.has_source-same.ensures)
+    ok_both c.copy_from.result
+    (λ same marks. marks_of _ _ c.self.view_is _ c.copy_from.new.self.changed (copy_marks _ _ _ _ _ _ c.copy_from.new.self c.take_for.ensures.moved c.args.path.text.now c.in-Ok.ensures.free.above (option_map (λ s. s.text.now) c.args.source) same marks))
+    c.copy_from.ensures.table c.copy_from.ensures.changed
+
+pub returns-in-Ok-clause-places : goal.returns-in-Ok-clause-places
+returns-in-Ok-clause-places c = ok_always c.copy_from.result (places_copy _ _ c.self.view_is _ refl refl refl refl c.args.path.text.now _)

@@ -1,5 +1,29 @@
-use Rattle.hg_mixed.proofs.Edited.{no_cache_marks}
+use Rattle.std.proofs.Common.{refl, ◌∙◌}
+use Rattle.std.proofs.lemmas.Result.{on_err_weaker, on_ok_weaker}
+use Rattle.hg_mixed.specs.Edits.{after_no_caches}
+use Rattle.hg_mixed.proofs.Lifted.{edit_of, kept_parted, kept_table, marks_of, no_caches_marks, no_caches_parted, no_caches_table, ok_both, ok_or_err, unchanged}
 use Rattle.hg_mixed.proofs.mixed.Mixed.drop_caches.Goals as goal
 
-pub returns-clause-changed : goal.returns-clause-changed
-returns-clause-changed c = no_cache_marks _ _ c.self.view_is c.clear.new.self c.clear.ensures c.is_empty-same.result c.is_empty-same.ensures
+pub invariant_of-self-in-Ok : goal.invariant_of-self-in-Ok
+invariant_of-self-in-Ok c =
+    ok_or_err c.drop_caches.result
+    (λ same. no_caches_parted _ _ _ _ _ _ c.drop_caches.new.self c.take_all.ensures.moved c.in-Ok.ensures.all same)
+    (λ kept. kept_parted _ _ _ _ _ _ c.drop_caches.new.self c.take_all.ensures.moved kept.table) c.drop_caches.ensures.table c.drop_caches.ensures.err
+
+pub returns-in-Ok-clause-table : goal.returns-in-Ok-clause-table
+returns-in-Ok-clause-table c =
+    on_ok_weaker c.drop_caches.result
+    (λ same. edit_of _ _ c.self.view_is after_no_caches _ (no_caches_table _ _ _ _ _ _ c.drop_caches.new.self c.take_all.ensures.moved c.in-Ok.ensures.all same))
+    c.drop_caches.ensures.table
+
+pub returns-in-Ok-clause-changed : goal.returns-in-Ok-clause-changed
+returns-in-Ok-clause-changed c =
+    ok_both c.drop_caches.result
+    (λ same marks. marks_of _ _ c.self.view_is _ c.drop_caches.new.self.changed (no_caches_marks _ _ _ _ _ _ c.drop_caches.new.self c.take_all.ensures.moved c.in-Ok.ensures.all same marks))
+    c.drop_caches.ensures.table c.drop_caches.ensures.changed
+
+pub returns-in-Ok-clause-err : goal.returns-in-Ok-clause-err
+returns-in-Ok-clause-err c =
+    on_err_weaker c.drop_caches.result
+    (λ kept. unchanged _ _ c.self.view_is _ (kept_table _ _ _ _ _ _ c.drop_caches.new.self c.take_all.ensures.moved kept.table) (kept.changed ∙ c.take_all.ensures.moved.changed) refl refl refl refl refl)
+    c.drop_caches.ensures.err

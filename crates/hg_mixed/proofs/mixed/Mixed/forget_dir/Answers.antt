@@ -1,10 +1,24 @@
-use Rattle.std.proofs.Common.{◌≡◌, None, Option, subst}
-use Rattle.std.specs.Bool.{MatchBool}
-use Rattle.hg_entry.specs.Entry.{StampData}
-use Rattle.hg_mixed.proofs.Edited.{cache_marks}
+use Rattle.std.proofs.Common.{None}
+use Rattle.std.proofs.lemmas.Result.{on_ok_weaker}
+use Rattle.hg_mixed.specs.Edits.{after_cache}
+use Rattle.hg_mixed.proofs.Lifted.{cache_marks, cache_parted, cache_table, edit_of, kept_parted, marks_of, node_of, none_of, ok_both, ok_or_err}
 use Rattle.hg_mixed.proofs.mixed.Mixed.forget_dir.Goals as goal
 
-pub returns-clause-changed : goal.returns-clause-changed
-returns-clause-changed c =
-    cache_marks c.args.dir.text.now None _ _ c.self.view_is c.remove.new.self c.remove.ensures c.same_time-same.result
-    (subst (λ (o : Option StampData). MatchBool c.same_time-same.result (o ≡ None) (o ≡ None → ⊥)) c.get.ensures c.same_time-same.ensures)
+pub invariant_of-self-in-Ok : goal.invariant_of-self-in-Ok
+invariant_of-self-in-Ok c =
+    ok_or_err c.forget_dir.result
+    (λ same. cache_parted _ _ _ _ _ _ c.forget_dir.new.self c.take_for.ensures.moved c.args.dir.text.now c.in-Ok.ensures.free.above None same (node_of _ _ c.self.view_is c.args.dir.text.now c.requires.node)
+    (none_of _ _ c.self.view_is c.args.dir.text.now c.requires.no_entry))
+    (λ kept. kept_parted _ _ _ _ _ _ c.forget_dir.new.self c.take_for.ensures.moved kept.table) c.forget_dir.ensures.table c.forget_dir.ensures.err
+
+pub returns-in-Ok-clause-table : goal.returns-in-Ok-clause-table
+returns-in-Ok-clause-table c =
+    on_ok_weaker c.forget_dir.result
+    (λ same. edit_of _ _ c.self.view_is (after_cache c.args.dir.text.now None) _ (cache_table _ _ _ _ _ _ c.forget_dir.new.self c.take_for.ensures.moved c.args.dir.text.now c.in-Ok.ensures.free.above None same))
+    c.forget_dir.ensures.table
+
+pub returns-in-Ok-clause-changed : goal.returns-in-Ok-clause-changed
+returns-in-Ok-clause-changed c =
+    ok_both c.forget_dir.result
+    (λ same marks. marks_of _ _ c.self.view_is _ c.forget_dir.new.self.changed (cache_marks _ _ _ _ _ _ c.forget_dir.new.self c.take_for.ensures.moved c.args.dir.text.now c.in-Ok.ensures.free.above None same marks))
+    c.forget_dir.ensures.table c.forget_dir.ensures.changed

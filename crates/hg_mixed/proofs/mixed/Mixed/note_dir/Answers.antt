@@ -1,10 +1,25 @@
-use Rattle.std.proofs.Common.{◌≡◌, Some, Option, subst}
-use Rattle.std.specs.Bool.{MatchBool}
-use Rattle.hg_entry.specs.Entry.{StampData, stamp_view}
-use Rattle.hg_mixed.proofs.Edited.{cache_marks}
+use Rattle.std.proofs.Common.{Some}
+use Rattle.hg_entry.specs.Entry.{stamp_view}
+use Rattle.std.proofs.lemmas.Result.{on_ok_weaker}
+use Rattle.hg_mixed.specs.Edits.{after_cache}
+use Rattle.hg_mixed.proofs.Lifted.{cache_marks, cache_parted, cache_table, edit_of, kept_parted, marks_of, node_of, none_of, ok_both, ok_or_err}
 use Rattle.hg_mixed.proofs.mixed.Mixed.note_dir.Goals as goal
+
+pub invariant_of-self-in-Ok : goal.invariant_of-self-in-Ok
+invariant_of-self-in-Ok c =
+    ok_or_err c.note_dir.result
+    (λ same. cache_parted _ _ _ _ _ _ c.note_dir.new.self c.take_for.ensures.moved c.args.dir.text.now c.in-Ok.ensures.free.above (Some (stamp_view c.args.time)) same (node_of _ _ c.self.view_is c.args.dir.text.now c.requires.node)
+    (none_of _ _ c.self.view_is c.args.dir.text.now c.requires.no_entry))
+    (λ kept. kept_parted _ _ _ _ _ _ c.note_dir.new.self c.take_for.ensures.moved kept.table) c.note_dir.ensures.table c.note_dir.ensures.err
+
+pub returns-in-Ok-clause-table : goal.returns-in-Ok-clause-table
+returns-in-Ok-clause-table c =
+    on_ok_weaker c.note_dir.result
+    (λ same. edit_of _ _ c.self.view_is (after_cache c.args.dir.text.now (Some (stamp_view c.args.time))) _ (cache_table _ _ _ _ _ _ c.note_dir.new.self c.take_for.ensures.moved c.args.dir.text.now c.in-Ok.ensures.free.above (Some (stamp_view c.args.time)) same))
+    c.note_dir.ensures.table
 
 pub returns-in-Ok-clause-changed : goal.returns-in-Ok-clause-changed
 returns-in-Ok-clause-changed c =
-    cache_marks c.args.dir.text.now (Some (stamp_view c.args.time)) _ _ c.self.view_is c.put.new.self c.in-Ok.ensures.ok c.same_time-same.result
-    (subst (λ (o : Option StampData). MatchBool c.same_time-same.result (o ≡ Some (stamp_view c.args.time)) (o ≡ Some (stamp_view c.args.time) → ⊥)) c.get.ensures c.same_time-same.ensures)
+    ok_both c.note_dir.result
+    (λ same marks. marks_of _ _ c.self.view_is _ c.note_dir.new.self.changed (cache_marks _ _ _ _ _ _ c.note_dir.new.self c.take_for.ensures.moved c.args.dir.text.now c.in-Ok.ensures.free.above (Some (stamp_view c.args.time)) same marks))
+    c.note_dir.ensures.table c.note_dir.ensures.changed

@@ -1,15 +1,28 @@
+use Rattle.std.proofs.Common.{refl}
+use Rattle.std.proofs.lemmas.Result.{on_ok_weaker}
 use Rattle.hg_entry.specs.Entry.{view}
-use Rattle.hg_mixed.proofs.Edited.{set_formed, set_marks, set_table}
+use Rattle.hg_mixed.specs.Edits.{after_set}
+use Rattle.hg_mixed.proofs.ClashWhole.{sets_whole}
+use Rattle.hg_mixed.proofs.Lifted.{edit_of, kept_parted, marks_of, ok_both, ok_or_err, set_marks, set_parted, set_table}
 use Rattle.hg_mixed.proofs.mixed.Mixed.set.Goals as goal
 
 pub invariant_of-self-in-Ok : goal.invariant_of-self-in-Ok
 invariant_of-self-in-Ok c =
-    set_formed c.args.path.text.now (view c.args.entry) _ _ c.self.view_is c.put_entry.new.nodes c.remove.new.self c.in-Ok.ensures.ok c.remove.ensures c.args.path.is_path c.self.invariant
+    ok_or_err c.set.result
+    (λ same. set_parted _ _ _ _ _ _ c.set.new.self c.take_near.ensures.moved c.args.path.text.now c.in-Ok.ensures.near.free (view c.args.entry) same c.args.path.is_path)
+    (λ kept. kept_parted _ _ _ _ _ _ c.set.new.self c.take_near.ensures.moved kept.table) c.set.ensures.table c.set.ensures.err
+
+pub returns-in-Ok-clause-clash : goal.returns-in-Ok-clause-clash
+returns-in-Ok-clause-clash c = sets_whole _ _ c.self.view_is _ _ _ _ _ _ c.take_near.ensures.moved c.args.path.text.now c.in-Ok.ensures.near refl (view c.args.entry) c.set.result c.set.ensures.clash
 
 pub returns-in-Ok-clause-table : goal.returns-in-Ok-clause-table
-returns-in-Ok-clause-table c = set_table c.args.path.text.now (view c.args.entry) _ _ c.self.view_is c.put_entry.new.nodes c.remove.new.self c.in-Ok.ensures.ok c.remove.ensures
+returns-in-Ok-clause-table c =
+    on_ok_weaker c.set.result
+    (λ same. edit_of _ _ c.self.view_is (after_set c.args.path.text.now (view c.args.entry)) _ (set_table _ _ _ _ _ _ c.set.new.self c.take_near.ensures.moved c.args.path.text.now c.in-Ok.ensures.near.free (view c.args.entry) same))
+    c.set.ensures.table
 
 pub returns-in-Ok-clause-changed : goal.returns-in-Ok-clause-changed
 returns-in-Ok-clause-changed c =
-    set_marks c.args.path.text.now (view c.args.entry) _ _ c.self.view_is c.put_entry.new.nodes c.remove.new.self c.in-Ok.ensures.ok c.remove.ensures c.args.path.is_path c.self.invariant
-    c.in-Ok.differs c.in-Ok.ensures.differs
+    ok_both c.set.result
+    (λ same marks. marks_of _ _ c.self.view_is _ c.set.new.self.changed (set_marks _ _ _ _ _ _ c.set.new.self c.take_near.ensures.moved c.args.path.text.now c.in-Ok.ensures.near.free (view c.args.entry) same marks))
+    c.set.ensures.table c.set.ensures.changed

@@ -4,7 +4,7 @@ use Rattle.std.specs.String.{string_bytes}
 use Rattle.hg_mixed.specs.Kids.{Looks, beside, is_before}
 use Rattle.hg_mixed.proofs.LeftBefore.{looked, looked_before, looked_early}
 use Rattle.hg_mixed.specs.Lists.{has_rows_in}
-use Rattle.hg_mixed.proofs.children.look.Goals as goal
+use Rattle.hg_mixed.proofs.own_children.look.Goals as goal
 
 pub returns-then-is_childless : goal.returns-then-is_childless
 returns-then-is_childless c =

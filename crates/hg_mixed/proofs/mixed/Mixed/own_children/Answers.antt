@@ -1,0 +1,14 @@
+use Rattle.std.proofs.Common.{ℕ, List, map, Option, refl, sym, subst}
+use Rattle.std.specs.Option.{option_map}
+use Rattle.hg_mixed.specs.ChildOf.{with_lent}
+use Rattle.hg_mixed.specs.Children.{AreChildren}
+use Rattle.hg_mixed.specs.Held.{Held}
+use Rattle.hg_mixed.specs.Parted.{IsOwn}
+use Rattle.hg_mixed.proofs.WholeChildren.{own_children}
+use Rattle.hg_mixed.proofs.mixed.Mixed.own_children.Goals as goal
+
+pub returns : goal.returns
+returns c =
+    let dir : Option (List ℕ) = option_map (λ d. d.text.now) c.args.dir in
+    subst (λ (h : Held). AreChildren h dir (map (with_lent c.self.inside.left) c.children.result)) c.self.view_is
+    (own_children _ c.children.ensures.formed.paths c.self.invariant (λ at. refl) (λ at. refl) dir (subst (λ (h : Held). IsOwn h.left dir) (sym c.self.view_is) c.requires) c.children.result c.children.ensures.nodes)

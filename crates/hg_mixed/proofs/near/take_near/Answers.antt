@@ -1,0 +1,11 @@
+use Rattle.std.proofs.Common.{sym}
+use Rattle.hg_mixed.proofs.ClashWhole.{near_bare}
+use Rattle.hg_mixed.proofs.Lifted.{moved_on}
+use Rattle.hg_mixed.proofs.near.take_near.Goals as goal
+
+pub returns-then-not-has_kids-clause-near : goal.returns-then-not-has_kids-clause-near
+returns-then-not-has_kids-clause-near c =
+    near_bare _ _ c.take_for.new.left c.args.path.text.now c.in_ok-take_for.ensures.free c.take_for.new.memory c.take_for.ensures.moved.parted (sym c.if-not-has_kids.ensures)
+
+pub returns-clause-moved : goal.returns-clause-moved
+returns-clause-moved c = moved_on _ _ _ _ _ _ _ _ c.take_for.ensures.moved c.take_all.ensures.moved

@@ -1,0 +1,158 @@
+//! The lists of nodes that are the image's still.
+
+ghost use Rattle.std.specs.Prelude.{◌≡◌, true, Some, None, is_some, option_map, IfSome, OnOk, OnErr};
+ghost use Rattle.hg_base.specs.PathText.{is_same_dir, parent_of};
+ghost use Rattle.hg_base.specs.Within.{is_above};
+ghost use Rattle.hg_image.specs.Reading.{row_at};
+ghost use Rattle.hg_image.specs.View.{dir_of, row, rows_in};
+ghost use Rattle.hg_mixed.specs.Lent.{AreLentStill, CoversNone, HasBelow, IsLentPut, IsNoneLent, IsOver, IsPlace, lent_at};
+ghost use Rattle.hg_mixed.specs.Lists.{or_root};
+
+use hg_base::{OutOfMemory, PathRef};
+use hg_image::{List, NodeRef};
+use std::alloc::Global;
+use std::collections::BTreeMap;
+use std::marker::Model;
+
+/// Where a path is to be looked for.
+#[derive(Clone, Copy, Debug)]
+pub enum Place<'a> {
+    /// Among the nodes in memory.
+    Memory,
+    /// In the image, with the node that stands there.
+    Image(Option<NodeRef<'a>>),
+}
+
+/// The lists of nodes that are the image's still, each by its directory, of which the text is empty for the root. With a list goes all
+/// that stands below its directory.
+#[derive(Drop)]
+pub struct Lent<'a> {
+    lists: BTreeMap<String, List<'a>>,
+}
+
+impl<'a> Model for Lent<'a> {
+    ghost use Rattle.std.specs.Prelude.{List, ℕ};
+    ghost use Rattle.hg_image.specs.Rows.{Row};
+    ghost use Rattle.hg_mixed.specs.Lent.{AreByDir, lists_of};
+
+    ghost Value = { List (List ℕ × List Row) };
+
+    ghost view = { λ l. lists_of l.lists.entries };
+
+    ghost invariant = { λ l. AreByDir l.lists.entries };
+}
+
+// Whether a path stands right in the directory of a list.
+fn is_in(list: List<'_>, path: PathRef<'_>) -> bool
+    ensures { result ≡ is_same_dir (dir_of list.entry) (parent_of path.entry.text.now) }
+{
+    match list.dir {
+        None => path.parent().is_none(),
+        Some(dir) => match path.parent() {
+            None => false,
+            Some(parent) => dir.text == parent.text,
+        },
+    }
+}
+
+/// The node at a path below a list's directory, where one stands there.
+pub fn node_in<'a>(list: List<'a>, path: PathRef<'_>) -> Option<NodeRef<'a>>
+    requires { is_above (dir_of list) path.text.now ≡ true }
+    ensures node { option_map row result ≡ row_at (rows_in list.entry) path.entry.text.now }
+    // What stands below it in the list is what is below the node.
+    ensures below { IfSome result (HasBelow list.entry) }
+{
+    if is_in(list, path) {
+        return list.find(path.base());
+    }
+    let Some(dir) = path.parent() else {
+        return None;
+    };
+    match node_in(list, dir) {
+        None => None,
+        Some(node) => node.children().find(path.base()),
+    }
+}
+
+impl<'a> Lent<'a> {
+    /// No list is lent.
+    pub fn new(alloc: Global) -> Lent<'a>
+        ensures none { IsNoneLent result }
+        ensures bare { CoversNone result }
+    {
+        Lent {
+            lists: BTreeMap::new(alloc),
+        }
+    }
+
+    /// Lends the list of a directory, or leaves all as it was.
+    pub fn put(&mut self, alloc: Global, dir: &str, list: List<'a>) -> Result<(), OutOfMemory>
+        requires { or_root (dir_of list) ≡ dir.now }
+        ensures ok { OnOk result (IsLentPut dir.now (Some (rows_in list.entry)) self.old self.new) }
+        ensures err { OnErr result (AreLentStill self.old self.new) }
+    {
+        let key = String::from_str(alloc, dir)?;
+        self.lists.insert(key, list)?;
+        Ok(())
+    }
+
+    /// The list of a directory isn't lent any more.
+    pub fn remove(&mut self, dir: &str)
+        ensures { IsLentPut dir.now None self.old self.new }
+    {
+        let _ = self.lists.remove(dir);
+    }
+
+    /// No list is lent any more.
+    pub fn clear(&mut self, alloc: Global)
+        ensures none { IsNoneLent self.new }
+        ensures bare { CoversNone self.new }
+    {
+        self.lists = BTreeMap::new(alloc);
+    }
+
+    /// The list of a directory, where it is lent.
+    pub fn get(&self, dir: &str) -> Option<List<'a>>
+        ensures rows { option_map rows_in result ≡ lent_at self.now dir.now }
+        ensures dir { IfSome result (λ list. or_root (dir_of list) ≡ dir.now) }
+    {
+        self.lists.get(dir).copied()
+    }
+
+    /// Whether the list of a directory is lent.
+    pub fn has(&self, dir: &str) -> bool
+        ensures { result ≡ is_some (lent_at self.now dir.now) }
+    {
+        self.get(dir).is_some()
+    }
+
+    /// Whether no list is lent.
+    pub fn is_empty(&self) -> bool
+        ensures { result ≡ true → CoversNone self.now }
+    {
+        self.lists.len() == 0
+    }
+
+    // The list of the nearest directory above a path that has one.
+    fn over(&self, path: PathRef<'_>) -> Option<List<'a>>
+        ensures { IsOver self.now path.entry.text.now result }
+    {
+        let Some(dir) = path.parent() else {
+            return self.get("");
+        };
+        match self.get(dir.text) {
+            Some(list) => Some(list),
+            None => self.over(dir),
+        }
+    }
+
+    /// Where a path is to be looked for, and in the image the node that stands there.
+    pub fn find(&self, path: PathRef<'_>) -> Place<'a>
+        ensures { IsPlace self.now path.entry.text.now result }
+    {
+        match self.over(path) {
+            None => Place::Memory,
+            Some(list) => Place::Image(node_in(list, path)),
+        }
+    }
+}

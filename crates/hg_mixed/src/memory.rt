@@ -1,0 +1,142 @@
+//! What is in memory of a table.
+
+ghost use Rattle.std.specs.Prelude.{◌≡◌, ℕ, List, None, false, option_map};
+ghost use Rattle.hg_entry.specs.Entry.{stamp_view, view};
+ghost use Rattle.hg_mixed.specs.Edits.{IsFormed};
+ghost use Rattle.hg_mixed.specs.Lists.{has_rows_in};
+ghost use Rattle.hg_mixed.specs.Memory.{memory_table};
+ghost use Rattle.hg_mixed.specs.Node.{node_at};
+ghost use Rattle.hg_mixed.specs.Shown.{shown_item, shown_in};
+ghost use Rattle.hg_mixed.specs.Times.{time_at};
+
+use crate::node::Node;
+use crate::nodes::Nodes;
+use crate::times::Times;
+use hg_base::{Id20, PathRef, Stamp};
+use hg_docket::Docket;
+use hg_entry::Item;
+use std::alloc::Global;
+use std::marker::Model;
+
+/// The parents, the hash, and those nodes and times that are in memory.
+#[derive(Drop)]
+pub struct Memory {
+    pub(crate) alloc: Global,
+    pub(crate) p1: Id20,
+    pub(crate) p2: Id20,
+    pub(crate) hash: [u8; 20],
+    pub(crate) changed: bool,
+    pub(crate) nodes: Nodes,
+    pub(crate) times: Times,
+}
+
+impl Model for Memory {
+    ghost use Rattle.hg_mixed.specs.Memory.{InMemory};
+    ghost use Rattle.hg_mixed.specs.Held.{table_of};
+
+    ghost Value = { InMemory };
+
+    ghost use Rattle.hg_mixed.specs.Edits.{IsFormed};
+
+    ghost view = { λ m. record {
+      p1 = m.p1.0;
+      p2 = m.p2.0;
+      hash = m.hash;
+      changed = m.changed;
+      rows = m.nodes;
+      times = m.times;
+    } };
+
+    ghost invariant = { λ m. IsFormed (table_of m.p1.0 m.p2.0 m.hash m.nodes m.times) };
+}
+
+impl Memory {
+    /// Nothing but the parents and the hash of a docket.
+    pub fn new(alloc: Global, docket: Docket<'_>) -> Memory
+        ensures nodes { (at : List ℕ) → node_at result.rows at ≡ None }
+        ensures times { (at : List ℕ) → time_at result.times at ≡ None }
+        ensures p1 { result.p1 ≡ docket.entry.p1.0 }
+        ensures p2 { result.p2 ≡ docket.entry.p2.0 }
+        ensures hash { result.hash ≡ docket.entry.hash }
+        ensures changed { result.changed ≡ false }
+    {
+        Memory {
+            alloc,
+            p1: docket.p1,
+            p2: docket.p2,
+            hash: docket.hash,
+            changed: false,
+            nodes: Nodes::new(alloc),
+            times: Times::new(alloc),
+        }
+    }
+
+    /// Whether an edit has changed anything.
+    pub fn changed(&self) -> bool
+        ensures { result ≡ self.now.changed }
+    {
+        self.changed
+    }
+
+    /// The parents of the working copy.
+    pub fn parents(&self) -> (Id20, Id20)
+        ensures p1 { result.0.0 ≡ self.now.p1 }
+        ensures p2 { result.1.0 ≡ self.now.p2 }
+    {
+        (self.p1, self.p2)
+    }
+
+    /// The hash of the ignore patterns under which directories were cached.
+    pub fn hash(&self) -> [u8; 20]
+        ensures { result ≡ self.now.hash }
+    {
+        self.hash
+    }
+
+    /// The entry of a path and its copy source, where it has an entry.
+    pub fn get(&self, path: PathRef<'_>) -> Option<Item<'_>>
+        ensures item { option_map shown_item result ≡ shown_in (memory_table self.now) path.entry.text.now }
+        ensures formed { IsFormed (memory_table self.now) }
+    {
+        let node = self.nodes.get(path)?;
+        item_of(node)
+    }
+
+    /// The time of a cached directory.
+    pub fn cache(&self, dir: PathRef<'_>) -> Option<Stamp>
+        ensures { option_map stamp_view result ≡ (memory_table self.now).caches dir.entry.text.now }
+    {
+        self.times.get(dir.text)
+    }
+
+    /// Whether a node stands at the path.
+    pub fn has_node(&self, path: PathRef<'_>) -> bool
+        ensures { result ≡ (memory_table self.now).nodes path.entry.text.now }
+    {
+        self.nodes.get(path).is_some()
+    }
+
+    /// Whether a node stands right in a directory, of which the text is empty for the root.
+    pub fn has_kids(&self, dir: &str) -> bool
+        ensures { result ≡ has_rows_in self.now.rows dir.now }
+    {
+        self.nodes.has_kids(dir)
+    }
+}
+
+// What a node shows, where it has an entry.
+fn item_of(node: &Node) -> Option<Item<'_>>
+    ensures { option_map shown_item result ≡ option_map (λ entry. (view entry, node.now.source)) node.now.entry }
+{
+    let entry = node.entry?;
+    match &node.source {
+        None => Some(Item {
+            entry,
+            source: None,
+        }),
+        Some(source) => Some(Item {
+            entry,
+            source: Some(source.as_ref()),
+        }),
+    }
+}
