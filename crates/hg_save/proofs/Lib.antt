@@ -1,6 +1,8 @@
 pub mod Encodings
 pub mod Exits
+pub mod Loads
 pub mod Names
+pub mod Others
 pub mod Parts
 pub mod Readings
 pub mod Stages

@@ -1,3 +1,5 @@
 pub mod Leads
+pub mod Loads
+pub mod Others
 pub mod Record
 pub mod Saved

@@ -1,15 +1,31 @@
-//! A law of the definitions.
+//! Laws of the definitions.
 
-ghost use Rattle.std.specs.Prelude.{◌≡◌, ℕ, List};
+ghost use Rattle.std.specs.Prelude.{◌≡◌, ℕ, Err, List, Ok};
 ghost use Rattle.hg_append.specs.Encoded.{IsWritten, ReadsAs};
 ghost use Rattle.hg_append.specs.declared.encoding.Encoded.{Encoded};
 ghost use Rattle.hg_docket.specs.Docket.{docket_of};
+ghost use Rattle.hg_docket.specs.declared.fault.DocketFault.{DocketFault};
 ghost use Rattle.hg_image.specs.Reading.{reading_of};
+ghost use Rattle.hg_image.specs.Reading as a_record_fault;
 ghost use Rattle.hg_mixed.specs.Held.{Held, table};
+ghost use Rattle.hg_save.specs.Loads.{Loads, Try};
+ghost use Rattle.hg_save.specs.Others.{KeepData, WasRecorded};
 ghost use Rattle.hg_save.specs.Saved.{IsOver};
+ghost use Rattle.hg_save.specs.declared.load_fault.LoadFault.TheVariants as a_fault;
+ghost use Rattle.hg_save.specs.declared.loaded.Loaded.{Loaded};
+ghost use Rattle.hg_shelf.specs.History.{History};
 
 /// What a table is encoded as can be published over the record that the table was opened from.
 pub fn encoded_over()
     ensures { (loaded : List ℕ) (held : Held) (new : Encoded) → held.docket.id ≡ (docket_of loaded).id → IsWritten held new
         → ReadsAs (table held) (reading_of new.docket.items new.bytes.items) → IsOver loaded new }
+{}
+
+/// Where others keep the data that dockets name, a load found the record of one moment.
+pub fn one_moment()
+    ensures found { (old new : History) (tries : List Try) (loaded : Loaded) → KeepData new old.last → Loads old new tries (Ok loaded)
+        → WasRecorded old new (reading_of loaded.docket.items loaded.nodes.items) }
+    // A fault of the docket that it told stood at one moment, whatever others do.
+    ensures fault { (old new : History) (tries : List Try) (fault : DocketFault) → Loads old new tries (Err (a_fault.Docket fault))
+        → WasRecorded old new (Err (a_record_fault.Docket fault)) }
 {}

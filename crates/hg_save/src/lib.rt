@@ -13,11 +13,17 @@
 #![tactic(auto)]
 
 mod laws;
+mod load_fault;
+mod loaded;
+mod loading;
 mod saving;
 mod steps;
 
-pub use laws::encoded_over;
-pub use saving::{Loaded, publish};
+pub use laws::{encoded_over, one_moment};
+pub use load_fault::LoadFault;
+pub use loaded::Loaded;
+pub use loading::load;
+pub use saving::publish;
 
 #[cfg(test)]
 mod tests;

@@ -10,6 +10,7 @@ ghost use Rattle.hg_save.specs.Leads.{Leads};
 ghost use Rattle.hg_save.specs.Record.{data_name};
 ghost use Rattle.hg_save.specs.Saved.{IsFree, IsLatest, IsOver, KeepsOthers, LeavesOnly, Records, ShowsOnly, Stands, published};
 
+use crate::loaded::Loaded;
 use crate::steps::{put, swap};
 use hg_append::Encoded;
 use hg_base::Failed;
@@ -20,13 +21,6 @@ use hg_shelf::Shelf;
 const DOCKET: &str = "dirstate";
 
 const NEW_DOCKET: &str = "dirstate-new";
-
-/// A record as it was loaded: the bytes of its docket, at most 512, and the used bytes of its data file.
-#[derive(Drop)]
-pub struct Loaded {
-    pub docket: Vec<u8>,
-    pub nodes: Vec<u8>,
-}
 
 // Takes the data file away that a docket names, where it names one.
 fn clear<S: Shelf>(shelf: &mut S, docket: &[u8]) -> Result<(), Failed>

@@ -1,5 +1,5 @@
 use Rattle.std.proofs.Common.{ap, sym, ◌∙◌}
-use Rattle.hg_docket.specs.Docket.{Contents, docket_of, docket_refusal}
+use Rattle.hg_docket.specs.Docket.{Contents}
 use Rattle.hg_save.proofs.tests.added.Goals as goal
 
 pub encoded-requires : goal.encoded-requires

@@ -1,0 +1,28 @@
+use Rattle.std.proofs.Common.{sym, refl, ◌∙◌}
+use Rattle.std.proofs.lemmas.Result.{err_from_is_err_and}
+use Rattle.hg_docket.specs.Docket.{view}
+use Rattle.hg_save.proofs.Loads.{named_fault, named_memory, named_read, named_unread}
+use Rattle.hg_save.proofs.loading.load_named.Goals as goal
+
+pub returns-in_err-docket-clause-found : goal.returns-in_err-docket-clause-found
+returns-in_err-docket-clause-found g c = λ told.
+    let p = err_from_is_err_and c.from_residual.result c.from_residual.ensures.1 in
+    rw (p.1, p.2) (named_fault (g.S.Shelf.history c.args.shelf.now) c.args.bytes.now c.in_err-docket.field-0.0 (sym c.in_err-docket.ensures.refused))
+
+pub returns-in_err-nodes-clause-found : goal.returns-in_err-nodes-clause-found
+returns-in_err-nodes-clause-found g c = λ told.
+    let p = err_from_is_err_and c.from_residual-in_err-nodes.result c.from_residual-in_err-nodes.ensures.1 in
+    rw (p.1, p.2)
+    (named_unread (g.S.Shelf.history c.args.shelf.now) (g.S.Shelf.history c.read_data.new.shelf) c.args.bytes.now (view c.in_ok-docket.docket) c.in_err-nodes.field-0.0
+    (sym c.in_ok-docket.ensures.refused) c.in_ok-docket.ensures.fields (c.in_err-nodes.ensures.found told))
+
+pub returns-in_err-extend_from_slice-clause-found : goal.returns-in_err-extend_from_slice-clause-found
+returns-in_err-extend_from_slice-clause-found g c = λ told.
+    let p = err_from_is_err_and c.from_residual-in_err-extend_from_slice.result c.from_residual-in_err-extend_from_slice.ensures.1 in
+    rw (p.1, p.2) (named_memory (g.S.Shelf.history c.args.shelf.now) (g.S.Shelf.history c.read_data.new.shelf) c.args.bytes.now c.in_ok-nodes.ensures.passes.past)
+
+pub returns-clause-found : goal.returns-clause-found
+returns-clause-found g c = λ told.
+    named_read (g.S.Shelf.history c.args.shelf.now) (g.S.Shelf.history c.read_data.new.shelf) c.args.bytes.now c.in_ok-nodes.nodes.items (view c.in_ok-docket.docket) _
+    (sym c.in_ok-docket.ensures.refused) c.in_ok-docket.ensures.fields (c.in_ok-nodes.ensures.found told)
+    (c.in_ok-extend_from_slice.ensures.items ∙ rw c.new-kept.ensures.items refl) refl

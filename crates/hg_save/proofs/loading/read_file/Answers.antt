@@ -1,0 +1,19 @@
+use Rattle.std.proofs.Common.{◌∙◌}
+use Rattle.hg_shelf.proofs.Scenes.{goes_trans}
+use Rattle.hg_save.specs.Loads.{bytes_of}
+use Rattle.hg_save.proofs.Loads.{file_rest, gone_sized}
+use Rattle.hg_save.proofs.loading.read_file.Goals as goal
+
+pub returns-in-Ok-None-clause-found : goal.returns-in-Ok-None-clause-found
+returns-in-Ok-None-clause-found g c = λ told.
+    gone_sized (g.S.Shelf.history c.args.shelf.now) (g.S.Shelf.history c.size.new.self) c.args.id c.as_str.result.now c.args.used c.gone.result c.size.ensures.passes
+    (c.as_str.ensures ∙ c.of.ensures) (rw c.in-Ok-None.field-0-is at (c.in-Ok-None.ensures.found told)) c.gone.ensures
+
+pub returns-in-Ok-Some-clause-found : goal.returns-in-Ok-Some-clause-found
+returns-in-Ok-Some-clause-found g c = λ told.
+    file_rest (g.S.Shelf.history c.args.shelf.now) (g.S.Shelf.history c.size.new.self) (g.S.Shelf.history c.read_front.new.shelf) c.args.id c.as_str.result.now c.args.used c.in-Ok-Some.size c.min.result
+    (bytes_of c.read_front.result) c.size.ensures.passes c.read_front.ensures.passes (c.as_str.ensures ∙ c.of.ensures) (rw c.in-Ok-Some.field-0-is at (c.in-Ok-Some.ensures.found told)) c.min.ensures
+    (c.read_front.ensures.found (c.size.ensures.passes.past.told ∙ told))
+
+pub returns-in-Ok-Some-clause-kept : goal.returns-in-Ok-Some-clause-kept
+returns-in-Ok-Some-clause-kept g c = goes_trans _ _ _ c.size.ensures.kept c.read_front.ensures.kept

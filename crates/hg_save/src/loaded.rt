@@ -1,0 +1,32 @@
+//! A record as it was loaded.
+
+ghost use Rattle.std.specs.Prelude.{◌≡◌, ◌≤◌, length, None, IfOk};
+ghost use Rattle.std.specs.Result.{result_map_both};
+ghost use Rattle.hg_docket.specs.Docket.{docket_of, docket_refusal, view};
+ghost use Rattle.hg_image.specs.Reading.{data_reading, table_in};
+
+use hg_docket::Docket;
+use hg_image::{Image, NodeFault};
+
+/// A record as it was loaded: the bytes of its docket, at most 512, and the used bytes of its data file, fewer where the file is shorter.
+#[derive(Drop)]
+pub struct Loaded {
+    pub docket: Vec<u8>,
+    pub nodes: Vec<u8>,
+}
+
+impl Loaded {
+    /// Reads the nodes, and answers their first fault. It takes no memory.
+    pub fn open(&self) -> Result<Image<'_>, NodeFault>
+        requires few { length self.now.docket.items ≤ 512 }
+        requires whole { docket_refusal self.now.docket.items ≡ None }
+        ensures docket { IfOk result (λ i. view i.docket ≡ docket_of self.now.docket.items) }
+        // It is the reading of the data file: the first fault, or the table of all that is recorded.
+        ensures read { result_map_both table_in (λ fault. fault) result ≡ data_reading (docket_of self.now.docket.items) self.now.nodes.items }
+    {
+        match Docket::read(self.docket.as_slice()) {
+            Err(_) => unreachable!(),
+            Ok(docket) => Image::open(&docket, self.nodes.as_slice()),
+        }
+    }
+}
