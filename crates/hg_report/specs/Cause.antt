@@ -1,6 +1,10 @@
 -- The faults of the crates below, under the names of a command's faults.
+use Rattle.hg_append.specs.declared.fault.EncodeFault.{EncodeFault}
+use Rattle.hg_append.specs.declared.fault.EncodeFault.TheVariants as an_encode_fault
 use Rattle.hg_flat.specs.declared.fault.StatusFault.{StatusFault}
 use Rattle.hg_flat.specs.declared.fault.StatusFault.TheVariants as a_status_fault
+use Rattle.hg_ops.specs.declared.refusal.OpFault.{OpFault}
+use Rattle.hg_ops.specs.declared.refusal.OpFault.TheVariants as an_op_fault
 use Rattle.hg_report.specs.declared.fault.Fault.{Fault}
 use Rattle.hg_report.specs.declared.fault.Fault.TheVariants as a_fault
 
@@ -19,3 +23,12 @@ of_status (a_status_fault.BadGlob line) = a_fault.BadGlob line
 of_status (a_status_fault.BadRegexp line) = a_fault.BadRegexp line
 of_status (a_status_fault.RegexpTooBig line) = a_fault.RegexpTooBig line
 of_status (a_status_fault.BadInclude line) = a_fault.BadInclude line
+
+abbrev pub of_encode : EncodeFault → Fault
+of_encode an_encode_fault.OutOfMemory = a_fault.OutOfMemory
+of_encode (an_encode_fault.TooLarge size) = a_fault.TooLarge size
+of_encode an_encode_fault.IdsSpent = a_fault.IdsSpent
+
+abbrev pub of_op : OpFault → Fault
+of_op an_op_fault.OutOfMemory = a_fault.OutOfMemory
+of_op an_op_fault.TreeFailed = a_fault.TreeFailed

@@ -1,9 +1,11 @@
 //! Why a command ended without doing what it was asked for.
 
+use hg_append::EncodeFault;
 use hg_base::{Id20, OutOfMemory};
 use hg_docket::{DocketFault, Idents};
 use hg_flat::StatusFault;
 use hg_image::NodeFault;
+use hg_ops::OpFault;
 use std::alloc::{AllocError, AllocFailed};
 
 /// Why a command ended without doing what it was asked for.
@@ -41,6 +43,12 @@ pub enum Fault {
     RegexpTooBig { line: u32 },
     /// That line names another file, which isn't read yet.
     BadInclude { line: u32 },
+    /// Another process holds the lock of the working copy.
+    Held,
+    /// The data file would have so many bytes, over 4,294,967,295.
+    TooLarge { size: u64 },
+    /// No identifier is left for a data file.
+    IdsSpent,
     /// The working copy failed.
     TreeFailed,
     /// The files below `.hg` failed.
@@ -128,6 +136,35 @@ impl From<StatusFault> for Fault {
             StatusFault::BadRegexp { line } => Fault::BadRegexp { line },
             StatusFault::RegexpTooBig { line } => Fault::RegexpTooBig { line },
             StatusFault::BadInclude { line } => Fault::BadInclude { line },
+        }
+    }
+}
+
+impl From<EncodeFault> for Fault {
+    ghost use Rattle.std.specs.Prelude.{◌≡◌};
+    ghost use Rattle.hg_report.specs.Cause.{of_encode};
+
+    ghost from_gives = { λ f e. e ≡ of_encode f };
+
+    fn from(fault: EncodeFault) -> Fault {
+        match fault {
+            EncodeFault::OutOfMemory => Fault::OutOfMemory,
+            EncodeFault::TooLarge { size } => Fault::TooLarge { size },
+            EncodeFault::IdsSpent => Fault::IdsSpent,
+        }
+    }
+}
+
+impl From<OpFault> for Fault {
+    ghost use Rattle.std.specs.Prelude.{◌≡◌};
+    ghost use Rattle.hg_report.specs.Cause.{of_op};
+
+    ghost from_gives = { λ f e. e ≡ of_op f };
+
+    fn from(fault: OpFault) -> Fault {
+        match fault {
+            OpFault::OutOfMemory => Fault::OutOfMemory,
+            OpFault::TreeFailed => Fault::TreeFailed,
         }
     }
 }

@@ -105,6 +105,12 @@ fn ignore_byte_text(alloc: Global, at: u32) -> Result<String, OutOfMemory>
     Ok(format!(in alloc; ".hgignore: byte {at} is not text")?)
 }
 
+fn data_size_text(alloc: Global, size: u64) -> Result<String, OutOfMemory>
+    ensures { IfOk result (λ text. string_bytes text ≡ codes "dirstate data would have " ++ (decimal size ++ codes " bytes")) }
+{
+    Ok(format!(in alloc; "dirstate data would have {size} bytes")?)
+}
+
 fn put_words(alloc: Global, line: &mut Vec<u8>, fault: &Fault) -> Result<(), OutOfMemory>
     ensures { OnOk result (line.new.items ≡ line.old.items ++ words_of fault.now) }
 {
@@ -135,6 +141,9 @@ fn put_words(alloc: Global, line: &mut Vec<u8>, fault: &Fault) -> Result<(), Out
         Fault::BadRegexp { line: at } => put(line, ignore_text(alloc, *at, "regexp")?.as_str()),
         Fault::RegexpTooBig { line: at } => put(line, ignore_text(alloc, *at, "size")?.as_str()),
         Fault::BadInclude { line: at } => put(line, ignore_text(alloc, *at, "include")?.as_str()),
+        Fault::Held => put(line, "working copy is locked"),
+        Fault::TooLarge { size } => put(line, data_size_text(alloc, *size)?.as_str()),
+        Fault::IdsSpent => put(line, "no identifier is left"),
         Fault::TreeFailed => put(line, "working copy failed"),
         Fault::ShelfFailed => put(line, ".hg failed"),
         Fault::OutFailed => put(line, "output failed"),
@@ -142,7 +151,8 @@ fn put_words(alloc: Global, line: &mut Vec<u8>, fault: &Fault) -> Result<(), Out
     }
 }
 
-fn put(line: &mut Vec<u8>, text: &str) -> Result<(), OutOfMemory>
+// Puts a text behind what is there.
+pub(crate) fn put(line: &mut Vec<u8>, text: &str) -> Result<(), OutOfMemory>
     ensures { OnOk result (line.new.items ≡ line.old.items ++ text.now) }
 {
     line.extend_from_slice(text.as_bytes())?;

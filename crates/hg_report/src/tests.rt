@@ -1,12 +1,14 @@
 //! What no clause says: the texts as the program's page of texts has them, and that memory is found.
 
 use super::*;
+use hg_append::EncodeFault;
 use hg_base::{Id20, Path, Text};
 use hg_compare::Letter;
 use hg_docket::{DocketFault, Ident, Idents};
 use hg_flat::{Row, Rows};
 use hg_ignore::{Warning, Warnings};
 use hg_image::NodeFault;
+use hg_ops::{OpFault, Refusal};
 use std::alloc::Global;
 use std::test::Fail;
 
@@ -226,6 +228,72 @@ fn prints_other_faults(rt: HostRuntime) -> Result<(), Fail> {
         (Fault::ErrFailed, ""),
     ] {
         let line = fault_text(rt.alloc(), &fault)?;
+        assert_eq!(rt; line.as_slice(), wanted.as_bytes(), "{wanted}");
+    }
+    Ok(())
+}
+
+// What may be wrong with saving.
+#[test]
+fn prints_faults_of_saving(rt: HostRuntime) -> Result<(), Fail> {
+    for (fault, wanted) in [
+        (Fault::Held, "abort: working copy is locked\n"),
+        (
+            Fault::TooLarge {
+                size: 4_294_967_296,
+            },
+            "abort: dirstate data would have 4294967296 bytes\n",
+        ),
+        (
+            Fault::from(EncodeFault::TooLarge {
+                size: 18_446_744_073_709_551_615,
+            }),
+            "abort: dirstate data would have 18446744073709551615 bytes\n",
+        ),
+        (Fault::IdsSpent, "abort: no identifier is left\n"),
+        (
+            Fault::from(EncodeFault::IdsSpent),
+            "abort: no identifier is left\n",
+        ),
+        (
+            Fault::from(EncodeFault::OutOfMemory),
+            "abort: out of memory\n",
+        ),
+        (Fault::from(OpFault::OutOfMemory), "abort: out of memory\n"),
+        (
+            Fault::from(OpFault::TreeFailed),
+            "abort: working copy failed\n",
+        ),
+    ] {
+        let line = fault_text(rt.alloc(), &fault)?;
+        assert_eq!(rt; line.as_slice(), wanted.as_bytes(), "{wanted}");
+    }
+    Ok(())
+}
+
+// Each refusal, of a word with a space and letters beyond ASCII too.
+#[test]
+fn prints_refusals(rt: HostRuntime) -> Result<(), Fail> {
+    let other = Path::read(rt.alloc(), "d/\u{e4} b")?;
+    for (command, word, refusal, wanted) in [
+        ("add", "a//b", Refusal::BadPath, "add a//b: bad path\n"),
+        ("add", "", Refusal::BadPath, "add : bad path\n"),
+        ("add", "a b", Refusal::NotThere, "add a b: no such file\n"),
+        (
+            "forget",
+            "\u{e4}",
+            Refusal::NotTracked,
+            "forget \u{e4}: not tracked\n",
+        ),
+        ("add", "d", Refusal::Special, "add d: not a file\n"),
+        (
+            "add",
+            "d",
+            Refusal::Clash { other },
+            "add d: clashes with d/\u{e4} b\n",
+        ),
+    ] {
+        let line = refusal_text(rt.alloc(), command, word, &refusal)?;
         assert_eq!(rt; line.as_slice(), wanted.as_bytes(), "{wanted}");
     }
     Ok(())

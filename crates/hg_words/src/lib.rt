@@ -1,0 +1,34 @@
+//! File words of a command line, from where a user stands.
+//!
+//! A user stands in a folder of the working copy, and tells files from there, as for Mercurial; the commands take paths from the root.
+//! `from_folder` makes the one of the other, by the word's text alone:
+//!
+//! | word | what it tells in the folder `a/b` |
+//! |---|---|
+//! | `c`, `./c`, `././c` | `a/b/c` |
+//! | `../c`, `.././c` | `a/c` |
+//! | `../../c` | `c` |
+//! | `../../../c` | nothing: it leads out of the root |
+//! | nothing, `/c` | nothing |
+//!
+//! A word that tells nothing stays as it is, and is no path: nothing is made up and nothing dropped. `.`, `..` and `x/../c` become texts that are no
+//! paths either, since each would end in `.` or `..` or have it inside. Links aren't followed.
+//!
+//! ```text
+//! from_folder(alloc, "a/b", "../c")?;  // "a/c"
+//! from_folder(alloc, "", "c")?;        // "c"
+//! located(alloc, "a", &words)?;        // of `add c ../d`: `add a/c d`
+//! has_file_words(&words);              // true
+//! ```
+#![tactic(auto)]
+
+mod command;
+mod folder;
+mod laws;
+
+pub use command::{has_file_words, located};
+pub use folder::from_folder;
+pub use laws::{located_without_files, path_at_root, path_below, path_in_folder, path_leads};
+
+#[cfg(test)]
+mod tests;
