@@ -1,0 +1,265 @@
+-- What a command that changes the record did, from what its parts did.
+use Rattle.std.proofs.Common.{ℕ, ◌≡◌, ◌≤◌, ◌⊎◌, true, false, List, [], ◌∷◌, Option, Some, None, is_some, Ok, Err, IsTrue, refl, sym, ap, ◌∙◌, subst, inl, inr, arith}
+use Rattle.std.proofs.lemmas.Bool.{cases_Bool, cases_lt}
+use Rattle.hg_append.specs.Encoded.{HasCause}
+use Rattle.hg_append.specs.declared.fault.EncodeFault.{EncodeFault}
+use Rattle.hg_append.specs.declared.fault.EncodeFault.TheVariants as an_encode
+use Rattle.hg_base.specs.Fault.{Rose}
+use Rattle.hg_docket.specs.Docket.{Contents, docket_of, docket_refusal}
+use Rattle.hg_docket.specs.Number.{next_name}
+use Rattle.hg_entry.specs.Table.{Table}
+use Rattle.hg_image.specs.Reading.{data_reading, of_data}
+use Rattle.hg_mixed.specs.Edits.{IsOfSameImage, IsSame}
+use Rattle.hg_mixed.specs.Held.{Held, table}
+use Rattle.hg_ops.proofs.Added.{same_table}
+use Rattle.hg_report.specs.Cause.{of_encode}
+use Rattle.hg_report.specs.declared.fault.Fault.{Fault}
+use Rattle.hg_save.specs.Loads.{IsTry, Loads, Try, files_at, found_by}
+use Rattle.hg_save.specs.Record.{docket_in, id_in, reading}
+use Rattle.hg_save.specs.Saved.{LeavesOnly, ReadsAsBeforeOr, ShowsOnly, Stands}
+use Rattle.hg_save.specs.declared.load_fault.LoadFault.{LoadFault}
+use Rattle.hg_save.specs.declared.loaded.Loaded.{Loaded}
+use Rattle.hg_save.proofs.Loads.{found_longer, last_within, tries_longer}
+use Rattle.hg_session.specs.Acts.{AllIdle, AllSteps, IsActed}
+use Rattle.hg_session.specs.Anew.{CanWrite, IsOpened, IsOverwritten, IsRecorded, LoadsOrRefuses, MetWriting, WritesOnly}
+use Rattle.hg_session.specs.Call.{Fails, Watched}
+use Rattle.hg_session.specs.Change.{FitsFirst, IsDone, IsKept, IsMade, IsPublished, IsReadFirst, IsSafe, IsUnwritten, MetChanging, MetSpent, up_to}
+use Rattle.hg_session.specs.Load.{by_load, of_read}
+use Rattle.hg_session.specs.Loaded.{NodesFind, Refuses}
+use Rattle.hg_session.specs.declared.acting.Changing.{Changing}
+use Rattle.hg_session.specs.declared.read_fault.ReadFault.{ReadFault}
+use Rattle.hg_session.specs.declared.read_fault.ReadFault.TheVariants as a_read
+use Rattle.hg_session.proofs.Acted.{idle_start, steps_start}
+use Rattle.hg_session.proofs.Locked.{end_remains, front_docket, front_found, front_latest, front_remains, none_front, unwritten, whole_stretch}
+use Rattle.hg_session.proofs.Readings.{refused_by, sound_reading}
+use Rattle.hg_session.proofs.SameTables.{one_table}
+use Rattle.hg_shelf.specs.History as shelf
+use Rattle.hg_shelf.specs.History.{Extends, Files, History, Passes}
+use Rattle.hg_shelf.specs.Images.{Course, Goes, last_scene, scene}
+use Rattle.hg_shelf.specs.Polite.{Undisturbed}
+use Rattle.hg_tree.specs.History as tree
+
+-- ---- why it met a fault, before it wrote
+
+-- a load that was refused
+pub refused_load : (old new : History) (tries : List Try) (fault : LoadFault) → Loads old new tries (Err fault) → Refuses old new tries (by_load fault)
+refused_load old new tries fault loads = record { tried = loads.tried; answer = refused_by fault old new tries loads }
+
+module _ (command : Changing) (words : List (List ℕ)) (copy : Watched tree.History) (files : Watched shelf.History) where
+  -- the record could not be read
+  pub met_read : (fault : ReadFault) → (IsTrue files.old.told → (tried : Try) × Refuses files.old files.new (tried ∷ []) fault) → (fault ≡ a_read.Failed → Fails files) → MetChanging command words copy files (of_read fault)
+  met_read a_read.OutOfMemory met failed = tt
+  met_read (a_read.Docket fault) met failed = λ told. let m = met told in (m.0 ∷ [], m.1)
+  met_read (a_read.Node fault) met failed = λ told. let m = met told in (m.0 ∷ [], m.1)
+  met_read (a_read.DataGone ids) met failed = λ told. let m = met told in (m.0 ∷ [], m.1)
+  met_read a_read.Failed met failed = failed refl
+
+  -- its nodes could not
+  pub met_opened : {X : Type 0} (IsOf : Table → X → Type 0) (loaded : Loaded) (fault : ReadFault) → docket_refusal loaded.docket.items ≡ None
+      → (IsTrue files.old.told → (tried : Try) × LoadsOrRefuses files.old files.new (tried ∷ []) (Ok loaded))
+      → NodesFind IsOf (Err fault) (data_reading (docket_of loaded.docket.items) loaded.nodes.items) → MetChanging command words copy files (of_read fault)
+  met_opened IsOf loaded a_read.OutOfMemory sound loads finds = tt
+  met_opened IsOf loaded (a_read.Node fault) sound loads finds = λ told.
+      let m = loads told in (
+        m.0 ∷ [],
+        record { tried = m.1.tried; answer = m.1.answer.reading ∙ ap (λ r. Some r) (sound_reading loaded.docket.items loaded.nodes.items sound ∙ ap (λ r. of_data r) finds) },
+      )
+  met_opened IsOf loaded (a_read.Docket fault) sound loads finds = absurd finds
+  met_opened IsOf loaded (a_read.DataGone ids) sound loads finds = absurd finds
+  met_opened IsOf loaded a_read.Failed sound loads finds = absurd finds
+
+-- ---- the record that was read first
+
+-- the shelf before the load, behind it and at the end; what was loaded, the table that it records, and the one that was made of it
+module _ (a b c : Course) (passes : Passes a.history b.history) (goes : Goes b c) (loaded : Loaded) (sound : docket_refusal loaded.docket.items ≡ None)
+    (loads : IsTrue a.history.told → (tried : Try) × LoadsOrRefuses a.history b.history (tried ∷ []) (Ok loaded))
+    (recorded : Table) (nodes : data_reading (docket_of loaded.docket.items) loaded.nodes.items ≡ Ok recorded) where
+  abbrev tried_within : (told : IsTrue a.history.told) → IsTry a.history b.history (loads told).1.tried.last
+  tried_within told = last_within a.history b.history ((loads told).0 ∷ []) (loads told).1.tried
+
+  found_is : (told : IsTrue a.history.told) → found_by b.history (loads told).1.tried.last ≡ Some (Ok recorded)
+  found_is told = (loads told).1.answer.reading ∙ ap (λ r. Some r) (sound_reading loaded.docket.items loaded.nodes.items sound ∙ ap (λ r. of_data r) nodes)
+
+  pub read_first : IsTrue a.history.told → IsReadFirst a.history c.history recorded
+  read_first told =
+      let m = loads told in
+      let longer : Extends b.history (up_to b.history.last c.history) = record { told = goes.past.told; later = omega arith; who = goes.past.who; stay = goes.past.stay } in
+      record {
+        upto = b.history.last;
+        later = passes.past.later;
+        within = goes.past.later;
+        none = none_front a b c passes goes;
+        read = record {
+          tries = m.0 ∷ [];
+          tried = tries_longer a.history b.history (up_to b.history.last c.history) (m.0 ∷ []) longer m.1.tried;
+          found = found_longer a.history b.history (up_to b.history.last c.history) (m.0 ∷ []) longer m.1.tried ∙ found_is told;
+        };
+      }
+
+  -- the docket that was read names the identifier of the table
+  read_id : (told : IsTrue a.history.told) (docket : Contents) → docket ≡ docket_of loaded.docket.items → id_in (files_at c.history (loads told).1.tried.last.docket) ≡ docket.id
+  read_id told docket is =
+      ap (λ (bytes : List ℕ). (docket_of bytes).id) (ap docket_in (goes.past.stay (loads told).1.tried.last.docket (tried_within told).docket.to).shown ∙ sym (loads told).1.answer.docket)
+      ∙ ap (λ (d : Contents). d.id) (sym is)
+
+  -- what can be written could be over the record that was read
+  pub fits_first : (held : Held) → held.docket ≡ docket_of loaded.docket.items → CanWrite held → IsTrue a.history.told → FitsFirst a.history c.history (table held)
+  fits_first held is can told =
+      let within = (tried_within told).docket in
+      record {
+        at = (loads told).1.tried.last.docket;
+        later = within.from;
+        within = omega (arith, within.to, goes.past.later);
+        none = λ k from to. none_front a b c passes goes k from (omega (arith, to, within.to));
+        fits = record {
+          held = held;
+          same = same_table (table held);
+          tree = can.tree;
+          is = can.is;
+          small = can.small;
+          next = ap (λ (id : List ℕ). is_some (next_name id)) (read_id told held.docket is) ∙ can.next;
+        };
+      }
+
+  -- a docket that names the last identifier was read
+  pub spent_by : (docket : Contents) → docket ≡ docket_of loaded.docket.items → next_name docket.id ≡ None → (before after : ℕ) → IsTrue a.history.told
+      → MetSpent (record { old = a.history; new = c.history; before = before; after = after })
+  spent_by docket is spent before after told =
+      let within = (tried_within told).docket in
+      record {
+        at = (loads told).1.tried.last.docket;
+        during = record { from = within.from; to = omega (arith, within.to, goes.past.later) };
+        spent = ap next_name (read_id told docket is) ∙ spent;
+      }
+
+  -- ---- what the words made of it
+
+  module _ (command : Changing) (words : List (List ℕ)) (copy : Watched tree.History) (opened made : Held) (begun : IsOpened (docket_of loaded.docket.items) recorded opened) (image : IsOfSameImage opened made)
+      (lines : List ℕ) (acted : IsActed command copy.old copy.new words (table opened) (table made) opened.changed made.changed lines) where
+    abbrev steps_from : AllSteps command copy.old copy.new words acted.refused recorded (table made)
+    steps_from = steps_start command copy.old copy.new (table opened) recorded begun.same words acted.refused (table made) acted.steps
+
+    unwritten_still : c ≡ b → IsUnwritten a.history c.history
+    unwritten_still none = subst (λ (x : Course). IsUnwritten a.history x.history) (sym none) (unwritten a.history b.history passes)
+
+    docket_is : made.docket ≡ docket_of loaded.docket.items
+    docket_is = image.docket ∙ begun.contents
+
+    abbrev made_by : (before after : ℕ) → IsMade command words copy (record { old = a.history; new = c.history; before = before; after = after }) acted.refused (table made)
+    made_by before after = record { loaded = recorded; read = read_first; steps = steps_from }
+
+    by_encode : (before after : ℕ) (fault : EncodeFault) → HasCause made fault → MetChanging command words copy (record { old = a.history; new = c.history; before = before; after = after }) (of_encode fault)
+    by_encode before after an_encode.OutOfMemory cause = tt
+    by_encode before after (an_encode.TooLarge size) cause = record { refused = acted.refused; made = table made; is = made_by before after; held = made; same = same_table (table made); large = cause }
+    by_encode before after an_encode.IdsSpent cause = λ told. spent_by made.docket docket_is cause before after told
+
+    -- it was not written
+    pub met_writing : (before mid after : ℕ) (fault : Fault) → mid ≡ before → MetWriting made mid after fault → MetChanging command words copy (record { old = a.history; new = c.history; before = before; after = after }) fault
+    met_writing before mid after fault still (inl (e, is, cause)) = subst (MetChanging command words copy (record { old = a.history; new = c.history; before = before; after = after })) (sym is) (by_encode before after e cause)
+    met_writing before mid after fault still (inr (is, rose)) =
+        subst (MetChanging command words copy (record { old = a.history; new = c.history; before = before; after = after })) (sym is) (subst (λ (n : ℕ). Rose n after) still rose)
+
+    -- ---- what is left of it
+
+    module _ (ours : a.history.ours ≡ true) (calm : Undisturbed a c) where
+      abbrev tried : Try
+      tried = (loads calm.told).1.tried.last
+
+      there : reading (scene c a.history.last).files ≡ Some (Ok recorded)
+      there = sym (front_found a b c ours passes goes calm tried (tried_within calm.told)) ∙ found_is calm.told
+
+      pub stands : Stands loaded.docket.items (last_scene b)
+      stands = front_docket a b c ours passes goes calm tried (tried_within calm.told) ∙ sym (loads calm.told).1.answer.docket
+
+      -- what a crash leaves of a table that was written over the record
+      crash_over : (found : Table) → LeavesOnly b c (Some (Ok found)) → (k : ℕ) (f : Files) → a.history.last ≤ k → k ≤ c.history.last → (scene c k).leaves f → ReadsAsBeforeOr (scene c a.history.last) (Some (Ok found)) f
+      crash_over found only k f from to is = elim (cases_lt b.history.last k) [
+        | inl late ↦ elim (only.each k f (omega (arith, late)) to is) [
+          | inl before ↦ inl (before.0, (end_remains a b c ours passes goes calm).left before.0 before.1, before.2)
+          | inr new ↦ inr new
+        ]
+        | inr early ↦ inl (f, (front_remains a b c ours passes goes calm k from early).left f is, refl)
+      ]
+
+      shown_over : (found : Table) → ShowsOnly b c (Some (Ok found)) → (k : ℕ) → a.history.last ≤ k → k ≤ c.history.last
+          → (reading (scene c k).files ≡ reading (scene c a.history.last).files) ⊎ (reading (scene c k).files ≡ Some (Ok found))
+      shown_over found only k from to = elim (cases_lt b.history.last k) [
+        | inl late ↦ elim (only.each k (omega (arith, late)) to) [
+          | inl before ↦ inl (before ∙ ap reading (end_remains a b c ours passes goes calm).shown)
+          | inr new ↦ inr new
+        ]
+        | inr early ↦ inl (ap reading (front_remains a b c ours passes goes calm k from early).shown)
+      ]
+
+      published_by : IsOverwritten made b c → IsPublished command words copy (record { old = a; new = c })
+      published_by over = record {
+        stretch = whole_stretch a.history c.history (omega (arith, passes.past.later, goes.past.later));
+        loaded = recorded;
+        there = there;
+        refused = acted.refused;
+        made = table made;
+        steps = steps_from;
+        found = over.found;
+        is = over.is;
+        crash = λ latest. crash_over over.found (over.crash (front_latest a b c ours passes goes calm latest));
+        shown = λ latest. shown_over over.found (over.shown (front_latest a b c ours passes goes calm latest));
+        latest = λ latest. over.latest (front_latest a b c ours passes goes calm latest);
+      }
+
+      unwritten_by : IsUnwritten b.history c.history → IsUnwritten a.history c.history
+      unwritten_by behind = record {
+        none = λ k from to is. elim (cases_lt k b.history.last) [
+          | inl early ↦ none_front a b c passes goes k from early is
+          | inr late ↦ behind.none k late to is
+        ];
+      }
+
+      -- nothing was written, or the table was over the record that stood
+      pub safe_by : (fault : Option Fault) → WritesOnly made b c fault → IsSafe command words copy (record { old = a; new = c }) fault
+      safe_by fault (inl none) = inl (unwritten_by none)
+      safe_by fault (inr (follows, over)) = inr (follows, published_by over)
+
+      kept_written : IsRecorded made c → IsKept recorded (table made) (record { old = a; new = c })
+      kept_written is = record {
+        stretch = whole_stretch a.history c.history (omega (arith, passes.past.later, goes.past.later));
+        found = is.found;
+        is = is.is;
+        shown = is.records.shown;
+        left = inl is.records.left;
+      }
+
+      kept_still : c ≡ b → IsSame (table made) recorded → IsKept recorded (table made) (record { old = a; new = c })
+      kept_still none same = record {
+        stretch = whole_stretch a.history c.history (omega (arith, passes.past.later, goes.past.later));
+        found = recorded;
+        is = subst (λ (t : Table). IsSame t (table made)) (one_table (table made) recorded same) (same_table (table made));
+        shown = subst (λ (x : Course). reading (last_scene x).files ≡ Some (Ok recorded)) (sym none) (ap reading (end_remains a b c ours passes goes calm).shown ∙ there);
+        left = inr (same, unwritten_still none);
+      }
+
+    same_by : (opened.changed ≡ false → made.changed ≡ false → IsSame (table made) (table opened)) → made.changed ≡ false → IsSame (table made) recorded
+    same_by stays none = subst (IsSame (table made)) (one_table (table opened) recorded begun.same) (stays begun.unchanged none)
+
+    -- where no word changed anything, no mark is set
+    unmarked_by : AllIdle command copy.old copy.new words acted.refused recorded (table made) steps_from → made.changed ≡ false
+    unmarked_by idle = acted.idle (idle_start command copy.old copy.new (table opened) recorded begun.same words acted.refused (table made) acted.steps idle) ∙ begun.unchanged
+
+    -- the words were done, and what they made is recorded
+    pub done_by : (before after : ℕ) → a.history.ours ≡ true → (opened.changed ≡ false → made.changed ≡ false → IsSame (table made) (table opened))
+        → (made.changed ≡ true → CanWrite made) → (made.changed ≡ false → c ≡ b) → (Undisturbed a c → made.changed ≡ true → IsRecorded made c)
+        → IsDone command words copy (record { old = a.history; new = c.history; before = before; after = after }) (record { old = a; new = c }) lines
+    done_by before after ours stays can none records = record {
+      refused = acted.refused;
+      made = table made;
+      is = made_by before after;
+      text = acted.text;
+      fits = λ told. elim (cases_Bool made.changed) [
+        | inl set ↦ inr (fits_first made docket_is (can set) told)
+        | inr unset ↦ inl (same_by stays unset)
+      ];
+      kept = λ calm. elim (cases_Bool made.changed) [
+        | inl set ↦ kept_written ours calm (records calm set)
+        | inr unset ↦ kept_still ours calm (none unset) (same_by stays unset)
+      ];
+      idle = λ idle. unwritten_still (none (unmarked_by idle));
+    }

@@ -1,0 +1,61 @@
+-- A change of the record with the lock round it, from what was done under the lock.
+use Rattle.std.proofs.Common.{ℕ, ◌≡◌, ◌≤◌, List, Some, None, Result, Ok, Err, Vec, Global, IfErr, IfOk, refl, arith, inl, inr}
+use Rattle.std.specs.Result.{result_err}
+use Rattle.hg_base.specs.Fault.{HasCause, Rose}
+use Rattle.hg_base.specs.declared.fault.Failed.{Failed}
+use Rattle.hg_report.specs.declared.fault.Fault.{Fault}
+use Rattle.hg_report.specs.declared.fault.Fault.TheVariants as a_fault
+use Rattle.hg_session.proofs.Widening.{calm_within, done_wide, met_wide, safe_wide}
+use Rattle.hg_session.specs.Call.{Count, Saved, Watched}
+use Rattle.hg_session.specs.Change.{IsDone, IsSafe, MetChanging, MetLocking, once_freed}
+use Rattle.hg_session.specs.declared.acting.Changing.{Changing}
+use Rattle.hg_shelf.specs.History.{History, Waits}
+use Rattle.hg_shelf.specs.Images.{Course, Goes}
+use Rattle.hg_shelf.specs.Polite.{Undisturbed}
+use Rattle.hg_tree.specs.History as tree
+
+-- a count that rose in the last part rose in the whole
+rose_last : (start before after end : ℕ) → before ≡ start → before ≤ after → Rose after end → Rose start end
+rose_last start before after end same later rose = omega (arith, same, later, rose)
+
+rose_first : (start before after end : ℕ) → before ≡ start → after ≤ end → Rose before after → Rose start end
+rose_first start before after end same later rose = omega (arith, same, later, rose)
+
+module _ (a b c d : Course) (lock : Waits a.history b.history) (unlock : Waits c.history d.history) (p : Goes a b) (q : Goes b c) (r : Goes c d)
+    (command : Changing) (words : List (List ℕ)) (copy : Watched tree.History) (start before after end : ℕ) where
+  abbrev part : Watched History
+  part = record { old = b.history; new = c.history; before = before; after = after }
+
+  abbrev whole : Watched History
+  whole = record { old = a.history; new = d.history; before = start; after = end }
+
+  abbrev inner : Saved
+  inner = record { old = b; new = c }
+
+  abbrev outer : Saved
+  outer = record { old = a; new = d }
+
+  pub once_done : (done : Result (Vec ℕ Global) Fault) (freed : Result Unit Failed) → IfOk done (λ lines. IsDone command words copy part inner lines.items)
+      → IfOk (once_freed done freed) (λ lines. IsDone command words copy whole outer lines.items)
+  once_done (Err fault) freed is = tt
+  once_done (Ok lines) (Err failed) is = tt
+  once_done (Ok lines) (Ok unit) is = done_wide a b c d lock unlock p q r command words copy before after start end lines.items is
+
+  pub once_met : (locks : Count) (done : Result (Vec ℕ Global) Fault) (freed : Result Unit Failed) → before ≡ start → before ≤ after → IfErr done (MetChanging command words copy part) → HasCause after end freed (λ e. Unit {0})
+      → IfErr (once_freed done freed) (MetLocking command words copy whole locks)
+  once_met locks (Err fault) freed same later met cause =
+      inl (met_wide a b c d lock unlock p q r command words copy before after start end fault (λ rose. rose_first start before after end same cause.later rose) met)
+  once_met locks (Ok lines) (Err failed) same later met cause = inl (rose_last start before after end same later (cause.rose tt))
+  once_met locks (Ok lines) (Ok unit) same later met cause = tt
+
+  once_safe_in : (done : Result (Vec ℕ Global) Fault) (freed : Result Unit Failed) → IsSafe command words copy inner (result_err done) → IsSafe command words copy outer (result_err (once_freed done freed))
+  once_safe_in (Err fault) freed safe = safe_wide a b c d lock unlock p q r command words copy before after start end (Some fault) safe
+  once_safe_in (Ok lines) (Err failed) safe = elim (safe_wide a b c d lock unlock p q r command words copy before after start end None safe) [
+    | inl none ↦ inl none
+    | inr is ↦ inr (inl refl, is.1)
+  ]
+  once_safe_in (Ok lines) (Ok unit) safe = safe_wide a b c d lock unlock p q r command words copy before after start end None safe
+
+  pub once_safe : (done : Result (Vec ℕ Global) Fault) (freed : Result Unit Failed) → (Undisturbed b c → IsSafe command words copy inner (result_err done))
+      → Undisturbed a d → IsSafe command words copy outer (result_err (once_freed done freed))
+  once_safe done freed safe calm = once_safe_in done freed (safe (calm_within a b c d lock unlock p q r calm))

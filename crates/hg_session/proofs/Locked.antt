@@ -1,0 +1,73 @@
+-- What stays while the caller holds the lock and makes no step: others only read.
+use Rattle.std.proofs.Common.{ℕ, ◌≡◌, ◌≤◌, true, refl, sym, ap, ◌∙◌, arith}
+use Rattle.hg_save.specs.Loads.{During, IsTry, Try, files_at, found_by}
+use Rattle.hg_save.specs.Record.{docket_in, id_in, reading, record_in}
+use Rattle.hg_save.specs.Saved.{IsLatest, name_after}
+use Rattle.hg_session.specs.Change.{IsUnwritten, NoneOurs, Stretch}
+use Rattle.hg_shelf.specs.History.{By, Files, History, Passes, label, readers}
+use Rattle.hg_shelf.specs.Images.{Course, Goes, Remains, last_scene, scene}
+use Rattle.hg_shelf.specs.Polite.{Undisturbed}
+use Rattle.hg_shelf.proofs.Histories.{us_apart}
+use Rattle.hg_shelf.proofs.Scenes.{remains_trans, stays_until}
+
+-- ---- whose steps they are
+
+-- a span of no steps
+pub none_within : (h : History) (k : ℕ) → NoneOurs h k k
+none_within h k = λ j from to. absurd (omega (arith, from, to))
+
+-- in a call that only asks no step is the caller's, also seen from later on
+pub none_front : (a b c : Course) → Passes a.history b.history → Goes b c → NoneOurs c.history a.history.last b.history.last
+none_front a b c passes goes = λ k from to is. us_apart a.history.ours (sym is ∙ goes.past.who k to ∙ passes.by_others k from to)
+
+pub unwritten : (old new : History) → Passes old new → IsUnwritten old new
+unwritten old new passes = record { none = λ k from to is. us_apart old.ours (sym is ∙ passes.by_others k from to) }
+
+-- the lock was held all along
+abbrev pub whole_stretch : (old new : History) → old.last ≤ new.last → Stretch old new
+whole_stretch old new later = record {
+  from = old.last;
+  to = new.last;
+  start = omega arith;
+  order = later;
+  end = omega arith;
+  before = none_within new old.last;
+  behind = none_within new new.last;
+}
+
+-- ---- what the moments show
+
+-- a call that only asks, from a to b, seen from a later moment c, where others only read
+module _ (a b c : Course) (ours : a.history.ours ≡ true) (passes : Passes a.history b.history) (goes : Goes b c) (calm : Undisturbed a c) where
+  front_readers : By readers c.history a.history.last b.history.last
+  front_readers = λ k from to. goes.past.who k to ∙ passes.by_others k from to ∙ ap label ours
+
+  -- at each moment of the call reads show what they showed at its start, and a crash leaves nothing new
+  pub front_remains : (k : ℕ) → a.history.last ≤ k → k ≤ b.history.last → Remains (scene c a.history.last) (scene c k)
+  front_remains k from to =
+      let start = scene c a.history.last in
+      let knows = stays_until c a.history.last b.history.last k (λ f. f ≡ start.files) start.leaves start.named calm.others front_readers goes.past.later
+      (record { shown = refl; left = λ f is. is; done = λ f is. is }) from to in
+      record { shown = knows.shown; left = knows.left; done = knows.done }
+
+  pub end_remains : Remains (scene c a.history.last) (last_scene b)
+  end_remains =
+      remains_trans (scene c a.history.last) (scene c b.history.last) (last_scene b)
+      (front_remains b.history.last passes.past.later (omega arith)) (goes.back b.history.last (omega arith))
+
+  pub front_files : (k : ℕ) → During a.history b.history k → files_at b.history k ≡ (scene c a.history.last).files
+  front_files k during = sym (goes.past.stay k during.to).shown ∙ (front_remains k during.from during.to).shown
+
+  -- a try of a load finds the record that stood at the start
+  pub front_found : (tried : Try) → IsTry a.history b.history tried → found_by b.history tried ≡ reading (scene c a.history.last).files
+  front_found tried within = λ i. record_in (front_files tried.docket within.docket i) (front_files tried.file within.file i)
+
+  -- and its docket is the one that stands
+  pub front_docket : (tried : Try) → IsTry a.history b.history tried → docket_in (last_scene b).files ≡ docket_in (files_at b.history tried.docket)
+  front_docket tried within = ap docket_in (end_remains.shown ∙ sym (front_files tried.docket within.docket))
+
+  -- no docket that a crash may leave names an identifier ahead of the one that stands
+  pub front_latest : IsLatest (scene c a.history.last) → IsLatest (last_scene b)
+  front_latest latest = record {
+    latest = λ f is n after. latest.latest f (end_remains.left f is) n (ap (λ (x : Files). name_after n (id_in x)) (sym end_remains.shown) ∙ after);
+  }

@@ -1,0 +1,212 @@
+-- What a listing says of the first parent, begun behind a load, moved to the start of the call.
+use Rattle.std.proofs.Common.{ℕ, ◌≡◌, ◌≤◌, Bool, true, false, not, ◌&&◌, ◌||◌, cond, List, [], Option, Some, None, option_map, Result, Ok, IsTrue, IfSome, is_some, refl, sym, ap, ◌∙◌, subst, inl, inr, arith}
+use Rattle.std.proofs.lemmas.Bool.{cases_Bool, or_left, or_right}
+use Rattle.hg_base.specs.declared.id.Id20.{Id20}
+use Rattle.hg_compare.specs.Alike.{contents_name, is_alike}
+use Rattle.hg_compare.specs.Same.{parent_row}
+use Rattle.hg_compare.specs.Tracked.{ParentRow, is_file_or_link, is_unchanged, tracked_letter}
+use Rattle.hg_compare.specs.declared.letter.Letter.{Letter}
+use Rattle.hg_compare.specs.declared.letter.Letter.TheVariants as a_letter
+use Rattle.hg_entry.specs.Table.{Flat, Marks}
+use Rattle.hg_flat.specs.Full.{HasLetterBy, IsFullFor, IsTold, wants}
+use Rattle.hg_flat.specs.Parent.{HasContents, IsAsked, IsLeft, IsServed, KeepsRow, is_compared, is_plain_entry, manifest_at, parent_rows, row_among, row_of}
+use Rattle.hg_flat.specs.Patterns.{ignored_at}
+use Rattle.hg_flat.specs.declared.row.Row.{Row}
+use Rattle.hg_flat.specs.declared.row.Wanted.{Wanted}
+use Rattle.hg_manifest.specs.Load.{file_manifest, manifest_in}
+use Rattle.hg_manifest.specs.Plain.{is_null, plain_name}
+use Rattle.hg_manifest.specs.Rows.{Rows}
+use Rattle.hg_manifest.specs.declared.fault.ManifestFault.{ManifestFault}
+use Rattle.hg_manifest.specs.declared.row.FileRow.{FileRow}
+use Rattle.hg_shelf.specs.History as shelf
+use Rattle.hg_shelf.specs.Polite.{KeepsFile}
+use Rattle.hg_tree.specs.History as tree
+use Rattle.hg_tree.specs.Moment.{Moment, stat_at}
+use Rattle.hg_tree.specs.declared.thing.Placed.{Placed}
+
+-- ---- the files
+
+keeps_later : (h : shelf.History) (since behind : ℕ) (name : List ℕ) → since ≤ behind → behind ≤ h.last → KeepsFile h since name → KeepsFile h behind name
+keeps_later h since behind name order within keeps k from upto = keeps k (omega (arith, order, from)) upto ∙ sym (keeps behind order within)
+
+null_manifest : (id : Id20) (file : Option (List ℕ)) → is_null id.0 ≡ true → manifest_in id file ≡ Ok []
+null_manifest id file null = ap (λ (t : Bool). cond t (Ok []) (file_manifest id file)) null
+
+in_same : (id : Id20) (a b : Option (List ℕ)) → (is_null id.0 ≡ false → a ≡ b) → manifest_in id a ≡ manifest_in id b
+in_same id a b same = elim (cases_Bool (is_null id.0)) [
+  | inl null ↦ null_manifest id a null ∙ sym (null_manifest id b null)
+  | inr committed ↦ ap (manifest_in id) (same committed)
+]
+
+module _ (h : shelf.History) (since behind : ℕ) (id : Id20) (path : List ℕ) (order : since ≤ behind) (within : behind ≤ h.last) (kept : KeepsRow h since id path) where
+  -- where nobody touches what the parent has of a path, the manifest is the same later on, and so is the row with its contents
+  manifest_same : manifest_at (h.at behind).files id ≡ manifest_at (h.at since).files id
+  manifest_same = in_same id ((h.at behind).files (plain_name id.0)) ((h.at since).files (plain_name id.0)) (λ committed. kept.manifest committed behind order within)
+
+  contents_later : (o : Option FileRow) → IfSome o (λ row. KeepsFile h since (contents_name row.id.0)) → IfSome o (λ row. KeepsFile h behind (contents_name row.id.0))
+  contents_later None keeps = tt
+  contents_later (Some row) keeps = keeps_later h since behind (contents_name row.id.0) order within keeps
+
+  row_later : KeepsRow h behind id path
+  row_later = record {
+    told = kept.told;
+    manifest = λ committed. keeps_later h since behind (plain_name id.0) order within (kept.manifest committed);
+    contents =
+        subst (λ (r : Result Rows ManifestFault). IfSome (row_among r path) (λ row. KeepsFile h behind (contents_name row.id.0))) (sym manifest_same)
+        (contents_later (row_among (manifest_at (h.at since).files id) path) kept.contents);
+  }
+
+  rows_by : (o : Option FileRow) → IfSome o (λ row. KeepsFile h since (contents_name row.id.0))
+      → option_map (λ row. parent_row row ((h.at behind).files (contents_name row.id.0))) o ≡ option_map (λ row. parent_row row ((h.at since).files (contents_name row.id.0))) o
+  rows_by None keeps = refl
+  rows_by (Some row) keeps = ap (λ (file : Option (List ℕ)). Some (parent_row row file)) (keeps behind order within)
+
+  rows_same : parent_rows (h.at behind).files id path ≡ parent_rows (h.at since).files id path
+  rows_same =
+      ap (λ (r : Result Rows ManifestFault). option_map (λ row. parent_row row ((h.at behind).files (contents_name row.id.0))) (row_among r path)) manifest_same
+      ∙ rows_by (row_among (manifest_at (h.at since).files id) path) kept.contents
+
+keeps_last : (old new : shelf.History) → new.last ≡ old.last → (name : List ℕ) → KeepsFile new old.last name
+keeps_last old new none name k from upto = ap (λ (n : ℕ). (new.at n).files name) (omega (arith, from, upto, none))
+
+-- where the shelf made no step nobody touched anything
+pub row_kept : (old new : shelf.History) (id : Id20) (path : List ℕ) → shelf.Extends old new → new.last ≡ old.last → IsTrue old.told → KeepsRow new old.last id path
+row_kept old new id path past none told = record {
+  told = past.told ∙ told;
+  manifest = λ committed. keeps_last old new none (plain_name id.0);
+  contents = each (row_among (manifest_at (new.at old.last).files id) path);
+}
+  where
+    each : (o : Option FileRow) → IfSome o (λ row. KeepsFile new old.last (contents_name row.id.0))
+    each None = tt
+    each (Some row) = keeps_last old new none (contents_name row.id.0)
+
+-- ---- a path whose bytes aren't compared has its letter whatever the parent has of it
+
+chain : Bool → Bool → Bool → Bool → Bool → Bool → Option Letter
+chain w p1 p2 copied there same =
+    cond w
+    (Some (cond (not there) a_letter.Gone (cond p2 a_letter.M (cond (not p1) a_letter.A (cond copied a_letter.M (cond same a_letter.C a_letter.M))))))
+    (cond (p1 || p2) (Some a_letter.R) None)
+
+chain_is : (row : Option ParentRow) (marks : Marks) (copied : Bool) (o : Option Placed) → chain marks.w marks.p1 marks.p2 copied (is_file_or_link o) (is_unchanged row o) ≡ tracked_letter row marks copied o
+unfolding chain
+chain_is row marks copied o = refl
+
+compared : (s t looked : Bool) (letter : Letter) → (looked ≡ true → s ≡ t) → (letter ≡ a_letter.M → looked ≡ true) → (letter ≡ a_letter.C → looked ≡ true)
+    → Some (cond s a_letter.C a_letter.M) ≡ Some letter → Some (cond t a_letter.C a_letter.M) ≡ Some letter
+compared s t true letter same m c has = subst (λ (b : Bool). Some (cond b a_letter.C a_letter.M) ≡ Some letter) (same refl) has
+compared true t false letter same m c has = let is : letter ≡ a_letter.C = cc (has) in let never = c is in absurd (cc (never))
+compared false t false letter same m c has = let is : letter ≡ a_letter.M = cc (has) in let never = m is in absurd (cc (never))
+
+free : (w p1 p2 copied there s t looked : Bool) (letter : Letter) → ((looked && (w && p1 && not p2 && not copied)) ≡ true → s ≡ t) → (letter ≡ a_letter.M → looked ≡ true) → (letter ≡ a_letter.C → looked ≡ true)
+    → chain w p1 p2 copied there s ≡ Some letter → chain w p1 p2 copied there t ≡ Some letter
+unfolding chain
+free false p1 p2 copied there s t looked letter same m c has = has
+free true p1 p2 copied false s t looked letter same m c has = has
+free true p1 true copied true s t looked letter same m c has = has
+free true false false copied true s t looked letter same m c has = has
+free true true false true true s t looked letter same m c has = has
+free true true false false true s t looked letter same m c has = compared s t looked letter (λ is. same (ap (λ (b : Bool). b && true) is)) m c has
+
+module _ (wanted : Wanted) (flat : Flat) (moment : Moment) (a b : List ℕ → Option ParentRow) (Ignored : List ℕ → Type 0) (path : List ℕ) (letter : Letter) (asked : IsTrue (wants wanted letter)) where
+  wants_m : letter ≡ a_letter.M → (wanted.m || wanted.c) ≡ true
+  wants_m is = or_left wanted.m wanted.c (subst (λ (l : Letter). IsTrue (wants wanted l)) is asked)
+
+  wants_c : letter ≡ a_letter.C → (wanted.m || wanted.c) ≡ true
+  wants_c is = or_right wanted.m wanted.c (subst (λ (l : Letter). IsTrue (wants wanted l)) is asked)
+
+  letter_by : (marks : Option Marks) → (IsTrue ((wanted.m || wanted.c) && is_plain_entry marks (is_some (flat.sources path))) → a path ≡ b path) → HasLetterBy marks flat moment a Ignored path letter
+      → HasLetterBy marks flat moment b Ignored path letter
+  letter_by None same has = has
+  letter_by (Some marks) same has =
+      sym (chain_is (b path) marks (is_some (flat.sources path)) (moment.things path))
+      ∙ free marks.w marks.p1 marks.p2 (is_some (flat.sources path)) (is_file_or_link (moment.things path)) (is_unchanged (a path) (moment.things path)) (is_unchanged (b path) (moment.things path))
+      (wanted.m || wanted.c) letter (λ is. ap (λ (row : Option ParentRow). is_unchanged row (moment.things path)) (same is)) wants_m wants_c
+      (chain_is (a path) marks (is_some (flat.sources path)) (moment.things path) ∙ has)
+
+told_rows : (wanted : Wanted) (flat : Flat) (moment : Moment) (a b : List ℕ → Option ParentRow) (Ignored : List ℕ → Type 0) (row : Row) → (IsTrue (is_compared wanted flat row.path) → a row.path ≡ b row.path)
+    → IsTold flat moment a Ignored wanted row → IsTold flat moment b Ignored wanted row
+told_rows wanted flat moment a b Ignored row same told =
+    (told.0, letter_by wanted flat moment a b Ignored row.path row.letter told.0 (flat.marks row.path) same told.1, told.2)
+
+-- where a row's contents are the same, a path that has them goes on having them
+contents_moved : (a b : shelf.Files) (moment : Moment) (path : List ℕ) (o : Option FileRow) → IfSome o (λ row. a (contents_name row.id.0) ≡ b (contents_name row.id.0)) → HasContents a moment path o → HasContents b moment path o
+contents_moved a b moment path None same has = tt
+contents_moved a b moment path (Some row) same has =
+    subst (λ (file : Option (List ℕ)). IfSome (stat_at moment path) (λ stat. IsTrue (is_alike row stat) → IsTrue (is_some file))) same has
+
+-- ---- over a load
+
+module _ (wanted : Wanted) (flat : Flat) (id : Id20) (old new : tree.History) (start behind end : shelf.History) (before : shelf.Extends start behind) (after : shelf.Extends behind end) where
+  abbrev Left : List ℕ → Type 0
+  Left = IsLeft wanted flat id new old.last end start.last
+
+  abbrev LeftBehind : List ℕ → Type 0
+  LeftBehind = IsLeft wanted flat id new old.last end behind.last
+
+  within : behind.last ≤ end.last
+  within = after.later
+
+  -- who touches nothing over the call touches nothing behind the load
+  left_behind : (path : List ℕ) → Left path → LeftBehind path
+  left_behind path left = record {
+    own = left.own;
+    row = λ is. row_later end start.last behind.last id path before.later after.later (left.row is);
+    patterns = left.patterns;
+  }
+
+  at_start : (end.at start.last).files ≡ (shelf.now start).files
+  at_start = (after.stay start.last before.later).shown ∙ (before.stay start.last (omega arith)).shown
+
+  at_behind : (end.at behind.last).files ≡ (shelf.now behind).files
+  at_behind = (after.stay behind.last (omega arith)).shown
+
+  rows_moved : (path : List ℕ) → KeepsRow end start.last id path → parent_rows (shelf.now behind).files id path ≡ parent_rows (shelf.now start).files id path
+  rows_moved path kept =
+      ap (λ (files : shelf.Files). parent_rows files id path) (sym at_behind) ∙ rows_same end start.last behind.last id path before.later after.later kept
+      ∙ ap (λ (files : shelf.Files). parent_rows files id path) at_start
+
+  manifest_moved : (path : List ℕ) → KeepsRow end start.last id path → manifest_at (shelf.now behind).files id ≡ manifest_at (shelf.now start).files id
+  manifest_moved path kept =
+      ap (λ (files : shelf.Files). manifest_at files id) (sym at_behind) ∙ manifest_same end start.last behind.last id path before.later after.later kept
+      ∙ ap (λ (files : shelf.Files). manifest_at files id) at_start
+
+  pub full_moved : (rows : List Row) → IsFullFor LeftBehind flat (tree.now old) (parent_rows (shelf.now behind).files id) (ignored_at (tree.now old)) wanted rows
+      → IsFullFor Left flat (tree.now old) (parent_rows (shelf.now start).files id) (ignored_at (tree.now old)) wanted rows
+  full_moved rows is = record {
+    sound = λ row has left.
+        told_rows wanted flat (tree.now old) (parent_rows (shelf.now behind).files id) (parent_rows (shelf.now start).files id) (ignored_at (tree.now old)) row (λ looked. rows_moved row.path (left.row looked))
+        (is.sound row has (left_behind row.path left));
+    all = λ row left tells.
+        is.all row (left_behind row.path left)
+        (told_rows wanted flat (tree.now old) (parent_rows (shelf.now start).files id) (parent_rows (shelf.now behind).files id) (ignored_at (tree.now old)) row (λ looked. sym (rows_moved row.path (left.row looked)))
+        tells);
+    once = is.once;
+    ascending = is.ascending;
+  }
+
+  -- the contents that a row names stay
+  contents_stay : (path : List ℕ) → KeepsRow end start.last id path → (rows : Rows) → manifest_at (shelf.now start).files id ≡ Ok rows
+      → IfSome (row_of rows path) (λ row. (shelf.now behind).files (contents_name row.id.0) ≡ (shelf.now start).files (contents_name row.id.0))
+  contents_stay path kept rows formed =
+      each (row_of rows path)
+      (subst (λ (r : Result Rows ManifestFault). IfSome (row_among r path) (λ row. KeepsFile end start.last (contents_name row.id.0)))
+      (ap (λ (files : shelf.Files). manifest_at files id) at_start ∙ formed) kept.contents)
+    where
+      each : (o : Option FileRow) → IfSome o (λ row. KeepsFile end start.last (contents_name row.id.0)) → IfSome o (λ row. (shelf.now behind).files (contents_name row.id.0) ≡ (shelf.now start).files (contents_name row.id.0))
+      each None keeps = tt
+      each (Some row) keeps =
+          ap (λ (files : shelf.Files). files (contents_name row.id.0)) (sym at_behind) ∙ keeps behind.last before.later after.later
+          ∙ ap (λ (files : shelf.Files). files (contents_name row.id.0)) at_start
+
+  pub served_moved : ((path : List ℕ) → LeftBehind path → IsAsked wanted flat (tree.now old) path → IsServed (shelf.now behind).files id (tree.now old) path)
+      → (path : List ℕ) → Left path → IsAsked wanted flat (tree.now old) path → IsServed (shelf.now start).files id (tree.now old) path
+  served_moved served path left asked =
+      let kept : KeepsRow end start.last id path = left.row asked.compared in
+      let s = served path (left_behind path left) asked in
+      let formed : manifest_at (shelf.now start).files id ≡ Ok s.rows = sym (manifest_moved path kept) ∙ s.formed in record {
+        rows = s.rows;
+        formed = formed;
+        contents = contents_moved (shelf.now behind).files (shelf.now start).files (tree.now old) path (row_of s.rows path) (contents_stay path kept s.rows formed) s.contents;
+      }

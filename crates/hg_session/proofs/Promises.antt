@@ -1,0 +1,315 @@
+-- What a command that changes the record promises, from what was done under the lock and told behind it.
+use Rattle.std.proofs.Common.{ℕ, ◌≡◌, ◌<◌, ◌≤◌, Bool, cond, true, false, ◌||◌, List, [], ◌∷◌, map, Option, Some, None, Ok, IsTrue, IfSome, is_some, refl, sym, ap, ◌∙◌, subst, arith, inl, inr, ◌⊎◌}
+use Rattle.std.specs.List.{AllByRecursion, list_any}
+use Rattle.std.specs.Prelude.{MatchBool}
+use Rattle.std.proofs.lemmas.Bool.{cases_lt}
+use Rattle.hg_base.proofs.Faults.{steady_not_rose}
+use Rattle.hg_base.specs.Fault.{IsSteady, Rose}
+use Rattle.hg_docket.specs.Number.{next_name}
+use Rattle.hg_entry.specs.Table.{Table}
+use Rattle.hg_ops.specs.declared.refusal.Refusal.{Refusal}
+use Rattle.hg_report.specs.Fault.{has_line}
+use Rattle.hg_report.specs.declared.fault.Fault.{Fault}
+use Rattle.hg_report.specs.declared.fault.Fault.TheVariants as a_fault
+use Rattle.hg_save.proofs.Loads.{unstepped_found}
+use Rattle.hg_save.specs.Loads.{Try, files_at}
+use Rattle.hg_save.specs.Record.{id_in, reading}
+use Rattle.hg_session.proofs.Acted.{as_many, no_lines, none_refused}
+use Rattle.hg_session.proofs.Commands.{not_without}
+use Rattle.hg_session.proofs.Readings.{unstepped_refuses}
+use Rattle.hg_session.specs.Acts.{AllSteps, refusals_text}
+use Rattle.hg_session.specs.Call.{Call, Count, Fails, Saved, Serves, Watched}
+use Rattle.hg_session.specs.Change.{Fits, FitsFirst, IsDone, IsMade, IsReadFirst, IsSafe, MayFollowWriting, MetChanging, MetLocking, NoneOurs, files_of, up_to}
+use Rattle.hg_session.specs.Changed.{IsExpectedChange, IsMadeOf, IsPartlyTold, OnlyLooks, RanChange, TellsFault, status_of}
+use Rattle.hg_session.specs.Command.{IsFaultOrMemory, IsSilent, TellsLine}
+use Rattle.hg_session.specs.Listed.{LoadMet}
+use Rattle.hg_session.specs.Loaded.{IsRefused}
+use Rattle.hg_session.specs.declared.acting.Changing.{Changing}
+use Rattle.hg_session.specs.declared.read_fault.ReadFault.{ReadFault}
+use Rattle.hg_session.specs.declared.read_fault.ReadFault.TheVariants as a_read
+use Rattle.hg_shelf.specs.History.{Extends, Files, History, IsOurs, now, readers, us}
+use Rattle.hg_shelf.specs.Images.{Course, Goes}
+use Rattle.hg_shelf.specs.Polite.{Undisturbed}
+use Rattle.hg_stream.specs.Stream.{Grown, GrownByFront}
+use Rattle.hg_tree.specs.History as tree
+
+-- ---- the status
+
+none_some : (refused : List (Option Refusal)) → AllByRecursion (λ one. one ≡ None) refused → list_any is_some refused ≡ false
+none_some [] all = refl
+none_some (one ∷ more) all = λ i. is_some (all.0 i) || none_some more all.1 i
+
+some_or_none : (refused : List (Option Refusal)) → (list_any is_some refused ≡ true) ⊎ AllByRecursion (λ one. one ≡ None) refused
+some_or_none [] = inr tt
+some_or_none (Some refusal ∷ more) = inl refl
+some_or_none (None ∷ more) = elim (some_or_none more) [ inl some ↦ inl some | inr none ↦ inr (refl, none) ]
+
+-- ---- where nobody else steps
+
+us_not_readers : us ≡ readers → ⊥
+us_not_readers is = cc is
+
+calm_own : (a b : Course) → IsOurs a.history b.history → Undisturbed a b
+calm_own a b own = record {
+  told = own.told;
+  others = record { same = λ k from to is. absurd (us_not_readers (sym (own.ours k from to) ∙ is)) };
+}
+
+-- the caller's steps are all there are, and up to a moment there are none
+none_own : (old new : History) (k : ℕ) → IsOurs old new → old.last ≤ k → k ≤ new.last → NoneOurs new old.last k → k ≡ old.last
+none_own old new k own later within none = elim (cases_lt old.last k) [
+  | inl less ↦ absurd (none old.last (omega arith) less (own.ours old.last (omega arith) (omega (arith, less, within))))
+  | inr most ↦ (omega (arith, most, later))
+]
+
+extends_first : (old new : History) (k : ℕ) → Extends old new → old.last ≤ k → Extends old (up_to k new)
+extends_first old new k past later = record { told = past.told; later = later; who = past.who; stay = past.stay }
+
+module _ (command : Changing) (words : List (List ℕ)) (copy : Watched tree.History) (a b : Course) (before after : ℕ) (past : Extends a.history b.history) (own : IsOurs a.history b.history) where
+  abbrev files : Watched History
+  files = record { old = a.history; new = b.history; before = before; after = after }
+
+  abbrev saved : Saved
+  saved = record { old = a; new = b }
+
+  abbrev there : Files
+  there = (now a.history).files
+
+  read_own : (loaded : Table) → IsReadFirst a.history b.history loaded → reading there ≡ Some (Ok loaded)
+  read_own loaded is =
+      let first = none_own a.history b.history is.upto own is.later is.within is.none in
+      sym (unstepped_found a.history (up_to is.upto b.history) is.read.tries (extends_first a.history b.history is.upto past is.later) first is.read.tried) ∙ is.read.found
+
+  made_own : (refused : List (Option Refusal)) (made : Table) (is : IsMade command words copy files refused made) → IsMadeOf command words copy there is.loaded made
+  made_own refused made is = record { recorded = read_own is.loaded (is.read own.told); refused = refused; steps = is.steps }
+
+  fits_own : (made : Table) → FitsFirst a.history b.history made → Fits there made
+  fits_own made is =
+      let first = none_own a.history b.history is.at own is.later is.within is.none in
+      subst (λ (f : Files). Fits f made) (ap (files_at b.history) first ∙ (past.stay a.history.last (omega arith)).shown) is.fits
+
+  pub done_own : (lines : List ℕ) → IsDone command words copy files saved lines → IsExpectedChange command words copy there None
+  done_own lines done = record {
+    loaded = done.is.loaded;
+    made = done.made;
+    is = made_own done.refused done.made done.is;
+    fits = elim (done.fits own.told) [ inl same ↦ inl same | inr fits ↦ inr (fits_own done.made fits) ];
+  }
+
+  refused_own : (fault : ReadFault) → b.history.last ≡ a.history.last → LoadMet fault files → (tries : List Try) × IsRefused fault (map (λ tried. id_in there) tries) (reading there)
+  refused_own fault still met = let m = met own.told in (m.0, unstepped_refuses a.history b.history m.0 fault past still m.1)
+
+  all_same : (id : List ℕ) (tries : List Try) → AllByRecursion (λ other. other ≡ id) (map (λ tried. id) tries)
+  all_same id [] = tt
+  all_same id (one ∷ more) = (refl, all_same id more)
+
+  -- a fault that can't be met once something was written
+  still_by : (fault : Fault) → (MayFollowWriting (Some fault) → ⊥) → IsSafe command words copy saved (Some fault) → b.history.last ≡ a.history.last
+  still_by fault never (inl none) = none_own a.history b.history b.history.last own past.later (omega arith) none.none
+  still_by fault never (inr (may, is)) = absurd (never may)
+
+  apart : (fault : Fault) → (fault ≡ a_fault.ShelfFailed → ⊥) → (fault ≡ a_fault.ErrFailed → ⊥) → (fault ≡ a_fault.OutOfMemory → ⊥) → MayFollowWriting (Some fault) → ⊥
+  apart fault shelf err memory (inl is) = shelf is
+  apart fault shelf err memory (inr (inl is)) = err is
+  apart fault shelf err memory (inr (inr is)) = memory is
+
+  pub met_own : (fault : Fault) → IsSafe command words copy saved (Some fault) → MetChanging command words copy files fault → Serves copy → Serves files → IsExpectedChange command words copy there (Some fault)
+  met_own a_fault.OutOfMemory safe met p q = tt
+  met_own (a_fault.Docket fault) safe met p q =
+      (refused_own (a_read.Docket fault) (still_by (a_fault.Docket fault) (apart (a_fault.Docket fault) (λ is. cc is) (λ is. cc is) (λ is. cc is)) safe) met).1
+  met_own (a_fault.Node fault) safe met p q =
+      (refused_own (a_read.Node fault) (still_by (a_fault.Node fault) (apart (a_fault.Node fault) (λ is. cc is) (λ is. cc is) (λ is. cc is)) safe) met).1
+  met_own (a_fault.DataGone ids) safe met p q =
+      let m = refused_own (a_read.DataGone ids) (still_by (a_fault.DataGone ids) (apart (a_fault.DataGone ids) (λ is. cc is) (λ is. cc is) (λ is. cc is)) safe) met in
+      (m.1.0, subst (AllByRecursion (λ id. id ≡ id_in there)) (sym m.1.1) (all_same (id_in there) m.0))
+  met_own (a_fault.TooLarge size) safe met p q = record {
+    loaded = met.is.loaded;
+    made = met.made;
+    is = made_own met.refused met.made met.is;
+    held = met.held;
+    same = met.same;
+    large = met.large;
+  }
+  met_own a_fault.IdsSpent safe met p q =
+      let m = met own.told in
+      let still = still_by a_fault.IdsSpent (apart a_fault.IdsSpent (λ is. cc is) (λ is. cc is) (λ is. cc is)) safe in
+      let first : m.at ≡ a.history.last = omega (arith, m.during.from, m.during.to, still) in
+      sym (ap (λ (f : Files). next_name (id_in f)) (ap (files_at b.history) first ∙ (past.stay a.history.last (omega arith)).shown)) ∙ m.spent
+  met_own a_fault.TreeFailed safe met p q = steady_not_rose copy.before copy.after p met
+  met_own a_fault.ShelfFailed safe met p q = steady_not_rose before after q met
+  met_own a_fault.NotBuilt safe met p q = met
+  met_own (a_fault.NoManifest id) safe met p q = met
+  met_own (a_fault.ManifestTooLarge size) safe met p q = met
+  met_own (a_fault.ManifestLine line) safe met p q = met
+  met_own (a_fault.ManifestOrder line) safe met p q = met
+  met_own (a_fault.NoContents id) safe met p q = met
+  met_own (a_fault.IgnoreTooLarge size) safe met p q = met
+  met_own (a_fault.IgnoreText at) safe met p q = met
+  met_own (a_fault.BadGlob line) safe met p q = met
+  met_own (a_fault.BadRegexp line) safe met p q = met
+  met_own (a_fault.RegexpTooBig line) safe met p q = met
+  met_own (a_fault.BadInclude line) safe met p q = met
+  met_own a_fault.Held safe met p q = met
+  met_own a_fault.OutFailed safe met p q = met
+  met_own a_fault.ErrFailed safe met p q = met
+
+-- ---- what is told
+
+-- a fault that is met before anything is told has a line
+changing_told : (command : Changing) (words : List (List ℕ)) (copy : Watched tree.History) (files : Watched History) (fault : Fault) → MetChanging command words copy files fault → has_line fault ≡ true
+changing_told command words copy files a_fault.OutOfMemory met = refl
+changing_told command words copy files (a_fault.Docket fault) met = refl
+changing_told command words copy files (a_fault.Node fault) met = refl
+changing_told command words copy files (a_fault.DataGone ids) met = refl
+changing_told command words copy files (a_fault.TooLarge size) met = refl
+changing_told command words copy files a_fault.IdsSpent met = refl
+changing_told command words copy files a_fault.TreeFailed met = refl
+changing_told command words copy files a_fault.ShelfFailed met = refl
+changing_told command words copy files a_fault.NotBuilt met = refl
+changing_told command words copy files (a_fault.NoManifest id) met = refl
+changing_told command words copy files (a_fault.ManifestTooLarge size) met = refl
+changing_told command words copy files (a_fault.ManifestLine line) met = refl
+changing_told command words copy files (a_fault.ManifestOrder line) met = refl
+changing_told command words copy files (a_fault.NoContents id) met = refl
+changing_told command words copy files (a_fault.IgnoreTooLarge size) met = refl
+changing_told command words copy files (a_fault.IgnoreText at) met = refl
+changing_told command words copy files (a_fault.BadGlob line) met = refl
+changing_told command words copy files (a_fault.BadRegexp line) met = refl
+changing_told command words copy files (a_fault.RegexpTooBig line) met = refl
+changing_told command words copy files (a_fault.BadInclude line) met = refl
+changing_told command words copy files a_fault.Held met = refl
+changing_told command words copy files a_fault.OutFailed met = refl
+changing_told command words copy files a_fault.ErrFailed met = absurd met
+
+pub locking_told : (command : Changing) (words : List (List ℕ)) (copy : Watched tree.History) (files : Watched History) (locks : Count) (fault : Fault) → MetLocking command words copy files locks fault → has_line fault ≡ true
+locking_told command words copy files locks fault (inl met) = changing_told command words copy files fault met
+locking_told command words copy files locks fault (inr (held, rose)) = ap has_line held
+
+-- ---- the whole command
+
+line_of_told : (command : Changing) (call : Call) (fault : Fault) → has_line fault ≡ true → TellsLine call.err.old call.err.new call.err.before call.err.after fault → TellsFault command call fault
+line_of_told command call fault told line = subst (λ (h : Bool). MatchBool h (TellsLine call.err.old call.err.new call.err.before call.err.after fault) (IsPartlyTold command call)) (sym told) line
+
+module _ (command : Changing) (words : List (List ℕ)) (copy : Watched tree.History) (a b : Course) (before after : ℕ) (locks oversize : Count) (out err : Watched (Option (List ℕ)))
+    (silent : IsSilent out) (uncounted : oversize.after ≡ oversize.before) (looks : OnlyLooks copy) (kept : Goes a b) (freed : IsTrue b.history.ours → IsTrue a.history.ours ⊎ Rose before after) where
+  abbrev call : Call
+  call = record {
+    words = words;
+    looked = record { tree = copy; shelf = record { old = a.history; new = b.history; before = before; after = after }; oversize = oversize };
+    saved = record { old = a; new = b };
+    locks = locks;
+    out = out;
+    err = err;
+  }
+
+  pub ran_done : (status : ℕ) (lines : List ℕ) (done : IsDone command (files_of words) copy call.looked.shelf call.saved lines) → Grown err.old err.new lines → status ≡ status_of done.refused
+      → (Undisturbed a b → IsSafe command (files_of words) copy call.saved None) → copy.after ≡ copy.before → after ≡ before → err.after ≡ err.before → (locks.before < locks.after → ⊥)
+      → RanChange command call status None
+  ran_done status lines done grown is safe calm_tree calm_shelf calm_err unheld = record {
+    stepped = λ none. record { lines = lines; done = done; told = grown; ends = is };
+    safe = safe;
+    cause = tt;
+    held = λ rose. absurd (unheld rose);
+    complete = λ own p q r steady. done_own command (files_of words) copy a b before after kept.past own.shelf lines done;
+    calm_tree = λ none. calm_tree;
+    calm_shelf = λ none. calm_shelf;
+    calm_err = λ none. calm_err;
+    told = tt;
+    silent = silent;
+    uncounted = uncounted;
+    looks = looks;
+    kept = kept;
+    freed = freed;
+  }
+
+  -- the error stream failed while the refused words were told
+  pub ran_untold : (lines : List ℕ) (done : IsDone command (files_of words) copy call.looked.shelf call.saved lines) → GrownByFront err.old err.new lines → Fails err
+      → (Undisturbed a b → IsSafe command (files_of words) copy call.saved None) → (locks.before < locks.after → ⊥) → (status : ℕ) → RanChange command call status (Some a_fault.ErrFailed)
+  ran_untold lines done grown failed safe unheld status = record {
+    stepped = λ none. absurd (cc none);
+    safe = λ calm. elim (safe calm) [ inl none ↦ inl none | inr is ↦ inr (inr (inl refl), is.1) ];
+    cause = inr (refl, failed);
+    held = λ rose. absurd (unheld rose);
+    complete = λ own p q r steady. steady_not_rose err.before err.after r failed;
+    calm_tree = λ none. absurd (cc none);
+    calm_shelf = λ none. absurd (cc none);
+    calm_err = λ none. absurd (cc none);
+    told = record { refused = done.refused; told = subst (GrownByFront err.old err.new) done.text grown; failed = failed };
+    silent = silent;
+    uncounted = uncounted;
+    looks = looks;
+    kept = kept;
+    freed = freed;
+  }
+
+  safe_any : (fault : Fault) → IsSafe command (files_of words) copy call.saved (Some fault) → IsSafe command (files_of words) copy call.saved (Some a_fault.OutOfMemory)
+  safe_any fault (inl none) = inl none
+  safe_any fault (inr (may, is)) = inr (inr (inr refl), is)
+
+  locked_own : (fault : Fault) → IsSafe command (files_of words) copy call.saved (Some fault) → MetLocking command (files_of words) copy call.looked.shelf locks fault → IsOurs a.history b.history → Serves copy → Serves call.looked.shelf
+      → IsSteady locks.before locks.after → IsExpectedChange command (files_of words) copy (now a.history).files (Some fault)
+  locked_own fault safe (inl met) own p q steady = met_own command (files_of words) copy a b before after kept.past own fault safe met p q
+  locked_own fault safe (inr (held, rose)) own p q steady = absurd (steady_not_rose locks.before locks.after steady rose)
+
+  ran_fault : (status : ℕ) (fault answered : Fault) → (answered ≡ fault) ⊎ (answered ≡ a_fault.OutOfMemory) → MetLocking command (files_of words) copy call.looked.shelf locks fault
+      → (Undisturbed a b → IsSafe command (files_of words) copy call.saved (Some fault)) → (locks.before < locks.after → fault ≡ a_fault.Held)
+      → TellsLine err.old err.new err.before err.after answered → RanChange command call status (Some answered)
+  ran_fault status fault answered (inl same) met safe held line =
+      subst (λ (f : Fault). TellsLine err.old err.new err.before err.after f → RanChange command call status (Some f)) (sym same) (λ told. record {
+        stepped = λ none. absurd (cc none);
+        safe = safe;
+        cause = inl met;
+        held = λ rose. inl (ap Some (held rose));
+        complete = λ own p q r steady. locked_own fault (safe (calm_own a b own.shelf)) met own.shelf p q steady;
+        calm_tree = λ none. absurd (cc none);
+        calm_shelf = λ none. absurd (cc none);
+        calm_err = λ none. absurd (cc none);
+        told = line_of_told command call fault (locking_told command (files_of words) copy call.looked.shelf locks fault met) told;
+        silent = silent;
+        uncounted = uncounted;
+        looks = looks;
+        kept = kept;
+        freed = freed;
+      }) line
+  ran_fault status fault answered (inr memory) met safe held line =
+      subst (λ (f : Fault). TellsLine err.old err.new err.before err.after f → RanChange command call status (Some f)) (sym memory) (λ told. record {
+        stepped = λ none. absurd (cc none);
+        safe = λ calm. safe_any fault (safe calm);
+        cause = inl (inl tt);
+        held = λ rose. inr refl;
+        complete = λ own p q r steady. tt;
+        calm_tree = λ none. absurd (cc none);
+        calm_shelf = λ none. absurd (cc none);
+        calm_err = λ none. absurd (cc none);
+        told = line_of_told command call a_fault.OutOfMemory refl told;
+        silent = silent;
+        uncounted = uncounted;
+        looks = looks;
+        kept = kept;
+        freed = freed;
+      }) line
+
+  pub ran_failed : (status : ℕ) (fault : Fault) (answered : Option Fault) → IsFaultOrMemory answered fault → MetLocking command (files_of words) copy call.looked.shelf locks fault
+      → (Undisturbed a b → IsSafe command (files_of words) copy call.saved (Some fault)) → (locks.before < locks.after → fault ≡ a_fault.Held)
+      → IfSome answered (λ f. TellsLine err.old err.new err.before err.after f) → RanChange command call status answered
+  ran_failed status fault None is met safe held line = not_without None fault is refl
+  ran_failed status fault (Some f) (inl same) met safe held line = ran_fault status fault f (inl (cc same)) met safe held line
+  ran_failed status fault (Some f) (inr memory) met safe held line = ran_fault status fault f (inr (cc memory)) met safe held line
+
+status_none : (command : Changing) (before after : tree.History) (words : List (List ℕ)) (refused : List (Option Refusal)) (old new : Table) → AllSteps command before after words refused old new
+    → refusals_text command words refused ≡ [] → 0 ≡ status_of refused
+status_none command before after words refused old new steps none =
+    sym (ap (λ (b : Bool). cond b 1 0) (none_some refused (no_lines command words refused (as_many command before after words refused old new steps) none)))
+
+status_some : (command : Changing) (words : List (List ℕ)) (refused : List (Option Refusal)) → (refusals_text command words refused ≡ [] → ⊥) → 1 ≡ status_of refused
+status_some command words refused some = elim (some_or_none refused) [
+  | inl is ↦ sym (ap (λ (b : Bool). cond b 1 0) is)
+  | inr none ↦ absurd (some (none_refused command words refused none))
+]
+
+-- the status by the lines
+pub status_by : (command : Changing) (before after : tree.History) (words : List (List ℕ)) (refused : List (Option Refusal)) (old new : Table) → AllSteps command before after words refused old new
+    → (lines : List ℕ) → lines ≡ refusals_text command words refused → (status : ℕ) → (lines ≡ [] → status ≡ 0) → ((lines ≡ [] → ⊥) → status ≡ 1) → status ≡ status_of refused
+status_by command before after words refused old new steps [] is status none some = none refl ∙ status_none command before after words refused old new steps (sym is)
+status_by command before after words refused old new steps (x ∷ lines) is status none some =
+    some (λ empty. cc empty) ∙ status_some command words refused (λ empty. let never : x ∷ lines ≡ [] = is ∙ empty in cc never)

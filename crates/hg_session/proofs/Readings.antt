@@ -1,0 +1,68 @@
+-- What reading the record finds, from what a load found and what its nodes lead to.
+use Rattle.std.proofs.Common.{ℕ, ◌≡◌, List, [], ◌∷◌, map, Option, Some, None, Result, Ok, Err, sym, ap, ◌∙◌, subst, arith}
+use Rattle.hg_base.specs.Fault.{HasCause}
+use Rattle.hg_docket.specs.Docket.{docket_of, docket_refusal}
+use Rattle.hg_docket.specs.declared.fault.DocketFault.{DocketFault}
+use Rattle.hg_entry.specs.Table.{Table}
+use Rattle.hg_image.specs.Reading.{RecordFault, data_reading, docket_reading, of_data, reading_of}
+use Rattle.hg_image.specs.declared.fault.NodeFault.{NodeFault}
+use Rattle.hg_save.proofs.Loads.{same_ids, unstepped_found}
+use Rattle.hg_save.specs.Loads.{Loads, Try, found_by, id_by}
+use Rattle.hg_save.specs.Record.{id_in, record_in}
+use Rattle.hg_save.specs.declared.load_fault.LoadFault.{LoadFault}
+use Rattle.hg_save.specs.declared.load_fault.LoadFault.TheVariants as a_load
+use Rattle.hg_save.specs.declared.loaded.Loaded.{Loaded}
+use Rattle.hg_session.specs.Load.{by_load}
+use Rattle.hg_session.specs.Loaded.{Answers, IsRefused, NodesFind, Reads, Refuses}
+use Rattle.hg_session.specs.declared.read_fault.ReadFault.{ReadFault}
+use Rattle.hg_session.specs.declared.read_fault.ReadFault.TheVariants as a_fault
+use Rattle.hg_shelf.specs.History.{Extends, History, now}
+
+-- an answer that says nothing of the shelf, behind a call in which its count stood still
+pub cause_still : {X : Type 0} (IsOf : Table → X → Type 0) (before now : ℕ) (result : Result X ReadFault) (found : Result Table NodeFault) → now ≡ before → NodesFind IsOf result found → HasCause before now result (λ e. e ≡ a_fault.Failed)
+cause_still IsOf before now (Ok flat) found still finds = record { later = omega (arith, still); quiet = still; rose = tt }
+cause_still IsOf before now (Err a_fault.OutOfMemory) found still finds = record { later = omega (arith, still); quiet = tt; rose = λ failed. absurd (cc (failed)) }
+cause_still IsOf before now (Err (a_fault.Node fault)) found still finds = record { later = omega (arith, still); quiet = tt; rose = λ failed. absurd (cc (failed)) }
+cause_still IsOf before now (Err (a_fault.Docket fault)) found still finds = absurd finds
+cause_still IsOf before now (Err (a_fault.DataGone ids)) found still finds = absurd finds
+cause_still IsOf before now (Err a_fault.Failed) found still finds = absurd finds
+
+by_nodes : {X : Type 0} (IsOf : Table → X → Type 0) (result : Result X ReadFault) (ids : List (List ℕ)) (found : Result Table NodeFault) → NodesFind IsOf result found → Answers IsOf result ids (Some (of_data found))
+by_nodes IsOf (Ok made) ids found finds = (finds.0, ap (λ (r : Result Table NodeFault). Some (of_data r)) finds.1, finds.2)
+by_nodes IsOf (Err (a_fault.Node fault)) ids found finds = ap (λ (r : Result Table NodeFault). Some (of_data r)) finds
+by_nodes IsOf (Err a_fault.OutOfMemory) ids found finds = tt
+by_nodes IsOf (Err (a_fault.Docket fault)) ids found finds = absurd finds
+by_nodes IsOf (Err (a_fault.DataGone gone)) ids found finds = absurd finds
+by_nodes IsOf (Err a_fault.Failed) ids found finds = absurd finds
+
+-- a reading whose docket is sound is that of its nodes
+pub sound_reading : (docket nodes : List ℕ) → docket_refusal docket ≡ None → reading_of docket nodes ≡ of_data (data_reading (docket_of docket) nodes)
+sound_reading docket nodes sound = ap (λ (r : Option DocketFault). docket_reading r (data_reading (docket_of docket) nodes)) sound
+
+-- what the nodes lead to, behind a load
+pub read_by : {X : Type 0} (IsOf : Table → X → Type 0) (old new : History) (tried : Try) (loaded : Loaded) (result : Result X ReadFault) → docket_refusal loaded.docket.items ≡ None
+    → NodesFind IsOf result (data_reading (docket_of loaded.docket.items) loaded.nodes.items) → Loads old new (tried ∷ []) (Ok loaded) → Reads IsOf old new (tried ∷ []) result
+read_by IsOf old new tried loaded result sound finds loads = record {
+  tried = loads.tried;
+  answer =
+      subst (Answers IsOf result (map (id_by new) (tried ∷ [])))
+      (sym (loads.answer.reading ∙ ap (λ (r : Result Table RecordFault). Some r) (sound_reading loaded.docket.items loaded.nodes.items sound)))
+      (by_nodes IsOf result (map (id_by new) (tried ∷ [])) (data_reading (docket_of loaded.docket.items) loaded.nodes.items) finds);
+}
+
+pub refused_by : (fault : LoadFault) (old new : History) (tries : List Try) (loads : Loads old new tries (Err fault)) → IsRefused (by_load fault) (map (id_by new) tries) (found_by new loads.tried.last)
+refused_by a_load.OutOfMemory old new tries loads = tt
+refused_by (a_load.Docket fault) old new tries loads = loads.answer
+refused_by (a_load.DataGone ids) old new tries loads = loads.answer
+refused_by a_load.Failed old new tries loads = tt
+
+-- a load that was refused
+pub unread : {X : Type 0} (IsOf : Table → X → Type 0) (old new : History) (tried : Try) (fault : LoadFault) → Loads old new (tried ∷ []) (Err fault) → Reads IsOf old new (tried ∷ []) (Err (by_load fault))
+unread IsOf old new tried fault loads = record { tried = loads.tried; answer = refused_by fault old new (tried ∷ []) loads }
+
+-- where the shelf made no step, the record is refused as it stands there, whatever the tries: each names the same identifier
+pub unstepped_refuses : (old new : History) (tries : List Try) (fault : ReadFault) → Extends old new → new.last ≡ old.last → Refuses old new tries fault
+    → IsRefused fault (map (λ tried. id_in (now old).files) tries) (record_in (now old).files (now old).files)
+unstepped_refuses old new tries fault past none refuses =
+    subst (λ (ids : List (List ℕ)). IsRefused fault ids (record_in (now old).files (now old).files)) (same_ids old new tries past none refuses.tried.within)
+    (subst (IsRefused fault (map (id_by new) tries)) (unstepped_found old new tries past none refuses.tried) refuses.answer)

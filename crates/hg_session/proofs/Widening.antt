@@ -1,0 +1,265 @@
+-- What was done while the lock was held, said of the whole call.
+use Rattle.std.proofs.Common.{ℕ, ◌≡◌, ◌≤◌, List, ◌∷◌, [], map, Option, Some, Result, Ok, IsTrue, refl, sym, ap, ◌∙◌, subst, arith, inl, inr}
+use Rattle.std.specs.List.{AllByRecursion}
+use Rattle.std.proofs.lemmas.Bool.{cases_lt}
+use Rattle.hg_base.specs.Fault.{Rose}
+use Rattle.hg_docket.specs.Number.{next_name}
+use Rattle.hg_entry.specs.Table.{Table}
+use Rattle.hg_image.specs.Reading.{RecordFault}
+use Rattle.hg_ops.specs.declared.refusal.Refusal.{Refusal}
+use Rattle.hg_report.specs.declared.fault.Fault.{Fault}
+use Rattle.hg_report.specs.declared.fault.Fault.TheVariants as a_fault
+use Rattle.hg_save.proofs.Loads.{found_longer, tries_longer}
+use Rattle.hg_save.specs.Loads.{IsTry, Tries, Try, found_by, id_by}
+use Rattle.hg_save.specs.Record.{id_in, reading}
+use Rattle.hg_save.specs.Saved.{IsLatest, ReadsAsBeforeOr, name_after}
+use Rattle.hg_session.specs.Call.{Watched}
+use Rattle.hg_session.specs.Change.{Fits, FitsFirst, IsDone, IsKept, IsMade, IsPublished, IsReadFirst, IsSafe, IsUnwritten, MetChanging, NoneOurs, Stretch, up_to}
+use Rattle.hg_session.specs.Listed.{LoadMet}
+use Rattle.hg_session.specs.Loaded.{IsRefused}
+use Rattle.hg_session.specs.declared.acting.Changing.{Changing}
+use Rattle.hg_session.specs.declared.read_fault.ReadFault.{ReadFault}
+use Rattle.hg_session.specs.declared.read_fault.ReadFault.TheVariants as a_read
+use Rattle.hg_shelf.proofs.Scenes.{first_part, second_part}
+use Rattle.hg_shelf.specs.History.{Extends, Files, History, Waits}
+use Rattle.hg_shelf.specs.Images.{Course, Goes, Remains, Scene, scene}
+use Rattle.hg_shelf.specs.Polite.{Undisturbed}
+use Rattle.hg_tree.specs.History as tree
+
+-- of a scene that is the same both ways the same is said
+latest_same : (a b : Scene) → Remains a b → Remains b a → IsLatest a → IsLatest b
+latest_same a b to back is = record {
+  latest = λ c left n named. is.latest c (to.left c left) n (ap (λ (f : Files). name_after n (id_in f)) (sym to.shown) ∙ named);
+}
+
+reads_same : (a b : Scene) (table : Option (Result Table RecordFault)) (c : Files) → Remains b a → ReadsAsBeforeOr a table c → ReadsAsBeforeOr b table c
+reads_same a b table c back (inl was) = inl (was.0, back.left was.0 was.1, was.2)
+reads_same a b table c back (inr is) = inr is
+
+-- ---- tries of a load
+
+extends_up_to : (k : ℕ) (old new : History) → k ≤ old.last → Extends old new → Extends (up_to k old) (up_to k new)
+extends_up_to k old new within past = record {
+  told = past.told;
+  later = omega arith;
+  who = λ j below. past.who j (omega (arith, below, within));
+  stay = λ j below. past.stay j (omega (arith, below, within));
+}
+
+try_earlier : (old mid new : History) (tried : Try) → old.last ≤ mid.last → IsTry mid new tried → IsTry old new tried
+try_earlier old mid new tried later is = record {
+  docket = record { from = omega (arith, later, is.docket.from); to = is.docket.to };
+  file = record { from = omega (arith, later, is.file.from); to = is.file.to };
+  order = is.order;
+}
+
+within_earlier : (old mid new : History) (tries : List Try) → old.last ≤ mid.last → AllByRecursion (IsTry mid new) tries → AllByRecursion (IsTry old new) tries
+within_earlier old mid new [] later within = tt
+within_earlier old mid new (one ∷ more) later within = (try_earlier old mid new one later within.0, within_earlier old mid new more later within.1)
+
+abbrev tries_earlier : (old mid new : History) (tries : List Try) → old.last ≤ mid.last → Tries mid new tries → Tries old new tries
+tries_earlier old mid new tries later t = record {
+  earlier = t.earlier;
+  last = t.last;
+  whole = t.whole;
+  few = t.few;
+  within = within_earlier old mid new tries later t.within;
+  order = t.order;
+  gone = t.gone;
+}
+
+ids_longer : (old mid new : History) (tries : List Try) → Extends mid new → AllByRecursion (IsTry old mid) tries → map (id_by new) tries ≡ map (id_by mid) tries
+ids_longer old mid new [] past within = refl
+ids_longer old mid new (one ∷ more) past within = λ i. id_in ((past.stay one.docket within.0.docket.to).shown i) ∷ ids_longer old mid new more past within.1 i
+
+-- ---- a call that takes the lock, changes the record and gives the lock back
+
+module _ (a b c d : Course) (lock : Waits a.history b.history) (unlock : Waits c.history d.history) (p : Goes a b) (q : Goes b c) (r : Goes c d) where
+  later : a.history.last ≤ b.history.last
+  later = p.past.later
+
+  pub calm_within : Undisturbed a d → Undisturbed b c
+  calm_within calm = first_part b c d r (second_part a b d p calm)
+
+  none_wide : (k : ℕ) → k ≤ c.history.last → NoneOurs c.history b.history.last k → NoneOurs d.history a.history.last k
+  none_wide k within none = λ j from to is. elim (cases_lt j b.history.last) [
+    | inl early ↦ lock.none j from early (sym (q.past.who j early) ∙ sym (r.past.who j (omega (arith, to, within))) ∙ is)
+    | inr late ↦ none j late to (sym (r.past.who j (omega (arith, to, within))) ∙ is)
+  ]
+
+  none_behind : (k : ℕ) → NoneOurs c.history k c.history.last → NoneOurs d.history k d.history.last
+  none_behind k none = λ j from to is. elim (cases_lt j c.history.last) [
+    | inl early ↦ none j from early (sym (r.past.who j early) ∙ is)
+    | inr late ↦ unlock.none j late to is
+  ]
+
+  unwritten_wide : IsUnwritten b.history c.history → IsUnwritten a.history d.history
+  unwritten_wide is = record {
+    none = λ j from to is_us. elim (cases_lt j c.history.last) [
+      | inl early ↦ none_wide c.history.last (omega arith) is.none j from early is_us
+      | inr late ↦ unlock.none j late to is_us
+    ];
+  }
+
+  abbrev stretch_wide : Stretch b.history c.history → Stretch a.history d.history
+  stretch_wide s = record {
+    from = s.from;
+    to = s.to;
+    start = omega (arith, later, s.start);
+    order = s.order;
+    end = omega (arith, s.end, r.past.later);
+    before = none_wide s.from (omega (arith, s.order, s.end)) s.before;
+    behind = none_behind s.to s.behind;
+  }
+
+  -- a moment of the change, seen from the end
+  to_end : (k : ℕ) → k ≤ c.history.last → Remains (scene c k) (scene d k)
+  to_end k within = r.kept k within
+
+  from_end : (k : ℕ) → k ≤ c.history.last → Remains (scene d k) (scene c k)
+  from_end k within = r.back k within
+
+  reading_wide : (k : ℕ) → k ≤ c.history.last → reading (scene d k).files ≡ reading (scene c k).files
+  reading_wide k within = ap reading (to_end k within).shown
+
+  read_wide : (loaded : Table) → IsReadFirst b.history c.history loaded → IsReadFirst a.history d.history loaded
+  read_wide loaded is =
+      let past = extends_up_to is.upto c.history d.history is.within r.past in
+      let tries = tries_earlier a.history b.history (up_to is.upto d.history) is.read.tries later (tries_longer b.history (up_to is.upto c.history) (up_to is.upto d.history) is.read.tries past is.read.tried) in
+      record {
+        upto = is.upto;
+        later = omega (arith, later, is.later);
+        within = omega (arith, is.within, r.past.later);
+        none = none_wide is.upto is.within is.none;
+        read = record {
+          tries = is.read.tries;
+          tried = tries;
+          found = found_longer b.history (up_to is.upto c.history) (up_to is.upto d.history) is.read.tries past is.read.tried ∙ is.read.found;
+        };
+      }
+
+  module _ (command : Changing) (words : List (List ℕ)) (copy : Watched tree.History) (before after start end : ℕ) where
+    abbrev part : Watched History
+    part = record { old = b.history; new = c.history; before = before; after = after }
+
+    abbrev whole : Watched History
+    whole = record { old = a.history; new = d.history; before = start; after = end }
+
+    told_part : IsTrue a.history.told → IsTrue b.history.told
+    told_part told = p.past.told ∙ told
+
+    abbrev made_wide : (refused : List (Option Refusal)) (made : Table) → IsMade command words copy part refused made → IsMade command words copy whole refused made
+    made_wide refused made is = record { loaded = is.loaded; read = λ told. read_wide is.loaded (is.read (told_part told)); steps = is.steps }
+
+    fits_wide : (made : Table) → FitsFirst b.history c.history made → FitsFirst a.history d.history made
+    fits_wide made is = record {
+      at = is.at;
+      later = omega (arith, later, is.later);
+      within = omega (arith, is.within, r.past.later);
+      none = none_wide is.at is.within is.none;
+      fits = subst (λ (f : Files). Fits f made) (sym (r.past.stay is.at is.within).shown) is.fits;
+    }
+
+    kept_wide : (loaded made : Table) → IsKept loaded made (record { old = b; new = c }) → IsKept loaded made (record { old = a; new = d })
+    kept_wide loaded made is = record {
+      stretch = stretch_wide is.stretch;
+      found = is.found;
+      is = is.is;
+      shown = reading_wide is.stretch.to is.stretch.end ∙ is.shown;
+      left =
+          elim is.left [
+            | inl each ↦ inl (λ f left. each f ((to_end is.stretch.to is.stretch.end).left f left))
+            | inr same ↦ inr (same.0, unwritten_wide same.1)
+          ];
+    }
+
+    pub done_wide : (lines : List ℕ) → IsDone command words copy part (record { old = b; new = c }) lines → IsDone command words copy whole (record { old = a; new = d }) lines
+    done_wide lines done = record {
+      refused = done.refused;
+      made = done.made;
+      is = made_wide done.refused done.made done.is;
+      text = done.text;
+      fits = λ told. elim (done.fits (told_part told)) [ inl same ↦ inl same | inr fits ↦ inr (fits_wide done.made fits) ];
+      kept = λ calm. kept_wide done.is.loaded done.made (done.kept (calm_within calm));
+      idle = λ idle. unwritten_wide (done.idle idle);
+    }
+
+    published_wide : IsPublished command words copy (record { old = b; new = c }) → IsPublished command words copy (record { old = a; new = d })
+    published_wide is =
+        let from = is.stretch.from in
+        let near : from ≤ c.history.last = omega (arith, is.stretch.order, is.stretch.end) in
+        let latest : IsLatest (scene d from) → IsLatest (scene c from) = latest_same (scene d from) (scene c from) (from_end from near) (to_end from near) in
+        record {
+          stretch = stretch_wide is.stretch;
+          loaded = is.loaded;
+          there = reading_wide from near ∙ is.there;
+          refused = is.refused;
+          made = is.made;
+          steps = is.steps;
+          found = is.found;
+          is = is.is;
+          crash = λ first k f after upto left.
+              reads_same (scene c from) (scene d from) (Some (Ok is.found)) f (from_end from near)
+              (is.crash (latest first) k f after upto ((to_end k (omega (arith, upto, is.stretch.end))).left f left));
+          shown = λ first k after upto. elim (is.shown (latest first) k after upto) [
+            | inl same ↦ inl (reading_wide k (omega (arith, upto, is.stretch.end)) ∙ same ∙ sym (reading_wide from near))
+            | inr new ↦ inr (reading_wide k (omega (arith, upto, is.stretch.end)) ∙ new)
+          ];
+          latest = λ first. latest_same (scene c is.stretch.to) (scene d is.stretch.to) (to_end is.stretch.to is.stretch.end) (from_end is.stretch.to is.stretch.end) (is.latest (latest first));
+        }
+
+    pub safe_wide : (fault : Option Fault) → IsSafe command words copy (record { old = b; new = c }) fault → IsSafe command words copy (record { old = a; new = d }) fault
+    safe_wide fault (inl none) = inl (unwritten_wide none)
+    safe_wide fault (inr (may, is)) = inr (may, published_wide is)
+
+    refuses_wide : (fault : ReadFault) → LoadMet fault part → LoadMet fault whole
+    refuses_wide fault met told =
+        let m = met (told_part told) in
+        let tries = m.0 in
+        let is = m.1 in (
+          tries,
+          record {
+            tried = tries_earlier a.history b.history d.history tries later (tries_longer b.history c.history d.history tries r.past is.tried);
+            answer =
+                subst (λ (ids : List (List ℕ)). IsRefused fault ids (found_by d.history is.tried.last)) (sym (ids_longer b.history c.history d.history tries r.past is.tried.within))
+                (subst (IsRefused fault (map (id_by c.history) tries)) (sym (found_longer b.history c.history d.history tries r.past is.tried)) is.answer);
+          },
+        )
+
+    pub met_wide : (fault : Fault) → (Rose before after → Rose start end) → MetChanging command words copy part fault → MetChanging command words copy whole fault
+    met_wide a_fault.OutOfMemory rose met = tt
+    met_wide (a_fault.Docket fault) rose met = refuses_wide (a_read.Docket fault) met
+    met_wide (a_fault.Node fault) rose met = refuses_wide (a_read.Node fault) met
+    met_wide (a_fault.DataGone ids) rose met = refuses_wide (a_read.DataGone ids) met
+    met_wide (a_fault.TooLarge size) rose met = record {
+      refused = met.refused;
+      made = met.made;
+      is = made_wide met.refused met.made met.is;
+      held = met.held;
+      same = met.same;
+      large = met.large;
+    }
+    met_wide a_fault.IdsSpent rose met = λ told.
+        let is = met (told_part told) in
+        record {
+          at = is.at;
+          during = record { from = omega (arith, later, is.during.from); to = omega (arith, is.during.to, r.past.later) };
+          spent = ap (λ (f : Files). next_name (id_in f)) (r.past.stay is.at is.during.to).shown ∙ is.spent;
+        }
+    met_wide a_fault.TreeFailed rose met = met
+    met_wide a_fault.ShelfFailed rose met = rose met
+    met_wide a_fault.NotBuilt rose met = met
+    met_wide (a_fault.NoManifest id) rose met = met
+    met_wide (a_fault.ManifestTooLarge size) rose met = met
+    met_wide (a_fault.ManifestLine line) rose met = met
+    met_wide (a_fault.ManifestOrder line) rose met = met
+    met_wide (a_fault.NoContents id) rose met = met
+    met_wide (a_fault.IgnoreTooLarge size) rose met = met
+    met_wide (a_fault.IgnoreText at) rose met = met
+    met_wide (a_fault.BadGlob line) rose met = met
+    met_wide (a_fault.BadRegexp line) rose met = met
+    met_wide (a_fault.RegexpTooBig line) rose met = met
+    met_wide (a_fault.BadInclude line) rose met = met
+    met_wide a_fault.Held rose met = met
+    met_wide a_fault.OutFailed rose met = met
+    met_wide a_fault.ErrFailed rose met = met

@@ -1,0 +1,13 @@
+use Rattle.std.proofs.Common.{◌≡◌, ◌≤◌, ◌-◌, drop, take}
+use Rattle.hg_session.specs.declared.acting.Changing.TheVariants as a_command
+use Rattle.hg_session.proofs.SoFar.{SoFar}
+use Rattle.hg_session.proofs.acting.act.Given as goal
+
+-- the words so far were acted on, and the lines are those of them that were refused
+abbrev pub invariant-loop-i : goal.invariant-loop-i
+invariant-loop-i g l = record {
+  unlooked : l.command ≡ a_command.Forget → l.tree ≡ l.initial.tree;
+  from : 1 ≤ l.i;
+  so_far : SoFar l.command (g.T.Tree.history l.initial.tree) (g.T.Tree.history l.tree) (take (l.i - 1) (drop 1 l.words)) l.initial.mixed l.mixed l.lines.items
+      (g.T.Tree.faults l.initial.tree) (g.T.Tree.faults l.tree);
+}

@@ -1,0 +1,21 @@
+use Rattle.std.proofs.Common.{sym, ◌∙◌}
+use Rattle.std.proofs.lemmas.Result.{err_from_is_err_and}
+use Rattle.hg_image.specs.Reading.{table_in}
+use Rattle.hg_session.proofs.changing.opened.Goals as goal
+
+pub returns-in_err-image : goal.returns-in_err-image
+returns-in_err-image c =
+    let p = err_from_is_err_and c.from_residual.result c.from_residual.ensures.1 in
+    rw (p.1, p.2) (sym c.in_err-image.ensures.read)
+
+pub returns-in_err-mixed : goal.returns-in_err-mixed
+returns-in_err-mixed c =
+    let p = err_from_is_err_and c.from_residual-in_err-mixed.result c.from_residual-in_err-mixed.ensures.1 in
+    rw (p.1, p.2) tt
+
+pub returns : goal.returns
+returns c = (
+  table_in c.in_ok-image.image,
+  sym c.in_ok-image.ensures.read,
+  record { same = c.in_ok-mixed.ensures.table; unchanged = c.in_ok-mixed.ensures.changed; contents = c.in_ok-mixed.ensures.docket ∙ c.in_ok-image.ensures.docket },
+)

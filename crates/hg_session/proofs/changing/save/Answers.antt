@@ -1,0 +1,35 @@
+use Rattle.std.proofs.Common.{inl, inr, refl}
+use Rattle.hg_save.proofs.Encodings.{goes_over}
+use Rattle.hg_shelf.specs.Images.{course}
+use Rattle.hg_session.proofs.Overs.{over_by, recorded_by}
+use Rattle.hg_session.proofs.changing.save.Goals as goal
+
+pub publish-requires-clause-over : goal.publish-requires-clause-over
+publish-requires-clause-over g c = goes_over c.args.loaded.now.docket.items c.args.table.now c.in_ok-new.new c.requires.over c.in_ok-new.ensures.written c.in_ok-new.ensures.reads
+
+pub returns-in-Err-clause-safe : goal.returns-in-Err-clause-safe
+returns-in-Err-clause-safe g c = λ calm stands.
+    inr (
+      inl refl,
+      over_by c.args.table.now c.in_ok-new.new c.in_ok-new.ensures.reads c.args.loaded.now.docket.items
+          (course (g.S.Shelf.history c.args.shelf.now) (g.S.Shelf.images c.args.shelf.now)) (course (g.S.Shelf.history c.publish.new.shelf) (g.S.Shelf.images c.publish.new.shelf))
+          (goes_over c.args.loaded.now.docket.items c.args.table.now c.in_ok-new.new c.requires.over c.in_ok-new.ensures.written c.in_ok-new.ensures.reads)
+          stands (c.in-Err.ensures.crash calm) (c.in-Err.ensures.left calm) (c.in-Err.ensures.latest calm stands),
+    )
+
+pub returns-in-Err-clause-met : goal.returns-in-Err-clause-met
+returns-in-Err-clause-met g c = inr (refl, c.in-Err.ensures.cause.rose tt)
+
+pub returns-clause-recorded : goal.returns-clause-recorded
+returns-clause-recorded g c = λ calm some.
+    recorded_by c.args.table.now c.in_ok-new.new c.in_ok-new.ensures.reads (course (g.S.Shelf.history c.publish.new.shelf) (g.S.Shelf.images c.publish.new.shelf)) (c.in-Ok.ensures.sure calm)
+
+pub returns-clause-safe : goal.returns-clause-safe
+returns-clause-safe g c = λ calm stands.
+    inr (
+      tt,
+      over_by c.args.table.now c.in_ok-new.new c.in_ok-new.ensures.reads c.args.loaded.now.docket.items
+          (course (g.S.Shelf.history c.args.shelf.now) (g.S.Shelf.images c.args.shelf.now)) (course (g.S.Shelf.history c.publish.new.shelf) (g.S.Shelf.images c.publish.new.shelf))
+          (goes_over c.args.loaded.now.docket.items c.args.table.now c.in_ok-new.new c.requires.over c.in_ok-new.ensures.written c.in_ok-new.ensures.reads)
+          stands (c.in-Ok.ensures.crash calm) (c.in-Ok.ensures.left calm) (c.in-Ok.ensures.latest calm stands),
+    )

@@ -1,0 +1,42 @@
+-- The lock, the change and giving the lock back, as one call.
+use Rattle.hg_session.proofs.Freed.{once_done, once_met, once_safe}
+use Rattle.hg_session.specs.Change.{files_of}
+use Rattle.hg_shelf.specs.History.{History}
+use Rattle.hg_shelf.specs.Images.{course}
+use Rattle.hg_shelf.proofs.Scenes.{goes_trans}
+use Rattle.hg_tree.specs.History as tree
+use Rattle.hg_session.proofs.locking.change.Goals as goal
+
+pub returns-in-Ok-true-clause-done : goal.returns-in-Ok-true-clause-done
+returns-in-Ok-true-clause-done g c =
+    rw c.first_fault.ensures
+    (once_done (course (g.S.Shelf.history c.args.shelf.now) (g.S.Shelf.images c.args.shelf.now)) (course (g.S.Shelf.history c.lock.new.self) (g.S.Shelf.images c.lock.new.self))
+    (course (g.S.Shelf.history c.change_locked-done.new.shelf) (g.S.Shelf.images c.change_locked-done.new.shelf)) (course (g.S.Shelf.history c.unlock-freed.new.self) (g.S.Shelf.images c.unlock-freed.new.self))
+    c.lock.ensures.waits c.unlock-freed.ensures.waits c.lock.ensures.kept c.change_locked-done.ensures.kept c.unlock-freed.ensures.kept
+    c.args.command (files_of c.args.words.now) _ (g.S.Shelf.faults c.args.shelf.now) (g.S.Shelf.faults c.lock.new.self) (g.S.Shelf.faults c.change_locked-done.new.shelf) (g.S.Shelf.faults c.unlock-freed.new.self)
+    c.change_locked-done.result c.unlock-freed.result c.change_locked-done.ensures.done)
+
+pub returns-in-Ok-true-clause-met : goal.returns-in-Ok-true-clause-met
+returns-in-Ok-true-clause-met g c =
+    rw c.first_fault.ensures
+    (once_met (course (g.S.Shelf.history c.args.shelf.now) (g.S.Shelf.images c.args.shelf.now)) (course (g.S.Shelf.history c.lock.new.self) (g.S.Shelf.images c.lock.new.self))
+    (course (g.S.Shelf.history c.change_locked-done.new.shelf) (g.S.Shelf.images c.change_locked-done.new.shelf)) (course (g.S.Shelf.history c.unlock-freed.new.self) (g.S.Shelf.images c.unlock-freed.new.self))
+    c.lock.ensures.waits c.unlock-freed.ensures.waits c.lock.ensures.kept c.change_locked-done.ensures.kept c.unlock-freed.ensures.kept
+    c.args.command (files_of c.args.words.now) _ (g.S.Shelf.faults c.args.shelf.now) (g.S.Shelf.faults c.lock.new.self) (g.S.Shelf.faults c.change_locked-done.new.shelf) (g.S.Shelf.faults c.unlock-freed.new.self)
+    _ c.change_locked-done.result c.unlock-freed.result c.in-Ok-true.ensures.cause.quiet c.change_locked-done.ensures.later c.change_locked-done.ensures.met c.unlock-freed.ensures.cause)
+
+pub returns-in-Ok-true-clause-safe : goal.returns-in-Ok-true-clause-safe
+returns-in-Ok-true-clause-safe g c = λ calm.
+    rw c.first_fault.ensures
+    (once_safe (course (g.S.Shelf.history c.args.shelf.now) (g.S.Shelf.images c.args.shelf.now)) (course (g.S.Shelf.history c.lock.new.self) (g.S.Shelf.images c.lock.new.self))
+    (course (g.S.Shelf.history c.change_locked-done.new.shelf) (g.S.Shelf.images c.change_locked-done.new.shelf)) (course (g.S.Shelf.history c.unlock-freed.new.self) (g.S.Shelf.images c.unlock-freed.new.self))
+    c.lock.ensures.waits c.unlock-freed.ensures.waits c.lock.ensures.kept c.change_locked-done.ensures.kept c.unlock-freed.ensures.kept
+    c.args.command (files_of c.args.words.now) _ (g.S.Shelf.faults c.args.shelf.now) (g.S.Shelf.faults c.lock.new.self) (g.S.Shelf.faults c.change_locked-done.new.shelf) (g.S.Shelf.faults c.unlock-freed.new.self)
+    c.change_locked-done.result c.unlock-freed.result c.change_locked-done.ensures.safe calm)
+
+pub returns-in-Ok-true-clause-kept : goal.returns-in-Ok-true-clause-kept
+returns-in-Ok-true-clause-kept g c =
+    goes_trans (course (g.S.Shelf.history c.args.shelf.now) (g.S.Shelf.images c.args.shelf.now)) (course (g.S.Shelf.history c.lock.new.self) (g.S.Shelf.images c.lock.new.self))
+    (course (g.S.Shelf.history c.unlock-freed.new.self) (g.S.Shelf.images c.unlock-freed.new.self)) c.lock.ensures.kept
+    (goes_trans (course (g.S.Shelf.history c.lock.new.self) (g.S.Shelf.images c.lock.new.self)) (course (g.S.Shelf.history c.change_locked-done.new.shelf) (g.S.Shelf.images c.change_locked-done.new.shelf))
+    (course (g.S.Shelf.history c.unlock-freed.new.self) (g.S.Shelf.images c.unlock-freed.new.self)) c.change_locked-done.ensures.kept c.unlock-freed.ensures.kept)

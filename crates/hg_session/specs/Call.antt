@@ -1,0 +1,46 @@
+-- What happened in a call: each device before and after it.
+use Rattle.std.specs.Prelude.{ℕ, List, Option}
+use Rattle.hg_base.specs.Fault.{IsSteady, Rose}
+use Rattle.hg_shelf.specs.History as shelf
+use Rattle.hg_shelf.specs.Images.{Course}
+use Rattle.hg_tree.specs.History as tree
+
+-- a device before and after a call: what it tells, and how often it failed
+pub record Watched {ℓ} (Told : Type ℓ) : Type ℓ where
+  pub old : Told
+  pub new : Told
+  pub before : ℕ
+  pub after : ℕ
+
+-- its count of failures rose
+abbrev pub Fails {ℓ} : {Told : Type ℓ} → Watched Told → Type 0
+Fails device = Rose device.before device.after
+
+-- it never failed
+abbrev pub Serves {ℓ} : {Told : Type ℓ} → Watched Told → Type 0
+Serves device = IsSteady device.before device.after
+
+-- a count before and after a call
+pub record Count : Type 0 where
+  pub before : ℕ
+  pub after : ℕ
+
+-- what is looked at: the working copy, and the files below `.hg`; and how many regexps were too big
+pub record Looked : Type 0 where
+  pub tree : Watched tree.History
+  pub shelf : Watched shelf.History
+  pub oversize : Count
+
+-- the files below `.hg` with what a crash may leave of them, before and after a call
+pub record Saved : Type 1 where
+  pub old : Course
+  pub new : Course
+
+-- a command: its words, what is looked at, what is saved, how many locks were refused, standard output and the error stream
+pub record Call : Type 1 where
+  pub words : List (List ℕ)
+  pub looked : Looked
+  pub saved : Saved
+  pub locks : Count
+  pub out : Watched (Option (List ℕ))
+  pub err : Watched (Option (List ℕ))

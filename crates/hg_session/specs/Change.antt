@@ -1,0 +1,208 @@
+-- What a command that changes the record answers and leaves, and why.
+use Rattle.std.specs.Prelude.{ℕ, ◌≡◌, ◌⊎◌, ◌≤◌, ◌<◌, ◌^◌, Bool, true, if◌then◌else◌, List, [], ◌∷◌, drop, take, Option, Some, None, Result, Ok, Err, IsTrue, codes, is_some}
+use Rattle.std.specs.List.{list_any}
+use Rattle.std.specs.Str.{bytes_eq}
+use Rattle.hg_append.specs.Encoded.{IsTooLarge}
+use Rattle.hg_append.specs.Layout.{size_of}
+use Rattle.hg_append.specs.Tree.{IsTreeOf, Tree}
+use Rattle.hg_base.specs.Fault.{Rose}
+use Rattle.hg_docket.specs.Number.{next_name}
+use Rattle.hg_entry.specs.Table.{Table}
+use Rattle.hg_image.specs.Reading as a_record_fault
+use Rattle.hg_mixed.specs.Edits.{IsSame}
+use Rattle.hg_mixed.specs.Held.{Held, table}
+use Rattle.hg_ops.specs.declared.refusal.Refusal.{Refusal}
+use Rattle.hg_report.specs.declared.fault.Fault.{Fault}
+use Rattle.hg_report.specs.declared.fault.Fault.TheVariants as a_fault
+use Rattle.hg_save.specs.Loads.{During, files_at}
+use Rattle.hg_save.specs.Record.{id_in, reading}
+use Rattle.hg_save.specs.Saved.{IsLatest, ReadsAsBeforeOr}
+use Rattle.hg_session.specs.Acts.{AllIdle, AllSteps, refusals_text}
+use Rattle.hg_session.specs.Call.{Call, Count, Fails, Saved, Watched}
+use Rattle.hg_session.specs.Debug.{IsRead}
+use Rattle.hg_session.specs.Listed.{LoadMet}
+use Rattle.hg_session.specs.declared.acting.Changing.{Changing}
+use Rattle.hg_session.specs.declared.acting.Changing.TheVariants as a_change
+use Rattle.hg_session.specs.declared.read_fault.ReadFault.TheVariants as a_read
+use Rattle.hg_shelf.specs.History as shelf
+use Rattle.hg_shelf.specs.Images.{scene}
+use Rattle.hg_shelf.specs.Polite.{Undisturbed}
+use Rattle.hg_tree.specs.History as tree
+
+-- ---- the words
+
+-- a word that begins with a dash
+abbrev pub is_dashed : List ℕ → Bool
+is_dashed word = bytes_eq (take 1 word) (codes "-")
+
+abbrev pub changing_named : List ℕ → Option Changing
+changing_named name = if bytes_eq name (codes "add") then Some a_change.Add else (if bytes_eq name (codes "forget") then Some a_change.Forget else None)
+
+-- the command that changes the record, where file words follow its name, none of which begins with a dash
+abbrev pub changing_of : List (List ℕ) → Option Changing
+changing_of [] = None
+changing_of (name ∷ []) = None
+changing_of (name ∷ word ∷ words) = if list_any is_dashed (word ∷ words) then None else changing_named name
+
+-- the file words
+abbrev pub files_of : List (List ℕ) → List (List ℕ)
+files_of words = drop 1 words
+
+-- ---- what the words make of the record
+
+-- no step is the caller's
+abbrev pub NoneOurs : shelf.History → ℕ → ℕ → Type 0
+NoneOurs h from to = (k : ℕ) → from ≤ k → k < to → h.who k ≡ shelf.us → ⊥
+
+-- a history up to a moment
+abbrev pub up_to : ℕ → shelf.History → shelf.History
+up_to k h = record h { last = k }
+
+-- the record was read in the call, up to a moment before which the caller made no step
+pub record IsReadFirst (old new : shelf.History) (loaded : Table) : Type 0 where
+  pub upto : ℕ
+  pub later : old.last ≤ upto
+  pub within : upto ≤ new.last
+  pub none : NoneOurs new old.last upto
+  pub read : IsRead old (up_to upto new) loaded
+
+-- the words make this of the record that was read in the call, and these are refused
+pub record IsMade (command : Changing) (words : List (List ℕ)) (copy : Watched tree.History) (files : Watched shelf.History) (refused : List (Option Refusal)) (made : Table) : Type 0 where
+  pub loaded : Table
+  pub read : IsTrue files.old.told → IsReadFirst files.old files.new loaded
+  pub steps : AllSteps command copy.old copy.new words refused loaded made
+
+-- a stretch of a call from where the caller got the lock to where it gave it back; outside it the caller makes no step
+pub record Stretch (old new : shelf.History) : Type 0 where
+  pub from : ℕ
+  pub to : ℕ
+  pub start : old.last ≤ from
+  pub order : from ≤ to
+  pub end : to ≤ new.last
+  pub before : NoneOurs new old.last from
+  pub behind : NoneOurs new to new.last
+
+-- the caller wrote nothing
+pub record IsUnwritten (old new : shelf.History) : Type 0 where
+  pub none : NoneOurs new old.last new.last
+
+-- the record was published over the one that stood where the lock was got
+pub record IsPublished (command : Changing) (words : List (List ℕ)) (copy : Watched tree.History) (saved : Saved) : Type 0 where
+  pub stretch : Stretch saved.old.history saved.new.history
+  pub loaded : Table
+  pub there : reading (scene saved.new stretch.from).files ≡ Some (Ok loaded)
+  pub refused : List (Option Refusal)
+  pub made : Table
+  pub steps : AllSteps command copy.old copy.new words refused loaded made
+  -- what is recorded once it is published
+  pub found : Table
+  pub is : IsSame found made
+  -- a crash leaves a record of what it might have left where the lock was got, or the new one, and reads show the one or the other
+  pub crash : IsLatest (scene saved.new stretch.from) → (k : ℕ) (c : shelf.Files) → stretch.from ≤ k → k ≤ stretch.to → (scene saved.new k).leaves c → ReadsAsBeforeOr (scene saved.new stretch.from) (Some (Ok found)) c
+  pub shown : IsLatest (scene saved.new stretch.from) → (k : ℕ) → stretch.from ≤ k → k ≤ stretch.to
+      → (reading (scene saved.new k).files ≡ reading (scene saved.new stretch.from).files) ⊎ (reading (scene saved.new k).files ≡ Some (Ok found))
+  -- the next one finds its identifier free
+  pub latest : IsLatest (scene saved.new stretch.from) → IsLatest (scene saved.new stretch.to)
+
+-- where the lock was given back, reads show a record of this table, and so does whatever a crash leaves, unless nothing was to be published
+pub record IsKept (loaded made : Table) (saved : Saved) : Type 0 where
+  pub stretch : Stretch saved.old.history saved.new.history
+  pub found : Table
+  pub is : IsSame found made
+  pub shown : reading (scene saved.new stretch.to).files ≡ Some (Ok found)
+  pub left : ((c : shelf.Files) → (scene saved.new stretch.to).leaves c → reading c ≡ Some (Ok found)) ⊎ (IsSame made loaded × IsUnwritten saved.old.history saved.new.history)
+
+-- a table can be written anew over the record in these files: an identifier is left, and it isn't too large
+pub record Fits (files : shelf.Files) (made : Table) : Type 0 where
+  pub held : Held
+  pub same : IsSame (table held) made
+  pub tree : Tree
+  pub is : IsTreeOf held None tree
+  pub small : size_of tree < 2 ^ 32
+  pub next : is_some (next_name (id_in files)) ≡ true
+
+-- it could be written over the record that stood at a moment of the call before which the caller made no step
+pub record FitsFirst (old new : shelf.History) (made : Table) : Type 0 where
+  pub at : ℕ
+  pub later : old.last ≤ at
+  pub within : at ≤ new.last
+  pub none : NoneOurs new old.last at
+  pub fits : Fits (files_at new at) made
+
+-- the words were done, and what they made is recorded
+pub record IsDone (command : Changing) (words : List (List ℕ)) (copy : Watched tree.History) (files : Watched shelf.History) (saved : Saved) (lines : List ℕ) : Type 0 where
+  pub refused : List (Option Refusal)
+  pub made : Table
+  pub is : IsMade command words copy files refused made
+  pub text : lines ≡ refusals_text command words refused
+  pub fits : IsTrue files.old.told → IsSame made is.loaded ⊎ FitsFirst files.old files.new made
+  pub kept : Undisturbed saved.old saved.new → IsKept is.loaded made saved
+  -- where no word changed anything, nothing is written
+  pub idle : AllIdle command copy.old copy.new words refused is.loaded made is.steps → IsUnwritten saved.old.history saved.new.history
+
+-- ---- why it met a fault
+
+-- the new record would take so many bytes, which are too many
+pub record MetLarge (command : Changing) (words : List (List ℕ)) (copy : Watched tree.History) (files : Watched shelf.History) (size : ℕ) : Type 0 where
+  pub refused : List (Option Refusal)
+  pub made : Table
+  pub is : IsMade command words copy files refused made
+  pub held : Held
+  pub same : IsSame (table held) made
+  pub large : IsTooLarge held size
+
+-- a docket that was read names the last identifier
+pub record MetSpent (files : Watched shelf.History) : Type 0 where
+  pub at : ℕ
+  pub during : During files.old files.new at
+  pub spent : next_name (id_in (files_at files.new at)) ≡ None
+
+-- before anything was published, or while it was: what stood in the files, or a device that failed. Want of memory needs no reason
+abbrev pub MetChanging : Changing → List (List ℕ) → Watched tree.History → Watched shelf.History → Fault → Type 0
+MetChanging command words copy files a_fault.OutOfMemory = Unit {0}
+MetChanging command words copy files (a_fault.Docket fault) = LoadMet (a_read.Docket fault) files
+MetChanging command words copy files (a_fault.Node fault) = LoadMet (a_read.Node fault) files
+MetChanging command words copy files (a_fault.DataGone ids) = LoadMet (a_read.DataGone ids) files
+MetChanging command words copy files (a_fault.TooLarge size) = MetLarge command words copy files size
+MetChanging command words copy files a_fault.IdsSpent = IsTrue files.old.told → MetSpent files
+MetChanging command words copy files a_fault.TreeFailed = Fails copy
+MetChanging command words copy files a_fault.ShelfFailed = Fails files
+MetChanging command words copy files a_fault.NotBuilt = ⊥
+MetChanging command words copy files (a_fault.NoManifest id) = ⊥
+MetChanging command words copy files (a_fault.ManifestTooLarge size) = ⊥
+MetChanging command words copy files (a_fault.ManifestLine line) = ⊥
+MetChanging command words copy files (a_fault.ManifestOrder line) = ⊥
+MetChanging command words copy files (a_fault.NoContents id) = ⊥
+MetChanging command words copy files (a_fault.IgnoreTooLarge size) = ⊥
+MetChanging command words copy files (a_fault.IgnoreText at) = ⊥
+MetChanging command words copy files (a_fault.BadGlob line) = ⊥
+MetChanging command words copy files (a_fault.BadRegexp line) = ⊥
+MetChanging command words copy files (a_fault.RegexpTooBig line) = ⊥
+MetChanging command words copy files (a_fault.BadInclude line) = ⊥
+MetChanging command words copy files a_fault.Held = ⊥
+MetChanging command words copy files a_fault.OutFailed = ⊥
+MetChanging command words copy files a_fault.ErrFailed = ⊥
+
+-- or a lock that was refused
+abbrev pub MetLocking : Changing → List (List ℕ) → Watched tree.History → Watched shelf.History → Count → Fault → Type 0
+MetLocking command words copy files locks fault = MetChanging command words copy files fault ⊎ ((fault ≡ a_fault.Held) × Rose locks.before locks.after)
+
+-- or an error stream that failed while the refused words were told
+abbrev pub ChangeCause : Changing → Call → Fault → Type 0
+ChangeCause command call fault =
+    MetLocking command (files_of call.words) call.looked.tree call.looked.shelf call.locks fault ⊎ ((fault ≡ a_fault.ErrFailed) × Fails call.err)
+
+-- a fault that may be met once something was written: a shelf or an error stream that failed; for the line of the one there may be no memory
+abbrev pub MayFollowWriting : Option Fault → Type 0
+MayFollowWriting None = Unit {0}
+MayFollowWriting (Some fault) = (fault ≡ a_fault.ShelfFailed) ⊎ ((fault ≡ a_fault.ErrFailed) ⊎ (fault ≡ a_fault.OutOfMemory))
+
+-- nothing was written, or a record was published
+abbrev pub IsSafe : Changing → List (List ℕ) → Watched tree.History → Saved → Option Fault → Type 0
+IsSafe command words copy saved fault = IsUnwritten saved.old.history saved.new.history ⊎ (MayFollowWriting fault × IsPublished command words copy saved)
+
+-- what is answered once the lock was given back, or couldn't be: the first fault
+abbrev pub once_freed : {A U E : Type 0} → Result A Fault → Result U E → Result A Fault
+once_freed (Err fault) freed = Err fault
+once_freed (Ok done) (Err failed) = Err a_fault.ShelfFailed
+once_freed (Ok done) (Ok unit) = Ok done

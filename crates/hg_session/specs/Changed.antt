@@ -1,0 +1,131 @@
+-- What the commands that change the record promise.
+use Rattle.std.specs.Prelude.{ℕ, ◌≡◌, ◌⊎◌, ◌<◌, if◌then◌else◌, List, Option, Some, None, Ok, Err, IsTrue, IfSome, MatchBool, is_some}
+use Rattle.std.specs.List.{AllByRecursion, list_any}
+use Rattle.hg_append.specs.Encoded.{IsTooLarge}
+use Rattle.hg_base.specs.Fault.{IsSteady}
+use Rattle.hg_docket.specs.Number.{next_name}
+use Rattle.hg_entry.specs.Table.{Table}
+use Rattle.hg_image.specs.Reading as a_record_fault
+use Rattle.hg_mixed.specs.Edits.{IsSame}
+use Rattle.hg_mixed.specs.Held.{Held, table}
+use Rattle.hg_ops.specs.declared.refusal.Refusal.{Refusal}
+use Rattle.hg_report.specs.Fault.{has_line}
+use Rattle.hg_report.specs.declared.fault.Fault.{Fault}
+use Rattle.hg_report.specs.declared.fault.Fault.TheVariants as a_fault
+use Rattle.hg_save.specs.Record.{id_in, reading}
+use Rattle.hg_session.specs.Acts.{AllSteps, refusals_text}
+use Rattle.hg_session.specs.Call.{Call, Fails, Serves, Watched}
+use Rattle.hg_session.specs.Change.{ChangeCause, Fits, IsDone, IsSafe, files_of}
+use Rattle.hg_session.specs.Command.{IsFaultOrMemory, IsSilent, TellsLine}
+use Rattle.hg_session.specs.Listed.{IsOwn}
+use Rattle.hg_session.specs.declared.acting.Changing.{Changing}
+use Rattle.hg_shelf.specs.History as shelf
+use Rattle.hg_shelf.specs.Images.{Goes}
+use Rattle.hg_shelf.specs.Polite.{Undisturbed}
+use Rattle.hg_stream.specs.Stream.{Grown, GrownByFront}
+use Rattle.hg_tree.specs.History as tree
+
+-- 1 where a word was refused, and else 0
+abbrev pub status_of : List (Option Refusal) → ℕ
+status_of refused = if list_any is_some refused then 1 else 0
+
+-- the words were done, the refused ones told, and the status says whether there are some
+pub record IsStepped (command : Changing) (call : Call) (status : ℕ) : Type 0 where
+  pub lines : List ℕ
+  pub done : IsDone command (files_of call.words) call.looked.tree call.looked.shelf call.saved lines
+  pub told : Grown call.err.old call.err.new lines
+  pub ends : status ≡ status_of done.refused
+
+-- the lines of words that were refused, or a front of them, and the stream failed
+pub record IsPartlyTold (command : Changing) (call : Call) : Type 0 where
+  pub refused : List (Option Refusal)
+  pub told : GrownByFront call.err.old call.err.new (refusals_text command (files_of call.words) refused)
+  pub failed : Fails call.err
+
+-- with a fault its line alone is told; where the error stream failed while the refused words were told, a front of these
+abbrev pub TellsFault : Changing → Call → Fault → Type 0
+TellsFault command call fault = MatchBool (has_line fault) (TellsLine call.err.old call.err.new call.err.before call.err.after fault) (IsPartlyTold command call)
+
+-- the tree is asked for no bytes and no names, and nothing of it is changed
+pub record OnlyLooks (copy : Watched tree.History) : Type 0 where
+  pub passes : tree.Passes copy.old copy.new
+  pub asked : IsTrue copy.old.told → copy.new.asked ≡ copy.old.asked
+
+-- ---- what has to be answered
+
+-- the words make this of the record in these files, and these are refused
+pub record IsMadeOf (command : Changing) (words : List (List ℕ)) (copy : Watched tree.History) (files : shelf.Files) (loaded made : Table) : Type 0 where
+  pub recorded : reading files ≡ Some (Ok loaded)
+  pub refused : List (Option Refusal)
+  pub steps : AllSteps command copy.old copy.new words refused loaded made
+
+-- the words leave the record as it is, or make one that can be written
+pub record CanBeDone (command : Changing) (words : List (List ℕ)) (copy : Watched tree.History) (files : shelf.Files) : Type 0 where
+  pub loaded : Table
+  pub made : Table
+  pub is : IsMadeOf command words copy files loaded made
+  pub fits : IsSame made loaded ⊎ Fits files made
+
+-- the words make one that takes so many bytes, which are too many
+pub record IsTooLargeFor (command : Changing) (words : List (List ℕ)) (copy : Watched tree.History) (files : shelf.Files) (size : ℕ) : Type 0 where
+  pub loaded : Table
+  pub made : Table
+  pub is : IsMadeOf command words copy files loaded made
+  pub held : Held
+  pub same : IsSame (table held) made
+  pub large : IsTooLarge held size
+
+-- the answer to these words where the files stand so, nobody else steps, no device fails and no lock is refused; want of memory may come at any time
+abbrev pub IsExpectedChange : Changing → List (List ℕ) → Watched tree.History → shelf.Files → Option Fault → Type 0
+IsExpectedChange command words copy files None = CanBeDone command words copy files
+IsExpectedChange command words copy files (Some a_fault.OutOfMemory) = Unit {0}
+IsExpectedChange command words copy files (Some (a_fault.Docket fault)) = reading files ≡ Some (Err (a_record_fault.Docket fault))
+IsExpectedChange command words copy files (Some (a_fault.Node fault)) = reading files ≡ Some (Err (a_record_fault.Node fault))
+IsExpectedChange command words copy files (Some (a_fault.DataGone ids)) = (reading files ≡ None) × AllByRecursion (λ id. id ≡ id_in files) ids
+IsExpectedChange command words copy files (Some (a_fault.TooLarge size)) = IsTooLargeFor command words copy files size
+IsExpectedChange command words copy files (Some a_fault.IdsSpent) = next_name (id_in files) ≡ None
+IsExpectedChange command words copy files (Some a_fault.NotBuilt) = ⊥
+IsExpectedChange command words copy files (Some (a_fault.NoManifest id)) = ⊥
+IsExpectedChange command words copy files (Some (a_fault.ManifestTooLarge size)) = ⊥
+IsExpectedChange command words copy files (Some (a_fault.ManifestLine line)) = ⊥
+IsExpectedChange command words copy files (Some (a_fault.ManifestOrder line)) = ⊥
+IsExpectedChange command words copy files (Some (a_fault.NoContents id)) = ⊥
+IsExpectedChange command words copy files (Some (a_fault.IgnoreTooLarge size)) = ⊥
+IsExpectedChange command words copy files (Some (a_fault.IgnoreText at)) = ⊥
+IsExpectedChange command words copy files (Some (a_fault.BadGlob line)) = ⊥
+IsExpectedChange command words copy files (Some (a_fault.BadRegexp line)) = ⊥
+IsExpectedChange command words copy files (Some (a_fault.RegexpTooBig line)) = ⊥
+IsExpectedChange command words copy files (Some (a_fault.BadInclude line)) = ⊥
+IsExpectedChange command words copy files (Some a_fault.Held) = ⊥
+IsExpectedChange command words copy files (Some a_fault.TreeFailed) = ⊥
+IsExpectedChange command words copy files (Some a_fault.ShelfFailed) = ⊥
+IsExpectedChange command words copy files (Some a_fault.OutFailed) = ⊥
+IsExpectedChange command words copy files (Some a_fault.ErrFailed) = ⊥
+
+-- ---- the command
+
+-- what a command that changes the record did that ended with this status and this fault, or with none
+pub record RanChange (command : Changing) (call : Call) (status : ℕ) (fault : Option Fault) : Type 0 where
+  -- without a fault each word did what it says to the record that was read, the refused ones were told, and the rest is recorded
+  pub stepped : fault ≡ None → IsStepped command call status
+  -- whatever the answer, at each moment of the call a crash leaves the record as it was or as it is after, and so do reads
+  pub safe : Undisturbed call.saved.old call.saved.new → IsSafe command (files_of call.words) call.looked.tree call.saved fault
+  -- each fault comes only for its cause
+  pub cause : IfSome fault (ChangeCause command call)
+  -- a lock that was refused is told as such
+  pub held : call.locks.before < call.locks.after → IsFaultOrMemory fault a_fault.Held
+  -- where nobody else steps, no count rises and no lock is refused, the answer is the expected one, or there was no memory
+  pub complete : IsOwn call.looked → Serves call.looked.tree → Serves call.looked.shelf → Serves call.err → IsSteady call.locks.before call.locks.after
+      → IsExpectedChange command (files_of call.words) call.looked.tree (shelf.now call.looked.shelf.old).files fault
+  -- where a device failed there is a fault
+  pub calm_tree : fault ≡ None → call.looked.tree.after ≡ call.looked.tree.before
+  pub calm_shelf : fault ≡ None → call.looked.shelf.after ≡ call.looked.shelf.before
+  pub calm_err : fault ≡ None → call.err.after ≡ call.err.before
+  -- what stands on the error stream after a fault; nothing is printed, and no regexp compiled
+  pub told : IfSome fault (TellsFault command call)
+  pub silent : IsSilent call.out
+  pub uncounted : call.looked.oversize.after ≡ call.looked.oversize.before
+  pub looks : OnlyLooks call.looked.tree
+  -- what was so far stays, and the lock is given back, unless the shelf failed
+  pub kept : Goes call.saved.old call.saved.new
+  pub freed : IsTrue call.saved.new.history.ours → IsTrue call.saved.old.history.ours ⊎ Fails call.looked.shelf

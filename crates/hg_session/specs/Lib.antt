@@ -1,0 +1,11 @@
+pub mod Acts
+pub mod Anew
+pub mod Call
+pub mod Change
+pub mod Changed
+pub mod Command
+pub mod Debug
+pub mod Flags
+pub mod Listed
+pub mod Load
+pub mod Loaded

@@ -1,0 +1,143 @@
+//! A command that changes the record: the lock, the record, what its words make of it, a publication.
+
+ghost use Rattle.std.specs.Prelude.{◌≡◌, ◌≤◌, ◌∷◌, [], IfErr, IfOk, IsTrue, None, OnOk, false, length, true};
+ghost use Rattle.std.specs.Result.{result_err};
+ghost use Rattle.hg_base.specs.Fault.{HasCause};
+ghost use Rattle.hg_docket.specs.Docket.{docket_of, docket_refusal};
+ghost use Rattle.hg_image.specs.Reading.{data_reading};
+ghost use Rattle.hg_save.specs.Loads.{Try};
+ghost use Rattle.hg_save.specs.Saved.{Stands};
+ghost use Rattle.hg_session.specs.Anew.{CanWrite, IsOpened, IsRecorded, LoadsOrRefuses, MetWriting, WritesOnly};
+ghost use Rattle.hg_session.specs.Change.{IsDone, IsSafe, MetChanging, files_of};
+ghost use Rattle.hg_session.specs.Changed.{OnlyLooks};
+ghost use Rattle.hg_session.specs.Loaded.{NodesFind};
+ghost use Rattle.hg_session.specs.declared.read_fault.ReadFault.TheVariants as a_fault;
+ghost use Rattle.hg_shelf.specs.History.{Passes};
+ghost use Rattle.hg_shelf.specs.Images.{Goes, course, last_scene};
+ghost use Rattle.hg_shelf.specs.Polite.{Undisturbed};
+
+use crate::acting::{Changing, act};
+use crate::read_fault::ReadFault;
+use hg_append::{encode, plan};
+use hg_base::Words;
+use hg_mixed::Mixed;
+use hg_report::Fault;
+use hg_save::{Loaded, load, publish};
+use hg_shelf::Shelf;
+use hg_tree::Tree;
+use std::alloc::Global;
+
+// Loads the record.
+fn read<S: Shelf>(alloc: Global, shelf: &mut S) -> Result<Loaded, ReadFault>
+    ensures passes { Passes (S.history shelf.old) (S.history shelf.new) }
+    ensures found { IsTrue (S.history shelf.old).told
+        → ((tried : Try) × LoadsOrRefuses (S.history shelf.old) (S.history shelf.new) (tried ∷ []) result) }
+    ensures few { IfOk result (λ l. length l.docket.items ≤ 512) }
+    ensures whole { IfOk result (λ l. docket_refusal l.docket.items ≡ None) }
+    ensures cause { HasCause (S.faults shelf.old) (S.faults shelf.new) result (λ e. e ≡ a_fault.Failed) }
+    ensures kept { Goes (course (S.history shelf.old) (S.images shelf.old)) (course (S.history shelf.new) (S.images shelf.new)) }
+    ensures locks { S.held shelf.new ≡ S.held shelf.old }
+{
+    let loaded = load(alloc, shelf)?;
+    Ok(loaded)
+}
+
+// The table of a record that was loaded.
+fn opened<'a>(alloc: Global, loaded: &'a Loaded) -> Result<Mixed<'a>, ReadFault>
+    requires few { length loaded.now.docket.items ≤ 512 }
+    requires whole { docket_refusal loaded.now.docket.items ≡ None }
+    ensures { NodesFind
+        (IsOpened (docket_of loaded.now.docket.items))
+        result
+        (data_reading (docket_of loaded.now.docket.items) loaded.now.nodes.items) }
+{
+    let image = loaded.open()?;
+    let mixed = Mixed::open(alloc, image)?;
+    Ok(mixed)
+}
+
+// Publishes a table that was changed over the record that it was opened from.
+fn save<S: Shelf>(
+    alloc: Global,
+    shelf: &mut S,
+    loaded: &Loaded,
+    table: &Mixed<'_>,
+) -> Result<(), Fault>
+    requires held { (S.history shelf.old).ours ≡ true }
+    requires few { length loaded.now.docket.items ≤ 512 }
+    requires whole { docket_refusal loaded.now.docket.items ≡ None }
+    requires over { table.now.docket.id ≡ (docket_of loaded.now.docket.items).id }
+    ensures still { table.now.changed ≡ false → shelf.new ≡ shelf.old }
+    ensures fits { OnOk result (table.now.changed ≡ true → CanWrite table.now) }
+    ensures recorded { Undisturbed (course (S.history shelf.old) (S.images shelf.old)) (course (S.history shelf.new) (S.images shelf.new))
+        → OnOk result (table.now.changed ≡ true → IsRecorded table.now (course (S.history shelf.new) (S.images shelf.new))) }
+    ensures safe { Undisturbed (course (S.history shelf.old) (S.images shelf.old)) (course (S.history shelf.new) (S.images shelf.new))
+        → Stands loaded.now.docket.items (last_scene (course (S.history shelf.old) (S.images shelf.old)))
+        → WritesOnly
+        table.now
+        (course (S.history shelf.old) (S.images shelf.old))
+        (course (S.history shelf.new) (S.images shelf.new))
+        (result_err result) }
+    ensures met { IfErr result (MetWriting table.now (S.faults shelf.old) (S.faults shelf.new)) }
+    ensures calm { OnOk result (S.faults shelf.new ≡ S.faults shelf.old) }
+    ensures later { S.faults shelf.old ≤ S.faults shelf.new }
+    ensures kept { Goes (course (S.history shelf.old) (S.images shelf.old)) (course (S.history shelf.new) (S.images shelf.new)) }
+    ensures ours { (S.history shelf.new).ours ≡ (S.history shelf.old).ours }
+    ensures locks { S.held shelf.new ≡ S.held shelf.old }
+{
+    if !table.changed() {
+        return Ok(());
+    }
+    let new = encode(alloc, table, plan(table))?;
+    match publish(shelf, loaded, &new) {
+        Err(_) => Err(Fault::ShelfFailed),
+        Ok(()) => Ok(()),
+    }
+}
+
+// Changes the record, and answers the lines of the words that were refused. The caller holds the lock.
+pub(crate) fn change_locked<T: Tree, S: Shelf>(
+    alloc: Global,
+    command: Changing,
+    words: &Words,
+    tree: &mut T,
+    shelf: &mut S,
+) -> Result<Vec<u8>, Fault>
+    requires { (S.history shelf.old).ours ≡ true }
+    ensures done { IfOk
+        result
+        (λ lines. IsDone
+        command
+        (files_of words.now)
+        (record { old = T.history tree.old; new = T.history tree.new; before = T.faults tree.old; after = T.faults tree.new })
+        (record { old = S.history shelf.old; new = S.history shelf.new; before = S.faults shelf.old; after = S.faults shelf.new })
+        (record { old = course (S.history shelf.old) (S.images shelf.old); new = course (S.history shelf.new) (S.images shelf.new) })
+        lines.items) }
+    ensures met { IfErr
+        result
+        (MetChanging
+        command
+        (files_of words.now)
+        (record { old = T.history tree.old; new = T.history tree.new; before = T.faults tree.old; after = T.faults tree.new })
+        (record { old = S.history shelf.old; new = S.history shelf.new; before = S.faults shelf.old; after = S.faults shelf.new })) }
+    ensures safe { Undisturbed (course (S.history shelf.old) (S.images shelf.old)) (course (S.history shelf.new) (S.images shelf.new))
+        → IsSafe
+        command
+        (files_of words.now)
+        (record { old = T.history tree.old; new = T.history tree.new; before = T.faults tree.old; after = T.faults tree.new })
+        (record { old = course (S.history shelf.old) (S.images shelf.old); new = course (S.history shelf.new) (S.images shelf.new) })
+        (result_err result) }
+    ensures looks { OnlyLooks (record { old = T.history tree.old; new = T.history tree.new; before = T.faults tree.old; after = T.faults tree.new }) }
+    ensures calm_tree { OnOk result (T.faults tree.new ≡ T.faults tree.old) }
+    ensures calm_shelf { OnOk result (S.faults shelf.new ≡ S.faults shelf.old) }
+    ensures later { S.faults shelf.old ≤ S.faults shelf.new }
+    ensures kept { Goes (course (S.history shelf.old) (S.images shelf.old)) (course (S.history shelf.new) (S.images shelf.new)) }
+    ensures ours { (S.history shelf.new).ours ≡ (S.history shelf.old).ours }
+    ensures locks { S.held shelf.new ≡ S.held shelf.old }
+{
+    let loaded = read(alloc, shelf)?;
+    let mut table = opened(alloc, &loaded)?;
+    let lines = act(alloc, command, words, &mut table, tree)?;
+    save(alloc, shelf, &loaded, &table)?;
+    Ok(lines)
+}

@@ -1,0 +1,61 @@
+//! The text of the record: the dirstate is loaded, and all that it records is printed.
+
+ghost use Rattle.std.specs.Prelude.{◌≡◌, ◌≤◌, ◌∷◌, [], IsTrue, IfOk, None, length};
+ghost use Rattle.hg_base.specs.Fault.{HasCause};
+ghost use Rattle.hg_docket.specs.Docket.{docket_of, docket_refusal};
+ghost use Rattle.hg_entry.specs.Table.{Table};
+ghost use Rattle.hg_image.specs.Reading.{data_reading};
+ghost use Rattle.hg_shelf.specs.History.{Passes};
+ghost use Rattle.hg_session.specs.Debug.{PrintsRecord};
+ghost use Rattle.hg_save.specs.Loads.{Try};
+ghost use Rattle.hg_session.specs.Loaded.{IsBytesOf, NodesFind, Reads};
+ghost use Rattle.hg_session.specs.declared.read_fault.ReadFault.TheVariants as a_fault;
+
+use crate::read_fault::ReadFault;
+use hg_mixed::Mixed;
+use hg_report::{Fault, debug_text};
+use hg_save::{Loaded, load};
+use hg_shelf::Shelf;
+use hg_stream::{Sink, put_all};
+use std::alloc::Global;
+
+// The text of all that a record has that was loaded.
+fn text_in(alloc: Global, loaded: &Loaded) -> Result<Vec<u8>, ReadFault>
+    requires few { length loaded.now.docket.items ≤ 512 }
+    requires whole { docket_refusal loaded.now.docket.items ≡ None }
+    ensures { NodesFind IsBytesOf result (data_reading (docket_of loaded.now.docket.items) loaded.now.nodes.items) }
+{
+    let image = loaded.open()?;
+    let mixed = Mixed::open(alloc, image)?;
+    let text = debug_text(alloc, &mixed)?;
+    Ok(text)
+}
+
+// Loads the dirstate, and answers the text of all that it records.
+fn load_text<S: Shelf>(alloc: Global, shelf: &mut S) -> Result<Vec<u8>, ReadFault>
+    ensures passes { Passes (S.history shelf.old) (S.history shelf.new) }
+    ensures found { IsTrue (S.history shelf.old).told → ((tried : Try) × Reads IsBytesOf (S.history shelf.old) (S.history shelf.new) (tried ∷ []) result) }
+    ensures some { IfOk result (λ text. (table : Table) × IsBytesOf table text) }
+    ensures cause { HasCause (S.faults shelf.old) (S.faults shelf.new) result (λ e. e ≡ a_fault.Failed) }
+{
+    let loaded = load(alloc, shelf)?;
+    text_in(alloc, &loaded)
+}
+
+/// Prints all that the dirstate records, whatever its parents are.
+pub(crate) fn print_record<S: Shelf, O: Sink>(
+    alloc: Global,
+    shelf: &mut S,
+    out: &mut O,
+) -> Result<(), Fault>
+    ensures { PrintsRecord
+        (record { old = S.history shelf.old; new = S.history shelf.new; before = S.faults shelf.old; after = S.faults shelf.new })
+        (record { old = O.bytes out.old; new = O.bytes out.new; before = O.faults out.old; after = O.faults out.new })
+        result }
+{
+    let text = load_text(alloc, shelf)?;
+    match put_all(out, text.as_slice()) {
+        Err(_) => Err(Fault::OutFailed),
+        Ok(()) => Ok(()),
+    }
+}

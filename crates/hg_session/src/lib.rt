@@ -1,0 +1,33 @@
+//! One command: what it does in which order, and what of it is told.
+//!
+//! `status` loads the record, lists the working copy and prints. `debugdirstate` loads and prints. A command that changes the record, `add` or
+//! `forget`, takes the lock, loads, does what its words say, publishes what they changed, gives the lock back, and tells the refused words
+//! last. The first fault is the one that is answered, and after a fault the lock is given back too.
+//!
+//! ```text
+//! let outcome = command(alloc, &words, &mut tree, &mut shelf, &mut regexps, &mut out, &mut err);
+//! ```
+//!
+//! All that is promised of a command stands in the contract of `command`; that the text of which it speaks is one, in those of `one_text` and
+//! `one_record`.
+#![tactic(auto)]
+
+mod acting;
+mod changing;
+mod choosing;
+mod debug;
+mod ending;
+mod flags;
+mod listing;
+mod locking;
+mod looking;
+mod printed;
+mod read_fault;
+mod reading;
+
+pub use choosing::command;
+pub use ending::{Outcome, failed};
+pub use printed::{one_record, one_text};
+
+#[cfg(test)]
+mod tests;

@@ -1,0 +1,139 @@
+//! The lock round a change of the record, and what is told of it.
+
+ghost use Rattle.std.specs.Prelude.{◌≡◌, ◌⊎◌, ◌<◌, List, Option, ℕ, IfErr, IfOk, IsTrue, MatchOption, None, OnOk, Err, []};
+ghost use Rattle.std.specs.Result.{result_err};
+ghost use Rattle.hg_base.specs.Fault.{Rose};
+ghost use Rattle.hg_report.specs.declared.fault.Fault.TheVariants as a_fault;
+ghost use Rattle.hg_session.specs.Call.{Count, Watched};
+ghost use Rattle.hg_session.specs.Change.{IsDone, IsSafe, MetLocking, files_of, once_freed};
+ghost use Rattle.hg_session.specs.Changed.{OnlyLooks, RanChange};
+ghost use Rattle.hg_session.specs.Command.{IsSilent};
+ghost use Rattle.hg_shelf.specs.Images.{Goes, course};
+ghost use Rattle.hg_shelf.specs.Polite.{Undisturbed};
+
+use crate::acting::Changing;
+use crate::changing::change_locked;
+use crate::ending::{Outcome, failed};
+use hg_base::{Failed, Words};
+use hg_report::Fault;
+use hg_shelf::Shelf;
+use hg_stream::{Sink, put_all};
+use hg_tree::Tree;
+use std::alloc::Global;
+
+// The first fault of a change and of giving the lock back.
+fn first_fault(done: Result<Vec<u8>, Fault>, freed: Result<(), Failed>) -> Result<Vec<u8>, Fault>
+    ensures { result ≡ once_freed done freed }
+{
+    match done {
+        Err(fault) => Err(fault),
+        Ok(lines) => match freed {
+            Err(_) => Err(Fault::ShelfFailed),
+            Ok(()) => Ok(lines),
+        },
+    }
+}
+
+// Takes the lock, changes the record, and gives the lock back, after a fault too; the lines of the words that were refused.
+fn change<T: Tree, S: Shelf>(
+    alloc: Global,
+    command: Changing,
+    words: &Words,
+    tree: &mut T,
+    shelf: &mut S,
+) -> Result<Vec<u8>, Fault>
+    ensures done { IfOk
+        result
+        (λ lines. IsDone
+        command
+        (files_of words.now)
+        (record { old = T.history tree.old; new = T.history tree.new; before = T.faults tree.old; after = T.faults tree.new })
+        (record { old = S.history shelf.old; new = S.history shelf.new; before = S.faults shelf.old; after = S.faults shelf.new })
+        (record { old = course (S.history shelf.old) (S.images shelf.old); new = course (S.history shelf.new) (S.images shelf.new) })
+        lines.items) }
+    ensures met { IfErr
+        result
+        (MetLocking
+        command
+        (files_of words.now)
+        (record { old = T.history tree.old; new = T.history tree.new; before = T.faults tree.old; after = T.faults tree.new })
+        (record { old = S.history shelf.old; new = S.history shelf.new; before = S.faults shelf.old; after = S.faults shelf.new })
+        (record { before = S.held shelf.old; after = S.held shelf.new })) }
+    ensures safe { Undisturbed (course (S.history shelf.old) (S.images shelf.old)) (course (S.history shelf.new) (S.images shelf.new))
+        → IsSafe
+        command
+        (files_of words.now)
+        (record { old = T.history tree.old; new = T.history tree.new; before = T.faults tree.old; after = T.faults tree.new })
+        (record { old = course (S.history shelf.old) (S.images shelf.old); new = course (S.history shelf.new) (S.images shelf.new) })
+        (result_err result) }
+    ensures held { S.held shelf.old < S.held shelf.new → result ≡ Err a_fault.Held }
+    ensures looks { OnlyLooks (record { old = T.history tree.old; new = T.history tree.new; before = T.faults tree.old; after = T.faults tree.new }) }
+    ensures calm_tree { OnOk result (T.faults tree.new ≡ T.faults tree.old) }
+    ensures calm_shelf { OnOk result (S.faults shelf.new ≡ S.faults shelf.old) }
+    ensures kept { Goes (course (S.history shelf.old) (S.images shelf.old)) (course (S.history shelf.new) (S.images shelf.new)) }
+    ensures freed { IsTrue (S.history shelf.new).ours → IsTrue (S.history shelf.old).ours ⊎ Rose (S.faults shelf.old) (S.faults shelf.new) }
+{
+    match shelf.lock() {
+        Err(_) => Err(Fault::ShelfFailed),
+        Ok(false) => Err(Fault::Held),
+        Ok(true) => {
+            let done = change_locked(alloc, command, words, tree, shelf);
+            let freed = shelf.unlock();
+            first_fault(done, freed)
+        }
+    }
+}
+
+// The status by the lines of the words that were refused.
+fn status_of(lines: &[u8]) -> u8
+    ensures none { lines.now ≡ [] → result ≡ 0 }
+    ensures some { (lines.now ≡ [] → ⊥) → result ≡ 1 }
+{
+    if lines.is_empty() { 0 } else { 1 }
+}
+
+/// Runs a command that changes the record, and tells the refused words, or the fault.
+pub(crate) fn change_record<T: Tree, S: Shelf, E: Sink>(
+    alloc: Global,
+    command: Changing,
+    words: &Words,
+    tree: &mut T,
+    shelf: &mut S,
+    err: &mut E,
+) -> Outcome
+    // `RanChange` in specs/Changed.antt, whatever else a call has that isn't touched.
+    ensures ran { (out : Watched (Option (List ℕ))) (oversize : Count) → IsSilent out → oversize.after ≡ oversize.before
+        → RanChange
+        command
+        (record {
+          words = words.now;
+          looked =
+              record {
+                tree = record { old = T.history tree.old; new = T.history tree.new; before = T.faults tree.old; after = T.faults tree.new };
+                shelf = record { old = S.history shelf.old; new = S.history shelf.new; before = S.faults shelf.old; after = S.faults shelf.new };
+                oversize = oversize;
+              };
+          saved = record { old = course (S.history shelf.old) (S.images shelf.old); new = course (S.history shelf.new) (S.images shelf.new) };
+          locks = record { before = S.held shelf.old; after = S.held shelf.new };
+          out = out;
+          err = record { old = E.bytes err.old; new = E.bytes err.new; before = E.faults err.old; after = E.faults err.new };
+        })
+        result.status
+        result.fault }
+    ensures steady_err { result.fault ≡ None → E.faults err.new ≡ E.faults err.old }
+    ensures status { MatchOption result.fault ((result.status ≡ 0) ⊎ (result.status ≡ 1)) (λ fault. result.status ≡ 255) }
+{
+    match change(alloc, command, words, tree, shelf) {
+        Err(fault) => failed(alloc, fault, err),
+        Ok(lines) => match put_all(err, lines.as_slice()) {
+            Err(_) => Outcome {
+                status: 255,
+                fault: Some(Fault::ErrFailed),
+            },
+            Ok(()) => Outcome {
+                status: status_of(lines.as_slice()),
+                fault: None,
+            },
+        },
+    }
+}
