@@ -1,13 +1,2 @@
-pub mod Causes
-pub mod Commands
-pub mod Expectations
 pub mod Listed
-pub mod Listings
-pub mod Loads
-pub mod Parents
-pub mod Printing
-pub mod Records
-pub mod Refusals
-pub mod Spellings
-pub mod Texts
 pub mod Ways

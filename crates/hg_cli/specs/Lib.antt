@@ -1,9 +1,2 @@
-pub mod Call
-pub mod Command
-pub mod Debug
-pub mod Flags
-pub mod Listed
-pub mod Load
-pub mod Loaded
 pub mod Place
 pub mod Way

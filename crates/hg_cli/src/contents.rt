@@ -5,9 +5,9 @@ ghost use Rattle.hg_base.specs.Reads.{IsWithin};
 
 use crate::disk::is_absence;
 use crate::failure::Reason;
-use crate::real_shelf::fill;
 use crate::spot::spot_of;
 use hg_base::{Got, read_past};
+use hg_stream::fill;
 use std::fs;
 use std::fs::{Metadata, OpenFile};
 use std::io::{ErrorKind, Read, Seek, SeekFrom};

@@ -11,13 +11,11 @@ use crate::root::Root;
 use crate::writing::{look, make_folder, remove_file, rename_seen, sync, sync_file, write_file};
 use hg_base::{Failed, Got, risen};
 use hg_shelf::Shelf;
+use hg_stream::fill;
 use std::alloc::{AllocError, Global};
 use std::fs::{self, File};
 use std::io::{Error, ErrorKind, Read, Seek, SeekFrom};
 use std::rt::Files;
-
-// How often a read that a signal interrupted is made again before it counts as a failure.
-const TRIES: u32 = 1000;
 
 /// The files below `.hg` in a root folder, which is reached by its absolute name where it has one that serves, and else is the current one.
 ///
@@ -322,33 +320,4 @@ fn read_past<F: Read + Seek>(file: &mut F, place: u64, buf: &mut [u8]) -> Result
         Ok(_) => fill(file, buf),
         Err(error) => Err(error),
     }
-}
-
-// Reads until the buffer is full or the file ends.
-pub(crate) fn fill<F: Read>(file: &mut F, buf: &mut [u8]) -> Result<usize, Error>
-    ensures { IfOk result (λ n. n ≤ length buf.old) }
-{
-    let mut filled = 0;
-    while filled < buf.len() {
-        let n = read_some(file, &mut buf[filled..])?;
-        if n == 0 {
-            return Ok(filled);
-        }
-        filled += n;
-    }
-    Ok(filled)
-}
-
-// Reads once more where a signal interrupted the read.
-fn read_some<F: Read>(file: &mut F, buf: &mut [u8]) -> Result<usize, Error>
-    ensures { IfOk result (λ n. n ≤ length buf.old) }
-{
-    for _ in 0..TRIES {
-        match file.read(buf) {
-            Ok(n) => return Ok(n),
-            Err(error) if error.kind() == ErrorKind::Interrupted => {}
-            Err(error) => return Err(error),
-        }
-    }
-    Err(Error::from(ErrorKind::Interrupted))
 }

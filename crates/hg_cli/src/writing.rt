@@ -104,7 +104,7 @@ pub(crate) fn make_folder<R: Files>(rt: &R, path: &str) -> Result<bool, Error> {
     }
 }
 
-/// Gives what was seen at a path another name. A file that takes the place of a regular one gets its rights, where they can be given.
+/// Gives what was seen at a path another name. A file that takes the place of a regular one gets its rights first.
 pub(crate) fn rename_seen<R: Files>(
     rt: &R,
     from: &str,
@@ -113,7 +113,7 @@ pub(crate) fn rename_seen<R: Files>(
 ) -> Result<(), Reason> {
     match look(rt, to)? {
         Some(before) if before.is_file() && seen.is_file() => {
-            let _ = fs::set_permissions(rt, from, before.permissions());
+            fs::set_permissions(rt, from, before.permissions())?;
         }
         Some(before) if before.is_dir() => return Err(OTHER),
         _ => {}

@@ -4,13 +4,17 @@
 //! ```text
 //! hgtrack status           # anywhere in a working copy
 //! hgtrack status -m -C     # with flags
+//! hgtrack add src/main.c   # paths from the current folder
+//! hgtrack forget main.o
 //! hgtrack debugdirstate
 //! hgtrack --help
 //! hgtrack --version
 //! ```
 #![tactic(auto)]
 
-ghost use Rattle.std.specs.Prelude.{◌≡◌, ◌⊎◌, ◌++◌, ◌∷◌, [], IfOk, codes, is_some, string_bytes};
+ghost use Rattle.std.specs.Prelude.{◌≡◌, ◌||◌, ◌⊎◌, ◌++◌, ◌∷◌, [], Err, IfErr, IfOk, Ok, codes, false, if◌then◌else◌, is_some, not, string_bytes, true};
+ghost use Rattle.std.specs.Option.{option_map_or};
+ghost use Rattle.hg_words.specs.Command as commands;
 ghost use Rattle.hgtrack.specs.Lines.{TellsEither};
 ghost use Rattle.hg_base.specs.Fault.{Rose};
 ghost use Rattle.hg_stream.specs.Stream.{Grown, GrownByFront};
@@ -18,18 +22,23 @@ ghost use Rattle.hg_report.specs.declared.fault.Fault.TheVariants as a_fault;
 ghost use Rattle.hgtrack.specs.Words.{asks_of_program};
 
 use hg_base::{Text, Words};
-use hg_cli::{RealShelf, RealTree, Root, enter_root, failed, run};
+use hg_cli::{RealShelf, RealTree, Root, Start, enter_root, run};
 use hg_ignore::Builds;
 use hg_report::Fault;
+use hg_session::failed;
 use hg_stream::{ReaderSource, Sink, WriterSink, put_all};
+use hg_words::{has_file_words, located};
 use std::alloc::{AllocError, Global};
 use std::env;
 use std::io::ErrorKind;
 use std::process::ExitCode;
 
-const HELP: &str = "hgtrack: the status of a Mercurial working copy, from its dirstate-v2
+const HELP: &str =
+    "hgtrack: the record of a Mercurial working copy (its dirstate-v2), and the status from it
 
 Usage: hgtrack status [FLAG ..]  list what is tracked and what is not, from any folder of a working copy
+       hgtrack add FILE ..       track files and links, from the next commit on
+       hgtrack forget FILE ..    track them no longer; the files stay
        hgtrack debugdirstate     print what the dirstate records of each path
        hgtrack --help            print this help
        hgtrack --version         print the version
@@ -44,7 +53,8 @@ Flags of status, each a word of its own, in any order:
   -i --ignored    I: ignored
 
 Where no letter is asked for, M A R ! ? are listed. Paths are told from the root of the working copy, which is the nearest folder
-with a folder `.hg`. It ends with 0, or with 255 after a line `abort: ...`.
+with a folder `.hg`; a FILE is told from the current folder. It ends with 0, with 1 where a FILE was refused, each by a line of its
+own, or with 255 after a line `abort: ...`.
 ";
 
 const VERSION: &str = "hgtrack 0.1.0\n";
@@ -135,21 +145,55 @@ fn main(rt: HostRuntime) -> ExitCode {
     if let Some(text) = own_text(&words) {
         return ExitCode::from(print(alloc, &mut out, &mut err, text));
     }
-    match enter_root(&rt) {
-        Ok(true) => {}
-        Ok(false) => say(alloc, &mut err, "no .hg here or above"),
-        Err(_) => return ExitCode::from(unreached(alloc, &mut err)),
-    }
+    let folder = match enter_root(&rt) {
+        Ok(Start::Inside(folder)) => folder,
+        Ok(Start::Outside) => {
+            say(alloc, &mut err, "no .hg here or above");
+            Some(String::new(alloc))
+        }
+        Err(_) => {
+            return ExitCode::from(unreached(alloc, &mut err, ".: no way to the root or back"));
+        }
+    };
+    let words = match placed(alloc, folder.as_deref(), words) {
+        Ok(words) => words,
+        Err(Fault::TreeFailed) => {
+            return ExitCode::from(unreached(alloc, &mut err, ".: no path to the current folder"));
+        }
+        Err(fault) => return ExitCode::from(failed(alloc, fault, &mut err).status),
+    };
     let root = Root::current(&rt);
     ExitCode::from(command(&rt, &root, &words, &mut out, &mut err))
 }
 
-// The root couldn't be gone to, and maybe not back from.
-fn unreached<E: Sink>(alloc: Global, err: &mut E) -> u8
+// The words with each file word as a path from the root, for a command that is started in this folder. A folder that can't be told is a
+// failure of the working copy where there are file words.
+fn placed(alloc: Global, folder: Option<&str>, words: Words) -> Result<Words, Fault>
+    ensures found { IfOk result (λ all. all ≡ option_map_or (λ f. commands.located f.now words) folder.entry words) }
+    ensures told { IfOk result (λ all. (is_some folder.entry || not (commands.has_file_words words)) ≡ true) }
+    ensures cause { IfErr result (λ e. (e ≡ a_fault.OutOfMemory) ⊎ ((e ≡ a_fault.TreeFailed) × (is_some folder.entry ≡ false) × (commands.has_file_words words ≡ true))) }
+{
+    match folder {
+        Some(folder) => Ok(located(alloc, folder, &words)?),
+        None => unplaced(words),
+    }
+}
+
+fn unplaced(words: Words) -> Result<Words, Fault>
+    ensures { result ≡ (if commands.has_file_words words then Err a_fault.TreeFailed else Ok words) }
+{
+    if has_file_words(&words) {
+        return Err(Fault::TreeFailed);
+    }
+    Ok(words)
+}
+
+// The root couldn't be gone to, and maybe not back from, or a path from the root couldn't be told.
+fn unreached<E: Sink>(alloc: Global, err: &mut E, reason: &str) -> u8
     ensures { result ≡ 255 }
 {
     let outcome = failed(alloc, Fault::TreeFailed, err);
-    say(alloc, err, ".: no way to the root or back");
+    say(alloc, err, reason);
     outcome.status
 }
 

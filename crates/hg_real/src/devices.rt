@@ -1,11 +1,9 @@
 // What no clause says of the adapters over real files: that they look at the files.
-use crate::real_shelf::fill;
-use crate::{RealShelf, RealTree, Root};
 use hg_base::{Failed, Got, Kind, PathRef};
+use hg_cli::{RealShelf, RealTree, Root};
 use hg_shelf::Shelf;
 use hg_tree::Tree;
 use std::fs::Permissions;
-use std::io::{Error, ErrorKind, Read};
 use std::os::unix::fs::{PermissionsExt, symlink};
 use std::process::Abort;
 use std::test::Fail;
@@ -36,7 +34,7 @@ fn lay_out(rt: &HostRuntime) -> io::Result<()> {
 #[test]
 fn looks_at_real_files(rt: HostRuntime) -> Result<(), Fail> {
     lay_out(&rt)?;
-    look_at_files(&rt, &rt, &Root { named: None })?;
+    look_at_files(&rt, &rt, &Root::nameless())?;
     look_at_files(&rt, &rt, &Root::current(&rt))?;
     fs::remove_dir_all(&rt, FOLDER)?;
     Ok(())
@@ -107,7 +105,7 @@ fn look_at_files(at: &impl Abort, rt: &HostRuntime, root: &Root) -> Result<(), F
 // A time is shown to the nanosecond, and a change of the mode alone leaves it.
 #[test]
 fn tells_times(rt: HostRuntime) -> Result<(), Fail> {
-    let root = Root { named: None };
+    let root = Root::nameless();
     let mut tree = RealTree::new(&rt, &root);
     fs::write(&rt, "timed_test", b"one".as_slice())?;
     let file = fs::OpenOptions::new().write(true).open(&rt, "timed_test")?;
@@ -300,38 +298,5 @@ fn locks_below_hg(rt: HostRuntime) -> Result<(), Fail> {
     assert_eq!(rt; again, [Ok(true), Ok(false)]);
     assert_eq!(rt; end, Ok(()));
     assert_eq!(rt; (beside, stale, dropped), (Ok(false), Ok(true), Ok(true)));
-    Ok(())
-}
-
-// Gives one byte at a call, and is interrupted before each.
-#[derive(Drop)]
-struct Slow<'a> {
-    left: &'a [u8],
-    ready: bool,
-}
-
-impl Read for Slow<'_> {
-    fn read(&mut self, buf: &mut [u8]) -> io::Result<usize> {
-        self.ready = !self.ready;
-        if self.ready {
-            return Err(Error::from(ErrorKind::Interrupted));
-        }
-        let mut one = self.left.split_at(self.left.len().min(1)).0;
-        self.left = self.left.split_at(one.len()).1;
-        one.read(buf)
-    }
-}
-
-#[test]
-fn reads_on_after_little(rt: HostRuntime) -> Result<(), Fail> {
-    for (bytes, n, full) in [("", 0, "...."), ("ab", 2, "ab.."), ("abcdef", 4, "abcd")] {
-        let mut slow = Slow {
-            left: bytes.as_bytes(),
-            ready: false,
-        };
-        let mut buf = [b'.'; 4];
-        assert_eq!(rt; fill(&mut slow, &mut buf)?, n, "{bytes}");
-        assert_eq!(rt; &buf[..], full.as_bytes(), "{bytes}");
-    }
     Ok(())
 }

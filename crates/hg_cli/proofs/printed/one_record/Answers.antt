@@ -1,5 +1,0 @@
-use Rattle.hg_cli.proofs.Records.{same_record}
-use Rattle.hg_cli.proofs.printed.one_record.Goals as goal
-
-pub returns : goal.returns
-returns c = same_record

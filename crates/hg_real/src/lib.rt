@@ -1,0 +1,8 @@
+//! Tests of the adapters over real files, which no clause says more of than when they fail.
+//!
+//! This crate has tests alone: the crate of the adapters is proved once where its tests stand here. Each test makes a folder of its own in the
+//! current one, and takes it away again.
+#![tactic(auto)]
+
+#[cfg(test)]
+mod devices;
