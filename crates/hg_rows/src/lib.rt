@@ -16,6 +16,8 @@
 #[cfg(test)]
 mod bytes;
 #[cfg(test)]
+mod crashes;
+#[cfg(test)]
 mod data_faults;
 #[cfg(test)]
 mod depth;
@@ -51,6 +53,10 @@ mod patterns;
 mod records;
 #[cfg(test)]
 mod refusals;
+#[cfg(test)]
+mod saving;
+#[cfg(test)]
+mod saving_faults;
 #[cfg(test)]
 mod setting;
 #[cfg(test)]

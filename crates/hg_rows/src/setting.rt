@@ -1,8 +1,9 @@
 // A working copy, the files below `.hg` and the streams, all in memory, and one run over them.
 use hg_base::{Blob, OutOfMemory, PathRef, Text, Time, Words};
-use hg_cli::{Outcome, run};
+use hg_cli::run;
 use hg_ignore::Builds;
 use hg_report::{Fault, fault_text};
+use hg_session::Outcome;
 use hg_shelf::MemShelf;
 use hg_stream::{MemSink, MemSource};
 use hg_tree::{MemTree, Thing};
@@ -194,26 +195,50 @@ pub(crate) fn run_on(
     mut regexps: Builds,
     setting: Setting<'_>,
 ) -> Result<Left, Fail> {
-    let words = words_of(alloc, setting)?;
-    let mut input = MemSource::new(alloc, b"status\n", 1)?;
-    let mut out = sink_of(alloc, setting.out_fails)?;
-    let mut err = sink_of(alloc, setting.err_fails)?;
-    let outcome = run(
-        alloc,
-        &words,
-        &mut tree,
-        &mut shelf,
-        &mut regexps,
-        &mut input,
-        &mut out,
-        &mut err,
-    );
+    let told = run_by(alloc, &mut tree, &mut shelf, &mut regexps, setting)?;
+    let Told { outcome, out, err } = told;
     Ok(Left {
         outcome,
         tree,
         out,
         err,
     })
+}
+
+/// What a run told: its answer, and the bytes on both streams.
+#[derive(Drop)]
+pub(crate) struct Told {
+    pub outcome: Outcome,
+    pub out: MemSink,
+    pub err: MemSink,
+}
+
+/// Runs once over these files below `.hg`, which stay, and a working copy that is laid out anew.
+pub(crate) fn run_beside(
+    alloc: Global,
+    shelf: &mut MemShelf,
+    setting: Setting<'_>,
+) -> Result<Told, Fail> {
+    let mut tree = tree_of(alloc, setting)?;
+    let mut regexps = Builds::new();
+    run_by(alloc, &mut tree, shelf, &mut regexps, setting)
+}
+
+fn run_by(
+    alloc: Global,
+    tree: &mut MemTree,
+    shelf: &mut MemShelf,
+    regexps: &mut Builds,
+    setting: Setting<'_>,
+) -> Result<Told, Fail> {
+    let words = words_of(alloc, setting)?;
+    let mut input = MemSource::new(alloc, b"status\n", 1)?;
+    let mut out = sink_of(alloc, setting.out_fails)?;
+    let mut err = sink_of(alloc, setting.err_fails)?;
+    let outcome = run(
+        alloc, &words, tree, shelf, regexps, &mut input, &mut out, &mut err,
+    );
+    Ok(Told { outcome, out, err })
 }
 
 /// The line of the fault that a run answers; empty without a fault.
