@@ -26,7 +26,7 @@ def shelf(name, reason="permission denied"):
 # words that are not built yet
 WORDS = [
     [], ["stat"], ["status", "x"], ["status", ""], ["status", "-mm"], ["status", "-ma"], ["status", "-M"], ["status", "-"], ["status", "-m", "x"], ["status", "--modified=x"], ["status", "--no"], ["status", "--"], ["-m", "status"], ["--", "status"], [""], ["Status"], ["status "],
-    ["add", "a"], ["debugdirstate", "--all"], ["debugstate"], ["help"], ["-h"], ["-V"], ["--help", "status"], ["status", "--help"], ["--version", "--version"],
+    ["add"], ["add", "-x", "a"], ["forget", "--", "a"], ["debugdirstate", "--all"], ["debugstate"], ["help"], ["-h"], ["-V"], ["--help", "status"], ["status", "--help"], ["--version", "--version"],
     [b"\xff"], [b"status", b"\xff"], ["s" * 100_000],
 ]
 

@@ -1,8 +1,8 @@
 #!/usr/bin/env python3
 """Black-box tests of the built program over real folders: python3 tests/real/run.py [PROGRAM] [PART ..].
 
-PROGRAM is build/hgtrack where it isn't named. The parts are listings, commits, damage, outside, standing, meanwhile, mercurial, records, parents and
-ignoring; all where none is named. The last line is
+PROGRAM is build/hgtrack where it isn't named. The parts are listings, commits, damage, outside, standing, meanwhile, mercurial, records, parents,
+ignoring, refusing, saving, syncs and turns; all where none is named. The last line is
 'N passed, M failed', and the status 0 exactly where M is 0.
 """
 
@@ -23,10 +23,15 @@ import mercurial
 import outside
 import parents
 import records
+import refusing
+import saving
 import standing
+import syncs
+import turns
 from folder import Tests
 
-PARTS = {"listings": listings, "commits": commits, "damage": damage, "outside": outside, "standing": standing, "meanwhile": meanwhile, "mercurial": mercurial, "records": records, "parents": parents, "ignoring": ignoring}
+PARTS = {"listings": listings, "commits": commits, "damage": damage, "outside": outside, "standing": standing, "meanwhile": meanwhile, "mercurial": mercurial, "records": records, "parents": parents, "ignoring": ignoring,
+         "refusing": refusing, "saving": saving, "syncs": syncs, "turns": turns}
 
 
 def main(words):

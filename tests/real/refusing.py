@@ -1,0 +1,195 @@
+"""What `add` and `forget` refuse over real files, each by its line, with the record as it was byte for byte; words from a folder below the
+root; and the rights of what they write."""
+
+import fcntl
+import os
+import resource
+import shutil
+import signal
+import stat
+
+from dirstate import written
+from folder import aborted, as_nobody, because, lay_out, lines, put, put_record, seen
+from saving import told
+
+GOOD, DATA = written([b"a", b"d/b"])
+DATA_FILE = f"dirstate.{0:016x}"
+LOCKED = aborted("working copy is locked")
+
+# the words, and what is said of them
+WORDS = [
+    (["add", "d"], "add d: not a file"),
+    (["add", "gone"], "add gone: no such file"),
+    (["add", "d/gone"], "add d/gone: no such file"),
+    (["add", "new/below"], "add new/below: no such file"),
+    (["add", "p"], "add p: not a file"),
+    (["add", ".hg/dirstate"], "add .hg/dirstate: bad path"),
+    (["add", "sub/.hg/x"], "add sub/.hg/x: no such file"),
+    (["add", "a/below"], "add a/below: no such file"),
+    (["forget", "new"], "forget new: not tracked"),
+    (["forget", "d"], "forget d: not tracked"),
+    (["forget", "gone"], "forget gone: not tracked"),
+    (["forget", ".hg/dirstate"], "forget .hg/dirstate: bad path"),
+]
+
+# what is wrong with the record, the docket, the data, the line
+DAMAGED = [
+    ("the docket's marker", b"D" + GOOD[1:], DATA, "dirstate: marker differs at byte 0"),
+    ("a docket that is short", GOOD[:-1], DATA, "dirstate: 140 bytes where 141 are needed"),
+    ("no data file", GOOD, None, f"dirstate data gone: {0:016x}"),
+    ("data that are short", GOOD, DATA[:-1], f"dirstate data: {len(DATA) - 1} bytes where {len(DATA)} are used"),
+]
+
+
+def recorded(root):
+    """All that stands in `.hg`: the bytes, rights and times of each file. (A folder's own time changes with the lock.)"""
+    return {path: it for path, it in seen(f"{root}/.hg").items()}
+
+
+def refused(tests, what, root, words, answer, **how):
+    """One case: the program answers this, and leaves `.hg` as it was."""
+    before = recorded(root)
+    got = tests.run(root, words, **how)
+    tests.compare(f"{what}: {' '.join(words)}", (*got, recorded(root) == before), (*answer, True))
+
+
+def lay_some(root):
+    lay_out(root, ["a", "d/b", "new", "p |", "sub/x", "l -> a"])
+    put_record(root, GOOD, DATA)
+
+
+def run_words(tests):
+    for words, line in WORDS:
+        with tests.working_copy() as root:
+            lay_some(root)
+            refused(tests, "refused", root, words, (1, b"", lines(line)))
+    with tests.working_copy() as root:
+        lay_some(root)
+        refused(tests, "tracked already", root, ["add", "a", "d/b"], (0, b"", b""))
+        refused(tests, "a path out of the root", root, ["add", "../x"], (1, b"", lines("add ../x: bad path")))
+        os.remove(f"{root}/a")
+        lay_out(root, ["a/below"])
+        refused(tests, "below what is tracked", root, ["add", "a/below"], (1, b"", lines("add a/below: clashes with a")))
+        shutil.rmtree(f"{root}/d")
+        lay_out(root, ["d"])
+        refused(tests, "above what is tracked", root, ["add", "d"], (1, b"", lines("add d: clashes with d/b")))
+        answer = tests.run(root, ("add", "gone", "new", "d", "l"))
+        now = tests.run(root, ("debugdirstate",))
+        tests.compare("those that can be added are", (answer, now), ((1, b"", lines("add gone: no such file", "add d: clashes with d/b")), (0, told(dict.fromkeys(["a", "d/b", "l", "new"], "a")), b"")))
+
+
+def run_locked(tests):
+    """Another process has the lock of the system, or what stands at its name is no file."""
+    with tests.working_copy() as root:
+        lay_some(root)
+        with open(f"{root}/.hg/wlock", "wb") as lock:
+            fcntl.flock(lock, fcntl.LOCK_EX)
+            refused(tests, "the lock is held", root, ["add", "new"], (255, b"", LOCKED))
+            refused(tests, "the lock is held", root, ["forget", "a"], (255, b"", LOCKED))
+            tests.compare("and a status doesn't mind", tests.run(root, ("status", "-a")), (0, lines("A a", "A d/b"), b""))
+        tests.compare("and then it is free", tests.run(root, ("add", "new")), (0, b"", b""))
+    with tests.working_copy() as root:
+        lay_some(root)
+        lay_out(root, [".hg/wlock/"])
+        refused(tests, "a folder as the lock", root, ["add", "new"], (255, b"", aborted(".hg failed") + because(".hg/wlock", "not a regular file")))
+
+
+def run_damaged(tests):
+    for what, docket, data, line in DAMAGED:
+        for words in (["add", "new"], ["forget", "a"], ["add", "gone"]):
+            with tests.working_copy() as root:
+                lay_some(root)
+                os.remove(f"{root}/.hg/{DATA_FILE}")
+                put_record(root, docket, data)
+                refused(tests, what, root, words, (255, b"", aborted(line)))
+
+
+def small_files():
+    """No file may grow: a write fails, in place of a signal."""
+    signal.signal(signal.SIGXFSZ, signal.SIG_IGN)
+    resource.setrlimit(resource.RLIMIT_FSIZE, (0, 0))
+
+
+def run_rights(tests):
+    """The system refuses to make, or to write."""
+    with tests.working_copy() as root:
+        lay_some(root)
+        os.chmod(f"{root}/.hg", 0o555)
+        refused(tests, ".hg may only be read", root, ["add", "new"], (255, b"", aborted(".hg failed") + because(".hg/wlock", "permission denied")), **as_nobody())
+        os.chmod(f"{root}/.hg", 0o755)
+    with tests.working_copy() as root:
+        lay_out(root, ["a"])
+        before = seen(root)
+        got = tests.run(root, ("add", "a"), **as_nobody())
+        tests.compare("no .hg may be made", (got[0], got[1], b"abort: .hg failed\n" in got[2], seen(root) == before), (255, b"", True, True))
+    for words in (["add", "new"], ["forget", "a"]):
+        with tests.working_copy() as root:
+            lay_some(root)
+            before = {name: open(f"{root}/.hg/{name}", "rb").read() for name in os.listdir(f"{root}/.hg")}
+            name = f".hg/dirstate.{1:016x}"
+            got = tests.run(root, words, preexec_fn=small_files)
+            left = sorted(os.listdir(f"{root}/.hg"))
+            same = all(open(f"{root}/.hg/{it}", "rb").read() == content for it, content in before.items())
+            tests.compare(f"no file may grow: {words[0]}", (got, same), ((255, b"", aborted(".hg failed") + because(name, "file too large")), True))
+            tests.compare(f"no file may grow: what is left behind {words[0]}", set(left) - set(before) - {f"dirstate.{1:016x}"}, set())
+            tests.compare("and then there is room", tests.run(root, words), (0, b"", b""))
+
+
+def mode(path):
+    return stat.S_IMODE(os.lstat(path).st_mode)
+
+
+def run_modes(tests):
+    """A first docket is as the user's mask has it, and an old one's rights are kept."""
+    for mask in (0o022, 0o077, 0o002, 0o000):
+        with tests.working_copy() as root:
+            lay_out(root, [".hg/", "a"])
+            got = tests.run(root, ("add", "a"), preexec_fn=lambda: os.umask(mask))
+            made = [mode(f"{root}/.hg/{name}") for name in ("dirstate", DATA_FILE)]
+            tests.compare(f"the rights of a first record, mask {mask:03o}", (got[0], made), (0, 2 * [0o644 & ~mask]))
+    for kept in (0o600, 0o640, 0o664, 0o444):
+        with tests.working_copy() as root:
+            lay_some(root)
+            os.chmod(f"{root}/.hg/dirstate", kept)
+            got = tests.run(root, ("add", "new"))
+            tests.compare(f"rights {kept:03o} are kept", (got[0], mode(f"{root}/.hg/dirstate")), (0, kept))
+
+
+def outside(root):
+    """All that stands beside `.hg`."""
+    return {path: it for path, it in seen(root).items() if not (path + b"/").startswith(os.fsencode(f"{root}/.hg/"))}
+
+
+def run_outside(tests):
+    with tests.working_copy() as room:
+        root = f"{room}/root"
+        lay_some(root)
+        lay_out(room, ["beside", "other/.hg/x"])
+        before = outside(root), {path: it for path, it in seen(room).items() if b"/root" not in path}
+        for words in (["add", "new", "l", "gone", "d"], ["forget", "a", "new"], ["add", "a"], ["forget", "x"]):
+            tests.run(root, words)
+        after = outside(root), {path: it for path, it in seen(room).items() if b"/root" not in path}
+        tests.compare("nothing is written beside .hg", after == before, True)
+        tests.compare("and in it the record alone", sorted(os.listdir(f"{root}/.hg")), ["dirstate", f"dirstate.{3:016x}"])
+
+
+def run_below(tests):
+    """Words are told from the folder in which the user stands."""
+    with tests.working_copy() as root:
+        lay_out(root, [".hg/", "sub/f", "sub/g", "h", "f", "sub/deep/i", "other/j"])
+        for words in (["add", "f", "./g", "../h"], ["add", "../other/j"]):
+            tests.compare(f"from a folder below: {' '.join(words)}", tests.run(f"{root}/sub", words), (0, b"", b""))
+        now = tests.run(root, ("debugdirstate",))
+        tests.compare("from a folder below: what is tracked", now, (0, told(dict.fromkeys(["h", "other/j", "sub/f", "sub/g"], "a")), b""))
+        for word in ("../../x", "deep/../f"):
+            status, out, err = tests.run(f"{root}/sub", ("add", word))
+            tests.compare(f"from a folder below: add {word}", (status, out, err.endswith(b": bad path\n")), (1, b"", True))
+        tests.compare("from a folder below: forget", tests.run(f"{root}/sub/deep", ("forget", "../f", "../../h")), (0, b"", b""))
+        now = tests.run(f"{root}/sub", ("debugdirstate",))
+        tests.compare("from a folder below: what is left", now, (0, told(dict.fromkeys(["other/j", "sub/g"], "a")), b""))
+        tests.compare("from a folder below: no other .hg", [os.path.isdir(f"{root}/{it}/.hg") for it in ("sub", "sub/deep")], 2 * [False])
+
+
+def run(tests):
+    for part in (run_words, run_locked, run_damaged, run_rights, run_modes, run_outside, run_below):
+        part(tests)

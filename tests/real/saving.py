@@ -1,0 +1,209 @@
+"""Saving the record, stopped before and after each system call below `.hg`, and with each of these calls failing: the record is then as it
+was before or as it is after, and the next command succeeds."""
+
+import errno
+import os
+import re
+import shutil
+import tempfile
+
+from calls import ERRORS, watched
+from dirstate import NULL, P1_TRACKED, WDIR_TRACKED, docket, written
+from folder import NO_HG, aborted, because, lay_out, lines, put, put_record
+
+PARENT = b"\x11" * 20
+KILLED = -9
+NEXT = "next"
+NO_WAY = aborted("working copy failed") + because(".", "no way to the root or back")
+# What no save leaves behind, and the next one takes away where an earlier one was stopped.
+LEFT = {"wlock", "dirstate-new"}
+
+
+def told(entries, p1=NULL):
+    """What `debugdirstate` prints of these paths, each with its letter."""
+    rows = [f"{letter} - - - {path}" for path, letter in sorted(entries.items(), key=lambda it: os.fsencode(it[0]))]
+    return lines(f"p1 {p1.hex()}", f"p2 {NULL.hex()}", *rows)
+
+
+class Scene:
+    """A working copy and a command: what it has tracked before, and after the command."""
+
+    def __init__(self, what, words, before, after, p1=NULL, things=(), lay=None):
+        self.what, self.words, self.before, self.after, self.p1 = what, words, before, after, p1
+        self.things, self.lay = things, lay
+
+    def make(self, root):
+        """Lays the working copy out."""
+        lay_out(root, [*sorted({*self.before, *self.after}), NEXT, *self.things])
+        if self.before:
+            flags = P1_TRACKED | WDIR_TRACKED if self.p1 != NULL else WDIR_TRACKED
+            put_record(root, *written([os.fsencode(it) for it in self.before], flags, p1=self.p1))
+        if self.lay:
+            self.lay(root)
+
+    def texts(self):
+        """What the record says before and after, and then with the next file added."""
+        return [told(it, self.p1) for it in (self.before, self.after, {**self.before, NEXT: "a"}, {**self.after, NEXT: "a"})]
+
+
+def added(*paths):
+    return dict.fromkeys(paths, "a")
+
+
+def leftovers(root):
+    """What an earlier save may have left when it was stopped: a long new docket, a long data file of the next identifier, and the lock's file."""
+    put(f"{root}/.hg/dirstate-new", docket(45, (1, 1), identifier=b"z" * 255))
+    put(f"{root}/.hg/dirstate.{1:016x}", b"\xff" * 9_000)
+    put(f"{root}/.hg/wlock", b"")
+
+
+def other_identifier(root):
+    """The record as Mercurial names its data file."""
+    docket, data = written([b"a", b"d/b"], identifier=b"89abcdef")
+    os.remove(f"{root}/.hg/dirstate.{0:016x}")
+    put_record(root, docket, data, "89abcdef")
+
+
+SOME = added("a", "b.c", "d/b", "d/e/f", "x y")
+MANY = added(*(f"d{i}/e{j}/file" for i in range(5) for j in range(8)))
+
+SCENES = [
+    Scene("the first files, no .hg", ["add", "a", "d/b"], {}, added("a", "d/b")),
+    Scene("the first files", ["add", "a", "d/b"], {}, added("a", "d/b"), things=[".hg/"]),
+    Scene("files to a record of some", ["add", "d/new", "z"], SOME, {**SOME, **added("d/new", "z")}),
+    Scene("files to a record of many", ["add", "d3/new", "z"], MANY, {**MANY, **added("d3/new", "z")}),
+    Scene("a file behind an earlier stop", ["add", "z"], SOME, {**SOME, "z": "a"}, lay=leftovers),
+    Scene("a file to a record of Mercurial's", ["add", "z"], added("a", "d/b"), added("a", "d/b", "z"), lay=other_identifier),
+    Scene("forget some", ["forget", "a", "d/e/f"], SOME, added("b.c", "d/b", "x y")),
+    Scene("forget the last", ["forget", "a"], added("a"), {}),
+    Scene("forget files of a commit", ["forget", "a", "d/b"], dict.fromkeys(["a", "c", "d/b"], "n"), {"a": "r", "c": "n", "d/b": "r"}, PARENT),
+]
+
+
+# The scenes in which each call fails too.
+FAILING = {"the first files, no .hg", "files to a record of some", "a file behind an earlier stop", "forget some"}
+
+# In memory where there is such a place: what is synced there takes no time, and a process that is killed loses nothing else than on a disk.
+MEMORY = "/dev/shm"
+
+
+def copied(tests, template, action):
+    """Does something in a copy of a working copy, which goes away."""
+    with tempfile.TemporaryDirectory(prefix="hgtrack-real-", dir=MEMORY if os.access(MEMORY, os.W_OK) else None) as room:
+        root = f"{room}/copy"
+        shutil.copytree(template, root, symlinks=True)
+        return action(root)
+
+
+def shown(tests, root):
+    """The status and the text of `debugdirstate`."""
+    return tests.run(root, ("debugdirstate",))[:2]
+
+
+def plain(err):
+    """The error stream without the line that there is no `.hg` yet."""
+    return err.replace(NO_HG, b"")
+
+
+def succeeds_then(tests, root, scene, which):
+    """What differs, where something does, when the next file is added to the record that is there, the one before (0) or after (1)."""
+    status, out, err = tests.run(root, ("add", NEXT))
+    now = shown(tests, root)
+    left = LEFT & set(os.listdir(f"{root}/.hg"))
+    answer = (status, out, plain(err), now, left)
+    return None if answer == (0, b"", b"", (0, scene.texts()[2 + which]), set()) else answer
+
+
+def stopped(tests, calls, scene, root, how, number):
+    """Stops the command at a call. Answers which record was there then, and what is wrong where something is."""
+    ran = calls.run(root, scene.words, how, str(number))
+    if ran[0] != KILLED:
+        return None, ran
+    now = shown(tests, root)
+    which = [it for it in (0, 1) if now == (0, scene.texts()[it])]
+    return (which[0], succeeds_then(tests, root, scene, which[0])) if which else (None, now)
+
+
+def run_stops(tests, calls, scene, template):
+    """A scene stopped before and after each call: the record is the one before up to one call, and from there on the one after."""
+    status, names = copied(tests, template, lambda root: calls.listed(root, scene.words))
+    tests.compare(f"{scene.what}: not stopped", status, 0)
+    seen = []
+    for number, name in enumerate(names, 1):
+        for how in ("before", "after"):
+            which, wrong = copied(tests, template, lambda root: stopped(tests, calls, scene, root, how, number))
+            tests.compare(f"{scene.what}: killed {how} call {number}, {short(name)}", (which in (0, 1), wrong), (True, None))
+            seen.append(which)
+    tests.compare(f"{scene.what}: {len(seen)} stops, the record before and then the one after", (seen == sorted(seen, key=bool), set(seen)), (True, {0, 1}))
+    return len(seen)
+
+
+def short(name):
+    """A call and the last name of its path, without an identifier's digits."""
+    call, _, path = name.partition(" ")
+    return f"{call} of {re.sub('[.][0-9a-f]{8,}$', '.ID', path.rpartition('/')[2])}"
+
+
+def failed(tests, calls, scene, root, reason, number):
+    """Has a call fail. Answers the status, and what is wrong where something is."""
+    status, out, err = calls.run(root, scene.words, "fail", str(number), str(ERRORS[reason]))
+    now = shown(tests, root)
+    which = [it for it in (0, 1) if now == (0, scene.texts()[it])]
+    if not which:
+        return status, now
+    is_told = status == 255 and is_line(plain(err), reason)
+    is_passed = status == 0 and which == [1] and not plain(err)
+    if out or not (is_told or is_passed):
+        return status, (status, out, err, which)
+    return status, succeeds_then(tests, root, scene, which[0])
+
+
+def is_line(err, reason):
+    """The fault's line, and the one with its reason; or those of a root that can't be looked for."""
+    rows = err.split(b"\n")
+    if err == NO_WAY:
+        return True
+    return len(rows) == 3 and rows[0] + b"\n" in (aborted(".hg failed"), aborted("working copy failed")) and rows[1].endswith(os.fsencode(f": {reason}"))
+
+
+def run_failures(tests, calls, scene, template):
+    """A scene with each call failing. Answers the calls whose failure was passed over."""
+    names = copied(tests, template, lambda root: calls.listed(root, scene.words))[1]
+    passed = set()
+    for number, name in enumerate(names, 1):
+        for reason in ERRORS:
+            status, wrong = copied(tests, template, lambda root: failed(tests, calls, scene, root, reason, number))
+            tests.compare(f"{scene.what}: {reason} at call {number}, {short(name)}", wrong, None)
+            if status == 0:
+                passed.add(short(name))
+    return passed
+
+
+def run_below(tests, calls):
+    """From a folder below the root, a look for `.hg` that fails makes no other working copy of that folder."""
+    for number in (1, 2):
+        with tests.working_copy() as root:
+            lay_out(root, [".hg/", "a", "sub/a"])
+            answer = calls.run(f"{root}/sub", ["add", "a"], "fail", str(number), str(errno.EIO))
+            made = os.path.isdir(f"{root}/sub/.hg")
+            tests.compare(f"from a folder below, the look {number} for .hg fails", (answer, made), ((255, b"", NO_WAY), False))
+
+
+def run(tests):
+    calls = watched(tests, "so saving was neither stopped nor failed")
+    if calls is None:
+        return
+    stops, passed = 0, set()
+    for scene in SCENES:
+        with tests.working_copy() as template:
+            scene.make(template)
+            stops += run_stops(tests, calls, scene, template)
+            if scene.what in FAILING:
+                passed |= run_failures(tests, calls, scene, template)
+    run_below(tests, calls)
+    tests.compare(f"{stops} stops", stops >= 300, True)
+    tests.compare("calls whose failure changes nothing", sorted(passed), PASSED)
+
+
+# The root's own name, which serves no more then, and the end of a file that was read or made sure before.
+PASSED = sorted([f"close of {it}" for it in (".hg", "copy", "dirstate", "dirstate-new", "dirstate.ID", "wlock (deleted)")] + ["statx of copy"])

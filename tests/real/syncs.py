@@ -1,0 +1,76 @@
+"""The order in which a save makes things sure, as strace sees it: the data file and what names it before the docket, the docket before the
+rename, the rename before the old data file goes."""
+
+import os
+import re
+import shutil
+import subprocess
+
+from dirstate import written
+from folder import SECONDS, lay_out, put_record
+
+CALLS = "write,pwrite64,writev,pwritev,ftruncate,fsync,fdatasync,rename,renameat,renameat2,unlink,unlinkat,mkdir,mkdirat,link,linkat,symlink,symlinkat"
+ROW = re.compile(r"^(?:\d+ +)?(\w+)\((.*)\) += 0$|^(?:\d+ +)?(p?writev?(?:64)?)\((.*)\) += [1-9]\d*$")
+OLD, NEW = (f"dirstate.{it:016x}" for it in (0, 1))
+
+
+def events(tests, root, words):
+    """What the program did below the root, in order: (call, name), with the root's own folder `.` and that of the record `.hg`."""
+    path = f"{tests.room}/strace"
+    command = ["strace", "-f", "-y", "-s", "0", "-e", f"trace={CALLS}", "-o", path, tests.program, *words]
+    ran = subprocess.run(command, cwd=root, stdin=subprocess.DEVNULL, capture_output=True, timeout=SECONDS)
+    done = []
+    with open(path, encoding="utf-8", errors="replace") as file:
+        for row in file:
+            it = ROW.match(row.rstrip("\n"))
+            if it:
+                call, rest = (it[1], it[2]) if it[1] else (it[3], it[4])
+                names = [os.path.relpath(name, os.path.realpath(root)) for name in re.findall(r'[<"](/[^>"]*)[>"]', rest)]
+                # (the current folder is named where a path is told from it)
+                names = [name for name in names if name != "." or call == "fsync"]
+                done.append((call.rstrip("v46").removeprefix("p") if "write" in call else call.removesuffix("at2").removesuffix("at"), " ".join(names)))
+    return ran, [(call, name) for call, name in done if name]
+
+
+def in_order(done, wanted):
+    """Whether the wanted events are among those that were done, in this order."""
+    left = iter(done)
+    return all(any(it == event for it in left) for event in wanted)
+
+
+def saves(new, old=None):
+    """The events of a save in the order in which they have to be."""
+    rows = [
+        ("write", f".hg/{new}"), ("fsync", f".hg/{new}"), ("fsync", ".hg"),
+        ("write", ".hg/dirstate-new"), ("fsync", ".hg/dirstate-new"),
+        ("rename", ".hg/dirstate-new .hg/dirstate"), ("fsync", ".hg"),
+    ]
+    return rows + ([("unlink", f".hg/{old}")] if old else []) + [("unlink", ".hg/wlock")]
+
+
+def run_order(tests, what, things, tracked, words, wanted):
+    with tests.working_copy() as root:
+        lay_out(root, things)
+        if tracked:
+            put_record(root, *written(tracked))
+        ran, done = events(tests, root, words)
+        tests.compare(f"{what}: its end", (ran.returncode, ran.stderr.replace(b"hgtrack: no .hg here or above\n", b"")), (0, b""))
+        if not tests.compare(f"{what}: in order", in_order(done, wanted), True):
+            print(f"  done     {done}")
+        changes = [it for it in done if it[0] not in ("fsync", "fdatasync") and ".hg" in it[1]]
+        tests.compare(f"{what}: nothing else is written", changes, [it for it in wanted if it[0] != "fsync"])
+        syncs = [name for call, name in done if call in ("fsync", "fdatasync")]
+        last = max(i for i, it in enumerate(done) if it[0] == "write" and it[1].startswith(".hg/dirstate."))
+        tests.compare(f"{what}: the data file isn't written again", done[last + 1][0] in ("fsync", "fdatasync") and done[last + 1][1] == done[last][1], True)
+        return syncs
+
+
+def run(tests):
+    if shutil.which("strace") is None:
+        tests.skip("strace is not installed, so the order of syncs was not looked at")
+        return
+    made = [("mkdir", ".hg"), ("fsync", ".")]
+    run_order(tests, "the first add, no .hg", ["a", "d/b"], [], ["add", "a", "d/b"], made + saves(OLD))
+    run_order(tests, "the first add", [".hg/", "a", "d/b"], [], ["add", "a", "d/b"], saves(OLD))
+    run_order(tests, "another add", ["a", "d/b", "z"], [b"a", b"d/b"], ["add", "z"], saves(NEW, OLD))
+    run_order(tests, "forget", ["a", "d/b"], [b"a", b"d/b"], ["forget", "a"], saves(NEW, OLD))

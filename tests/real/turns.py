@@ -1,0 +1,165 @@
+"""The record changed by several in turn: two programs that add files at the same time, and Mercurial's own beside ours, each with its lock."""
+
+import os
+import random
+import shutil
+import subprocess
+import sys
+import time
+
+from calls import let_go, watched
+from folder import SECONDS, aborted, lay_out
+from mercurial import hg
+from parents import export, init
+from saving import told
+
+LOCKED = aborted("working copy is locked")
+EACH, FILES, STEPS = 200, 30, 50
+
+# Adds each file that is named by itself, again while the working copy is locked. Prints how often it was, and ends with what else was said.
+ADDER = """
+import subprocess, sys, time
+locked = 0
+for name in sys.argv[2:]:
+    while True:
+        ran = subprocess.run([sys.argv[1], "add", name], capture_output=True)
+        if (ran.returncode, ran.stderr) != (255, b"abort: working copy is locked\\n"):
+            break
+        locked += 1
+        time.sleep(0.002)
+    if (ran.returncode, ran.stdout, ran.stderr) != (0, b"", b""):
+        sys.exit(f"{name}: {ran}")
+print(locked)
+"""
+
+
+def run_two(tests):
+    with tests.working_copy() as root:
+        lists = [[f"{folder}/{i % 7}/file{i}" for i in range(EACH)] for folder in ("one", "two")]
+        lay_out(root, [".hg/", *lists[0], *lists[1]])
+        both = [subprocess.Popen([sys.executable, "-c", ADDER, tests.program, *it], cwd=root, stdin=subprocess.DEVNULL, stdout=subprocess.PIPE, stderr=subprocess.PIPE) for it in lists]
+        ends = [it.communicate(timeout=600) for it in both]
+        locked = b" and ".join(out.strip() for out, _ in ends).decode()
+        tests.compare(f"two that add {EACH} files each: locked {locked} times", [(it.returncode, err) for it, (_, err) in zip(both, ends)], 2 * [(0, b"")])
+        tests.compare("no path is lost", tests.run(root, ("debugdirstate",)), (0, told(dict.fromkeys(lists[0] + lists[1], "a")), b""))
+        tests.compare("and nothing is left over", sorted(it for it in os.listdir(f"{root}/.hg")), ["dirstate", f"dirstate.{2 * EACH - 1:016x}"])
+
+
+def letters(text):
+    """The letter of each path of a status."""
+    return {os.fsdecode(row[2:]): row[:1].decode() for row in text.split(b"\n") if row}
+
+
+def choose(chance, have):
+    """A command and some files for which it does something."""
+    command = chance.choice(["add", "add", "forget"])
+    fit = [path for path, letter in have.items() if (letter in "?R") == (command == "add")]
+    if not fit:
+        command = "forget" if command == "add" else "add"
+        fit = [path for path, letter in have.items() if (letter in "?R") == (command == "add")]
+    return command, sorted(chance.sample(fit, min(len(fit), chance.randint(1, 4))))
+
+
+def both_told(tests, root):
+    """What both programs say of every path."""
+    theirs = hg(root, "status", "-A")
+    return tests.run(root, ("status", "-A")), (theirs.returncode, theirs.stdout, theirs.stderr)
+
+
+def run_turns(tests, what, committed):
+    """Commands by either program in turn, over files of which so many are in a commit: after each both print the same."""
+    chance = random.Random(20)
+    with tests.working_copy() as root:
+        names = [f"{('', 'd/', 'd/e/', 'src/')[i % 4]}file{i:02}" for i in range(FILES)]
+        init(root)
+        lay_out(root, names)
+        if committed:
+            hg(root, "add", *names[:committed])
+            hg(root, "commit", "-m", "one")
+            tests.compare(f"in turn with hg, {what}: the commit is brought over", export(root).returncode, 0)
+        wrong, have = 0, letters(hg(root, "status", "-A").stdout)
+        for step in range(STEPS):
+            command, words = choose(chance, have)
+            if step % 2:
+                ran = hg(root, command, *words)
+                answer = (ran.returncode, ran.stdout, ran.stderr)
+            else:
+                answer = tests.run(root, (command, *words))
+            ours, theirs = both_told(tests, root)
+            have = letters(theirs[1])
+            is_done = all((have.get(it, "?") not in "?R") == (command == "add") for it in words)
+            case = f"in turn with hg, {what}: step {step}, {'hg' if step % 2 else 'hgtrack'} {command}"
+            wrong += not tests.compare(case, (answer, ours, is_done), ((0, b"", b""), theirs, True))
+            if wrong > 3:
+                return
+
+
+def run_their_lock(tests):
+    """Mercurial has the lock: by a running hg, and by the link that it makes."""
+    with tests.working_copy() as root:
+        hg(root, "init")
+        lay_out(root, ["a", "b"])
+        env = {**os.environ, "HGRCPATH": "", "HGPLAIN": "1"}
+        slow = ["--config", "storage.dirstate-v2.slow-path=allow"]
+        at = subprocess.Popen(["hg", "debuglocks", "--set-wlock", *slow], cwd=root, env=env, stdin=subprocess.DEVNULL, stdout=subprocess.PIPE, stderr=subprocess.PIPE)
+        try:
+            until = time.monotonic() + SECONDS
+            while not os.path.islink(f"{root}/.hg/wlock") and time.monotonic() < until:
+                time.sleep(0.01)
+            tests.compare("hg holds its lock", os.path.islink(f"{root}/.hg/wlock"), True)
+            for words in (("add", "a"), ("forget", "a")):
+                tests.compare(f"{words[0]} while hg holds its lock", tests.run(root, words), (255, b"", LOCKED))
+            tests.compare("and the lock is as it was", os.path.islink(f"{root}/.hg/wlock"), True)
+        finally:
+            at.terminate()
+            at.communicate()
+        if os.path.islink(f"{root}/.hg/wlock"):
+            os.remove(f"{root}/.hg/wlock")
+        tests.compare("add behind hg's lock", tests.run(root, ("add", "a")), (0, b"", b""))
+        os.symlink("somewhere:1", f"{root}/.hg/wlock")
+        tests.compare("add beside the link of a lock", tests.run(root, ("add", "b")), (255, b"", LOCKED))
+        os.remove(f"{root}/.hg/wlock")
+        tests.compare("and it was left out", hg(root, "status").stdout, b"A a\n? b\n")
+
+
+def run_our_lock(tests, calls):
+    """Ours has the lock, and is stopped at a call under it: hg doesn't get in, and loses nothing."""
+    with tests.working_copy() as root:
+        hg(root, "init")
+        lay_out(root, ["a", "b", "c"])
+        tests.run(root, ("add", "c"))
+        names = under(tests, calls, root)
+        for what, number in names.items():
+            at = calls.held(root, ["add", "a"], number)
+            ran = hg(root, "add", "b", "--config", "ui.timeout=1")
+            other = tests.run(root, ("add", "b"))
+            ours = let_go(at)
+            answer = (ran.returncode, b"lock" in ran.stderr, other, ours, tests.run(root)[1])
+            tests.compare(f"hg add while ours is stopped at {what}", answer, (255, True, (255, b"", LOCKED), (0, b"", b""), b"A a\nA c\n? b\n"))
+            tests.compare("and hg add then", (hg(root, "add", "b").returncode, tests.run(root)[1]), (0, b"A a\nA b\nA c\n"))
+            hg(root, "forget", "a", "b")
+
+
+def under(tests, calls, root):
+    """Calls of an add under the lock: the number of the first write, of the rename and of the first file that is taken away."""
+    with tests.working_copy() as room:
+        copy = f"{room}/copy"
+        shutil.copytree(root, copy, symlinks=True)
+        names = calls.listed(copy, ["add", "a"])[1]
+    found = {}
+    for number, name in enumerate(names, 1):
+        found.setdefault(name.split(" ")[0], number)
+    return {it: found[it] for it in ("write", "rename", "unlink") if it in found}
+
+
+def run(tests):
+    run_two(tests)
+    if shutil.which("hg") is None:
+        tests.skip("the command hg is not installed, so nothing was changed by it in turn with ours")
+        return
+    run_turns(tests, "no commit", 0)
+    run_turns(tests, "a commit", 12)
+    run_their_lock(tests)
+    calls = watched(tests, "so hg was not tried while ours holds the lock")
+    if calls is not None:
+        run_our_lock(tests, calls)
