@@ -2,8 +2,8 @@
 """Times the built program against C loops that make the same system calls, and against other programs:
 python3 bench/bench.py [PROGRAM] [PART ..] [rhg=PROGRAM] [before=PROGRAM].
 
-PROGRAM is build/hgtrack where it isn't named. The parts are listing, tracked, compared, peers, deep, opening, placing, editing, encoding, manifests and
-patterns; all where none is named. `rhg` is
+PROGRAM is build/hgtrack where it isn't named. The parts are listing, tracked, compared, peers, deep, opening, placing, editing, encoding, manifests,
+patterns, saving and adding; all where none is named. `rhg` is
 Mercurial's program of that name, which is looked for in PATH otherwise, and `before` an earlier hgtrack, which is timed beside this one. Every time
 is the least of some runs, taken in turn with what it is compared with. The status is 0 exactly where each figure is within its limit.
 """
@@ -329,15 +329,52 @@ def manifests(bench):
     bench.tell("its time over the C loop's", own / other, 2.5)
 
 
+def saving(bench):
+    """Adding one file to a large record: each run adds another file, to the record that the run before left."""
+    loop, ours, theirs = bench.compiled("saved"), f"{bench.room}/saving", f"{bench.room}/saving-loop"
+    record = written([it.encode() for it in in_directories(MANY)])
+    for root in (ours, theirs):
+        make_files(root, [f"extra{i}" for i in range(RUNS)])
+        put_record(root, *record)
+    own, other, memory = [], [], 0
+    for i in range(RUNS):
+        seconds, most = bench.once([bench.program, "add", f"extra{i}"], ours)
+        size = os.stat(f"{ours}/.hg/dirstate.{i + 1:016x}").st_size
+        own.append(seconds)
+        other.append(bench.once([loop, f"{i:016x}", f"{i + 1:016x}", str(size)], theirs)[0])
+        memory = max(memory, most)
+    print(f"| `add` of one file to a record of {MANY:,} files, {size:,} bytes | {min(own):.3f} s, the C program {min(other):.3f} s | | |")
+    bench.tell("its time over the C program's", min(own) / min(other), 1.5)
+    print(f"| its peak memory | {memory:.2f} MB | | |")
+    shutil.rmtree(ours)
+    shutil.rmtree(theirs)
+
+
+def adding(bench):
+    """Adding many files by one command, each time to no record."""
+    loop, root, paths = bench.compiled("lstats"), f"{bench.room}/adding", in_directories(FEW)
+    make_files(root, paths)
+    own, other = [], []
+    for _ in range(RUNS):
+        shutil.rmtree(f"{root}/.hg", ignore_errors=True)
+        os.makedirs(f"{root}/.hg")
+        own.append(bench.once([bench.program, "add", *paths], root)[0])
+        other.append(bench.once([loop, *paths], root)[0])
+    print(f"| `add` of {FEW:,} files by one command, no record | {min(own):.3f} s, the C loop {min(other):.3f} s | | |")
+    bench.tell("its time over the C loop's", min(own) / min(other), 3)
+    shutil.rmtree(root)
+
+
 # Lines of an ignore text that match nothing in the copy that is listed, and how many times the status without a text they may take.
 GLOBS = ["*.ext{}", "build{}/out", "**/target{}/*.o", "lib{}*.so"]
 REGEXPS = [r"\.ext{}$", "^build{}/out", r"(^|/)target{}/.*\.o$", r"(?:^|/)lib{}[^/]*\.so$"]
 QUIET = [("glob", GLOBS, 100, 1.3), ("glob", GLOBS, 1_000, 3), ("glob", GLOBS, 4_000, 8), ("regexp", REGEXPS, 4_000, 10)]
 
-# Globs of some 4,095 bytes that match nothing there and that are as slow as one could make them. A text has as many of them as fit in a megabyte.
+# Globs of some 4,095 bytes that match nothing there and that are as slow as one could make them. A text has as many of them as fit in a megabyte, each
+# with a number behind its Z: equal lines are asked once.
 HOSTILE = {
-    "stars": "*a" * 2_047,
-    "double stars": "**z" * 1_365,
+    "stars": "Z" + "*a" * 2_045,
+    "double stars": "Z" + "**z" * 1_363,
     "choices": "{,a,?}" * 330 + "Z" + "{,a,?}" * 330,
     "deep braces": "{," * 1_300 + "**Z**" + "}" * 1_300,
     "classes": "**" + "{[!a],[!b]}" * 350 + "Z**",
@@ -345,8 +382,16 @@ HOSTILE = {
     "stars in choices": "{**,*}" * 600 + "Z**",
 }
 
-# Globs of five characters that match nothing there and that no literal text at their ends decides: 140,608 of them.
-SHORT = [f"?{a}{b}{c}?" for a in ascii_letters for b in ascii_letters for c in ascii_letters]
+# Short globs that match nothing there: some that no literal text at their ends decides, literal texts, equal ones, and some whose end stands at most
+# paths there.
+LETTERS = [(a, b, c) for a in ascii_letters for b in ascii_letters for c in ascii_letters]
+PRINTED = [chr(it) for it in range(33, 127) if chr(it) not in "#*,-./:?![]\\{}"]
+SHORT = {
+    "of five characters": [f"?{a}{b}{c}?" for a, b, c in LETTERS],
+    "of one character, all equal": 524_000 * ["?"],
+    "of three literal characters": [f"{a}{b}{c}" for a in PRINTED for b in PRINTED for c in PRINTED][:262_000],
+    "that end as most paths do": [f"{a}{b}{c}*t" for a, b, c in LETTERS if a not in "oO"],
+}
 
 
 def ignore_text(syntax, lines):
@@ -375,10 +420,12 @@ def patterns(bench):
         what, seconds, memory, most = told(f"with {count:,} lines of {syntax}s", ignore_text(syntax, lines), most)
         bench.tell(f"its time {what} over that without ({seconds:.3f} s, {memory:.1f} MB)", seconds / without, most)
     for name, glob in HOSTILE.items():
-        what, seconds, _, most = told(f"with a hostile text: {name}", ignore_text("glob", [glob] * (1_048_500 // (len(glob) + 1))), 20, 1)
+        lines = [glob.replace("Z", f"Z{i:03}") for i in range(1_048_500 // (len(glob) + 4))]
+        what, seconds, _, most = told(f"with a hostile text: {name}", ignore_text("glob", lines), 20, 1)
         bench.tell(f"its time {what}", seconds, most, " s")
-    what, seconds, _, most = told(f"with {len(SHORT):,} short lines", ignore_text("glob", SHORT), 20, 1)
-    bench.tell(f"its time {what}", seconds, most, " s")
+    for name, lines in SHORT.items():
+        what, seconds, _, most = told(f"with {len(lines):,} lines {name}", ignore_text("glob", lines), 20, 1)
+        bench.tell(f"its time {what}", seconds, most, " s")
     shutil.rmtree(root)
 
 
@@ -394,6 +441,8 @@ PARTS = {
     "encoding": encoding,
     "manifests": manifests,
     "patterns": patterns,
+    "saving": saving,
+    "adding": adding,
 }
 
 
