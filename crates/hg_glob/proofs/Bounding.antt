@@ -3,13 +3,13 @@ use Rattle.std.proofs.Common.{◌≡◌, ℕ, Bool, true, false, ◌⊎◌, inl,
 use Rattle.std.proofs.lemmas.Bool.{false≢true}
 use Rattle.std.proofs.lemmas.Str.{encodes-append, encodes-chars, encode_ascii, length-le-encodes}
 use Rattle.hg_glob.specs.Pattern.{Pattern, Span, one, listed, star, any, slashes, InGlob}
+use Rattle.hg_glob.specs.Accepted.{Then, Ends, Follows, Accepts}
 use Rattle.hg_glob.specs.Part.{Frame, Reading, reading, parts_of, glob_of, head_of, tail_from, with_choice, opened, parted}
 use Rattle.hg_glob.specs.Line.{IsFront, IsBack, Stands}
 use Rattle.hg_glob.specs.Refusal.{closers}
 use Rattle.hg_glob.specs.declared.part.Part.{Part}
 use Rattle.hg_glob.specs.declared.part.Part.TheVariants as a_part
-use Rattle.hg_glob.proofs.Then.{Then, Past, empty_then, literal_head, literal_none, slashes_then, braces_then}
-use Rattle.hg_glob.proofs.Rows.{Accepts, Follows, Ends}
+use Rattle.hg_glob.proofs.Then.{Past, empty_then, literal_head, literal_none, slashes_then, braces_then}
 use Rattle.hg_glob.proofs.Ends.{frames_none}
 use Rattle.hg_glob.proofs.Bounds.{closed, parts_few}
 
@@ -42,26 +42,26 @@ record TailIs (text : List ℕ) (parts : List Part) : Type 0 where
   pub around : FramesEnd (tail_from text parts) (reading parts).frames
 
 -- a part and then on: some end of the text is accepted without the part
-abbrev Rest : Pattern → (List ℕ → Type 0) → List ℕ → Type 0
+abbrev pub Rest : Pattern → (List ℕ → Type 0) → List ℕ → Type 0
 Rest g K t = (front : List ℕ) × (rest : List ℕ) × (t ≡ front ++ rest) × Then g K rest
 
-one_rest : (g : Pattern) (K : List ℕ → Type 0) (t : List ℕ) → Then (one g) K t → Rest g K t
+pub one_rest : (g : Pattern) (K : List ℕ → Type 0) (t : List ℕ) → Then (one g) K t → Rest g K t
 one_rest g K t (front, rest, e, (x, r, f, i), k) = (x ∷ [], r ++ rest, e ∙ ap (λ v. v ++ rest) f, (r, rest, refl, i, k))
 
-listed_rest : (negated : Bool) (spans : List Span) (g : Pattern) (K : List ℕ → Type 0) (t : List ℕ) → Then (listed negated spans g) K t → Rest g K t
+pub listed_rest : (negated : Bool) (spans : List Span) (g : Pattern) (K : List ℕ → Type 0) (t : List ℕ) → Then (listed negated spans g) K t → Rest g K t
 listed_rest negated spans g K t (front, rest, e, (x, r, f, member, i), k) = (x ∷ [], r ++ rest, e ∙ ap (λ v. v ++ rest) f, (r, rest, refl, i, k))
 
-star_rest : (g : Pattern) (K : List ℕ → Type 0) (t : List ℕ) → Then (star g) K t → Rest g K t
+pub star_rest : (g : Pattern) (K : List ℕ → Type 0) (t : List ℕ) → Then (star g) K t → Rest g K t
 star_rest g K t (front, rest, e, (f, r, split, quiet, i), k) = (f, r ++ rest, e ∙ ap (λ v. v ++ rest) split ∙ append_assoc f r rest, (r, rest, refl, i, k))
 
-any_rest : (g : Pattern) (K : List ℕ → Type 0) (t : List ℕ) → Then (any g) K t → Rest g K t
+pub any_rest : (g : Pattern) (K : List ℕ → Type 0) (t : List ℕ) → Then (any g) K t → Rest g K t
 any_rest g K t (front, rest, e, (f, r, split, i), k) = (f, r ++ rest, e ∙ ap (λ v. v ++ rest) split ∙ append_assoc f r rest, (r, rest, refl, i, k))
 
 slashes_rest_from : (g : Pattern) (K : List ℕ → Type 0) (t : List ℕ) → Then g K t ⊎ Past (Then g K) t → Rest g K t
 slashes_rest_from g K t (inl h) = ([], t, refl, h)
 slashes_rest_from g K t (inr (front, rest, e, h)) = (front ++ 47 ∷ [], rest, e ∙ sym (append_assoc front (47 ∷ []) rest), h)
 
-slashes_rest : (g : Pattern) (K : List ℕ → Type 0) (t : List ℕ) → Then (slashes g) K t → Rest g K t
+pub slashes_rest : (g : Pattern) (K : List ℕ → Type 0) (t : List ℕ) → Then (slashes g) K t → Rest g K t
 slashes_rest g K t h = slashes_rest_from g K t (slashes_then g K t h)
 
 -- what ends so with something in front ends so

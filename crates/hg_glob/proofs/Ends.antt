@@ -7,13 +7,14 @@ use Rattle.std.proofs.lemmas.Bool.Decides.{not_from_Decides}
 use Rattle.std.proofs.lemmas.List.{reverse-append}
 use Rattle.std.proofs.Math.Seq.{take-append_seam}
 use Rattle.std.proofs.lemmas.Str.{chars-encodes, chars-append, IsUtf8-take, IsCharBoundary-at_seam, chars-nil}
+use Rattle.hg_glob.specs.Accepted.{Accepts}
 use Rattle.hg_glob.specs.Part.{Reading, Frame, reading, opened, parted}
 use Rattle.hg_glob.specs.Refusal.{closers}
 use Rattle.hg_glob.specs.Row.{first, turned, no_mark}
 use Rattle.hg_glob.specs.declared.part.Part.TheVariants as a_part
 use Rattle.hg_glob.specs.declared.part.Part.{Part}
 use Rattle.hg_glob.specs.declared.mark.Mark.{Mark}
-use Rattle.hg_glob.proofs.Rows.{RowIs, Accepts}
+use Rattle.hg_glob.proofs.Rows.{RowIs}
 use Rattle.hg_glob.proofs.Turns.{turned_is, first_is}
 
 opened_len : (r : Reading) (frames : List Frame) → r.frames ≡ frames → length (opened r frames).frames ≡ length frames - 1

@@ -5,13 +5,13 @@ use Rattle.std.specs.Char.{IsScalar}
 use lib.Utf8.{scalars}
 use Rattle.std.proofs.lemmas.Bool.{false≢true}
 use Rattle.hg_glob.specs.Pattern.{InGlob}
+use Rattle.hg_glob.specs.Accepted.{Accepts, Follows, Ends}
 use Rattle.hg_glob.specs.Part.{reading}
 use Rattle.hg_glob.specs.Line.{IsFront, IsBack, Stands}
 use Rattle.hg_glob.specs.Refusal.{closers}
 use Rattle.hg_glob.specs.Row.{first, no_mark, OffBelow}
 use Rattle.hg_glob.specs.declared.part.Part.{Part}
 use Rattle.hg_glob.specs.declared.mark.Mark.{Mark}
-use Rattle.hg_glob.proofs.Rows.{Accepts, Follows, Ends}
 use Rattle.hg_glob.proofs.Turns.{first_is, AreOff, are_off, off_in_front}
 use Rattle.hg_glob.proofs.Ends.{ReadBack, NoneBegins, back_chars, back_text, back_all, first_at, frames_none, both_true}
 
@@ -39,7 +39,7 @@ pub accepts_behind : (inner : Bool) (parts : List Part) (b c : List ℕ) → clo
 accepts_behind inner parts b c none i back = (b, c, refl, i, subst (λ fs. Follows inner fs c) (sym (frames_none parts none)) (back_ends inner c back))
 
 -- one end of a path is an end of the other
-ends_of_one : (a s b t : List ℕ) → a ++ s ≡ b ++ t → ((xs : List ℕ) × (s ≡ xs ++ t)) ⊎ ((ys : List ℕ) × (t ≡ ys ++ s))
+pub ends_of_one : (a s b t : List ℕ) → a ++ s ≡ b ++ t → ((xs : List ℕ) × (s ≡ xs ++ t)) ⊎ ((ys : List ℕ) × (t ≡ ys ++ s))
 ends_of_one [] s b t e = inl (b, e)
 ends_of_one (x ∷ a) s [] t e = inr (x ∷ a, sym e)
 ends_of_one (x ∷ a) s (y ∷ b) t e = ends_of_one a s b t (cc e)

@@ -171,6 +171,9 @@ pub chars_all : (text rest read : List ℕ) → CharsBack text rest read → IsU
 chars_all text rest read h utf8 none =
     back_chars text rest (reverse read) utf8 h.text_is h.scalars_are ∙ ap (λ v. chars v ++ reverse read) (none_left rest none) ∙ ap (λ v. v ++ reverse read) chars-nil
 
+pub chars_last : (text rest read : List ℕ) → CharsBack text rest read → IsUtf8 text → (front : List ℕ) × (chars text ≡ front ++ reverse read)
+chars_last text rest read h utf8 = (chars rest, back_chars text rest (reverse read) utf8 h.text_is h.scalars_are)
+
 -- the other ends
 pub word_not : (xs : List ℕ) (test : ℕ → Bool) (word on : ℕ) → length xs ≤ 63 → IsWord xs test word → bit on 0 ≡ false → ((i : ℕ) → i + 1 < 64 → bit on (i + 1) ≡ not (bit word (i + 1))) → IsWord xs (λ c. not (test c)) on
 word_not xs test word on few h front more = record {

@@ -4,6 +4,7 @@ use Rattle.std.specs.Bool.{Decides}
 use Rattle.std.proofs.lemmas.Bool.{false≢true}
 use Rattle.std.proofs.lemmas.Bool.Decides.{Decides-eqb, Decides-and, Decides-or, Decides-like}
 use Rattle.hg_glob.specs.Pattern.{Pattern, Choices, Span, in_class, in_spans}
+use Rattle.hg_glob.specs.Accepted.{Then, Chosen, Follows, Accepts, ChosenSoFar, BracesAre, HitIs}
 use Rattle.hg_glob.specs.Part.{Frame, Reading, before, reading, with_choice, opened, parted}
 use Rattle.hg_glob.specs.Row.{step, Stepped, open_step, comma_step}
 use Rattle.hg_glob.specs.declared.part.Part.{Part}
@@ -11,35 +12,7 @@ use Rattle.hg_glob.specs.declared.part.Part.TheVariants as a_part
 use Rattle.hg_glob.specs.declared.mark.Mark.{Mark}
 use Rattle.hg_glob.specs.declared.mark.Brace.{Brace}
 use Rattle.hg_glob.specs.declared.mark.Going.{Going}
-use Rattle.hg_glob.proofs.Then.{Then, Chosen, Past, empty_then, then_empty, literal_head, head_literal, literal_none, one_head, head_one, one_none, listed_head, head_listed, listed_none, star_head, star_nothing, star_more, star_none, any_head, any_nothing, any_more, any_none, slashes_then, then_slashes, past_head, head_past, past_none, braces_then, then_braces, choice_chosen, chosen_choice}
-
--- a match may end: at the text's end, or, where ends before a slash count, before a slash
-abbrev pub Ends : Bool → List ℕ → Type 0
-Ends inner [] = Unit {0}
-Ends inner (c ∷ t) = IsTrue (inner && c == 47)
-
--- what may follow inside the braces: what stands behind them
-abbrev pub Follows : Bool → List Frame → List ℕ → Type 0
-Follows inner [] t = Ends inner t
-Follows inner (f ∷ frames) t = Then f.behind (Follows inner frames) t
-
--- the text is accepted from what was read on
-abbrev pub Accepts : Bool → Reading → List ℕ → Type 0
-Accepts inner r t = Then r.pattern (Follows inner r.frames) t
-
-abbrev pub ChosenSoFar : Option Choices → (List ℕ → Type 0) → List ℕ → Type 0
-ChosenSoFar None K t = ⊥
-ChosenSoFar (Some choices) K t = Chosen choices K t
-
-abbrev pub BracesAre : Bool → List Frame → List Brace → List ℕ → Type 0
-BracesAre inner [] [] t = Unit {0}
-BracesAre inner [] (b ∷ bs) t = ⊥
-BracesAre inner (f ∷ frames) [] t = ⊥
-BracesAre inner (f ∷ frames) (b ∷ bs) t = Decides b.after (Follows inner (f ∷ frames) t) × Decides b.found (ChosenSoFar f.choices (Follows inner (f ∷ frames)) t) × BracesAre inner frames bs t
-
-abbrev pub HitIs : Option ℕ → List Span → Bool → Type 0
-HitIs None spans hit = Unit {0}
-HitIs (Some c) spans hit = hit ≡ in_spans c spans
+use Rattle.hg_glob.proofs.Then.{Past, empty_then, then_empty, literal_head, head_literal, literal_none, one_head, head_one, one_none, listed_head, head_listed, listed_none, star_head, star_nothing, star_more, star_none, any_head, any_nothing, any_more, any_none, slashes_then, then_slashes, past_head, head_past, past_none, braces_then, then_braces, choice_chosen, chosen_choice}
 
 abbrev pub BehindIs : Bool → Part → Reading → Mark → List ℕ → Type 0
 BehindIs inner a_part.Slashes r mark t = Decides mark.behind (Past (Accepts inner r) t)

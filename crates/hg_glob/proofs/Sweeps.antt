@@ -3,6 +3,7 @@ use Rattle.std.proofs.Common.{◌≡◌, ℕ, zero, suc, ◌+◌, ◌*◌, ◌<�
 use Rattle.std.specs.Bool.{Decides}
 use Rattle.std.proofs.lemmas.Bool.Decides.{Decides-like}
 use Rattle.std.proofs.lemmas.List.{drop_all, length-reverse, length-take, reverse-append}
+use Rattle.hg_glob.specs.Accepted.{Ends, Follows, Accepts, BracesAre, HitIs, char_at, end_at, ColumnIs}
 use Rattle.hg_glob.specs.Part.{Frame, Reading, before, reading}
 use Rattle.hg_glob.specs.Line.{IsFront, Stands}
 use Rattle.hg_glob.specs.Refusal.{closers, closers_at}
@@ -14,26 +15,10 @@ use Rattle.hg_glob.specs.declared.mark.Going.{Going}
 use Rattle.hg_glob.specs.declared.fork.Fork.{Fork}
 use Rattle.hg_glob.proofs.Bits.{bit_of_none}
 use Rattle.hg_glob.proofs.Then.{Past, empty_then, then_empty, slashes_then, then_slashes}
-use Rattle.hg_glob.proofs.Rows.{Ends, Follows, Accepts, BracesAre, HitIs, BehindIs, step_is}
+use Rattle.hg_glob.proofs.Rows.{BehindIs, step_is}
 use Rattle.hg_glob.proofs.Turns.{end_is}
 use Rattle.hg_glob.proofs.Ends.{frames_len}
 use Rattle.hg_glob.proofs.Lines.{stands_from, accepts_behind}
-
--- the character that the end of i characters begins with
-abbrev pub char_at : List ℕ → ℕ → Option ℕ
-char_at xs zero = None
-char_at xs (suc i) = Some (get_or xs i 0)
-
--- the end of i characters
-abbrev pub end_at : List ℕ → ℕ → List ℕ
-end_at xs zero = []
-end_at xs (suc i) = get_or xs i 0 ∷ end_at xs i
-
--- the words say of each end whether it is accepted from what was read on
-pub record ColumnIs (inner : Bool) (xs : List ℕ) (r : Reading) (now hit : ℕ) (forks : List Fork) : Type 0 where
-  pub now_is : (i : ℕ) → i ≤ length xs → Decides (bit now i) (Accepts inner r (end_at xs i))
-  pub hit_is : (i : ℕ) → i ≤ length xs → HitIs (char_at xs i) r.spans (bit hit i)
-  pub braces_are : (i : ℕ) → i ≤ length xs → BracesAre inner r.frames (going_at hit forks i).braces (end_at xs i)
 
 -- what a step says of one end
 record EndIs (inner : Bool) (c : Option ℕ) (p : Part) (r : Reading) (s : Stepped) (t : List ℕ) : Type 0 where
@@ -99,7 +84,7 @@ column_down inner xs parts k j part other now hit forks on on_hit on_forks h at 
     subst (λ ps. ColumnIs inner xs (reading ps) on on_hit on_forks) (sym rest) (column_more inner xs part (reading (drop k parts)) now hit forks on on_hit on_forks h s)
 
 -- as many pairs of braces are around as end behind
-braces_len : (inner : Bool) (frames : List Frame) (i : ℕ) (forks : List Fork) (t : List ℕ) → BracesAre inner frames (map (brace_at i) forks) t → length frames ≡ length forks
+pub braces_len : (inner : Bool) (frames : List Frame) (i : ℕ) (forks : List Fork) (t : List ℕ) → BracesAre inner frames (map (brace_at i) forks) t → length frames ≡ length forks
 braces_len inner [] i [] t h = refl
 braces_len inner [] i (f ∷ forks) t h = absurd h
 braces_len inner (a ∷ frames) i [] t h = absurd h
@@ -115,7 +100,7 @@ closers_at_most (a_part.Open at) n = omega arith
 closers_at_most a_part.Close n = omega arith
 closers_at_most _ n = omega arith
 
-closers_few : (parts : List Part) → closers parts ≤ length parts
+pub closers_few : (parts : List Part) → closers parts ≤ length parts
 closers_few [] = omega arith
 closers_few (part ∷ parts) = omega (arith, closers_few parts, closers_at_most part (closers parts))
 
@@ -124,7 +109,7 @@ closers_drop parts zero = omega arith
 closers_drop [] (suc k) = omega arith
 closers_drop (part ∷ parts) (suc k) = omega (arith, closers_drop parts k, closers_at_least part (closers parts))
 
-stack_len : (depth : ℕ) (forks : List Fork) → depth ≤ length forks → length (stack depth forks) ≡ depth
+pub stack_len : (depth : ℕ) (forks : List Fork) → depth ≤ length forks → length (stack depth forks) ≡ depth
 stack_len depth forks room = length-reverse (take depth forks) ∙ length-take depth forks ∙ (omega arith)
 
 -- there is room for a pair of braces more
@@ -140,7 +125,7 @@ end_more : (x : ℕ) (xs : List ℕ) (i : ℕ) → end_at (x ∷ xs) (suc i) ≡
 end_more x xs zero = refl
 end_more x xs (suc i) = ap (λ t. get_or xs i 0 ∷ t) (end_more x xs i)
 
-end_all : (xs : List ℕ) → end_at xs (length xs) ≡ reverse xs
+pub end_all : (xs : List ℕ) → end_at xs (length xs) ≡ reverse xs
 end_all [] = refl
 end_all (x ∷ xs) = end_more x xs (length xs) ∙ ap (λ t. t ++ x ∷ []) (end_all xs) ∙ sym (reverse-append (x ∷ []) xs)
 

@@ -2,15 +2,8 @@
 use Rattle.std.proofs.Common.{◌≡◌, ℕ, Bool, true, false, ◌||◌, ◌==◌, ◌⊎◌, inl, inr, List, [], ◌∷◌, ◌++◌, IsTrue, refl, sym, ap, subst, ◌∙◌, append_assoc}
 use Rattle.std.proofs.lemmas.Bool.{false≢true}
 use Rattle.hg_base.specs.PathText.{has_slash}
-use Rattle.hg_glob.specs.Pattern.{Pattern, Choices, Span, empty, literal, one, listed, star, any, slashes, braces, last, choice, in_class, InGlob, InChoices}
-
--- a front in the glob, and behind it what is to follow
-abbrev pub Then : Pattern → (List ℕ → Type 0) → List ℕ → Type 0
-Then g K t = (front : List ℕ) × (rest : List ℕ) × (t ≡ front ++ rest) × InGlob g front × K rest
-
--- a front in one of the choices
-abbrev pub Chosen : Choices → (List ℕ → Type 0) → List ℕ → Type 0
-Chosen choices K t = (front : List ℕ) × (rest : List ℕ) × (t ≡ front ++ rest) × InChoices choices front × K rest
+use Rattle.hg_glob.specs.Accepted.{Then, Chosen}
+use Rattle.hg_glob.specs.Pattern.{Pattern, Choices, Span, empty, literal, one, listed, star, any, slashes, braces, last, choice, in_class, InGlob}
 
 -- behind a slash
 abbrev pub Past : (List ℕ → Type 0) → List ℕ → Type 0

@@ -4,6 +4,7 @@ use Rattle.std.specs.Bool.{Decides}
 use Rattle.std.proofs.lemmas.Bool.{false≢true}
 use Rattle.std.proofs.lemmas.List.{reverse-append}
 use Rattle.std.proofs.lemmas.Bool.Decides.{Decides-like, not_from_Decides}
+use Rattle.hg_glob.specs.Accepted.{Ends, Accepts, BracesAre, HitIs}
 use Rattle.hg_glob.specs.Part.{before, reading}
 use Rattle.hg_glob.specs.Row.{first, step, turned, plain, is_end, no_mark, Turned, put, open_step, comma_step, is_char, is_inside, IsOff, OffBelow}
 use Rattle.std.specs.Prelude.{is_some}
@@ -13,7 +14,7 @@ use Rattle.hg_glob.specs.declared.mark.Mark.{Mark}
 use Rattle.hg_glob.specs.declared.mark.Brace.{Brace}
 use Rattle.hg_glob.specs.declared.mark.Going.{Going}
 use Rattle.hg_glob.proofs.Then.{empty_then, then_empty}
-use Rattle.hg_glob.proofs.Rows.{Ends, Accepts, BracesAre, HitIs, BehindIs, RowIs, grown, IfThere, step_is}
+use Rattle.hg_glob.proofs.Rows.{BehindIs, RowIs, grown, IfThere, step_is}
 
 pub record TurnedIs (inner : Bool) (c : Option ℕ) (parts : List Part) (d : Turned) (t : List ℕ) : Type 0 where
   pub row : RowIs inner parts d.marks t

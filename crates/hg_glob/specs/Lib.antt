@@ -1,7 +1,12 @@
+pub mod Accepted
 pub mod Column
 pub mod Kept
 pub mod Line
+pub mod Many
+pub mod Neighbour
 pub mod Part
 pub mod Pattern
+pub mod Reach
 pub mod Refusal
 pub mod Row
+pub mod Trail

@@ -14,3 +14,12 @@ pub struct Column {
     pub hit: u64,
     pub depth: usize,
 }
+
+/// Over the last characters of a long path the ends that are accepted from a part on, those whose first character is in the class,
+/// and whether a longer end may be accepted. No braces are around.
+#[derive(Clone, Copy, Debug)]
+pub struct Reach {
+    pub now: u64,
+    pub hit: u64,
+    pub beyond: bool,
+}

@@ -5,7 +5,7 @@ ghost use Rattle.std.specs.Result.{result_err};
 ghost use Rattle.hg_glob.specs.Part.{parts_of, glob_of, head_of, tail_from, literal_of, ended};
 ghost use Rattle.hg_glob.specs.Line.{Stands};
 ghost use Rattle.hg_glob.specs.Pattern.{InGlob};
-ghost use Rattle.hg_glob.specs.Refusal.{refusal, Refuses};
+ghost use Rattle.hg_glob.specs.Refusal.{refusal, Refuses, closers};
 
 use crate::edge::{may_begin, may_end};
 use crate::fault::GlobFault;
@@ -150,6 +150,16 @@ impl Glob {
         ensures { IsTrue result ↔ Stands false rooted (glob_of (chars self.now)) (chars subject.now) }
     {
         self.stands_in(rooted, subject.text, &subject.short, subject.is_short)
+    }
+
+    /// Its parts.
+    #[inline(always)]
+    pub(crate) fn parts(&self) -> &[Part]
+        ensures parts { result.now ≡ parts_of (chars self.now) }
+        ensures few { length result.now ≤ 4095 }
+        ensures closed { closers result.now ≡ 0 }
+    {
+        self.parts.as_slice()
     }
 
     /// Whether the end of the path leaves it possible that `matches_end` holds of it. Where it doesn't, the path needn't be read.

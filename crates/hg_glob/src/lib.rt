@@ -23,9 +23,9 @@
 //! Glob::read(alloc, "{a");          // Err(GlobFault::Unbalanced { at: 0 })
 //! ```
 //!
-//! `Glob` is the type that is asked; contracts see its text. A `Subject` is a text that was read once, for many globs. What a glob is and which texts stand in it is said in `specs/Pattern.antt`, how a
+//! `Glob` is the type that is asked; contracts see its text. A `Subject` is a text that was read once, for many globs. `Globs` are many globs that are asked together; contracts see them as a list. What a glob is and which texts stand in it is said in `specs/Pattern.antt`, how a
 //! text spells one in `specs/Part.antt`, why a text is none in `specs/Refusal.antt`, and where a glob line stands in a path in
-//! `specs/Line.antt`.
+//! `specs/Line.antt`, of many in `specs/Many.antt`.
 //!
 //! A text is read from its end, with one mark for each part: whether the end that was read is accepted from that part on. A character
 //! more in front gives the next row of marks in one pass over the parts, in place; the mark of the first part answers for every
@@ -33,6 +33,11 @@
 //!
 //! A path of at most 63 characters is short: its ends fit the bits of one word, and the parts are passed over once, from the last to
 //! the first, with one such word for all ends. This gives the same marks part by part, where the rows give them end by end.
+//!
+//! `Globs` are many lines that are asked of one path. They stand in an order in which those are neighbours that end alike; the words
+//! of a line's last parts are kept, and the next line goes on from those that it has in common with it. Where no end of the path is
+//! accepted from some last parts on, every line with these parts is passed over by its count alone. Of a long path its last
+//! characters are looked at so, and a line that these leave possible is asked by itself.
 #![tactic(auto)]
 
 mod column;
@@ -40,19 +45,24 @@ mod edge;
 mod fault;
 mod fork;
 mod glob;
+mod globs;
 mod mark;
 mod matching;
+mod ordering;
 mod part;
+mod reach;
 mod refusal;
 mod short;
 mod spell;
 mod subject;
 mod sweep;
+mod trail;
 mod turn;
 mod words;
 
 pub use fault::GlobFault;
 pub use glob::Glob;
+pub use globs::{GlobLine, Globs};
 pub use subject::Subject;
 
 #[cfg(test)]

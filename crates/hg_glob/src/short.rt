@@ -2,6 +2,7 @@
 
 ghost use Rattle.std.specs.Prelude.{◌≡◌, ◌+◌, ◌<◌, ◌≤◌, ◌++◌, [], ◌∷◌, ◌==◌, ◌&&◌, not, List, ℕ, length, nat_le, nat_lt, reverse, chars, IsTrue};
 ghost use Rattle.hg_glob.specs.Column.{bit, IsMask, IsWord, IsSums, AreEach};
+ghost use Rattle.hg_glob.specs.Kept.{HasEnd};
 
 use crate::words::{others, put};
 use std::marker::Model;
@@ -190,10 +191,11 @@ impl Short {
         others(self.table[47])
     }
 
-    /// Takes up the characters of a path, where they are so few.
+    /// Takes up the characters of a path, where they are so few, and else the last ones.
     pub fn read(&mut self, path: &str) -> bool
         requires { self.old ≡ [] }
-        ensures { IsTrue result → chars path.now ≡ reverse self.new }
+        ensures all { IsTrue result → chars path.now ≡ reverse self.new }
+        ensures last { HasEnd (chars path.now) (reverse self.new) }
     {
         for c in path.chars().rev() {
             if self.len() >= 63 {

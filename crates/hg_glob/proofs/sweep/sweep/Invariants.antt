@@ -1,7 +1,7 @@
 use Rattle.std.proofs.Common.{◌≤◌, length, drop}
 use Rattle.hg_glob.specs.Part.{reading}
 use Rattle.hg_glob.specs.Column.{stack}
-use Rattle.hg_glob.proofs.Sweeps.{ColumnIs}
+use Rattle.hg_glob.specs.Accepted.{ColumnIs}
 use Rattle.hg_glob.proofs.sweep.sweep.Given as goal
 
 abbrev pub invariant-pass : goal.invariant-pass
