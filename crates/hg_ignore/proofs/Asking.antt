@@ -12,12 +12,13 @@ use Rattle.hg_base.specs.Within.{is_within}
 use Rattle.hg_base.proofs.Within.{within_itself, within_below, within_split, within_trans, above_is, above_none}
 use Rattle.hg_glob.specs.Part.{glob_of}
 use Rattle.hg_glob.specs.Line.{Stands}
+use Rattle.hg_glob.specs.Many.{SomeStands}
+use Rattle.hg_glob.specs.declared.globs.GlobLine.{GlobLine}
 use Rattle.hg_ignore.specs.Line.{Item, glob, regexp, unknown, included, lines_of}
 use Rattle.hg_ignore.specs.Regexp.{AreBytes, finds, found_by}
 use Rattle.hg_ignore.specs.State.{Piece, state_of, items_of, SomeMatches, Matches, Ignored, Hash}
 use Rattle.hg_ignore.specs.Taking.{globs_of, regexps_of, warnings_of, Reaches}
-use Rattle.hg_ignore.specs.Kept.{SomeStands, FindsAll, IsKept, DirIgnored, LawOfIgnored, patterns_kept, some_in}
-use Rattle.hg_ignore.specs.declared.glob_line.GlobLine.{GlobLine}
+use Rattle.hg_ignore.specs.Kept.{FindsAll, IsKept, DirIgnored, LawOfIgnored, patterns_kept, some_in}
 use Rattle.hg_ignore.specs.declared.reading.Reading.{Reading}
 
 -- the regexps of a set, as they are searched for

@@ -1,4 +1,4 @@
--- Which globs of a list stand in a path, where the list is looked through, and where it is rid of globs that it has already.
+-- Which globs of a list stand in a path, where it is rid of globs that it has already.
 use Rattle.std.proofs.Common.{◌≡◌, ℕ, Bool, true, false, not, ◌⊎◌, ◌↔◌, inl, inr, List, [], ◌∷◌, ◌++◌, IsTrue, chars, cond, refl, sym, subst, ◌∙◌}
 use Rattle.std.specs.Bool.{Decides}
 use Rattle.std.specs.Str.{bytes_eq}
@@ -6,26 +6,14 @@ use Rattle.std.proofs.lemmas.Bool.{both_ways}
 use Rattle.std.proofs.lemmas.Slice.Eq.{bytes_eq-Decides}
 use Rattle.hg_glob.specs.Part.{glob_of}
 use Rattle.hg_glob.specs.Line.{Stands}
-use Rattle.hg_ignore.specs.Kept.{SomeStands, has}
+use Rattle.hg_glob.specs.Many.{SomeStands}
+use Rattle.hg_glob.specs.declared.globs.GlobLine.{GlobLine}
+use Rattle.hg_ignore.specs.Kept.{has}
 use Rattle.hg_ignore.specs.declared.distinct.Seen.{Seen}
-use Rattle.hg_ignore.specs.declared.glob_line.GlobLine.{GlobLine}
 
 -- the line's glob stands in the path
 abbrev LineStands : GlobLine → List ℕ → Type 0
 LineStands line path = Stands false line.rooted (glob_of (chars line.glob)) (chars path)
-
-behind : (line : GlobLine) (more : List GlobLine) (path : List ℕ) → (LineStands line path → ⊥) → SomeStands (line ∷ more) path → SomeStands more path
-behind line more path none (inl s) = absurd (none s)
-behind line more path none (inr s) = s
-
--- a glob that doesn't stand is left behind
-pub one_behind : (all left more : List GlobLine) (line : GlobLine) (path : List ℕ) (may : Bool) → left ≡ line ∷ more → ((rooted : Bool) → Stands false rooted (glob_of (chars line.glob)) (chars path) → IsTrue may) → may ≡ false
-    → (SomeStands all path ↔ SomeStands left path) → SomeStands all path ↔ SomeStands more path
-one_behind all left more line path may is test never so_far =
-    let P : List GlobLine → Type 0 = λ v. SomeStands v path in (
-      λ s. behind line more path (λ at. both_ways may never (test line.rooted at)) (subst P is (so_far.0 s)),
-      λ s. so_far.1 (subst P (sym is) (inr s)),
-    )
 
 some_or_last : (globs : List GlobLine) (line : GlobLine) (path : List ℕ) → SomeStands (globs ++ line ∷ []) path → SomeStands globs path ⊎ LineStands line path
 some_or_last [] line path (inl s) = inr s
@@ -97,3 +85,7 @@ equal_or false old text key q same is there = inl there
 -- what is in a set once a text was put is that text, or was there
 pub text_put : (text key q : List ℕ) (new old : Bool) → key ≡ text → new ≡ cond (bytes_eq key q) true old → IsTrue new → IsTrue old ⊎ (q ≡ text)
 text_put text key q new old is more there = equal_or (bytes_eq key q) old text key q (bytes_eq-Decides key q) is (sym more ∙ there)
+
+-- what two steps keep in turn
+pub also_where : (last kept globs : List GlobLine) → ((path : List ℕ) → SomeStands last path ↔ SomeStands kept path) → ((path : List ℕ) → SomeStands kept path ↔ SomeStands globs path) → (path : List ℕ) → SomeStands last path ↔ SomeStands globs path
+also_where last kept globs second first path = (λ s. (first path).0 ((second path).0 s), λ s. (second path).1 ((first path).1 s))

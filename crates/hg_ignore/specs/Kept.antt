@@ -1,5 +1,5 @@
 -- What an ignore state keeps compiled, and what is asked of it.
-use Rattle.std.specs.Prelude.{ℕ, ◌≡◌, ◌⊎◌, ◌↔◌, Bool, true, false, IsTrue, List, [], ◌∷◌, map, is_some, chars, Option, Some, None}
+use Rattle.std.specs.Prelude.{ℕ, ◌≡◌, ◌⊎◌, ◌↔◌, Bool, true, false, IsTrue, List, map, is_some, Option, Some, None}
 use Rattle.regex.specs.Patterns.{Re, find_str}
 use Rattle.regex.specs.Sets.{matches_of}
 use Rattle.regex.specs.Strings.{set_matcher_patterns, set_patterns}
@@ -8,19 +8,13 @@ use Rattle.regex.specs.declared.string.set.SetMatcher.{SetMatcher}
 use Rattle.std.specs.List.{flat_map, list_any}
 use Rattle.std.specs.BTreeSet.{contains_text}
 use Rattle.hg_base.specs.PathText.{is_path, parent_of}
-use Rattle.hg_glob.specs.Part.{glob_of}
-use Rattle.hg_glob.specs.Line.{Stands}
+use Rattle.hg_glob.specs.Many.{SomeStands}
+use Rattle.hg_glob.specs.declared.globs.GlobLine.{GlobLine}
 use Rattle.hg_ignore.specs.Regexp.{AreBytes, finds}
 use Rattle.hg_ignore.specs.State.{Piece, items_of, Hash, Ignored, Matches}
 use Rattle.hg_ignore.specs.Taking.{globs_of, regexps_of, warnings_of}
 use Rattle.hg_ignore.specs.declared.distinct.Seen.{Seen}
-use Rattle.hg_ignore.specs.declared.glob_line.GlobLine.{GlobLine}
 use Rattle.hg_ignore.specs.declared.warnings.Warning.{Warning}
-
--- some glob stands in the path
-abbrev pub SomeStands : List GlobLine → List ℕ → Type 0
-SomeStands [] path = ⊥
-SomeStands (line ∷ more) path = Stands false line.rooted (glob_of (chars line.glob)) (chars path) ⊎ SomeStands more path
 
 -- the text of a glob was seen, of one that holds from the root alone or of another
 abbrev pub has : Seen → Bool → List ℕ → Bool

@@ -2,9 +2,9 @@
 use Rattle.std.specs.Prelude.{ℕ, ◌≡◌, ◌≤◌, Bool, true, false, not, ◌&&◌, ◌||◌, ◌==◌, IsTrue, if◌then◌else◌, List, [], ◌∷◌, ◌++◌, map, Option, Some, None, is_some, Result, Ok, Err}
 use Rattle.hg_base.specs.Fault.{Rose}
 use Rattle.hg_glob.specs.Refusal.{refusal}
+use Rattle.hg_glob.specs.declared.globs.GlobLine.{GlobLine}
 use Rattle.hg_ignore.specs.Line.{Item, glob, regexp, unknown, included, Said}
 use Rattle.hg_ignore.specs.Regexp.{AreBytes, finds, found_by, is_regexp}
-use Rattle.hg_ignore.specs.declared.glob_line.GlobLine.{GlobLine}
 use Rattle.hg_ignore.specs.declared.warnings.Warning.{Warning}
 use Rattle.hg_ignore.specs.declared.reading.Reading.{Reading}
 use Rattle.hg_ignore.specs.declared.fault.IgnoreFault.{IgnoreFault}

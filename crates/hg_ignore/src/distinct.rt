@@ -2,10 +2,11 @@
 
 ghost use Rattle.std.specs.Prelude.{◌≡◌, ◌↔◌, ◌⊎◌, List, ℕ, Bool, IsTrue, IfOk, OnOk, not};
 ghost use Rattle.std.specs.BTreeSet.{contains_text};
-ghost use Rattle.hg_ignore.specs.Kept.{SomeStands, has};
+ghost use Rattle.hg_glob.specs.Many.{SomeStands};
+ghost use Rattle.hg_ignore.specs.Kept.{has};
 
-use crate::glob_line::GlobLine;
 use hg_base::OutOfMemory;
+use hg_glob::GlobLine;
 use std::alloc::Global;
 use std::collections::BTreeSet;
 

@@ -3,10 +3,11 @@
 ghost use Rattle.std.specs.Prelude.{ℕ, ◌≡◌, ◌↔◌, ◌≤◌, ◌<◌, ◌++◌, [], Some, None, IsTrue, IfOk, IfErr, OnOk, length};
 ghost use Rattle.std.specs.Str.{IsUtf8};
 ghost use Rattle.hg_base.specs.Fault.{HasCause};
+ghost use Rattle.hg_glob.specs.Many.{SomeStands};
 ghost use Rattle.hg_tree.specs.History.{IsOurs, Passes, now};
 ghost use Rattle.hg_ignore.specs.declared.fault.IgnoreFault.TheVariants as a_fault;
 ghost use Rattle.hg_ignore.specs.Asked.{state_asked};
-ghost use Rattle.hg_ignore.specs.Kept.{LawOfIgnored, SomeStands};
+ghost use Rattle.hg_ignore.specs.Kept.{LawOfIgnored};
 ghost use Rattle.hg_ignore.specs.Line.{lines_of};
 ghost use Rattle.hg_ignore.specs.Source.{AreTexts, AsksOnce, AsksRight, HasBytesCause, HasTextCause, ReadDuring, reads_of};
 ghost use Rattle.hg_ignore.specs.State as states;
@@ -16,7 +17,6 @@ ghost use Rattle.sha1.specs.Sha1.{sha1};
 
 use crate::distinct::distinct;
 use crate::fault::IgnoreFault;
-use crate::glob_line::GlobLine;
 use crate::matcher::Matcher;
 use crate::reading::read_lines;
 use crate::regexps::Regexps;
@@ -24,7 +24,7 @@ use crate::sets::{matchers_of, sets_of};
 use crate::source::read_bytes;
 use crate::warnings::Warnings;
 use hg_base::{OutOfMemory, PathRef, Text};
-use hg_glob::Subject;
+use hg_glob::Globs;
 use hg_tree::Tree;
 use regex::RegexSet;
 use sha1::Sha1;
@@ -38,7 +38,7 @@ const MOST: usize = 1_048_576;
 #[derive(Drop)]
 pub struct Ignore {
     text: Option<Text>,
-    globs: Vec<GlobLine>,
+    globs: Globs,
     regexps: Vec<RegexSet>,
     hash: [u8; 20],
     warnings: Warnings,
@@ -53,7 +53,7 @@ impl Model for Ignore {
 
     ghost view = { λ i. state_of i.text };
 
-    ghost invariant = { λ i. IsKept (state_of i.text) i.globs.items i.regexps.items i.hash i.warnings };
+    ghost invariant = { λ i. IsKept (state_of i.text) i.globs i.regexps.items i.hash i.warnings };
 }
 
 /// The hash of the state of that text.
@@ -67,32 +67,6 @@ fn hash_of(text: &[u8]) -> [u8; 20]
     hasher.finalize()
 }
 
-/// Whether some glob stands in a text that was read.
-fn some_stands_in(globs: &[GlobLine], subject: &Subject<'_>) -> bool
-    ensures { IsTrue result ↔ SomeStands globs.now subject.now }
-{
-    for line in globs {
-        if line.glob.matches_end_of(subject, line.rooted) {
-            return true;
-        }
-    }
-    false
-}
-
-/// Whether some glob stands in the path, which is read at the first glob that its end doesn't rule out.
-fn some_stands(globs: &[GlobLine], path: &str) -> bool
-    ensures { IsTrue result ↔ SomeStands globs.now path.now }
-{
-    let mut left = globs;
-    'globs: while let Some((line, more)) = left.split_first() {
-        if line.glob.may_match_end(path) {
-            return some_stands_in(left, &Subject::new(path));
-        }
-        left = more;
-    }
-    false
-}
-
 impl Ignore {
     /// The state without a file: it ignores nothing.
     pub(crate) fn absent(alloc: Global) -> Ignore
@@ -100,7 +74,7 @@ impl Ignore {
     {
         Ignore {
             text: None,
-            globs: Vec::new(alloc),
+            globs: Globs::new(alloc),
             regexps: Vec::new(alloc),
             hash: Sha1::digest(&[]),
             warnings: Warnings::new(alloc),
@@ -122,7 +96,8 @@ impl Ignore {
         let reading = read_lines(alloc, regexps, text)?;
         let hash = hash_of(text.as_bytes());
         let text = Text::of(alloc, text)?;
-        let globs = distinct(alloc, reading.globs)?;
+        let distinct = distinct(alloc, reading.globs)?;
+        let globs = Globs::of(alloc, distinct)?;
         let regexps = sets_of(alloc, reading.regexes)?;
         Ok(Ignore {
             text: Some(text),
@@ -158,7 +133,7 @@ impl Ignore {
     pub(crate) fn some_stands(&self, path: &str) -> bool
         ensures { IsTrue result ↔ SomeStands (globs_of (items_of self.now)) path.now }
     {
-        some_stands(self.globs.as_slice(), path)
+        self.globs.some_stands(path)
     }
 
     /// The state of the working copy: the text of the file `.hgignore` at its root, taken by one read behind a stat. Anything else

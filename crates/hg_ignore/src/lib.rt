@@ -29,7 +29,6 @@
 
 mod distinct;
 mod fault;
-mod glob_line;
 mod ignore;
 mod matcher;
 mod normal;

@@ -9,14 +9,13 @@ ghost use Rattle.hg_ignore.specs.Taking.{Counted, HasLineCause, Reaches, Taken};
 ghost use Rattle.hg_ignore.specs.declared.syntax.Syntax.TheVariants as a_syntax;
 
 use crate::fault::IgnoreFault;
-use crate::glob_line::GlobLine;
 use crate::normal::normalized;
 use crate::regexps::{RegexpFault, Regexps};
 use crate::syntax::{Form, Syntax, form_of, syntax_named};
 use crate::text::{cut, text_of, trimmed};
 use crate::warnings::{Warning, Warnings};
 use hg_base::Text;
-use hg_glob::{Glob, GlobFault};
+use hg_glob::{Glob, GlobFault, GlobLine};
 use regex::Regex;
 use std::alloc::Global;
 
