@@ -1,6 +1,6 @@
 //! A table, written as a docket and a data file.
 
-ghost use Rattle.std.specs.Prelude.{◌≡◌, ◌<◌, ◌≤◌, ◌^◌, IfOk, IfErr, IfSome, None, is_some, true};
+ghost use Rattle.std.specs.Prelude.{◌≡◌, ◌<◌, ◌≤◌, ◌^◌, [], IfOk, IfErr, IfSome, None, is_some, true};
 ghost use Rattle.hg_docket.specs.Number.{next_name, number_of};
 ghost use Rattle.hg_docket.specs.Docket.{docket_of};
 ghost use Rattle.hg_docket.specs.Written as written;
@@ -119,6 +119,15 @@ fn used_to(end: u64) -> Result<u32, EncodeFault>
     }
 }
 
+// Room for as many bytes as the image has, and for an eighth more.
+fn room(alloc: Global, mixed: &Mixed<'_>) -> Result<Vec<u8>, OutOfMemory>
+    ensures { IfOk result (λ v. v.items ≡ []) }
+{
+    let used = mixed.image().docket.used as usize;
+    let bytes = Vec::with_capacity(alloc, used + used / 8)?;
+    Ok(bytes)
+}
+
 // Writes a table anew.
 fn write(alloc: Global, mixed: &Mixed<'_>) -> Result<Encoded, EncodeFault>
     ensures written { IfOk result (λ e. IsSoundly mixed.now e) }
@@ -127,9 +136,9 @@ fn write(alloc: Global, mixed: &Mixed<'_>) -> Result<Encoded, EncodeFault>
     let Some(id) = next_id(mixed.image().docket.id) else {
         return Err(EncodeFault::IdsSpent);
     };
-    let mut bytes = Vec::new(alloc);
+    let mut bytes = room(alloc, mixed)?;
     let mut records = Vec::new(alloc);
-    let put = put_list(mixed, None, 0, &mut bytes, &mut records)?;
+    let put = put_list(mixed, None, mixed.walk(None), 0, &mut bytes, &mut records)?;
     let used = used_to(put.sums.end)?;
     let docket = docket_bytes(alloc, mixed, &id, put, used)?;
     Ok(Encoded {

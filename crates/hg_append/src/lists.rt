@@ -3,7 +3,8 @@
 ghost use Rattle.std.specs.Prelude.{◌≡◌, ◌≤◌, ◌<◌, ◌^◌, ◌+◌, ◌++◌, take, drop, length, IfOk, OnOk, Some, true, ℕ, List, option_map};
 ghost use Rattle.hg_node.specs.Node.{bytes_of};
 ghost use Rattle.hg_mixed.specs.Child.{shown_child};
-ghost use Rattle.hg_mixed.specs.Children.{IsChild};
+ghost use Rattle.hg_mixed.specs.Children.{AreChildren, IsChild};
+ghost use Rattle.hg_mixed.specs.Walk.{ListIsOf, ListsAreOf, walked};
 ghost use Rattle.std.specs.Str.{is_utf8};
 ghost use Rattle.hg_base.specs.PathText.{is_path, parent_of};
 ghost use Rattle.hg_append.specs.Layout as layout;
@@ -13,7 +14,7 @@ ghost use Rattle.hg_append.specs.Put.{AreFields, HasPut, IsFew, IsPut, IsSound, 
 use crate::sums::{Sums, ended, none, with_node};
 use hg_base::{OutOfMemory, PathRef};
 use hg_entry::{Fields, dir_fields};
-use hg_mixed::{Child, Mixed};
+use hg_mixed::{Child, Mixed, Walk};
 use hg_node::Rec;
 
 /// The last place that 32 bits can name.
@@ -204,15 +205,16 @@ fn base_at(dir: Option<PathRef<'_>>) -> usize
 // there is nothing to add up.)
 #[cycle(putting)]
 #[inline(always)]
-fn put_child(
-    mixed: &Mixed<'_>,
-    child: &Child<'_>,
+fn put_child<'t>(
+    mixed: &'t Mixed<'_>,
+    child: &Child<'t>,
     base_at: usize,
     sums: Sums,
     bytes: &mut Vec<u8>,
     records: &mut Vec<u8>,
 ) -> Result<Sums, OutOfMemory>
     requires child { IsChild mixed.now (parent_of child.now.path.text.now) (shown_child child.now) }
+    requires list { ListIsOf mixed.now child.now }
     requires base { base_at ≤ length child.now.path.text.now }
     ensures { IfOk result (λ s. HasPut mixed.now (shown_child child.now) base_at sums s bytes.old.items bytes.new.items records.old.items records.new.items) }
 {
@@ -225,27 +227,30 @@ fn put_child(
         let now = put_node(child, fields, base_at, under, sums, bytes, records)?;
         return Ok(now);
     }
-    let under = put_list(mixed, Some(child.path), sums.end, bytes, records)?;
+    let kids = mixed.walk_in(child);
+    let under = put_list(mixed, Some(child.path), kids, sums.end, bytes, records)?;
     let now = put_node(child, fields, base_at, under, sums, bytes, records)?;
     Ok(now)
 }
 
-/// Puts the list of a directory's children at a place, none for the root, with all that stands below; `records` keeps the records of lists
+/// Puts the list of a directory's children, which are walked, at a place, none for the root, with all that stands below; `records` keeps the records of lists
 /// that aren't done.
 #[cycle(putting)]
-pub fn put_list(
-    mixed: &Mixed<'_>,
+pub fn put_list<'t>(
+    mixed: &'t Mixed<'_>,
     dir: Option<PathRef<'_>>,
+    mut children: Walk<'t, '_>,
     at: u64,
     bytes: &mut Vec<u8>,
     records: &mut Vec<u8>,
 ) -> Result<Put, OutOfMemory>
+    requires children { AreChildren mixed.now (option_map (λ d. d.text.now) dir) (walked children) }
+    requires lists { ListsAreOf mixed.now children }
     ensures { IfOk result (λ p. IsPut mixed.now (option_map (λ d. d.text.now) dir.entry) at p bytes.old.items bytes.new.items records.old.items records.new.items) }
 {
     let from = records.as_slice().len();
     let base_at = base_at(dir);
     let mut sums = none(at);
-    let mut children = mixed.children(dir);
     while let Some(child) = children.next() {
         sums = put_child(mixed, &child, base_at, sums, bytes, records)?;
     }

@@ -1,12 +1,12 @@
 -- The children of a directory that a list of the image has.
-use Rattle.std.proofs.Common.{ℕ, zero, suc, ◌≡◌, ◌+◌, ◌-◌, ◌*◌, ◌<◌, ◌≤◌, Bool, true, false, cond, not, ◌==◌, List, [], ◌∷◌, map, Option, Some, None, Less, refl, sym, ap, ◌∙◌, subst, arith, true≢false, nat_cmp, eqb-true, inl, inr}
+use Rattle.std.proofs.Common.{ℕ, zero, suc, ◌≡◌, ◌+◌, ◌-◌, ◌*◌, ◌<◌, ◌≤◌, Bool, true, false, cond, not, ◌==◌, List, [], ◌∷◌, map, Option, Some, None, Less, refl, sym, ap, ◌∙◌, subst, arith, true≢false, nat_cmp, eqb-true}
 use Rattle.std.specs.Prelude.{is_some, MatchBool}
 use Rattle.std.specs.Option.{option_and_then, option_map}
 use Rattle.std.specs.List.{AllByRecursion, list_any}
 use Rattle.std.specs.List.Sorted.{IsStrictlySortedBy}
 use Rattle.std.specs.Cmp.Lexicographic.{slice_cmp}
 use Rattle.std.specs.Str.{bytes_eq}
-use Rattle.std.proofs.lemmas.Bool.{cases_order, or_left, or_right}
+use Rattle.std.proofs.lemmas.Bool.{or_left, or_right}
 use Rattle.hg_base.specs.PathText.{is_below, is_path, joined, parent_of}
 use Rattle.hg_base.specs.Within.{is_above}
 use Rattle.hg_base.specs.declared.path.PathRef.{PathRef}
@@ -26,13 +26,14 @@ use Rattle.hg_image.specs.declared.opened.NodeRef.{NodeRef}
 use Rattle.hg_image.proofs.Names.{name_in, names_rise}
 use Rattle.hg_image.proofs.RowsOf.{rows_end, rows_whole}
 use Rattle.hg_image.proofs.Sound.{list_at}
-use Rattle.hg_mixed.specs.ChildOf.{has_below, lends, row_child}
+use Rattle.hg_mixed.specs.ChildOf.{has_below, row_child}
 use Rattle.hg_mixed.specs.Children.{AreChildren, ChildData, IsChild}
 use Rattle.hg_mixed.specs.Held.{Held, image_table, source_at, table, table_of, text_at}
 use Rattle.hg_mixed.specs.Lent.{IsInImage, as_dir, covers, lent_at, level, own_rows}
 use Rattle.hg_mixed.specs.Lists.{or_root}
 use Rattle.hg_mixed.specs.Parted.{IsLentIn, IsParted, image_of}
-use Rattle.hg_mixed.specs.Rest.{IsRest, children_from, children_in}
+use Rattle.hg_mixed.specs.Rest.{children_from, children_in}
+use Rattle.hg_mixed.specs.Walk.{Fills}
 use Rattle.hg_mixed.proofs.ImageRows.{at_below, at_node, level_end, level_got, level_row, none_is, own_end, own_next, parent_below, rec_in, row_above, row_path, whole}
 use Rattle.hg_mixed.proofs.Lents.{covered_by}
 use Rattle.hg_mixed.proofs.Nearest.{dir_again, list_dir, path_as_dir}
@@ -88,7 +89,7 @@ stands_above : (dir : Option (List ℕ)) (at : List ℕ) → is_path at ≡ true
 stands_above None at good is = refl
 stands_above (Some d) at good is = parent_below at d good is
 
-above_further : (dir : Option (List ℕ)) (path at : List ℕ) → is_above dir path ≡ true → is_below path at ≡ true → is_above dir at ≡ true
+pub above_further : (dir : Option (List ℕ)) (path at : List ℕ) → is_above dir path ≡ true → is_below path at ≡ true → is_above dir at ≡ true
 above_further None path at above h = refl
 above_further (Some d) path at above h = below_trans d path at above h
 
@@ -193,41 +194,29 @@ children_lent now held same parted texts sources dir list lent =
 -- ---- a list that is lent
 
 -- where it has a node, it has something below its directory
-pub lends_first : (left : List (List ℕ × List Row)) (path : List ℕ) (list : NodeList) (first : Row) (more : List Row) → is_path path ≡ true → Some (rows_in list) ≡ lent_at left path → or_root (dir_of list) ≡ path
-    → rows_in list ≡ first ∷ more → parent_of first.path ≡ dir_of list → true ≡ lends left path
-lends_first left path list first more good there at_dir rows placed =
+pub fills_first : (list : NodeList) (first : Row) (more : List Row) → rows_in list ≡ first ∷ more → parent_of first.path ≡ dir_of list → Fills (Some list) true
+fills_first list first more rows placed = λ path good at_dir.
     let is : dir_of list ≡ Some path = sym (list_dir list) ∙ ap as_dir at_dir ∙ path_as_dir path good in
-    sym (ap (has_below path) (sym there ∙ ap Some rows) ∙ or_left (is_below path first.path) (list_any (λ row. is_below path row.path) more) (below_parent path first.path (placed ∙ is)))
+    sym (ap (λ (r : List Row). has_below path (Some r)) rows ∙ or_left (is_below path first.path) (list_any (λ row. is_below path row.path) more) (below_parent path first.path (placed ∙ is)))
 
 -- ---- one child after the other
 
-module _ (kids : Option (List ChildData)) (left : List (List ℕ × List Row)) (list : Option NodeList) (at : ℕ) (value : List ChildData) (l : NodeList) (n : ℕ) (none : kids ≡ None) (is : list ≡ Some l)
-    (len : n ≡ l.count) (value_is : children_in kids left list at ≡ value) where
+module _ (kids : Option (List ChildData)) (left : List (List ℕ × List Row)) (list : Option NodeList) (at : ℕ) (l : NodeList) (n : ℕ) (none : kids ≡ None) (is : list ≡ Some l)
+    (len : n ≡ l.count) where
   all_left : children_in kids left list at ≡ map row_child (level l at)
   all_left = λ k. children_in (none k) left (is k) at
 
   -- behind the last one
-  pub lent_none : at ≡ n → (value ≡ []) × (children_in kids left list at ≡ [])
-  lent_none end =
-      let no_more = all_left ∙ ap (map row_child) (level_end l at (omega (arith, end, len))) in
-      (sym value_is ∙ no_more, no_more)
+  pub lent_none : n ≤ at → children_in kids left list at ≡ []
+  lent_none end = all_left ∙ ap (map row_child) (level_end l at (omega (arith, end, len)))
 
   -- one more
-  pub lent_next : (node : NodeRef) (shown : ChildData) → IsRest list at → (at ≡ n → ⊥) → node.rec ≡ record_at l.bytes.now (l.start + 44 * at) → node.bytes.now ≡ l.bytes.now → shown ≡ row_child (row node)
-      → value ≡ shown ∷ children_in kids left list (at + 1)
-  lent_next node shown rest some rec bytes is_shown =
-      let upto : IsRest (Some l) at = subst (λ (o : Option NodeList). IsRest o at) is rest in
-      sym value_is
-      ∙ all_left
-      ∙ ap (map row_child) (level_got l at node (less at l.count upto (λ e. some (e ∙ sym len))) rec bytes)
+  pub lent_next : (node : NodeRef) (shown : ChildData) → at < n → node.rec ≡ record_at l.bytes.now (l.start + 44 * at) → node.bytes.now ≡ l.bytes.now → shown ≡ row_child (row node)
+      → children_in kids left list at ≡ shown ∷ children_in kids left list (at + 1)
+  lent_next node shown less rec bytes is_shown =
+      all_left
+      ∙ ap (map row_child) (level_got l at node (omega (arith, less, len)) rec bytes)
       ∙ (λ k. sym is_shown k ∷ children_in (sym none k) left (sym is k) (at + 1))
-    where
-      less : (a b : ℕ) → a ≤ b → (a ≡ b → ⊥) → a < b
-      less a b upto differ = elim (cases_order a b) [
-        | inl e ↦ absurd (differ e)
-        | inr (inl l) ↦ l
-        | inr (inr g) ↦ absurd (omega (arith, upto, g))
-      ]
 
 -- ---- where the list of a directory is the image's
 

@@ -7,6 +7,7 @@ pub mod Dropped
 pub mod DroppedWhole
 pub mod Edited
 pub mod Freed
+pub mod Handed
 pub mod ImageFormed
 pub mod ImageRows
 pub mod KidsOf

@@ -18,3 +18,4 @@ pub mod Search
 pub mod Shown
 pub mod Taken
 pub mod Times
+pub mod Walk

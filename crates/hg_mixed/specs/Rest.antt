@@ -1,5 +1,5 @@
 -- What is left of a directory's children, by where they are.
-use Rattle.std.specs.Prelude.{ℕ, ◌≤◌, List, [], map, Option, Some, None}
+use Rattle.std.specs.Prelude.{ℕ, List, [], map, Option, Some, None}
 use Rattle.hg_image.specs.Rows.{Row}
 use Rattle.hg_image.specs.declared.opened.List.{List as NodeList}
 use Rattle.hg_mixed.specs.ChildOf.{row_child, with_lent}
@@ -15,8 +15,3 @@ children_from (Some list) at = map row_child (level list at)
 abbrev pub children_in : Option (List ChildData) → List (List ℕ × List Row) → Option NodeList → ℕ → List ChildData
 children_in None left list at = children_from list at
 children_in (Some kids) left list at = map (with_lent left) kids
-
--- a place in a list of the image isn't behind its end
-abbrev pub IsRest : Option NodeList → ℕ → Type 0
-IsRest None at = Unit {0}
-IsRest (Some list) at = at ≤ list.count

@@ -2,6 +2,7 @@
 
 use hg_base::{PathRef, Stamp};
 use hg_entry::Entry;
+use hg_image::List;
 
 /// A node right in a directory. Places are byte places in the data file of the image that the table was opened over.
 #[derive(Clone, Copy, Debug)]
@@ -19,4 +20,6 @@ pub struct Child<'t> {
     pub text_at: Option<u32>,
     /// Where the text of the copy source does.
     pub source_at: Option<u32>,
+    // (the image's list of what stands right in it, where that is known)
+    pub(crate) list: Option<List<'t>>,
 }

@@ -53,12 +53,14 @@ mod same;
 mod setting;
 mod taking;
 mod times;
+mod walk;
 
 pub use child::Child;
 pub use children::Children;
 pub use fault::SetFault;
 pub use laws::one_drop;
 pub use mixed::Mixed;
+pub use walk::Walk;
 
 #[cfg(test)]
 mod tests;

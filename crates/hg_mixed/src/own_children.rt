@@ -122,6 +122,7 @@ impl<'t> OwnChildren<'t> {
                     has_kids,
                     text_at: None,
                     source_at: None,
+                    list: None,
                 })
             }
         }

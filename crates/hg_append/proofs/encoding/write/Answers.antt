@@ -17,6 +17,6 @@ docket_bytes-requires-clause-fit c = fit c.args.mixed.now c.in_ok-put.put _ _ _ 
 
 pub returns-clause-written : goal.returns-clause-written
 returns-clause-written c =
-    soundly c.args.mixed.now c.in_ok-put.put _ _ _ _ c.in_ok-put.ensures _ c.in_ok-used.used refl refl c.new-bytes.ensures.items
+    soundly c.args.mixed.now c.in_ok-put.put _ _ _ _ c.in_ok-put.ensures _ c.in_ok-used.used refl refl c.in_ok-bytes.ensures
     (sym (ap (λ (d : Contents). next_name d.id) c.image.ensures.docket) ∙ sym c.in-Some.ensures.next)
     c.in_ok-used.ensures.ok.0 c.in_ok-used.ensures.ok.1 c.in_ok-docket.ensures.bytes c.in_ok-docket.ensures.back

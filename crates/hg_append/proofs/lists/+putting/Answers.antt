@@ -2,6 +2,7 @@ use Rattle.std.proofs.Common.{ℕ, ◌<◌, ◌≤◌, ◌^◌, length, take, dr
 use Rattle.std.specs.Option.{option_map}
 use Rattle.hg_mixed.specs.Child.{shown_child}
 use Rattle.hg_mixed.specs.Children.{IsChild}
+use Rattle.hg_mixed.specs.Walk.{walked}
 use Rattle.hg_append.specs.declared.lists.Put.{Put}
 use Rattle.hg_append.specs.Put.{HasPut, Puts}
 use Rattle.hg_append.proofs.Steps.{base_inside, below_none, child_longer, dir_length, in_parent, left_child, part_done, part_more, path_short, put_few}
@@ -30,13 +31,16 @@ pub put_list-put_child-requires : goal.put_list-put_child-requires
 put_list-put_child-requires t c =
     let dir = option_map (λ d. d.text.now) c.args.dir in
     let is : IsChild c.args.mixed.now dir (shown_child c.in-Some.child) =
-    left_child c.args.mixed.now dir c.args.at c.loop-child.children c.next.new.self (shown_child c.in-Some.child) c.loop-child.sums _ _ _ _ c.in-Some.ensures c.loop-child.invariant.part in
+    left_child c.args.mixed.now dir c.args.at (walked c.loop-child.children) (walked c.next.new.self) (shown_child c.in-Some.child) c.loop-child.sums _ _ _ _ c.in-Some.ensures.takes c.loop-child.invariant.part in
     let longer : dir_length dir < length c.in-Some.child.path.text.now = child_longer dir c.in-Some.child.path.text.now c.in-Some.child.path.is_path is.parent in
     let short : length c.in-Some.child.path.text.now ≤ 65535 = path_short c.in-Some.child.path.text.now c.in-Some.child.path.is_path in (
       omega (arith, c.decreases, longer, short),
       (
         in_parent c.args.mixed.now dir (shown_child c.in-Some.child) is,
-        subst (λ (n : ℕ). n ≤ length c.in-Some.child.path.text.now) (sym c.base_at-base_at.ensures) (base_inside dir c.in-Some.child.path.text.now is.parent),
+        (
+          (c.in-Some.ensures.lists c.args.mixed.now c.loop-child.invariant.lists).1,
+          subst (λ (n : ℕ). n ≤ length c.in-Some.child.path.text.now) (sym c.base_at-base_at.ensures) (base_inside dir c.in-Some.child.path.text.now is.parent),
+        ),
       ),
     )
 
@@ -44,19 +48,20 @@ pub put_list-loop-child-preserved : goal.put_list-loop-child-preserved
 put_list-loop-child-preserved t c =
     let dir = option_map (λ d. d.text.now) c.args.dir in
     let is : IsChild c.args.mixed.now dir (shown_child c.in-Some.child) =
-    left_child c.args.mixed.now dir c.args.at c.loop-child.children c.next.new.self (shown_child c.in-Some.child) c.loop-child.sums _ _ _ _ c.in-Some.ensures c.loop-child.invariant.part in
+    left_child c.args.mixed.now dir c.args.at (walked c.loop-child.children) (walked c.next.new.self) (shown_child c.in-Some.child) c.loop-child.sums _ _ _ _ c.in-Some.ensures.takes c.loop-child.invariant.part in
     let put = subst (λ (n : ℕ). HasPut c.args.mixed.now (shown_child c.in-Some.child) n c.loop-child.sums c.in_ok-sums.sums c.loop-child.bytes.items c.put_child.new.bytes.items c.loop-child.records.items c.put_child.new.records.items)
     c.base_at-base_at.ensures c.in_ok-sums.ensures in
     record {
-      part = part_more c.args.mixed.now dir c.args.at c.loop-child.children (shown_child c.in-Some.child) c.next.new.self c.in-Some.ensures c.loop-child.sums c.in_ok-sums.sums
+      part = part_more c.args.mixed.now dir c.args.at (walked c.loop-child.children) (shown_child c.in-Some.child) (walked c.next.new.self) c.in-Some.ensures.takes c.loop-child.sums c.in_ok-sums.sums
           _ _ put.mid _ _ _ put.mid_records _ put.under c.loop-child.invariant.part put.below put.is put.sound put.texts put.records is;
+      lists = (c.in-Some.ensures.lists c.args.mixed.now c.loop-child.invariant.lists).0;
       base = c.base_at-base_at.ensures;
       from = c.loop-child.invariant.from;
     }
 
 pub put_list-returns : goal.put_list-returns
 put_list-returns t c =
-    part_done c.args.mixed.now (option_map (λ d. d.text.now) c.args.dir) c.args.at c.loop-child.children c.loop-child.sums c.in_ok-put.put _ c.loop-child.bytes.items c.put_records.new.bytes.items
-    c.args.records.now.items c.loop-child.records.items c.put_records.new.records.items c.loop-child.invariant.part c.in_default.ensures.0 c.in_ok-put.ensures.sums c.in_ok-put.ensures.start
+    part_done c.args.mixed.now (option_map (λ d. d.text.now) c.args.dir) c.args.at (walked c.loop-child.children) c.loop-child.sums c.in_ok-put.put _ c.loop-child.bytes.items c.put_records.new.bytes.items
+    c.args.records.now.items c.loop-child.records.items c.put_records.new.records.items c.loop-child.invariant.part c.in_default.ensures.takes.0 c.in_ok-put.ensures.sums c.in_ok-put.ensures.start
     (subst (λ (n : ℕ). Puts c.in_ok-put.put.sums.end (drop n c.loop-child.records.items) c.loop-child.bytes.items c.put_records.new.bytes.items) c.loop-child.invariant.from c.in_ok-put.ensures.bytes)
     (λ small. c.in_ok-put.ensures.records small ∙ ap (λ (n : ℕ). take n c.loop-child.records.items) c.loop-child.invariant.from)
