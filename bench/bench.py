@@ -110,6 +110,11 @@ class Bench:
         return f"{top}/crates/{name}/out/{name}"
 
 
+def read(path):
+    with open(path, "rb") as file:
+        return file.read()
+
+
 def make_files(root, paths):
     made = set()
     for path in paths:
@@ -330,24 +335,32 @@ def manifests(bench):
 
 
 def saving(bench):
-    """Adding one file to a large record: each run adds another file, to the record that the run before left."""
-    loop, ours, theirs = bench.compiled("saved"), f"{bench.room}/saving", f"{bench.room}/saving-loop"
+    """Adding one file to a large record: each run adds another file, to the record that the run before left. The first C program has to write
+    the same bytes; the other writes back what it read."""
+    laid, saved = bench.compiled("laid"), bench.compiled("saved")
+    roots = [f"{bench.room}/saving{name}" for name in ("", "-laid", "-saved")]
     record = written([it.encode() for it in in_directories(MANY)])
-    for root in (ours, theirs):
+    for root in roots:
         make_files(root, [f"extra{i}" for i in range(RUNS)])
         put_record(root, *record)
-    own, other, memory = [], [], 0
+    taken, memory = [[], [], []], 0
     for i in range(RUNS):
-        seconds, most = bench.once([bench.program, "add", f"extra{i}"], ours)
-        size = os.stat(f"{ours}/.hg/dirstate.{i + 1:016x}").st_size
-        own.append(seconds)
-        other.append(bench.once([loop, f"{i:016x}", f"{i + 1:016x}", str(size)], theirs)[0])
+        old, new, name = f"{i:016x}", f"{i + 1:016x}", f"extra{i}"
+        seconds, most = bench.once([bench.program, "add", name], roots[0])
+        written_bytes = [read(f"{roots[0]}/.hg/{it}") for it in ("dirstate", f"dirstate.{new}")]
+        taken[0].append(seconds)
+        taken[1].append(bench.once([laid, old, new, name], roots[1])[0])
+        taken[2].append(bench.once([saved, old, new, str(len(written_bytes[1]))], roots[2])[0])
         memory = max(memory, most)
-    print(f"| `add` of one file to a record of {MANY:,} files, {size:,} bytes | {min(own):.3f} s, the C program {min(other):.3f} s | | |")
-    bench.tell("its time over the C program's", min(own) / min(other), 1.5)
+        if written_bytes != [read(f"{roots[1]}/.hg/{it}") for it in ("dirstate", f"dirstate.{new}")]:
+            sys.exit(f"{laid} wrote other bytes")
+    own, other, least = (min(it) for it in taken)
+    print(f"| `add` of one file to a record of {MANY:,} files, {len(written_bytes[1]):,} bytes | {own:.3f} s, the C program {other:.3f} s | | |")
+    bench.tell("its time over the C program's", own / other, 1.5)
+    print(f"| the C program that writes back what it read | {least:.3f} s | | |")
     print(f"| its peak memory | {memory:.2f} MB | | |")
-    shutil.rmtree(ours)
-    shutil.rmtree(theirs)
+    for root in roots:
+        shutil.rmtree(root)
 
 
 def adding(bench):
@@ -386,12 +399,32 @@ HOSTILE = {
 # paths there.
 LETTERS = [(a, b, c) for a in ascii_letters for b in ascii_letters for c in ascii_letters]
 PRINTED = [chr(it) for it in range(33, 127) if chr(it) not in "#*,-./:?![]\\{}"]
+# (characters of two bytes, and those that the paths there are made of)
+WIDE = [chr(it) for it in range(0xa1, 0x7ff)]
+COMMON = "packgedir012oth.x/fl"
 SHORT = {
     "of five characters": [f"?{a}{b}{c}?" for a, b, c in LETTERS],
     "of one character, all equal": 524_000 * ["?"],
     "of three literal characters": [f"{a}{b}{c}" for a in PRINTED for b in PRINTED for c in PRINTED][:262_000],
     "that end as most paths do": [f"{a}{b}{c}*t" for a, b, c in LETTERS if a not in "oO"],
+    "with a wide character that end as most paths do": [f"{a}{b}*t" for a in PRINTED for b in WIDE],
+    "of eight parts": [f"~?{a}?{b}?{c}?" for a in PRINTED for b in PRINTED for c in PRINTED],
+    "with braces": [f"{a}{{{b}}}" for a in WIDE for b in PRINTED],
+    "with braces in front of an end": [f"{{{a}{b}}}t" for a in WIDE for b in PRINTED],
+    "with classes that take nearly all": [f"~[!{a}][!{b}]" for a in PRINTED for b in WIDE],
+    "with stars between characters of the paths": [f"~*{a}*{b}*{c}*{d}" for a in COMMON for b in COMMON for c in COMMON for d in COMMON],
+    "with choices of stars": [f"~{{*{a},*{b}}}{{{c},*}}*" for a in PRINTED for b in PRINTED for c in PRINTED],
 }
+
+
+def fitting(lines):
+    """As many of the lines as fit in the text with the most bytes that is read."""
+    left = 1_048_576 - len("syntax: glob\n")
+    for i, line in enumerate(lines):
+        left -= len(line.encode()) + 1
+        if left < 0:
+            return lines[:i]
+    return lines
 
 
 def ignore_text(syntax, lines):
@@ -423,7 +456,8 @@ def patterns(bench):
         lines = [glob.replace("Z", f"Z{i:03}") for i in range(1_048_500 // (len(glob) + 4))]
         what, seconds, _, most = told(f"with a hostile text: {name}", ignore_text("glob", lines), 20, 1)
         bench.tell(f"its time {what}", seconds, most, " s")
-    for name, lines in SHORT.items():
+    for name, forms in SHORT.items():
+        lines = fitting(forms)
         what, seconds, _, most = told(f"with {len(lines):,} lines {name}", ignore_text("glob", lines), 20, 1)
         bench.tell(f"its time {what}", seconds, most, " s")
     shutil.rmtree(root)

@@ -67,6 +67,10 @@ def run_words(tests):
         lay_some(root)
         refused(tests, "tracked already", root, ["add", "a", "d/b"], (0, b"", b""))
         refused(tests, "a path out of the root", root, ["add", "../x"], (1, b"", lines("add ../x: bad path")))
+        longest = "b" + "/aaa" * 1_021 + "a" * 61_450
+        refused(tests, "the longest path", root, ["add", longest], (1, b"", lines(f"add {longest}: no such file")))
+        refused(tests, "a byte longer", root, ["add", f"{longest}a"], (1, b"", lines(f"add {longest}a: bad path")))
+        refused(tests, "a byte longer", root, ["forget", f"{longest}a"], (1, b"", lines(f"forget {longest}a: bad path")))
         os.remove(f"{root}/a")
         lay_out(root, ["a/below"])
         refused(tests, "below what is tracked", root, ["add", "a/below"], (1, b"", lines("add a/below: clashes with a")))
