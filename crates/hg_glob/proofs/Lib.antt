@@ -12,6 +12,7 @@ pub mod Literal
 pub mod Masks
 pub mod Neighbours
 pub mod Passes
+pub mod Places
 pub mod Reordered
 pub mod Rows
 pub mod Spelled

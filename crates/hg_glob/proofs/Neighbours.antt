@@ -3,10 +3,8 @@ use Rattle.std.proofs.Common.{◌≡◌, ℕ, ◌+◌, ◌-◌, ◌<◌, ◌≤�
 use Rattle.std.proofs.lemmas.Bool.{cases_lt}
 use Rattle.std.proofs.lemmas.List.{drop_all}
 use Rattle.hg_glob.specs.Part.{Reading, before, reading}
-use Rattle.hg_glob.specs.Many.{SharesEnd, AreShared, AreSharedFrom, last_parts, parts_in}
-use Rattle.hg_glob.specs.Neighbour.{SharesAfter, SharesAt}
+use Rattle.hg_glob.specs.Many.{SharesEnd, SharedBehind, AreShared, last_parts}
 use Rattle.hg_glob.specs.declared.part.Part.{Part}
-use Rattle.hg_glob.specs.declared.globs.GlobLine.{GlobLine}
 
 -- no part at the end of either
 none_last : (j : ℕ) (parts : List Part) → j ≤ 0 → last_parts j parts ≡ []
@@ -41,46 +39,29 @@ shares_more k a b d in_a in_b alike so_far = record {
   ];
 }
 
--- two neighbours of a list
-after_at : (prev : GlobLine) (lines : List GlobLine) (i count : ℕ) (d e : GlobLine) → i < length lines → SharesEnd count (parts_in (get_or (prev ∷ lines) i d)) (parts_in (get_or lines i e)) → SharesAfter prev lines i count
-after_at prev [] i count d e within shares = absurd (omega arith)
-after_at prev (line ∷ lines) zero count d e within shares = shares
-after_at prev (line ∷ lines) (suc i) count d e within shares = after_at line lines i count d e (omega arith) shares
+-- what stands before a list that isn't the first is the list before it
+before_at : (before : List Part) (row : List (List Part)) (i : ℕ) → (i ≡ 0 → ⊥) → get_or row (i - 1) [] ≡ get_or (before ∷ row) i []
+before_at before row zero later = absurd (later refl)
+before_at before row (suc i) later =
+    let same : suc i - 1 ≡ i = omega arith in
+    ap (λ n. get_or row n []) same
 
-at_later : (lines : List GlobLine) (i k count : ℕ) (d e : GlobLine) → i < length lines → (i ≡ 0 → ⊥) → k ≡ i - 1 → SharesEnd count (parts_in (get_or lines k d)) (parts_in (get_or lines i e)) → SharesAt lines i count
-at_later [] i k count d e within later is shares = absurd (omega arith)
-at_later (line ∷ lines) zero k count d e within later is shares = absurd (later refl)
-at_later (line ∷ lines) (suc i) k count d e within later is shares =
-    let P : ℕ → Type 0 = λ n. SharesEnd count (parts_in (get_or (line ∷ lines) n d)) (parts_in (get_or lines i e)) in
-    let same : k ≡ i = omega arith in
-    after_at line lines i count d e (omega arith) (subst P same shares)
+pub at_later : (row : List (List Part)) (i count : ℕ) (a b : List Part) → (i ≡ 0 → ⊥) → a ≡ get_or row (i - 1) [] → b ≡ get_or row i [] → SharesEnd count a b → SharesEnd count (get_or ([] ∷ row) i []) (get_or row i [])
+at_later row i count a b later is_a is_b shares =
+    subst (λ v. SharesEnd count v (get_or row i [])) (is_a ∙ before_at [] row i later) (subst (λ v. SharesEnd count a v) is_b shares)
 
-pub at_place : (lines : List GlobLine) (i count : ℕ) (a b : List Part) (d e : GlobLine) → i < length lines → (i ≡ 0 → ⊥) → a ≡ parts_in (get_or lines (i - 1) d) → b ≡ parts_in (get_or lines i e) → SharesEnd count a b → SharesAt lines i count
-at_place lines i count a b d e within later is_a is_b shares =
-    let P : List Part → Type 0 = λ v. SharesEnd count v (parts_in (get_or lines i e)) in
-    let Q : List Part → Type 0 = λ v. SharesEnd count a v in
-    at_later lines i (i - 1) count d e within later refl (subst P is_a (subst Q is_b shares))
-
--- the count of one line more
-after_more : (prev : GlobLine) (lines : List GlobLine) (i count : ℕ) (shared : List ℕ) → AreSharedFrom prev (take i lines) shared → SharesAfter prev lines i count → AreSharedFrom prev (take (suc i) lines) (shared ++ count ∷ [])
-after_more prev [] i count shared so_far none = absurd none
-after_more prev (line ∷ lines) zero count shared is shares =
-    let P : List ℕ → Type 0 = λ v. AreSharedFrom prev (line ∷ []) (v ++ count ∷ []) in
+-- the count of one list more
+one_behind : (before : List Part) (row : List (List Part)) (i count : ℕ) (shared : List ℕ) → i < length row → SharedBehind before (take i row) shared → SharesEnd count (get_or (before ∷ row) i []) (get_or row i []) → SharedBehind before (take (suc i) row) (shared ++ count ∷ [])
+one_behind before [] i count shared inside so_far shares = absurd (omega arith)
+one_behind before (parts ∷ row) zero count shared inside is shares =
+    let P : List ℕ → Type 0 = λ v. SharedBehind before (parts ∷ []) (v ++ count ∷ []) in
     subst P (sym is) (shares, refl)
-after_more prev (line ∷ lines) (suc i) count [] none shares = absurd none
-after_more prev (line ∷ lines) (suc i) count (first ∷ shared) so_far shares = (so_far.0, after_more line lines i count shared so_far.1 shares)
+one_behind before (parts ∷ row) (suc i) count [] inside none shares = absurd none
+one_behind before (parts ∷ row) (suc i) count (first ∷ shared) inside so_far shares = (so_far.0, one_behind parts row i count shared (omega arith) so_far.1 shares)
 
-more_at : (lines : List GlobLine) (i count : ℕ) (shared : List ℕ) → AreShared (take i lines) shared → SharesAt lines i count → AreShared (take (suc i) lines) (shared ++ count ∷ [])
-more_at [] i count shared so_far none = absurd none
-more_at (line ∷ lines) zero count shared is shares =
-    let P : List ℕ → Type 0 = λ v. AreShared (line ∷ []) (v ++ count ∷ []) in
-    subst P (sym is) (shares, refl)
-more_at (line ∷ lines) (suc i) count [] none shares = absurd none
-more_at (line ∷ lines) (suc i) count (first ∷ shared) so_far shares = (so_far.0, after_more line lines i count shared so_far.1 shares)
-
-pub are_more : (lines : List GlobLine) (i count : ℕ) (shared more : List ℕ) → more ≡ shared ++ count ∷ [] → AreShared (take i lines) shared → SharesAt lines i count → AreShared (take (i + 1) lines) more
-are_more lines i count shared more is so_far shares =
-    let P : List ℕ → Type 0 = λ v. AreShared (take (i + 1) lines) v in
-    let Q : ℕ → Type 0 = λ n. AreShared (take n lines) (shared ++ count ∷ []) in
+pub are_more : (row : List (List Part)) (i count : ℕ) (shared more : List ℕ) → i < length row → more ≡ shared ++ count ∷ [] → AreShared (take i row) shared → SharesEnd count (get_or ([] ∷ row) i []) (get_or row i []) → AreShared (take (i + 1) row) more
+are_more row i count shared more inside is so_far shares =
+    let P : List ℕ → Type 0 = λ v. AreShared (take (i + 1) row) v in
+    let Q : ℕ → Type 0 = λ n. AreShared (take n row) (shared ++ count ∷ []) in
     let e : suc i ≡ i + 1 = omega arith in
-    subst P (sym is) (subst Q e (more_at lines i count shared so_far shares))
+    subst P (sym is) (subst Q e (one_behind [] row i count shared inside so_far shares))

@@ -3,9 +3,9 @@ pub mod Column
 pub mod Kept
 pub mod Line
 pub mod Many
-pub mod Neighbour
 pub mod Part
 pub mod Pattern
+pub mod Placed
 pub mod Reach
 pub mod Refusal
 pub mod Row

@@ -1,5 +1,5 @@
 -- Many globs that are asked at once, and what the ends of two of them have in common.
-use Rattle.std.specs.Prelude.{ℕ, ◌≡◌, ◌≤◌, ◌-◌, ◌⊎◌, false, List, [], ◌∷◌, length, drop, chars}
+use Rattle.std.specs.Prelude.{ℕ, ◌≡◌, ◌≤◌, ◌-◌, ◌⊎◌, false, List, [], ◌∷◌, map, length, drop, chars}
 use Rattle.hg_glob.specs.Part.{parts_of, glob_of, reading}
 use Rattle.hg_glob.specs.Line.{Stands}
 use Rattle.hg_glob.specs.declared.part.Part.{Part}
@@ -24,14 +24,17 @@ pub record SharesEnd (count : ℕ) (a b : List Part) : Type 0 where
 abbrev pub parts_in : GlobLine → List Part
 parts_in line = parts_of (chars line.glob)
 
--- of each line as many parts are at the end of the one before
-abbrev pub AreSharedFrom : GlobLine → List GlobLine → List ℕ → Type 0
-AreSharedFrom before [] shared = shared ≡ []
-AreSharedFrom before (line ∷ lines) [] = ⊥
-AreSharedFrom before (line ∷ lines) (count ∷ shared) = SharesEnd count (parts_in before) (parts_in line) × AreSharedFrom line lines shared
+-- of each of the lists as many parts are at the end of what stands before it
+abbrev pub SharedBehind : List Part → List (List Part) → List ℕ → Type 0
+SharedBehind before [] shared = shared ≡ []
+SharedBehind before (parts ∷ row) [] = ⊥
+SharedBehind before (parts ∷ row) (count ∷ shared) = SharesEnd count before parts × SharedBehind parts row shared
 
--- the same of all lines, of which the first has nothing in common with one before it
-abbrev pub AreShared : List GlobLine → List ℕ → Type 0
-AreShared [] shared = shared ≡ []
-AreShared (line ∷ lines) [] = ⊥
-AreShared (line ∷ lines) (count ∷ shared) = (count ≡ 0) × AreSharedFrom line lines shared
+-- the same where nothing stands before the first
+abbrev pub AreShared : List (List Part) → List ℕ → Type 0
+AreShared row shared = SharedBehind [] row shared
+
+-- the row has the parts of each line, and the counts say what each has in common with the one before
+pub record AreLaid (lines : List GlobLine) (row : List (List Part)) (shared : List ℕ) : Type 0 where
+  pub row_is : row ≡ map parts_in lines
+  pub are_shared : AreShared row shared

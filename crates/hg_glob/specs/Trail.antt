@@ -1,12 +1,11 @@
 -- The columns of the last parts of a glob, each of them kept; for the private functions alone.
-use Rattle.std.specs.Prelude.{ℕ, ◌≡◌, ◌≤◌, false, List, [], ◌∷◌, length, slice_index_or}
+use Rattle.std.specs.Prelude.{ℕ, ◌≡◌, ◌≤◌, false, List, [], length, slice_index_or}
 use Rattle.hg_glob.specs.Part.{Reading, reading}
-use Rattle.hg_glob.specs.Many.{last_parts, parts_in, SharesEnd}
+use Rattle.hg_glob.specs.Many.{last_parts}
 use Rattle.hg_glob.specs.Accepted.{ColumnIs}
 use Rattle.hg_glob.specs.declared.part.Part.{Part}
 use Rattle.hg_glob.specs.declared.fork.Column.{Column}
 use Rattle.hg_glob.specs.declared.fork.Fork.{Fork}
-use Rattle.hg_glob.specs.declared.globs.GlobLine.{GlobLine}
 
 -- the column of so many parts
 abbrev pub column_at : List Column → ℕ → Column
@@ -22,9 +21,3 @@ pub record TrailIs (xs : List ℕ) (parts : List Part) (len : ℕ) (columns : Li
 pub record EndsAt (xs : List ℕ) (r : Reading) (column : Column) : Type 0 where
   pub forks : List Fork
   pub column_is : ColumnIs false xs r column.now column.hit forks
-
--- of each line as many parts are at the end of what stands before it
-abbrev pub SharedBehind : List Part → List GlobLine → List ℕ → Type 0
-SharedBehind before [] shared = shared ≡ []
-SharedBehind before (line ∷ lines) [] = ⊥
-SharedBehind before (line ∷ lines) (count ∷ shared) = SharesEnd count before (parts_in line) × SharedBehind (parts_in line) lines shared

@@ -1,11 +1,12 @@
 //! Many globs, asked at once: what the ends of two that follow each other have in common is looked at once.
 
-ghost use Rattle.std.specs.Prelude.{◌≡◌, ◌↔◌, [], List, ℕ, IsTrue, IfOk, ◌≤◌, length, chars, reverse};
-ghost use Rattle.hg_glob.specs.Many.{SomeStands, AreShared};
+ghost use Rattle.std.specs.Prelude.{◌≡◌, ◌↔◌, [], List, ℕ, IsTrue, IfOk, ◌≤◌, map, length, chars, reverse};
+ghost use Rattle.hg_glob.specs.Many.{SomeStands, AreShared, parts_in};
 
 use crate::fork::{Column, Fork, Reach};
 use crate::glob::Glob;
 use crate::ordering::{end_order, shared_of};
+use crate::part_row::PartRow;
 use crate::reach::{begin_reach, follow_far, is_out};
 use crate::short::Short;
 use crate::subject::Subject;
@@ -25,20 +26,22 @@ pub struct GlobLine {
 #[derive(Drop)]
 pub struct Globs {
     pub(crate) lines: Vec<GlobLine>,
+    /// The parts of each, so that asking one after another reads on in one place.
+    pub(crate) row: PartRow,
     /// How many parts from its end each has in common with the one before, or less; nothing with none.
     pub(crate) shared: Vec<u32>,
 }
 
 impl Model for Globs {
     ghost use Rattle.std.specs.Prelude.{List};
-    ghost use Rattle.hg_glob.specs.Many.{AreShared};
+    ghost use Rattle.hg_glob.specs.Many.{AreLaid};
     ghost use Rattle.hg_glob.specs.declared.globs.GlobLine.{GlobLine};
 
     ghost Value = { List GlobLine };
 
     ghost view = { λ g. g.lines.items };
 
-    ghost invariant = { λ g. AreShared g.lines.items g.shared.items };
+    ghost invariant = { λ g. AreLaid g.lines.items g.row g.shared.items };
 }
 
 /// Whether the end of the path leaves it possible that some glob stands in it.
@@ -57,8 +60,15 @@ fn may_stand(lines: &[GlobLine], path: &str) -> bool
 /// Whether some glob stands in the path. What each has in common with the one before isn't looked at again; and where no end of the
 /// path is accepted from there on, it is passed over.
 #[inline(never)]
-fn some_short(lines: &[GlobLine], shared: &[u32], short: &Short, whole: usize) -> bool
-    requires shared { AreShared lines.now shared.now }
+fn some_short(
+    lines: &[GlobLine],
+    row: &PartRow,
+    shared: &[u32],
+    short: &Short,
+    whole: usize,
+) -> bool
+    requires row { row.now ≡ map parts_in lines.now }
+    requires shared { AreShared row.now shared.now }
     requires whole { whole ≡ length short.now }
     requires short { whole ≤ 63 }
     ensures { (path : List ℕ) → chars path ≡ reverse short.now → IsTrue result ↔ SomeStands lines.now path }
@@ -78,13 +88,12 @@ fn some_short(lines: &[GlobLine], shared: &[u32], short: &Short, whole: usize) -
         if is_over && len <= count {
             continue;
         }
-        let line = &lines[i];
-        let parts = line.glob.parts();
+        let parts = row.at(i);
         let from = cut(&columns, len.min(count));
         len = follow(parts, from, short, &mut columns, &mut forks);
         let end = columns[len];
         is_over = is_dead(end);
-        if !is_over && stands_at(parts, line.rooted, short, whole, len, end) {
+        if !is_over && stands_at(parts, lines[i].rooted, short, whole, len, end) {
             return true;
         }
     }
@@ -93,8 +102,9 @@ fn some_short(lines: &[GlobLine], shared: &[u32], short: &Short, whole: usize) -
 
 /// The same of a long path, by its last characters; a line that these leave possible is asked by itself.
 #[inline(never)]
-fn some_long(lines: &[GlobLine], shared: &[u32], subject: &Subject<'_>) -> bool
-    requires shared { AreShared lines.now shared.now }
+fn some_long(lines: &[GlobLine], row: &PartRow, shared: &[u32], subject: &Subject<'_>) -> bool
+    requires row { row.now ≡ map parts_in lines.now }
+    requires shared { AreShared row.now shared.now }
     ensures { IsTrue result ↔ SomeStands lines.now subject.now }
 {
     let short = &subject.short;
@@ -112,12 +122,15 @@ fn some_long(lines: &[GlobLine], shared: &[u32], subject: &Subject<'_>) -> bool
         if is_over && len <= common {
             continue;
         }
-        let line = &lines[i];
+        let parts = row.at(i);
         let from = len.min(common);
-        len = follow_far(line.glob.parts(), from, short, whole, &mut reaches);
+        len = follow_far(parts, from, short, whole, &mut reaches);
         is_over = is_out(reaches[len]);
-        if !is_over && line.glob.matches_end_of(subject, line.rooted) {
-            return true;
+        if !is_over {
+            let line = &lines[i];
+            if line.glob.matches_end_of(subject, line.rooted) {
+                return true;
+            }
         }
     }
     false
@@ -130,6 +143,7 @@ impl Globs {
     {
         Globs {
             lines: Vec::new(alloc),
+            row: PartRow::new(alloc),
             shared: Vec::new(alloc),
         }
     }
@@ -139,8 +153,9 @@ impl Globs {
         ensures { IfOk result (λ globs. (path : List ℕ) → SomeStands globs path ↔ SomeStands lines.items path) }
     {
         lines.sort_unstable_by(|a, b| end_order(a.glob.text(), b.glob.text()));
-        let shared = shared_of(alloc, lines.as_slice())?;
-        Ok(Globs { lines, shared })
+        let row = PartRow::of(alloc, lines.as_slice())?;
+        let shared = shared_of(alloc, &row)?;
+        Ok(Globs { lines, row, shared })
     }
 
     /// Whether some glob stands in the path. It takes no memory.
@@ -153,11 +168,17 @@ impl Globs {
         }
         let subject = Subject::new(path);
         if !subject.is_short {
-            return some_long(self.lines.as_slice(), self.shared.as_slice(), &subject);
+            return some_long(
+                self.lines.as_slice(),
+                &self.row,
+                self.shared.as_slice(),
+                &subject,
+            );
         }
         let short = &subject.short;
         some_short(
             self.lines.as_slice(),
+            &self.row,
             self.shared.as_slice(),
             short,
             short.len(),

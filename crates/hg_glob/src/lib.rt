@@ -37,7 +37,8 @@
 //! `Globs` are many lines that are asked of one path. They stand in an order in which those are neighbours that end alike; the words
 //! of a line's last parts are kept, and the next line goes on from those that it has in common with it. Where no end of the path is
 //! accepted from some last parts on, every line with these parts is passed over by its count alone. Of a long path its last
-//! characters are looked at so, and a line that these leave possible is asked by itself.
+//! characters are looked at so, and a line that these leave possible is asked by itself. The parts of all lines lie in one row, in the
+//! order in which they are asked.
 #![tactic(auto)]
 
 mod column;
@@ -50,6 +51,7 @@ mod mark;
 mod matching;
 mod ordering;
 mod part;
+mod part_row;
 mod reach;
 mod refusal;
 mod short;
@@ -67,3 +69,5 @@ pub use subject::Subject;
 
 #[cfg(test)]
 mod tests;
+#[cfg(test)]
+mod tests_many;

@@ -1,12 +1,11 @@
 //! Many globs in an order in which those stand together that end alike, and how much the ends of neighbours have in common.
 
-ghost use Rattle.std.specs.Prelude.{◌≡◌, ◌<◌, IsTrue, IfOk, length};
+ghost use Rattle.std.specs.Prelude.{◌≡◌, ◌<◌, [], ◌∷◌, IsTrue, IfOk, length, slice_index_or};
 ghost use Rattle.hg_glob.specs.Part.{Reading, before};
 ghost use Rattle.hg_glob.specs.Many.{AreShared, SharesEnd};
-ghost use Rattle.hg_glob.specs.Neighbour.{SharesAt};
 
-use crate::globs::GlobLine;
 use crate::part::Part;
+use crate::part_row::PartRow;
 use hg_base::OutOfMemory;
 use std::alloc::Global;
 use std::cmp::Ordering;
@@ -59,24 +58,25 @@ fn shared_end(a: &[Part], b: &[Part]) -> u32
     most as u32
 }
 
-/// The same of the line at a place and the one before it, and nothing of the first line.
-fn shared_at(lines: &[GlobLine], i: usize) -> u32
-    requires { i < length lines.now }
-    ensures { SharesAt lines.now i result }
+/// The same of the glob at a place and the one before it, and nothing of the first.
+#[tactic(auto, using(crate::proofs::Neighbours::shares_none))]
+fn shared_at(row: &PartRow, i: usize) -> u32
+    requires { i < length row.now }
+    ensures { SharesEnd result (slice_index_or ([] ∷ row.now) i []) (slice_index_or row.now i []) }
 {
     if i == 0 {
         return 0;
     }
-    shared_end(lines[i - 1].glob.parts(), lines[i].glob.parts())
+    shared_end(row.at(i - 1), row.at(i))
 }
 
-/// The same of each line.
-pub(crate) fn shared_of(alloc: Global, lines: &[GlobLine]) -> Result<Vec<u32>, OutOfMemory>
-    ensures { IfOk result (λ shared. AreShared lines.now shared.items) }
+/// The same of each glob.
+pub(crate) fn shared_of(alloc: Global, row: &PartRow) -> Result<Vec<u32>, OutOfMemory>
+    ensures { IfOk result (λ shared. AreShared row.now shared.items) }
 {
-    let mut shared = Vec::new(alloc);
-    for i in 0..lines.len() {
-        shared.push(shared_at(lines, i))?;
+    let mut shared = Vec::with_capacity(alloc, row.len())?;
+    for i in 0..row.len() {
+        shared.push(shared_at(row, i))?;
     }
     Ok(shared)
 }
