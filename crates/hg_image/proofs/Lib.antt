@@ -3,6 +3,7 @@ pub mod Counted
 pub mod Levels
 pub mod Names
 pub mod Parted
+pub mod Plain
 pub mod RowsOf
 pub mod Seen
 pub mod Sound

@@ -1,5 +1,6 @@
 pub mod Counts
 pub mod Node
+pub mod Plain
 pub mod Reading
 pub mod Rows
 pub mod Tally

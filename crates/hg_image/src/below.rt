@@ -7,8 +7,9 @@ ghost use Rattle.hg_base.specs.PathText.{joined, is_same_dir, parent_of};
 ghost use Rattle.hg_image.specs.Node.{path_of, name_of, path_fault};
 ghost use Rattle.hg_image.specs.Walk.{depth_of, levels};
 
-use crate::parts::{part, sound_text, valid_text};
-use hg_base::{PathRef, is_component};
+use crate::component::valid_name;
+use crate::parts::{part, sound_text};
+use hg_base::PathRef;
 use hg_node::{Rec, within};
 
 /// The path of a node, its name, and whether it stands right in the directory.
@@ -53,26 +54,31 @@ pub fn find_below<'a>(
     })
 }
 
-// What makes a text with the directory, none for the root, where the text begins so.
+// The name that makes a text with the directory, none for the root, where the text begins so.
 fn name_in<'a>(dir: Option<PathRef<'_>>, bytes: &'a [u8]) -> Option<&'a str>
     ensures whole { IfSome result (λ name. bytes.now ≡ joined (option_map (λ d. d.text.now) dir.entry) name.now) }
     ensures utf8 { IfSome result (λ name. text.is_utf8 bytes.now ≡ true) }
+    ensures component { IfSome result (λ name. paths.is_component name.now ≡ true) }
 {
     match dir {
-        None => valid_text(bytes),
+        None => valid_name(bytes),
         Some(dir) => name_behind(dir.text, bytes),
     }
 }
 
-// The text behind the directory and a slash.
+// The name behind the directory and a slash.
 fn name_behind<'a>(dir: &str, bytes: &'a [u8]) -> Option<&'a str>
     ensures whole { IfSome result (λ name. bytes.now ≡ dir.now ++ 47 ∷ name.now) }
     ensures utf8 { IfSome result (λ name. text.is_utf8 bytes.now ≡ true) }
+    ensures component { IfSome result (λ name. paths.is_component name.now ≡ true) }
 {
-    let Some(name) = behind(dir.as_bytes(), bytes) else {
+    let Some(rest) = behind(dir.as_bytes(), bytes) else {
         return None;
     };
-    valid_text(name)
+    let Some(name) = valid_name(rest) else {
+        return None;
+    };
+    Some(name)
 }
 
 // What is behind the directory and a slash.
@@ -92,18 +98,15 @@ fn behind<'a>(dir: &[u8], bytes: &'a [u8]) -> Option<&'a [u8]>
     Some(rest.split_at(1).1)
 }
 
-// Whether the name is seen to make a path in the directory, where it makes a text that isn't too long.
+// Whether the name, a component, is seen to make a path in the directory, where it makes a text that isn't too long.
 #[tactic(auto, using(crate::proofs::Seen::seen_below))]
 fn makes_path(dir: Option<PathRef<'_>>, depth: u32, name: &str) -> bool
     requires short { length (joined (option_map (λ d. d.text.now) dir) name.now) ≤ 65535 }
     requires levels { depth_of (option_map (λ d. d.text.now) dir) + depth ≤ levels }
-    ensures component { result ≡ true → IsTrue (paths.is_component name.now) }
-    ensures path { result ≡ true → IsTrue (paths.is_path (joined (option_map (λ d. d.text.now) dir.entry) name.now)) }
+    requires component { paths.is_component name.now ≡ true }
+    ensures { result ≡ true → IsTrue (paths.is_path (joined (option_map (λ d. d.text.now) dir.entry) name.now)) }
 {
     if depth < 2 {
-        return false;
-    }
-    if !is_component(name) {
         return false;
     }
     match dir {

@@ -31,6 +31,7 @@
 #![tactic(auto)]
 
 mod below;
+mod component;
 mod counts;
 mod fault;
 mod image;
