@@ -31,9 +31,10 @@ use Rattle.hg_base.proofs.Paths.{path_some}
 use Rattle.hg_mixed.specs.Children.{ChildData, IsChild}
 use Rattle.hg_mixed.specs.Edits.{IsFormed, IsSame}
 use Rattle.hg_mixed.specs.Held.{Held, table}
+use Rattle.hg_mixed.specs.Written.{fields_for}
 use Rattle.hg_append.specs.declared.encoding.Encoded.{Encoded}
 use Rattle.hg_append.specs.Tree.{AreBelow, IsTreeOf, Nothing, Node, Tree, heads}
-use Rattle.hg_append.specs.Layout.{behind_node, fields_for, front_size, list_start, rec_of, size_of, source_text}
+use Rattle.hg_append.specs.Layout.{behind_node, front_size, list_start, rec_of, size_of, source_text}
 use Rattle.hg_append.specs.Lost.{named_length, reached, waste}
 use Rattle.hg_append.specs.Put.{AreSound, IsSound}
 use Rattle.hg_append.specs.Encoded.{IsSoundly, ReadsAs, contents_of}

@@ -13,10 +13,11 @@ use Rattle.hg_node.specs.Node.{bytes_of}
 use Rattle.hg_node.specs.declared.record.Rec.{Rec}
 use Rattle.hg_mixed.specs.Children.{AreChildren, ChildData, IsChild}
 use Rattle.hg_mixed.specs.Held.{Held, table}
+use Rattle.hg_mixed.specs.Written.{fields_for}
 use Rattle.hg_append.specs.declared.sums.Sums.{Sums}
 use Rattle.hg_append.specs.declared.lists.Put.{Put}
 use Rattle.hg_append.specs.Tree.{Tree, Nothing, Node, count_in, has_entry, has_source, heads, is_tracked}
-use Rattle.hg_append.specs.Layout.{copy_start, fields_for, front_of, front_size, list_start, put_of, rec_of, records_of, size_of, source_text}
+use Rattle.hg_append.specs.Layout.{copy_start, front_of, front_size, list_start, put_of, rec_of, records_of, size_of, source_text}
 use Rattle.hg_append.specs.Put.{AreSums, IsFew, IsPut, IsPutPart, IsSound, Puts, base_in, ended, kept, rec_with, start_with, with_node}
 use Rattle.hg_append.proofs.Sizes.{counted_few, kept_back, size_is}
 use Rattle.hg_append.proofs.Snoc.{below_snoc, count_snoc, front_snoc, heads_snoc, records_snoc, size_snoc, snoc, sound_snoc}

@@ -34,9 +34,10 @@ use Rattle.hg_image.proofs.Walk.{below, list_empty, list_inside}
 use Rattle.hg_mixed.specs.Children.{ChildData, IsChild}
 use Rattle.hg_mixed.specs.Edits.{IsFormed}
 use Rattle.hg_mixed.specs.Held.{Held, table}
+use Rattle.hg_mixed.specs.Written.{fields_for}
 use Rattle.hg_append.specs.Tree.{AreBelow, IsTreeOf, Nothing, Node, Tree, count_in, heads, is_tracked, nodes}
 use Rattle.hg_append.specs.Tree as tree
-use Rattle.hg_append.specs.Layout.{behind_node, fields_for, front_of, front_size, list_start, put_of, rec_of, records_of, size_of, source_text}
+use Rattle.hg_append.specs.Layout.{behind_node, front_of, front_size, list_start, put_of, rec_of, records_of, size_of, source_text}
 use Rattle.hg_append.specs.Put.{AreSound, IsSound}
 use Rattle.hg_append.proofs.Has.{Has, has_all, has_first, has_part, has_record, has_room, has_second}
 use Rattle.hg_append.proofs.Sizes.{counted_few, front_length, put_length, records_length, size_is}

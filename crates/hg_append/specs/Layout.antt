@@ -2,12 +2,10 @@
 -- path, then its copy source. Behind the last stand the records of the list, in order.
 use Rattle.std.specs.Prelude.{ℕ, ◌+◌, ◌-◌, List, [], ◌++◌, length, Option, Some, None}
 use Rattle.hg_base.specs.PathText.{base_of}
-use Rattle.hg_entry.specs.declared.entry.Fields.{Fields}
-use Rattle.hg_entry.specs.Entry.{EntryData, StampData}
-use Rattle.hg_entry.specs.Written as written
 use Rattle.hg_node.specs.declared.record.Rec.{Rec}
 use Rattle.hg_node.specs.Node.{bytes_of}
 use Rattle.hg_mixed.specs.Children.{ChildData}
+use Rattle.hg_mixed.specs.Written.{fields_for}
 use Rattle.hg_append.specs.Tree.{Tree, Nothing, Node, count_in, has_entry, heads, is_tracked}
 
 -- the text of a copy source, nothing where there is none
@@ -33,11 +31,6 @@ front_size (Node child below behind) = size_of below + length child.path + lengt
 abbrev pub list_start : ℕ → Tree → ℕ
 list_start at Nothing = 0
 list_start at (Node child below behind) = at + front_size (Node child below behind)
-
--- the numbers that are written for an entry, or for a node without one
-abbrev pub fields_for : Option EntryData → Option StampData → Fields
-fields_for None cache = written.cache_fields cache
-fields_for (Some entry) cache = written.fields_of entry
 
 -- where a copy source begins, where there is one
 abbrev pub copy_start : Option (List ℕ) → ℕ → ℕ

@@ -9,10 +9,11 @@ use Rattle.hg_node.specs.Node.{bytes_of}
 use Rattle.hg_node.specs.declared.record.Rec.{Rec}
 use Rattle.hg_mixed.specs.Children.{AreChildren, ChildData}
 use Rattle.hg_mixed.specs.Held.{Held}
+use Rattle.hg_mixed.specs.Written.{fields_for}
 use Rattle.hg_append.specs.declared.sums.Sums.{Sums}
 use Rattle.hg_append.specs.declared.lists.Put.{Put}
 use Rattle.hg_append.specs.Tree.{AreBelow, IsTreeOf, Tree, count_in, has_entry, has_source, heads, is_tracked, nodes}
-use Rattle.hg_append.specs.Layout.{copy_start, fields_for, front_of, front_size, list_start, put_of, records_of, size_of, source_text}
+use Rattle.hg_append.specs.Layout.{copy_start, front_of, front_size, list_start, put_of, records_of, size_of, source_text}
 
 -- a sum as it is kept: the greatest number of 64 bits where it would be greater
 abbrev pub kept : ℕ → ℕ

@@ -4,7 +4,8 @@ ghost use Rattle.std.specs.Prelude.{◌≡◌, ◌≤◌, ◌<◌, ◌^◌, ◌+
 ghost use Rattle.hg_node.specs.Node.{bytes_of};
 ghost use Rattle.hg_mixed.specs.Child.{shown_child};
 ghost use Rattle.hg_mixed.specs.Children.{AreChildren, IsChild};
-ghost use Rattle.hg_mixed.specs.Walk.{ListIsOf, ListsAreOf, walked};
+ghost use Rattle.hg_mixed.specs.Walk.{IsBelow, ListIsOf, ListsAreOf, walked};
+ghost use Rattle.hg_mixed.specs.Written.{fields_for};
 ghost use Rattle.std.specs.Str.{is_utf8};
 ghost use Rattle.hg_base.specs.PathText.{is_path, parent_of};
 ghost use Rattle.hg_append.specs.Layout as layout;
@@ -13,8 +14,8 @@ ghost use Rattle.hg_append.specs.Put.{AreFields, HasPut, IsFew, IsPut, IsSound, 
 
 use crate::sums::{Sums, ended, none, with_node};
 use hg_base::{OutOfMemory, PathRef};
-use hg_entry::{Fields, dir_fields};
-use hg_mixed::{Child, Mixed, Walk};
+use hg_entry::Fields;
+use hg_mixed::{Below, Child, Mixed, Walk};
 use hg_node::Rec;
 
 /// The last place that 32 bits can name.
@@ -31,10 +32,7 @@ pub struct Put {
 fn fields(child: &Child<'_>) -> Fields
     ensures { AreFields (shown_child child.now) result }
 {
-    match child.entry {
-        None => dir_fields(child.cache),
-        Some(entry) => entry.write(),
-    }
+    child.fields()
 }
 
 // The bytes of a path.
@@ -86,7 +84,7 @@ fn copy_start(source: Option<PathRef<'_>>, at: u64) -> u32
 
 // The record of a node.
 fn rec_of(child: &Child<'_>, fields: Fields, base_at: usize, under: Put) -> Rec
-    requires fields { fields ≡ layout.fields_for (shown_child child.now).entry (shown_child child.now).cache }
+    requires fields { fields ≡ fields_for (shown_child child.now).entry (shown_child child.now).cache }
     requires few { IsFew under }
     requires base { base_at ≤ length child.now.path.text.now }
     requires inside { under.sums.end + length child.now.path.text.now < 2 ^ 32 }
@@ -227,10 +225,27 @@ fn put_child<'t>(
         let now = put_node(child, fields, base_at, under, sums, bytes, records)?;
         return Ok(now);
     }
-    let kids = mixed.walk_in(child);
-    let under = put_list(mixed, Some(child.path), kids, sums.end, bytes, records)?;
+    let under = put_below(mixed, child.below(), sums.end, bytes, records)?;
     let now = put_node(child, fields, base_at, under, sums, bytes, records)?;
     Ok(now)
+}
+
+// Puts the list of a node's children. (A walk is more room than should be cleared for each node that has none.)
+#[cycle(putting)]
+#[inline(never)]
+fn put_below<'t>(
+    mixed: &'t Mixed<'_>,
+    below: Below<'t>,
+    at: u64,
+    bytes: &mut Vec<u8>,
+    records: &mut Vec<u8>,
+) -> Result<Put, OutOfMemory>
+    requires { IsBelow mixed.now below }
+    ensures { IfOk result (λ p. IsPut mixed.now (Some below.entry.path.text.now) at p bytes.old.items bytes.new.items records.old.items records.new.items) }
+{
+    let kids = mixed.walk_in(below);
+    let put = put_list(mixed, Some(below.path), kids, at, bytes, records)?;
+    Ok(put)
 }
 
 /// Puts the list of a directory's children, which are walked, at a place, none for the root, with all that stands below; `records` keeps the records of lists

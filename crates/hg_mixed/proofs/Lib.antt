@@ -1,4 +1,5 @@
 pub mod Adding
+pub mod AsWritten
 pub mod Childless
 pub mod ChildrenOf
 pub mod ClashWhole

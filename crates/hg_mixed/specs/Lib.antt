@@ -19,3 +19,4 @@ pub mod Shown
 pub mod Taken
 pub mod Times
 pub mod Walk
+pub mod Written

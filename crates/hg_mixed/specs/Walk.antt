@@ -13,6 +13,7 @@ use Rattle.hg_mixed.specs.Lent.{as_dir, lent_at}
 use Rattle.hg_mixed.specs.Lists.{or_root}
 use Rattle.hg_mixed.specs.Parted.{IsLentIn, image_of}
 use Rattle.hg_mixed.specs.Rest.{children_in}
+use Rattle.hg_mixed.specs.declared.below.Below.{Below}
 use Rattle.hg_mixed.specs.declared.child.Child.{Child}
 use Rattle.hg_mixed.specs.declared.walk.Walk.{Walk}
 
@@ -31,6 +32,10 @@ Fills list has = (path : List ℕ) → is_path path ≡ true → IfSome list (λ
 -- the list of what stands right in a child, where it is at hand, is the image's
 abbrev pub ListIsOf : Held → Child → Type 0
 ListIsOf held child = IfSome child.list (λ list. IsLentIn held.left (image_of held) (Some child.path.text.now) (Some list))
+
+-- the same of what a walk into a child goes by
+abbrev pub IsBelow : Held → Below → Type 0
+IsBelow held below = IfSome below.list (λ list. IsLentIn held.left (image_of held) (Some below.path.text.now) (Some list))
 
 -- a walk is one over a table: the lists that are lent are the table's, each with what the image has, and the list that it goes through, where there is one, is the image's
 pub record ListsAreOf (held : Held) (walk : Walk) : Type 0 where

@@ -1,7 +1,11 @@
 //! One child of a directory.
 
+ghost use Rattle.std.specs.Prelude.{option_map};
+ghost use Rattle.hg_entry.specs.Entry.{stamp_view, view};
+ghost use Rattle.hg_mixed.specs.Written.{AreWritten};
+
 use hg_base::{PathRef, Stamp};
-use hg_entry::Entry;
+use hg_entry::{Entry, Fields};
 use hg_image::List;
 
 /// A node right in a directory. Places are byte places in the data file of the image that the table was opened over.
@@ -22,4 +26,7 @@ pub struct Child<'t> {
     pub source_at: Option<u32>,
     // (the image's list of what stands right in it, where that is known)
     pub(crate) list: Option<List<'t>>,
+    // (the numbers that are written for it)
+    pub(crate) fields: Fields,
+    ghost is_written: { AreWritten (option_map view entry) (option_map stamp_view cache) fields },
 }

@@ -6,8 +6,9 @@ ghost use Rattle.hg_mixed.specs.Children.{AreChildren};
 ghost use Rattle.hg_mixed.specs.Lent.{lent_at};
 ghost use Rattle.hg_mixed.specs.Parted.{IsLentIn, IsOwn, image_of};
 ghost use Rattle.hg_mixed.specs.Kids.{Takes};
-ghost use Rattle.hg_mixed.specs.Walk.{ListIsOf, ListsAreOf, walked};
+ghost use Rattle.hg_mixed.specs.Walk.{IsBelow, ListsAreOf, walked};
 
+use crate::below::Below;
 use crate::child::Child;
 use crate::lent::Place;
 use crate::mixed::Mixed;
@@ -98,15 +99,15 @@ impl<'a> Mixed<'a> {
         }
     }
 
-    /// A walk over the nodes right in a child that a walk over this table has handed out. Where it has their list at hand, nothing is looked for.
-    pub fn walk_in<'t>(&'t self, child: &Child<'t>) -> Walk<'t, 'a>
-        requires { ListIsOf self.now child.now }
-        ensures children { AreChildren self.now (Some child.now.path.text.now) (walked result) }
+    /// A walk over the nodes right in a child that a walk over this table has handed out. Where their list is known, nothing is looked for.
+    pub fn walk_in<'t>(&'t self, below: Below<'t>) -> Walk<'t, 'a>
+        requires { IsBelow self.now below }
+        ensures children { AreChildren self.now (Some below.entry.path.text.now) (walked result) }
         ensures lists { ListsAreOf self.now result }
     {
-        match child.list {
-            None => self.walk(Some(child.path)),
-            Some(list) => self.lent_walk(Some(child.path), Some(list)),
+        match below.list {
+            None => self.walk(Some(below.path)),
+            Some(list) => self.lent_walk(Some(below.path), Some(list)),
         }
     }
 

@@ -30,6 +30,7 @@
 //! parted between the image and memory.
 #![tactic(auto)]
 
+mod below;
 mod child;
 mod children;
 mod clash;
@@ -54,7 +55,9 @@ mod setting;
 mod taking;
 mod times;
 mod walk;
+mod written;
 
+pub use below::Below;
 pub use child::Child;
 pub use children::Children;
 pub use fault::SetFault;

@@ -17,6 +17,7 @@ use crate::memory::Memory;
 use crate::node::Node;
 use crate::nodes::Nodes;
 use crate::times::Times;
+use crate::written::written_for;
 use hg_base::{PathRef, is_below};
 use std::marker::Model;
 
@@ -114,15 +115,17 @@ impl<'t> OwnChildren<'t> {
                 let (has_kids, next) = look(self.nodes, self.next, held, node);
                 self.next = next;
                 let text = held.as_str();
+                let cache = self.times.get(text);
                 Some(Child {
                     path: PathRef { text },
                     entry: node.entry,
                     source: source_of(node),
-                    cache: self.times.get(text),
+                    cache,
                     has_kids,
                     text_at: None,
                     source_at: None,
                     list: None,
+                    fields: written_for(node.entry, cache),
                 })
             }
         }

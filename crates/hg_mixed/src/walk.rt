@@ -1,6 +1,7 @@
 //! A walk over the children of a directory, which hands each one out with the image's list of its own children, where that is at hand.
 
 ghost use Rattle.std.specs.Prelude.{◌≡◌, IfSome, Some, option_map};
+ghost use Rattle.hg_image.specs.Node.{fields_of};
 ghost use Rattle.hg_image.specs.View.{dir_of, row, rows_below, rows_in};
 ghost use Rattle.hg_mixed.specs.Child.{shown_child};
 ghost use Rattle.hg_mixed.specs.ChildOf.{row_child, with_lent};
@@ -11,7 +12,10 @@ ghost use Rattle.hg_mixed.specs.Walk.{Fills, IsLentAt, ListIsOf, ListsAreOf, wal
 use crate::child::Child;
 use crate::lent::Lent;
 use crate::own_children::OwnChildren;
+use crate::written::fields_of_node;
+use hg_entry::Fields;
 use hg_image::{List, NodeRef};
+use hg_node::Rec;
 
 /// What is left of a directory's children.
 #[derive(Drop)]
@@ -38,26 +42,53 @@ fn fills(list: Option<List<'_>>) -> bool
     true
 }
 
+// A child with another list.
+#[inline(always)]
+fn with_list<'t>(child: Child<'t>, has_kids: bool, list: Option<List<'t>>) -> Child<'t>
+    ensures shown { shown_child result ≡ record (shown_child child.entry) { has_kids = has_kids } }
+    ensures path { result.path ≡ child.entry.path }
+    ensures list { result.list ≡ list.entry }
+{
+    Child {
+        path: child.path,
+        entry: child.entry,
+        source: child.source,
+        cache: child.cache,
+        has_kids,
+        text_at: child.text_at,
+        source_at: child.source_at,
+        list,
+        fields: child.fields,
+    }
+}
+
 // A child in memory, with what the image has below it.
 fn with_lent<'t>(child: Child<'t>, left: &'t Lent<'_>) -> Child<'t>
     ensures shown { shown_child result ≡ with_lent left.now (shown_child child.entry) }
     ensures list { IsLentAt left.now result.path.text.now result.list }
 {
     if child.has_kids {
-        return Child {
-            list: None,
-            ..child
-        };
+        return with_list(child, true, None);
     }
     let list = left.get(child.path.text);
-    Child {
-        has_kids: fills(list),
-        list,
-        ..child
+    with_list(child, fills(list), list)
+}
+
+// The numbers of a node that an entry or a cached directory is read from.
+#[inline(always)]
+fn fields(rec: Rec) -> Fields
+    ensures { result ≡ fields_of rec }
+{
+    Fields {
+        flags: rec.flags,
+        size: rec.size,
+        seconds: rec.seconds,
+        nanos: rec.nanos,
     }
 }
 
 // A child in the image.
+#[inline(always)]
 fn child_of(node: NodeRef<'_>) -> Child<'_>
     ensures shown { shown_child result ≡ row_child (row node.entry) }
     ensures list { IfSome result.list (λ l. (rows_in l ≡ rows_below node.entry) × (dir_of l ≡ Some (row node.entry).path)) }
@@ -72,11 +103,13 @@ fn child_of(node: NodeRef<'_>) -> Child<'_>
         text_at: None,
         source_at: None,
         list: Some(list),
+        fields: fields_of_node(fields(node.rec())),
     }
 }
 
 impl<'t, 'a> Walk<'t, 'a> {
     /// The next child, if any is left.
+    #[inline(always)]
     pub fn next(&mut self) -> Option<Child<'t>>
         ensures takes { Takes (walked self.old) (walked self.new) (option_map shown_child result) }
         // Of a walk over a table, what is left is one too, and the list that the child has at hand is the image's.

@@ -1,10 +1,10 @@
-use Rattle.std.proofs.Common.{ℕ, ◌<◌, ◌≤◌, ◌^◌, length, take, drop, arith, rules, refl, sym, ap, subst, ◌∙◌}
+use Rattle.std.proofs.Common.{ℕ, List, Some, ◌<◌, ◌≤◌, ◌^◌, length, take, drop, arith, rules, refl, sym, ap, subst, ◌∙◌}
 use Rattle.std.specs.Option.{option_map}
 use Rattle.hg_mixed.specs.Child.{shown_child}
 use Rattle.hg_mixed.specs.Children.{IsChild}
 use Rattle.hg_mixed.specs.Walk.{walked}
 use Rattle.hg_append.specs.declared.lists.Put.{Put}
-use Rattle.hg_append.specs.Put.{HasPut, Puts}
+use Rattle.hg_append.specs.Put.{HasPut, IsPut, Puts}
 use Rattle.hg_append.proofs.Steps.{base_inside, below_none, child_longer, dir_length, in_parent, left_child, part_done, part_more, path_short, put_few}
 use Rattle.hg_append.proofs.lists.+putting.Goals as goal
 
@@ -23,6 +23,19 @@ put_child-returns-then-not-child t c =
       texts = c.in_ok-now.ensures.bytes;
       records = c.in_ok-now.ensures.records;
     }
+
+pub put_child-returns : goal.put_child-returns
+put_child-returns t c = record {
+  under = c.in_ok-under.under;
+  mid = c.put_below.new.bytes.items;
+  mid_records = c.put_below.new.records.items;
+  below = subst (λ (path : List ℕ). IsPut c.args.mixed.now (Some path) c.args.sums.end c.in_ok-under.under c.args.bytes.now.items c.put_below.new.bytes.items c.args.records.now.items c.put_below.new.records.items)
+      c.below.ensures.path c.in_ok-under.ensures;
+  is = c.in_ok-now-2.ensures.sums;
+  sound = c.in_ok-now-2.ensures.sound;
+  texts = c.in_ok-now-2.ensures.bytes;
+  records = c.in_ok-now-2.ensures.records;
+}
 
 pub put_child-put_node-requires-2-clause-few : goal.put_child-put_node-requires-2-clause-few
 put_child-put_node-requires-2-clause-few t c = put_few _ _ _ _ _ _ _ _ c.in_ok-under.ensures

@@ -7,10 +7,13 @@ use Rattle.hg_append.proofs.Steps.{dir_length}
 use Rattle.hg_append.proofs.lists.+putting.Given as goal
 
 abbrev pub decreases-put_child : goal.decreases-put_child
-decreases-put_child l = 2 * (65536 - length l.child.now.path.text.now) + 1
+decreases-put_child l = 3 * (65536 - length l.child.now.path.text.now) + 2
+
+abbrev pub decreases-put_below : goal.decreases-put_below
+decreases-put_below l = 3 * (65536 - length l.below.path.text.now) + 1
 
 abbrev pub decreases-put_list : goal.decreases-put_list
-decreases-put_list l = 2 * (65536 - dir_length (option_map (λ d. d.text.now) l.dir))
+decreases-put_list l = 3 * (65536 - dir_length (option_map (λ d. d.text.now) l.dir))
 
 abbrev pub invariant-put_list-loop-child : goal.invariant-put_list-loop-child
 invariant-put_list-loop-child l = record {
