@@ -414,6 +414,8 @@ SHORT = {
     "with classes that take nearly all": [f"~[!{a}][!{b}]" for a in PRINTED for b in WIDE],
     "with stars between characters of the paths": [f"~*{a}*{b}*{c}*{d}" for a in COMMON for b in COMMON for c in COMMON for d in COMMON],
     "with choices of stars": [f"~{{*{a},*{b}}}{{{c},*}}*" for a in PRINTED for b in PRINTED for c in PRINTED],
+    "with braces in braces": [f"~{{{{{a},}}{b},}}" for a in PRINTED for b in WIDE],
+    "with choices of one character": [f"~{{{a},{b},?}}*" for a in PRINTED for b in WIDE],
 }
 
 
