@@ -20,11 +20,12 @@ use Rattle.hg_session.proofs.Readings.{unstepped_refuses}
 use Rattle.hg_session.specs.Acts.{AllSteps, refusals_text}
 use Rattle.hg_session.specs.Call.{Call, Count, Fails, Saved, Serves, Watched}
 use Rattle.hg_session.specs.Change.{Fits, FitsFirst, IsDone, IsMade, IsReadFirst, IsSafe, MayFollowWriting, MetChanging, MetLocking, NoneOurs, files_of, up_to}
-use Rattle.hg_session.specs.Changed.{IsExpectedChange, IsMadeOf, IsPartlyTold, OnlyLooks, RanChange, TellsFault, status_of}
+use Rattle.hg_session.specs.Changed.{IsExpectedChange, IsMadeOf, IsPartlyTold, IsUnlooked, OnlyLooks, RanChange, TellsFault, status_of}
 use Rattle.hg_session.specs.Command.{IsFaultOrMemory, IsSilent, TellsLine}
 use Rattle.hg_session.specs.Listed.{LoadMet}
 use Rattle.hg_session.specs.Loaded.{IsRefused}
 use Rattle.hg_session.specs.declared.acting.Changing.{Changing}
+use Rattle.hg_session.specs.declared.acting.Changing.TheVariants as a_change
 use Rattle.hg_session.specs.declared.read_fault.ReadFault.{ReadFault}
 use Rattle.hg_session.specs.declared.read_fault.ReadFault.TheVariants as a_read
 use Rattle.hg_shelf.specs.History.{Extends, Files, History, IsOurs, now, readers, us}
@@ -191,7 +192,7 @@ line_of_told : (command : Changing) (call : Call) (fault : Fault) → has_line f
 line_of_told command call fault told line = subst (λ (h : Bool). MatchBool h (TellsLine call.err.old call.err.new call.err.before call.err.after fault) (IsPartlyTold command call)) (sym told) line
 
 module _ (command : Changing) (words : List (List ℕ)) (copy : Watched tree.History) (a b : Course) (before after : ℕ) (locks oversize : Count) (out err : Watched (Option (List ℕ)))
-    (silent : IsSilent out) (uncounted : oversize.after ≡ oversize.before) (looks : OnlyLooks copy) (kept : Goes a b) (freed : IsTrue b.history.ours → IsTrue a.history.ours ⊎ Rose before after) where
+    (silent : IsSilent out) (uncounted : oversize.after ≡ oversize.before) (looks : OnlyLooks copy) (unlooked : command ≡ a_change.Forget → IsUnlooked copy) (kept : Goes a b) (freed : IsTrue b.history.ours → IsTrue a.history.ours ⊎ Rose before after) where
   abbrev call : Call
   call = record {
     words = words;
@@ -203,13 +204,14 @@ module _ (command : Changing) (words : List (List ℕ)) (copy : Watched tree.His
   }
 
   pub ran_done : (status : ℕ) (lines : List ℕ) (done : IsDone command (files_of words) copy call.looked.shelf call.saved lines) → Grown err.old err.new lines → status ≡ status_of done.refused
-      → (Undisturbed a b → IsSafe command (files_of words) copy call.saved None) → copy.after ≡ copy.before → after ≡ before → err.after ≡ err.before → (locks.before < locks.after → ⊥)
+      → (Undisturbed a b → IsSafe command (files_of words) copy call.saved None) → copy.after ≡ copy.before → after ≡ before → err.after ≡ err.before → (locks.before < locks.after → ⊥) → (copy.before < copy.after → ⊥)
       → RanChange command call status None
-  ran_done status lines done grown is safe calm_tree calm_shelf calm_err unheld = record {
+  ran_done status lines done grown is safe calm_tree calm_shelf calm_err unheld well = record {
     stepped = λ none. record { lines = lines; done = done; told = grown; ends = is };
     safe = safe;
     cause = tt;
     held = λ rose. absurd (unheld rose);
+    tree = λ rose. absurd (well rose);
     complete = λ own p q r steady. done_own command (files_of words) copy a b before after kept.past own.shelf lines done;
     calm_tree = λ none. calm_tree;
     calm_shelf = λ none. calm_shelf;
@@ -218,26 +220,29 @@ module _ (command : Changing) (words : List (List ℕ)) (copy : Watched tree.His
     silent = silent;
     uncounted = uncounted;
     looks = looks;
+    unlooked = unlooked;
     kept = kept;
     freed = freed;
   }
 
   -- the error stream failed while the refused words were told
   pub ran_untold : (lines : List ℕ) (done : IsDone command (files_of words) copy call.looked.shelf call.saved lines) → GrownByFront err.old err.new lines → Fails err
-      → (Undisturbed a b → IsSafe command (files_of words) copy call.saved None) → (locks.before < locks.after → ⊥) → (status : ℕ) → RanChange command call status (Some a_fault.ErrFailed)
-  ran_untold lines done grown failed safe unheld status = record {
+      → (Undisturbed a b → IsSafe command (files_of words) copy call.saved None) → (locks.before < locks.after → ⊥) → (copy.before < copy.after → ⊥) → (status : ℕ) → RanChange command call status (Some a_fault.ErrFailed)
+  ran_untold lines done grown failed safe unheld well status = record {
     stepped = λ none. absurd (cc none);
     safe = λ calm. elim (safe calm) [ inl none ↦ inl none | inr is ↦ inr (inr (inl refl), is.1) ];
     cause = inr (refl, failed);
     held = λ rose. absurd (unheld rose);
+    tree = λ rose. absurd (well rose);
     complete = λ own p q r steady. steady_not_rose err.before err.after r failed;
     calm_tree = λ none. absurd (cc none);
     calm_shelf = λ none. absurd (cc none);
     calm_err = λ none. absurd (cc none);
-    told = record { refused = done.refused; told = subst (GrownByFront err.old err.new) done.text grown; failed = failed };
+    told = record { lines = lines; done = done; told = grown; failed = failed };
     silent = silent;
     uncounted = uncounted;
     looks = looks;
+    unlooked = unlooked;
     kept = kept;
     freed = freed;
   }
@@ -252,14 +257,15 @@ module _ (command : Changing) (words : List (List ℕ)) (copy : Watched tree.His
   locked_own fault safe (inr (held, rose)) own p q steady = absurd (steady_not_rose locks.before locks.after steady rose)
 
   ran_fault : (status : ℕ) (fault answered : Fault) → (answered ≡ fault) ⊎ (answered ≡ a_fault.OutOfMemory) → MetLocking command (files_of words) copy call.looked.shelf locks fault
-      → (Undisturbed a b → IsSafe command (files_of words) copy call.saved (Some fault)) → (locks.before < locks.after → fault ≡ a_fault.Held)
+      → (Undisturbed a b → IsSafe command (files_of words) copy call.saved (Some fault)) → (locks.before < locks.after → fault ≡ a_fault.Held) → (copy.before < copy.after → fault ≡ a_fault.TreeFailed)
       → TellsLine err.old err.new err.before err.after answered → RanChange command call status (Some answered)
-  ran_fault status fault answered (inl same) met safe held line =
+  ran_fault status fault answered (inl same) met safe held failed line =
       subst (λ (f : Fault). TellsLine err.old err.new err.before err.after f → RanChange command call status (Some f)) (sym same) (λ told. record {
         stepped = λ none. absurd (cc none);
         safe = safe;
         cause = inl met;
         held = λ rose. inl (ap Some (held rose));
+        tree = λ rose. inl (ap Some (failed rose));
         complete = λ own p q r steady. locked_own fault (safe (calm_own a b own.shelf)) met own.shelf p q steady;
         calm_tree = λ none. absurd (cc none);
         calm_shelf = λ none. absurd (cc none);
@@ -268,15 +274,17 @@ module _ (command : Changing) (words : List (List ℕ)) (copy : Watched tree.His
         silent = silent;
         uncounted = uncounted;
         looks = looks;
+        unlooked = unlooked;
         kept = kept;
         freed = freed;
       }) line
-  ran_fault status fault answered (inr memory) met safe held line =
+  ran_fault status fault answered (inr memory) met safe held failed line =
       subst (λ (f : Fault). TellsLine err.old err.new err.before err.after f → RanChange command call status (Some f)) (sym memory) (λ told. record {
         stepped = λ none. absurd (cc none);
         safe = λ calm. safe_any fault (safe calm);
         cause = inl (inl tt);
         held = λ rose. inr refl;
+        tree = λ rose. inr refl;
         complete = λ own p q r steady. tt;
         calm_tree = λ none. absurd (cc none);
         calm_shelf = λ none. absurd (cc none);
@@ -285,16 +293,17 @@ module _ (command : Changing) (words : List (List ℕ)) (copy : Watched tree.His
         silent = silent;
         uncounted = uncounted;
         looks = looks;
+        unlooked = unlooked;
         kept = kept;
         freed = freed;
       }) line
 
   pub ran_failed : (status : ℕ) (fault : Fault) (answered : Option Fault) → IsFaultOrMemory answered fault → MetLocking command (files_of words) copy call.looked.shelf locks fault
-      → (Undisturbed a b → IsSafe command (files_of words) copy call.saved (Some fault)) → (locks.before < locks.after → fault ≡ a_fault.Held)
+      → (Undisturbed a b → IsSafe command (files_of words) copy call.saved (Some fault)) → (locks.before < locks.after → fault ≡ a_fault.Held) → (copy.before < copy.after → fault ≡ a_fault.TreeFailed)
       → IfSome answered (λ f. TellsLine err.old err.new err.before err.after f) → RanChange command call status answered
-  ran_failed status fault None is met safe held line = not_without None fault is refl
-  ran_failed status fault (Some f) (inl same) met safe held line = ran_fault status fault f (inl (cc same)) met safe held line
-  ran_failed status fault (Some f) (inr memory) met safe held line = ran_fault status fault f (inr (cc memory)) met safe held line
+  ran_failed status fault None is met safe held failed line = not_without None fault is refl
+  ran_failed status fault (Some f) (inl same) met safe held failed line = ran_fault status fault f (inl (cc same)) met safe held failed line
+  ran_failed status fault (Some f) (inr memory) met safe held failed line = ran_fault status fault f (inr (cc memory)) met safe held failed line
 
 status_none : (command : Changing) (before after : tree.History) (words : List (List ℕ)) (refused : List (Option Refusal)) (old new : Table) → AllSteps command before after words refused old new
     → refusals_text command words refused ≡ [] → 0 ≡ status_of refused

@@ -13,12 +13,13 @@ use Rattle.hg_report.specs.Fault.{has_line}
 use Rattle.hg_report.specs.declared.fault.Fault.{Fault}
 use Rattle.hg_report.specs.declared.fault.Fault.TheVariants as a_fault
 use Rattle.hg_save.specs.Record.{id_in, reading}
-use Rattle.hg_session.specs.Acts.{AllSteps, refusals_text}
+use Rattle.hg_session.specs.Acts.{AllSteps}
 use Rattle.hg_session.specs.Call.{Call, Fails, Serves, Watched}
 use Rattle.hg_session.specs.Change.{ChangeCause, Fits, IsDone, IsSafe, files_of}
 use Rattle.hg_session.specs.Command.{IsFaultOrMemory, IsSilent, TellsLine}
 use Rattle.hg_session.specs.Listed.{IsOwn}
 use Rattle.hg_session.specs.declared.acting.Changing.{Changing}
+use Rattle.hg_session.specs.declared.acting.Changing.TheVariants as a_change
 use Rattle.hg_shelf.specs.History as shelf
 use Rattle.hg_shelf.specs.Images.{Goes}
 use Rattle.hg_shelf.specs.Polite.{Undisturbed}
@@ -36,10 +37,11 @@ pub record IsStepped (command : Changing) (call : Call) (status : ℕ) : Type 0 
   pub told : Grown call.err.old call.err.new lines
   pub ends : status ≡ status_of done.refused
 
--- the lines of words that were refused, or a front of them, and the stream failed
+-- the words were done, the lines of the refused ones were told, or a front of them, and the stream failed
 pub record IsPartlyTold (command : Changing) (call : Call) : Type 0 where
-  pub refused : List (Option Refusal)
-  pub told : GrownByFront call.err.old call.err.new (refusals_text command (files_of call.words) refused)
+  pub lines : List ℕ
+  pub done : IsDone command (files_of call.words) call.looked.tree call.looked.shelf call.saved lines
+  pub told : GrownByFront call.err.old call.err.new lines
   pub failed : Fails call.err
 
 -- with a fault its line alone is told; where the error stream failed while the refused words were told, a front of these
@@ -50,6 +52,11 @@ TellsFault command call fault = MatchBool (has_line fault) (TellsLine call.err.o
 pub record OnlyLooks (copy : Watched tree.History) : Type 0 where
   pub passes : tree.Passes copy.old copy.new
   pub asked : IsTrue copy.old.told → copy.new.asked ≡ copy.old.asked
+
+-- the tree isn't asked at all
+pub record IsUnlooked (copy : Watched tree.History) : Type 0 where
+  pub same : copy.new ≡ copy.old
+  pub count : copy.after ≡ copy.before
 
 -- ---- what has to be answered
 
@@ -114,6 +121,8 @@ pub record RanChange (command : Changing) (call : Call) (status : ℕ) (fault : 
   pub cause : IfSome fault (ChangeCause command call)
   -- a lock that was refused is told as such
   pub held : call.locks.before < call.locks.after → IsFaultOrMemory fault a_fault.Held
+  -- and so is a tree that failed, whatever else failed behind it
+  pub tree : call.looked.tree.before < call.looked.tree.after → IsFaultOrMemory fault a_fault.TreeFailed
   -- where nobody else steps, no count rises and no lock is refused, the answer is the expected one, or there was no memory
   pub complete : IsOwn call.looked → Serves call.looked.tree → Serves call.looked.shelf → Serves call.err → IsSteady call.locks.before call.locks.after
       → IsExpectedChange command (files_of call.words) call.looked.tree (shelf.now call.looked.shelf.old).files fault
@@ -126,6 +135,8 @@ pub record RanChange (command : Changing) (call : Call) (status : ℕ) (fault : 
   pub silent : IsSilent call.out
   pub uncounted : call.looked.oversize.after ≡ call.looked.oversize.before
   pub looks : OnlyLooks call.looked.tree
+  -- where files are forgotten the tree isn't asked
+  pub unlooked : command ≡ a_change.Forget → IsUnlooked call.looked.tree
   -- what was so far stays, and the lock is given back, unless the shelf failed
   pub kept : Goes call.saved.old call.saved.new
   pub freed : IsTrue call.saved.new.history.ours → IsTrue call.saved.old.history.ours ⊎ Fails call.looked.shelf

@@ -1,6 +1,6 @@
 //! The words of a command that changes the record, one after another.
 
-ghost use Rattle.std.specs.Prelude.{◌≡◌, ◌++◌, ◌⊎◌, IfErr, IfOk, IsTrue, OnOk, drop, false, true};
+ghost use Rattle.std.specs.Prelude.{◌≡◌, ◌<◌, ◌++◌, ◌⊎◌, Err, IfErr, IfOk, IsTrue, OnOk, drop, false, true};
 ghost use Rattle.hg_base.specs.Fault.{HasCause};
 ghost use Rattle.hg_mixed.specs.Edits.{IsOfSameImage, IsSame, Marks};
 ghost use Rattle.hg_mixed.specs.Held.{table};
@@ -97,6 +97,8 @@ pub(crate) fn act<T: Tree>(
     ensures cause { HasCause (T.faults tree.old) (T.faults tree.new) result (λ e. e ≡ a_fault.TreeFailed) }
     ensures kind { IfErr result (λ e. (e ≡ a_fault.OutOfMemory) ⊎ (e ≡ a_fault.TreeFailed)) }
     ensures memory { command ≡ a_command.Forget → IfErr result (λ e. e ≡ a_fault.OutOfMemory) }
+    // A failing working copy is told as such.
+    ensures failed { T.faults tree.old < T.faults tree.new → result ≡ Err a_fault.TreeFailed }
 {
     let mut lines = Vec::new(alloc);
     for i in 1..words.len() {

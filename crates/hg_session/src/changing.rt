@@ -1,17 +1,19 @@
 //! A command that changes the record: the lock, the record, what its words make of it, a publication.
 
-ghost use Rattle.std.specs.Prelude.{◌≡◌, ◌≤◌, ◌∷◌, [], IfErr, IfOk, IsTrue, None, OnOk, false, length, true};
+ghost use Rattle.std.specs.Prelude.{◌≡◌, ◌<◌, ◌≤◌, ◌∷◌, [], Err, IfErr, IfOk, IsTrue, None, OnOk, false, length, true};
 ghost use Rattle.std.specs.Result.{result_err};
 ghost use Rattle.hg_base.specs.Fault.{HasCause};
 ghost use Rattle.hg_docket.specs.Docket.{docket_of, docket_refusal};
 ghost use Rattle.hg_image.specs.Reading.{data_reading};
+ghost use Rattle.hg_report.specs.declared.fault.Fault.TheVariants as a_fault;
 ghost use Rattle.hg_save.specs.Loads.{Try};
 ghost use Rattle.hg_save.specs.Saved.{Stands};
 ghost use Rattle.hg_session.specs.Anew.{CanWrite, IsOpened, IsRecorded, LoadsOrRefuses, MetWriting, WritesOnly};
 ghost use Rattle.hg_session.specs.Change.{IsDone, IsSafe, MetChanging, files_of};
 ghost use Rattle.hg_session.specs.Changed.{OnlyLooks};
 ghost use Rattle.hg_session.specs.Loaded.{NodesFind};
-ghost use Rattle.hg_session.specs.declared.read_fault.ReadFault.TheVariants as a_fault;
+ghost use Rattle.hg_session.specs.declared.acting.Changing.TheVariants as a_command;
+ghost use Rattle.hg_session.specs.declared.read_fault.ReadFault.TheVariants as a_read;
 ghost use Rattle.hg_shelf.specs.History.{Passes};
 ghost use Rattle.hg_shelf.specs.Images.{Goes, course, last_scene};
 ghost use Rattle.hg_shelf.specs.Polite.{Undisturbed};
@@ -34,7 +36,7 @@ fn read<S: Shelf>(alloc: Global, shelf: &mut S) -> Result<Loaded, ReadFault>
         → ((tried : Try) × LoadsOrRefuses (S.history shelf.old) (S.history shelf.new) (tried ∷ []) result) }
     ensures few { IfOk result (λ l. length l.docket.items ≤ 512) }
     ensures whole { IfOk result (λ l. docket_refusal l.docket.items ≡ None) }
-    ensures cause { HasCause (S.faults shelf.old) (S.faults shelf.new) result (λ e. e ≡ a_fault.Failed) }
+    ensures cause { HasCause (S.faults shelf.old) (S.faults shelf.new) result (λ e. e ≡ a_read.Failed) }
     ensures kept { Goes (course (S.history shelf.old) (S.images shelf.old)) (course (S.history shelf.new) (S.images shelf.new)) }
     ensures locks { S.held shelf.new ≡ S.held shelf.old }
 {
@@ -128,6 +130,8 @@ pub(crate) fn change_locked<T: Tree, S: Shelf>(
         (record { old = course (S.history shelf.old) (S.images shelf.old); new = course (S.history shelf.new) (S.images shelf.new) })
         (result_err result) }
     ensures looks { OnlyLooks (record { old = T.history tree.old; new = T.history tree.new; before = T.faults tree.old; after = T.faults tree.new }) }
+    ensures failed { T.faults tree.old < T.faults tree.new → result ≡ Err a_fault.TreeFailed }
+    ensures unlooked { command ≡ a_command.Forget → tree.new ≡ tree.old }
     ensures calm_tree { OnOk result (T.faults tree.new ≡ T.faults tree.old) }
     ensures calm_shelf { OnOk result (S.faults shelf.new ≡ S.faults shelf.old) }
     ensures later { S.faults shelf.old ≤ S.faults shelf.new }

@@ -8,6 +8,7 @@ ghost use Rattle.hg_session.specs.Call.{Count, Watched};
 ghost use Rattle.hg_session.specs.Change.{IsDone, IsSafe, MetLocking, files_of, once_freed};
 ghost use Rattle.hg_session.specs.Changed.{OnlyLooks, RanChange};
 ghost use Rattle.hg_session.specs.Command.{IsSilent};
+ghost use Rattle.hg_session.specs.declared.acting.Changing.TheVariants as a_command;
 ghost use Rattle.hg_shelf.specs.Images.{Goes, course};
 ghost use Rattle.hg_shelf.specs.Polite.{Undisturbed};
 
@@ -67,6 +68,8 @@ fn change<T: Tree, S: Shelf>(
         (record { old = course (S.history shelf.old) (S.images shelf.old); new = course (S.history shelf.new) (S.images shelf.new) })
         (result_err result) }
     ensures held { S.held shelf.old < S.held shelf.new → result ≡ Err a_fault.Held }
+    ensures failed { T.faults tree.old < T.faults tree.new → result ≡ Err a_fault.TreeFailed }
+    ensures unlooked { command ≡ a_command.Forget → tree.new ≡ tree.old }
     ensures looks { OnlyLooks (record { old = T.history tree.old; new = T.history tree.new; before = T.faults tree.old; after = T.faults tree.new }) }
     ensures calm_tree { OnOk result (T.faults tree.new ≡ T.faults tree.old) }
     ensures calm_shelf { OnOk result (S.faults shelf.new ≡ S.faults shelf.old) }
