@@ -30,7 +30,7 @@ use Rattle.hg_session.specs.declared.acting.Changing.{Changing}
 use Rattle.hg_session.specs.declared.read_fault.ReadFault.{ReadFault}
 use Rattle.hg_session.specs.declared.read_fault.ReadFault.TheVariants as a_read
 use Rattle.hg_session.proofs.Acted.{idle_start, steps_start}
-use Rattle.hg_session.proofs.Locked.{end_remains, front_docket, front_found, front_latest, front_remains, none_front, unwritten, whole_stretch}
+use Rattle.hg_session.proofs.Locked.{end_remains, front_docket, front_found, front_latest, front_remains, none_front, unwritten, unwritten_then, whole_stretch}
 use Rattle.hg_session.proofs.Readings.{refused_by, sound_reading}
 use Rattle.hg_session.proofs.SameTables.{one_table}
 use Rattle.hg_shelf.specs.History as shelf
@@ -206,17 +206,9 @@ module _ (a b c : Course) (passes : Passes a.history b.history) (goes : Goes b c
         latest = λ latest. over.latest (front_latest a b c ours passes goes calm latest);
       }
 
-      unwritten_by : IsUnwritten b.history c.history → IsUnwritten a.history c.history
-      unwritten_by behind = record {
-        none = λ k from to is. elim (cases_lt k b.history.last) [
-          | inl early ↦ none_front a b c passes goes k from early is
-          | inr late ↦ behind.none k late to is
-        ];
-      }
-
       -- nothing was written, or the table was over the record that stood
       pub safe_by : (fault : Option Fault) → WritesOnly made b c fault → IsSafe command words copy (record { old = a; new = c }) fault
-      safe_by fault (inl none) = inl (unwritten_by none)
+      safe_by fault (inl none) = inl (unwritten_then a b c passes goes none)
       safe_by fault (inr (follows, over)) = inr (follows, published_by over)
 
       kept_written : IsRecorded made c → IsKept recorded (table made) (record { old = a; new = c })

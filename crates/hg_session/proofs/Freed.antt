@@ -5,9 +5,9 @@ use Rattle.hg_base.specs.Fault.{HasCause, Rose}
 use Rattle.hg_base.specs.declared.fault.Failed.{Failed}
 use Rattle.hg_report.specs.declared.fault.Fault.{Fault}
 use Rattle.hg_report.specs.declared.fault.Fault.TheVariants as a_fault
-use Rattle.hg_session.proofs.Widening.{calm_within, done_wide, met_wide, safe_wide}
+use Rattle.hg_session.proofs.Widening.{calm_within, done_wide, met_wide, safe_wide, unwritten_wide}
 use Rattle.hg_session.specs.Call.{Count, Saved, Watched}
-use Rattle.hg_session.specs.Change.{IsDone, IsSafe, MetChanging, MetLocking, once_freed}
+use Rattle.hg_session.specs.Change.{FailsOrUnwritten, IsDone, IsSafe, MetChanging, MetLocking, once_freed}
 use Rattle.hg_session.specs.declared.acting.Changing.{Changing}
 use Rattle.hg_shelf.specs.History.{History, Waits}
 use Rattle.hg_shelf.specs.Images.{Course, Goes}
@@ -47,6 +47,12 @@ module _ (a b c d : Course) (lock : Waits a.history b.history) (unlock : Waits c
       inl (met_wide a b c d lock unlock p q r command words copy before after start end fault (λ rose. rose_first start before after end same cause.later rose) met)
   once_met locks (Ok lines) (Err failed) same later met cause = inl (rose_last start before after end same later (cause.rose tt))
   once_met locks (Ok lines) (Ok unit) same later met cause = tt
+
+  pub once_unwritten : (done : Result (Vec ℕ Global) Fault) (freed : Result Unit Failed) → IfErr done (FailsOrUnwritten b.history c.history) → IfErr (once_freed done freed) (FailsOrUnwritten a.history d.history)
+  once_unwritten (Err fault) freed (inl is) = inl is
+  once_unwritten (Err fault) freed (inr none) = inr (unwritten_wide a b c d lock unlock p q r none)
+  once_unwritten (Ok lines) (Err failed) is = inl refl
+  once_unwritten (Ok lines) (Ok unit) is = tt
 
   once_safe_in : (done : Result (Vec ℕ Global) Fault) (freed : Result Unit Failed) → IsSafe command words copy inner (result_err done) → IsSafe command words copy outer (result_err (once_freed done freed))
   once_safe_in (Err fault) freed safe = safe_wide a b c d lock unlock p q r command words copy before after start end (Some fault) safe

@@ -1,9 +1,11 @@
 -- What stays while the caller holds the lock and makes no step: others only read.
-use Rattle.std.proofs.Common.{ℕ, ◌≡◌, ◌≤◌, true, refl, sym, ap, ◌∙◌, arith}
+use Rattle.std.proofs.Common.{ℕ, ◌≡◌, ◌≤◌, true, refl, sym, ap, ◌∙◌, arith, inl, inr}
+use Rattle.std.proofs.lemmas.Bool.{cases_lt}
+use Rattle.hg_report.specs.declared.fault.Fault.{Fault}
 use Rattle.hg_save.specs.Loads.{During, IsTry, Try, files_at, found_by}
 use Rattle.hg_save.specs.Record.{docket_in, id_in, reading, record_in}
 use Rattle.hg_save.specs.Saved.{IsLatest, name_after}
-use Rattle.hg_session.specs.Change.{IsUnwritten, NoneOurs, Stretch}
+use Rattle.hg_session.specs.Change.{FailsOrUnwritten, IsUnwritten, NoneOurs, Stretch}
 use Rattle.hg_shelf.specs.History.{By, Files, History, Passes, label, readers}
 use Rattle.hg_shelf.specs.Images.{Course, Goes, Remains, last_scene, scene}
 use Rattle.hg_shelf.specs.Polite.{Undisturbed}
@@ -22,6 +24,22 @@ none_front a b c passes goes = λ k from to is. us_apart a.history.ours (sym is 
 
 pub unwritten : (old new : History) → Passes old new → IsUnwritten old new
 unwritten old new passes = record { none = λ k from to is. us_apart old.ours (sym is ∙ passes.by_others k from to) }
+
+pub unwritten_here : (h : History) → IsUnwritten h h
+unwritten_here h = record { none = none_within h h.last }
+
+-- a call that only asks, and then one that writes nothing, write nothing
+pub unwritten_then : (a b c : Course) → Passes a.history b.history → Goes b c → IsUnwritten b.history c.history → IsUnwritten a.history c.history
+unwritten_then a b c passes goes behind = record {
+  none = λ k from to is. elim (cases_lt k b.history.last) [
+    | inl early ↦ none_front a b c passes goes k from early is
+    | inr late ↦ behind.none k late to is
+  ];
+}
+
+pub unwritten_unless : (a b c : Course) → Passes a.history b.history → Goes b c → (fault : Fault) → FailsOrUnwritten b.history c.history fault → FailsOrUnwritten a.history c.history fault
+unwritten_unless a b c passes goes fault (inl failed) = inl failed
+unwritten_unless a b c passes goes fault (inr none) = inr (unwritten_then a b c passes goes none)
 
 -- the lock was held all along
 abbrev pub whole_stretch : (old new : History) → old.last ≤ new.last → Stretch old new

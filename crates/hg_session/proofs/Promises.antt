@@ -19,8 +19,8 @@ use Rattle.hg_session.proofs.Commands.{not_without}
 use Rattle.hg_session.proofs.Readings.{unstepped_refuses}
 use Rattle.hg_session.specs.Acts.{AllSteps, refusals_text}
 use Rattle.hg_session.specs.Call.{Call, Count, Fails, Saved, Serves, Watched}
-use Rattle.hg_session.specs.Change.{Fits, FitsFirst, IsDone, IsMade, IsReadFirst, IsSafe, MayFollowWriting, MetChanging, MetLocking, NoneOurs, files_of, up_to}
-use Rattle.hg_session.specs.Changed.{IsExpectedChange, IsMadeOf, IsPartlyTold, IsUnlooked, OnlyLooks, RanChange, TellsFault, status_of}
+use Rattle.hg_session.specs.Change.{FailsOrUnwritten, Fits, FitsFirst, IsDone, IsMade, IsReadFirst, IsSafe, MayFollowWriting, MetChanging, MetLocking, NoneOurs, files_of, up_to}
+use Rattle.hg_session.specs.Changed.{IsExpectedChange, IsMadeOf, IsPartlyTold, IsUnlooked, IsUnwrittenUnless, OnlyLooks, RanChange, TellsFault, status_of}
 use Rattle.hg_session.specs.Command.{IsFaultOrMemory, IsSilent, TellsLine}
 use Rattle.hg_session.specs.Listed.{LoadMet}
 use Rattle.hg_session.specs.Loaded.{IsRefused}
@@ -209,6 +209,7 @@ module _ (command : Changing) (words : List (List ℕ)) (copy : Watched tree.His
   ran_done status lines done grown is safe calm_tree calm_shelf calm_err unheld well = record {
     stepped = λ none. record { lines = lines; done = done; told = grown; ends = is };
     safe = safe;
+    unwritten = tt;
     cause = tt;
     held = λ rose. absurd (unheld rose);
     tree = λ rose. absurd (well rose);
@@ -231,6 +232,7 @@ module _ (command : Changing) (words : List (List ℕ)) (copy : Watched tree.His
   ran_untold lines done grown failed safe unheld well status = record {
     stepped = λ none. absurd (cc none);
     safe = λ calm. elim (safe calm) [ inl none ↦ inl none | inr is ↦ inr (inr (inl refl), is.1) ];
+    unwritten = inl refl;
     cause = inr (refl, failed);
     held = λ rose. absurd (unheld rose);
     tree = λ rose. absurd (well rose);
@@ -256,13 +258,30 @@ module _ (command : Changing) (words : List (List ℕ)) (copy : Watched tree.His
   locked_own fault safe (inl met) own p q steady = met_own command (files_of words) copy a b before after kept.past own fault safe met p q
   locked_own fault safe (inr (held, rose)) own p q steady = absurd (steady_not_rose locks.before locks.after steady rose)
 
+  shelf_met : MetLocking command (files_of words) copy call.looked.shelf locks a_fault.ShelfFailed → Fails call.looked.shelf
+  shelf_met (inl rose) = rose
+  shelf_met (inr (held, rose)) = absurd (cc held)
+
+  shelf_fails : (fault : Fault) → fault ≡ a_fault.ShelfFailed → MetLocking command (files_of words) copy call.looked.shelf locks fault → Fails call.looked.shelf
+  shelf_fails fault is met = shelf_met (subst (MetLocking command (files_of words) copy call.looked.shelf locks) is met)
+
+  -- whether the fault is told, or want of memory for its line
+  unless_same : (fault : Fault) → MetLocking command (files_of words) copy call.looked.shelf locks fault → FailsOrUnwritten a.history b.history fault → IsUnwrittenUnless call fault
+  unless_same fault met (inl is) = inr (inl (shelf_fails fault is met, inl is))
+  unless_same fault met (inr none) = inr (inr none)
+
+  unless_memory : (fault : Fault) → MetLocking command (files_of words) copy call.looked.shelf locks fault → FailsOrUnwritten a.history b.history fault → IsUnwrittenUnless call a_fault.OutOfMemory
+  unless_memory fault met (inl is) = inr (inl (shelf_fails fault is met, inr refl))
+  unless_memory fault met (inr none) = inr (inr none)
+
   ran_fault : (status : ℕ) (fault answered : Fault) → (answered ≡ fault) ⊎ (answered ≡ a_fault.OutOfMemory) → MetLocking command (files_of words) copy call.looked.shelf locks fault
-      → (Undisturbed a b → IsSafe command (files_of words) copy call.saved (Some fault)) → (locks.before < locks.after → fault ≡ a_fault.Held) → (copy.before < copy.after → fault ≡ a_fault.TreeFailed)
+      → (Undisturbed a b → IsSafe command (files_of words) copy call.saved (Some fault)) → FailsOrUnwritten a.history b.history fault → (locks.before < locks.after → fault ≡ a_fault.Held) → (copy.before < copy.after → fault ≡ a_fault.TreeFailed)
       → TellsLine err.old err.new err.before err.after answered → RanChange command call status (Some answered)
-  ran_fault status fault answered (inl same) met safe held failed line =
+  ran_fault status fault answered (inl same) met safe written held failed line =
       subst (λ (f : Fault). TellsLine err.old err.new err.before err.after f → RanChange command call status (Some f)) (sym same) (λ told. record {
         stepped = λ none. absurd (cc none);
         safe = safe;
+        unwritten = unless_same fault met written;
         cause = inl met;
         held = λ rose. inl (ap Some (held rose));
         tree = λ rose. inl (ap Some (failed rose));
@@ -278,10 +297,11 @@ module _ (command : Changing) (words : List (List ℕ)) (copy : Watched tree.His
         kept = kept;
         freed = freed;
       }) line
-  ran_fault status fault answered (inr memory) met safe held failed line =
+  ran_fault status fault answered (inr memory) met safe written held failed line =
       subst (λ (f : Fault). TellsLine err.old err.new err.before err.after f → RanChange command call status (Some f)) (sym memory) (λ told. record {
         stepped = λ none. absurd (cc none);
         safe = λ calm. safe_any fault (safe calm);
+        unwritten = unless_memory fault met written;
         cause = inl (inl tt);
         held = λ rose. inr refl;
         tree = λ rose. inr refl;
@@ -299,11 +319,11 @@ module _ (command : Changing) (words : List (List ℕ)) (copy : Watched tree.His
       }) line
 
   pub ran_failed : (status : ℕ) (fault : Fault) (answered : Option Fault) → IsFaultOrMemory answered fault → MetLocking command (files_of words) copy call.looked.shelf locks fault
-      → (Undisturbed a b → IsSafe command (files_of words) copy call.saved (Some fault)) → (locks.before < locks.after → fault ≡ a_fault.Held) → (copy.before < copy.after → fault ≡ a_fault.TreeFailed)
+      → (Undisturbed a b → IsSafe command (files_of words) copy call.saved (Some fault)) → FailsOrUnwritten a.history b.history fault → (locks.before < locks.after → fault ≡ a_fault.Held) → (copy.before < copy.after → fault ≡ a_fault.TreeFailed)
       → IfSome answered (λ f. TellsLine err.old err.new err.before err.after f) → RanChange command call status answered
-  ran_failed status fault None is met safe held failed line = not_without None fault is refl
-  ran_failed status fault (Some f) (inl same) met safe held failed line = ran_fault status fault f (inl (cc same)) met safe held failed line
-  ran_failed status fault (Some f) (inr memory) met safe held failed line = ran_fault status fault f (inr (cc memory)) met safe held failed line
+  ran_failed status fault None is met safe written held failed line = not_without None fault is refl
+  ran_failed status fault (Some f) (inl same) met safe written held failed line = ran_fault status fault f (inl (cc same)) met safe written held failed line
+  ran_failed status fault (Some f) (inr memory) met safe written held failed line = ran_fault status fault f (inr (cc memory)) met safe written held failed line
 
 status_none : (command : Changing) (before after : tree.History) (words : List (List ℕ)) (refused : List (Option Refusal)) (old new : Table) → AllSteps command before after words refused old new
     → refusals_text command words refused ≡ [] → 0 ≡ status_of refused

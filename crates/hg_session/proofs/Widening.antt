@@ -93,7 +93,7 @@ module _ (a b c d : Course) (lock : Waits a.history b.history) (unlock : Waits c
     | inr late ↦ unlock.none j late to is
   ]
 
-  unwritten_wide : IsUnwritten b.history c.history → IsUnwritten a.history d.history
+  pub unwritten_wide : IsUnwritten b.history c.history → IsUnwritten a.history d.history
   unwritten_wide is = record {
     none = λ j from to is_us. elim (cases_lt j c.history.last) [
       | inl early ↦ none_wide c.history.last (omega arith) is.none j from early is_us

@@ -86,6 +86,10 @@ pub record Stretch (old new : shelf.History) : Type 0 where
 pub record IsUnwritten (old new : shelf.History) : Type 0 where
   pub none : NoneOurs new old.last new.last
 
+-- the caller wrote nothing, unless the fault is that the shelf failed
+abbrev pub FailsOrUnwritten : shelf.History → shelf.History → Fault → Type 0
+FailsOrUnwritten old new fault = (fault ≡ a_fault.ShelfFailed) ⊎ IsUnwritten old new
+
 -- the record was published over the one that stood where the lock was got
 pub record IsPublished (command : Changing) (words : List (List ℕ)) (copy : Watched tree.History) (saved : Saved) : Type 0 where
   pub stretch : Stretch saved.old.history saved.new.history

@@ -15,7 +15,7 @@ use Rattle.hg_report.specs.declared.fault.Fault.TheVariants as a_fault
 use Rattle.hg_save.specs.Record.{id_in, reading}
 use Rattle.hg_session.specs.Acts.{AllSteps}
 use Rattle.hg_session.specs.Call.{Call, Fails, Serves, Watched}
-use Rattle.hg_session.specs.Change.{ChangeCause, Fits, IsDone, IsSafe, files_of}
+use Rattle.hg_session.specs.Change.{ChangeCause, Fits, IsDone, IsSafe, IsUnwritten, files_of}
 use Rattle.hg_session.specs.Command.{IsFaultOrMemory, IsSilent, TellsLine}
 use Rattle.hg_session.specs.Listed.{IsOwn}
 use Rattle.hg_session.specs.declared.acting.Changing.{Changing}
@@ -47,6 +47,12 @@ pub record IsPartlyTold (command : Changing) (call : Call) : Type 0 where
 -- with a fault its line alone is told; where the error stream failed while the refused words were told, a front of these
 abbrev pub TellsFault : Changing → Call → Fault → Type 0
 TellsFault command call fault = MatchBool (has_line fault) (TellsLine call.err.old call.err.new call.err.before call.err.after fault) (IsPartlyTold command call)
+
+-- the caller wrote nothing, unless the shelf failed, for whose line there may be no memory, or the error stream did behind the change
+abbrev pub IsUnwrittenUnless : Call → Fault → Type 0
+IsUnwrittenUnless call fault =
+    (fault ≡ a_fault.ErrFailed)
+    ⊎ ((Fails call.looked.shelf × ((fault ≡ a_fault.ShelfFailed) ⊎ (fault ≡ a_fault.OutOfMemory))) ⊎ IsUnwritten call.saved.old.history call.saved.new.history)
 
 -- the tree is asked for no bytes and no names, and nothing of it is changed
 pub record OnlyLooks (copy : Watched tree.History) : Type 0 where
@@ -117,6 +123,8 @@ pub record RanChange (command : Changing) (call : Call) (status : ℕ) (fault : 
   pub stepped : fault ≡ None → IsStepped command call status
   -- whatever the answer, at each moment of the call a crash leaves the record as it was or as it is after, and so do reads
   pub safe : Undisturbed call.saved.old call.saved.new → IsSafe command (files_of call.words) call.looked.tree call.saved fault
+  -- after a fault that comes before a publication nothing is written, whatever others do
+  pub unwritten : IfSome fault (IsUnwrittenUnless call)
   -- each fault comes only for its cause
   pub cause : IfSome fault (ChangeCause command call)
   -- a lock that was refused is told as such

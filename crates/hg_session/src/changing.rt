@@ -9,7 +9,7 @@ ghost use Rattle.hg_report.specs.declared.fault.Fault.TheVariants as a_fault;
 ghost use Rattle.hg_save.specs.Loads.{Try};
 ghost use Rattle.hg_save.specs.Saved.{Stands};
 ghost use Rattle.hg_session.specs.Anew.{CanWrite, IsOpened, IsRecorded, LoadsOrRefuses, MetWriting, WritesOnly};
-ghost use Rattle.hg_session.specs.Change.{IsDone, IsSafe, MetChanging, files_of};
+ghost use Rattle.hg_session.specs.Change.{FailsOrUnwritten, IsDone, IsSafe, MetChanging, files_of};
 ghost use Rattle.hg_session.specs.Changed.{OnlyLooks};
 ghost use Rattle.hg_session.specs.Loaded.{NodesFind};
 ghost use Rattle.hg_session.specs.declared.acting.Changing.TheVariants as a_command;
@@ -81,6 +81,7 @@ fn save<S: Shelf>(
         (course (S.history shelf.new) (S.images shelf.new))
         (result_err result) }
     ensures met { IfErr result (MetWriting table.now (S.faults shelf.old) (S.faults shelf.new)) }
+    ensures unwritten { IfErr result (FailsOrUnwritten (S.history shelf.old) (S.history shelf.new)) }
     ensures calm { OnOk result (S.faults shelf.new ≡ S.faults shelf.old) }
     ensures later { S.faults shelf.old ≤ S.faults shelf.new }
     ensures kept { Goes (course (S.history shelf.old) (S.images shelf.old)) (course (S.history shelf.new) (S.images shelf.new)) }
@@ -129,6 +130,7 @@ pub(crate) fn change_locked<T: Tree, S: Shelf>(
         (record { old = T.history tree.old; new = T.history tree.new; before = T.faults tree.old; after = T.faults tree.new })
         (record { old = course (S.history shelf.old) (S.images shelf.old); new = course (S.history shelf.new) (S.images shelf.new) })
         (result_err result) }
+    ensures unwritten { IfErr result (FailsOrUnwritten (S.history shelf.old) (S.history shelf.new)) }
     ensures looks { OnlyLooks (record { old = T.history tree.old; new = T.history tree.new; before = T.faults tree.old; after = T.faults tree.new }) }
     ensures failed { T.faults tree.old < T.faults tree.new → result ≡ Err a_fault.TreeFailed }
     ensures unlooked { command ≡ a_command.Forget → tree.new ≡ tree.old }

@@ -5,7 +5,7 @@ ghost use Rattle.std.specs.Result.{result_err};
 ghost use Rattle.hg_base.specs.Fault.{Rose};
 ghost use Rattle.hg_report.specs.declared.fault.Fault.TheVariants as a_fault;
 ghost use Rattle.hg_session.specs.Call.{Count, Watched};
-ghost use Rattle.hg_session.specs.Change.{IsDone, IsSafe, MetLocking, files_of, once_freed};
+ghost use Rattle.hg_session.specs.Change.{FailsOrUnwritten, IsDone, IsSafe, MetLocking, files_of, once_freed};
 ghost use Rattle.hg_session.specs.Changed.{OnlyLooks, RanChange};
 ghost use Rattle.hg_session.specs.Command.{IsSilent};
 ghost use Rattle.hg_session.specs.declared.acting.Changing.TheVariants as a_command;
@@ -67,6 +67,7 @@ fn change<T: Tree, S: Shelf>(
         (record { old = T.history tree.old; new = T.history tree.new; before = T.faults tree.old; after = T.faults tree.new })
         (record { old = course (S.history shelf.old) (S.images shelf.old); new = course (S.history shelf.new) (S.images shelf.new) })
         (result_err result) }
+    ensures unwritten { IfErr result (FailsOrUnwritten (S.history shelf.old) (S.history shelf.new)) }
     ensures held { S.held shelf.old < S.held shelf.new → result ≡ Err a_fault.Held }
     ensures failed { T.faults tree.old < T.faults tree.new → result ≡ Err a_fault.TreeFailed }
     ensures unlooked { command ≡ a_command.Forget → tree.new ≡ tree.old }

@@ -1,9 +1,9 @@
 -- A change of the record: the load, what the words make of it, the publication.
-use Rattle.std.proofs.Common.{Some, None, inl, ap}
+use Rattle.std.proofs.Common.{Some, None, inl, inr, ap}
 use Rattle.std.proofs.lemmas.Result.{err_from_is_err_and}
 use Rattle.hg_session.specs.Change.{files_of}
 use Rattle.hg_session.proofs.Changes.{done_by, met_opened, met_read, met_writing, safe_by, stands}
-use Rattle.hg_session.proofs.Locked.{unwritten}
+use Rattle.hg_session.proofs.Locked.{unwritten, unwritten_unless}
 use Rattle.hg_docket.specs.Docket.{docket_of}
 use Rattle.hg_session.specs.Anew.{IsOpened}
 use Rattle.hg_shelf.specs.Images.{course}
@@ -50,6 +50,26 @@ returns-in_err-save-clause-safe g c = λ calm.
     c.args.command (files_of c.args.words.now) (record { old = g.T.Tree.history c.args.tree.now; new = g.T.Tree.history c.act.new.tree; before = g.T.Tree.faults c.args.tree.now; after = g.T.Tree.faults c.act.new.tree })
     c.in_ok-table.table c.act.new.mixed c.in_ok-table.ensures.2 c.in_ok-lines.ensures.image c.in_ok-lines.lines.items c.in_ok-lines.ensures.acts
     c.requires calm)))
+
+pub returns-in_err-loaded-clause-unwritten : goal.returns-in_err-loaded-clause-unwritten
+returns-in_err-loaded-clause-unwritten g c =
+    let p = err_from_is_err_and c.from_residual.result c.from_residual.ensures.1 in
+    rw (p.1, p.2) (inr (unwritten (g.S.Shelf.history c.args.shelf.now) (g.S.Shelf.history c.read.new.shelf) c.in_err-loaded.ensures.passes))
+
+pub returns-in_err-table-clause-unwritten : goal.returns-in_err-table-clause-unwritten
+returns-in_err-table-clause-unwritten g c =
+    let p = err_from_is_err_and c.from_residual-in_err-table.result c.from_residual-in_err-table.ensures.1 in
+    rw (p.1, p.2) (inr (unwritten (g.S.Shelf.history c.args.shelf.now) (g.S.Shelf.history c.read.new.shelf) c.in_ok-loaded.ensures.passes))
+
+pub returns-in_err-lines-clause-unwritten : goal.returns-in_err-lines-clause-unwritten
+returns-in_err-lines-clause-unwritten g c =
+    let p = err_from_is_err_and c.from_residual-in_err-lines.result c.from_residual-in_err-lines.ensures.1 in
+    rw (p.1, p.2) (inr (unwritten (g.S.Shelf.history c.args.shelf.now) (g.S.Shelf.history c.read.new.shelf) c.in_ok-loaded.ensures.passes))
+
+pub returns-in_err-save-clause-unwritten : goal.returns-in_err-save-clause-unwritten
+returns-in_err-save-clause-unwritten g c =
+    let p = err_from_is_err_and c.from_residual-in_err-save.result c.from_residual-in_err-save.ensures.1 in
+    rw (p.1, p.2) (unwritten_unless (course (g.S.Shelf.history c.args.shelf.now) (g.S.Shelf.images c.args.shelf.now)) (course (g.S.Shelf.history c.read.new.shelf) (g.S.Shelf.images c.read.new.shelf)) (course (g.S.Shelf.history c.save.new.shelf) (g.S.Shelf.images c.save.new.shelf)) c.in_ok-loaded.ensures.passes c.in_err-save.ensures.kept c.in_err-save.field-0.0 c.in_err-save.ensures.unwritten)
 
 pub returns-in_err-save-clause-kept : goal.returns-in_err-save-clause-kept
 returns-in_err-save-clause-kept g c = goes_trans _ _ _ c.in_ok-loaded.ensures.kept c.in_err-save.ensures.kept

@@ -1,6 +1,8 @@
 use Rattle.std.proofs.Common.{inl, inr, refl}
+use Rattle.std.proofs.lemmas.Result.{err_from_is_err_and}
 use Rattle.hg_save.proofs.Encodings.{goes_over}
 use Rattle.hg_shelf.specs.Images.{course}
+use Rattle.hg_session.proofs.Locked.{unwritten_here}
 use Rattle.hg_session.proofs.Overs.{over_by, recorded_by}
 use Rattle.hg_session.proofs.changing.save.Goals as goal
 
@@ -16,6 +18,14 @@ returns-in-Err-clause-safe g c = λ calm stands.
           (goes_over c.args.loaded.now.docket.items c.args.table.now c.in_ok-new.new c.requires.over c.in_ok-new.ensures.written c.in_ok-new.ensures.reads)
           stands (c.in-Err.ensures.crash calm) (c.in-Err.ensures.left calm) (c.in-Err.ensures.latest calm stands),
     )
+
+pub returns-in_err-new-clause-unwritten : goal.returns-in_err-new-clause-unwritten
+returns-in_err-new-clause-unwritten g c =
+    let p = err_from_is_err_and c.from_residual.result c.from_residual.ensures.1 in
+    rw (p.1, p.2) (inr (unwritten_here (g.S.Shelf.history c.args.shelf.now)))
+
+pub returns-in-Err-clause-unwritten : goal.returns-in-Err-clause-unwritten
+returns-in-Err-clause-unwritten g c = inl refl
 
 pub returns-in-Err-clause-met : goal.returns-in-Err-clause-met
 returns-in-Err-clause-met g c = inr (refl, c.in-Err.ensures.cause.rose tt)

@@ -1,5 +1,6 @@
 -- The lock, the change and giving the lock back, as one call.
-use Rattle.hg_session.proofs.Freed.{once_done, once_met, once_safe}
+use Rattle.std.proofs.Common.{inr}
+use Rattle.hg_session.proofs.Freed.{once_done, once_met, once_safe, once_unwritten}
 use Rattle.hg_session.specs.Change.{files_of}
 use Rattle.hg_shelf.specs.History.{History}
 use Rattle.hg_shelf.specs.Images.{course}
@@ -33,6 +34,23 @@ returns-in-Ok-true-clause-safe g c = λ calm.
     c.lock.ensures.waits c.unlock-freed.ensures.waits c.lock.ensures.kept c.change_locked-done.ensures.kept c.unlock-freed.ensures.kept
     c.args.command (files_of c.args.words.now) _ (g.S.Shelf.faults c.args.shelf.now) (g.S.Shelf.faults c.lock.new.self) (g.S.Shelf.faults c.change_locked-done.new.shelf) (g.S.Shelf.faults c.unlock-freed.new.self)
     c.change_locked-done.result c.unlock-freed.result c.change_locked-done.ensures.safe calm)
+
+pub returns-in-Ok-false-clause-unwritten : goal.returns-in-Ok-false-clause-unwritten
+returns-in-Ok-false-clause-unwritten g c = inr (record { none = c.lock.ensures.waits.none })
+
+pub returns-in-Ok-true-clause-unwritten : goal.returns-in-Ok-true-clause-unwritten
+returns-in-Ok-true-clause-unwritten g c =
+    rw c.first_fault.ensures
+    (once_unwritten (course (g.S.Shelf.history c.args.shelf.now) (g.S.Shelf.images c.args.shelf.now)) (course (g.S.Shelf.history c.lock.new.self) (g.S.Shelf.images c.lock.new.self))
+    (course (g.S.Shelf.history c.change_locked-done.new.shelf) (g.S.Shelf.images c.change_locked-done.new.shelf)) (course (g.S.Shelf.history c.unlock-freed.new.self) (g.S.Shelf.images c.unlock-freed.new.self))
+    c.lock.ensures.waits c.unlock-freed.ensures.waits c.lock.ensures.kept c.change_locked-done.ensures.kept c.unlock-freed.ensures.kept
+    c.args.command (files_of c.args.words.now) (record {
+      old = g.T.Tree.history c.args.tree.now;
+      new = g.T.Tree.history c.change_locked-done.new.tree;
+      before = g.T.Tree.faults c.args.tree.now;
+      after = g.T.Tree.faults c.change_locked-done.new.tree;
+    }) (g.S.Shelf.faults c.args.shelf.now) (g.S.Shelf.faults c.lock.new.self) (g.S.Shelf.faults c.change_locked-done.new.shelf) (g.S.Shelf.faults c.unlock-freed.new.self)
+    c.change_locked-done.result c.unlock-freed.result c.change_locked-done.ensures.unwritten)
 
 pub returns-in-Ok-true-clause-kept : goal.returns-in-Ok-true-clause-kept
 returns-in-Ok-true-clause-kept g c =

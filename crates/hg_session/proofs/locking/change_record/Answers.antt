@@ -12,7 +12,7 @@ returns-in-Err-clause-ran g c = λ out oversize silent uncounted.
     (g.S.Shelf.faults c.args.shelf.now) (g.S.Shelf.faults c.change.new.shelf) _ oversize out
     (record { old = g.E.Sink.bytes c.args.err.now; new = g.E.Sink.bytes c.failed.new.err; before = g.E.Sink.faults c.args.err.now; after = g.E.Sink.faults c.failed.new.err })
     silent uncounted c.change.ensures.looks (λ is. record { same = ap (λ t. g.T.Tree.history t) (c.change.ensures.unlooked is); count = ap (λ t. g.T.Tree.faults t) (c.change.ensures.unlooked is) }) c.change.ensures.kept c.change.ensures.freed c.failed.result.status c.in-Err.fault c.failed.result.fault c.failed.ensures.fault
-    c.in-Err.ensures.met c.in-Err.ensures.safe (λ rose. cc (c.in-Err.ensures.held rose)) (λ rose. cc (c.in-Err.ensures.failed rose)) c.failed.ensures.told
+    c.in-Err.ensures.met c.in-Err.ensures.safe c.in-Err.ensures.unwritten (λ rose. cc (c.in-Err.ensures.held rose)) (λ rose. cc (c.in-Err.ensures.failed rose)) c.failed.ensures.told
 
 pub returns-in-Err-put_all-clause-ran : goal.returns-in-Err-put_all-clause-ran
 returns-in-Err-put_all-clause-ran g c = λ out oversize silent uncounted.
