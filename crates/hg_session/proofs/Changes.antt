@@ -14,9 +14,10 @@ use Rattle.hg_mixed.specs.Held.{Held, table}
 use Rattle.hg_ops.proofs.Added.{same_table}
 use Rattle.hg_report.specs.Cause.{of_encode}
 use Rattle.hg_report.specs.declared.fault.Fault.{Fault}
+use Rattle.hg_save.specs.Leads.{Leads}
 use Rattle.hg_save.specs.Loads.{IsTry, Loads, Try, files_at, found_by}
 use Rattle.hg_save.specs.Record.{docket_in, id_in, reading}
-use Rattle.hg_save.specs.Saved.{LeavesOnly, ReadsAsBeforeOr, ShowsOnly, Stands}
+use Rattle.hg_save.specs.Saved.{KeepsOthers, LeavesOnly, ReadsAsBeforeOr, ShowsOnly, Stands}
 use Rattle.hg_save.specs.declared.load_fault.LoadFault.{LoadFault}
 use Rattle.hg_save.specs.declared.loaded.Loaded.{Loaded}
 use Rattle.hg_save.proofs.Loads.{found_longer, last_within, tries_longer}
@@ -191,6 +192,27 @@ module _ (a b c : Course) (passes : Passes a.history b.history) (goes : Goes b c
         | inr early ↦ inl (ap reading (front_remains a b c ours passes goes calm k from early).shown)
       ]
 
+      id_there : id_in (scene c a.history.last).files ≡ made.docket.id
+      id_there =
+          ap id_in (sym (end_remains a b c ours passes goes calm).shown) ∙ ap (λ (bytes : List ℕ). (docket_of bytes).id) stands ∙ sym (ap (λ (d : Contents). d.id) docket_is)
+
+      -- what is kept of the other files
+      others_over : (was id : List ℕ) → Leads (KeepsOthers was id) b c → (k : ℕ) → a.history.last ≤ k → k ≤ c.history.last → KeepsOthers was id (scene c a.history.last).files (scene c k).files
+      others_over was id leads k from to = elim (cases_lt b.history.last k) [
+        | inl late ↦
+            subst (λ (f : Files). KeepsOthers was id f (scene c k).files) (end_remains a b c ours passes goes calm).shown (leads.shown k (omega (arith, late)) to)
+        | inr early ↦ (λ at p q r s. ap (λ (f : Files). f at) (front_remains a b c ours passes goes calm k from early).shown)
+      ]
+
+      spared_over : (was id : List ℕ) → Leads (KeepsOthers was id) b c → (k : ℕ) (f : Files) → a.history.last ≤ k → k ≤ c.history.last → (scene c k).leaves f
+          → (d : Files) × (scene c a.history.last).leaves d × KeepsOthers was id d f
+      spared_over was id leads k f from to is = elim (cases_lt b.history.last k) [
+        | inl late ↦
+            let before = leads.left k f (omega (arith, late)) to is in
+            (before.0, (end_remains a b c ours passes goes calm).left before.0 before.1, before.2)
+        | inr early ↦ (f, (front_remains a b c ours passes goes calm k from early).left f is, λ at p q r s. refl)
+      ]
+
       published_by : IsOverwritten made b c → IsPublished command words copy (record { old = a; new = c })
       published_by over = record {
         stretch = whole_stretch a.history c.history (omega (arith, passes.past.later, goes.past.later));
@@ -203,6 +225,10 @@ module _ (a b c : Course) (passes : Passes a.history b.history) (goes : Goes b c
         is = over.is;
         crash = λ latest. crash_over over.found (over.crash (front_latest a b c ours passes goes calm latest));
         shown = λ latest. shown_over over.found (over.shown (front_latest a b c ours passes goes calm latest));
+        id = over.id;
+        next = ap next_name id_there ∙ over.next;
+        others = others_over (id_in (scene c a.history.last).files) over.id (subst (λ (i : List ℕ). Leads (KeepsOthers i over.id) b c) (sym id_there) over.others);
+        spared = spared_over (id_in (scene c a.history.last).files) over.id (subst (λ (i : List ℕ). Leads (KeepsOthers i over.id) b c) (sym id_there) over.others);
         latest = λ latest. over.latest (front_latest a b c ours passes goes calm latest);
       }
 

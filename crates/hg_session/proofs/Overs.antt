@@ -1,11 +1,14 @@
 -- What publishing a table leads to, in the words of a command.
-use Rattle.std.proofs.Common.{ℕ, ◌≡◌, List, Some, Result, Ok, ap, subst}
+use Rattle.std.proofs.Common.{ℕ, ◌≡◌, List, Some, Result, Ok, sym, ap, ◌∙◌, subst}
 use Rattle.hg_append.specs.Encoded.{ReadsAs}
 use Rattle.hg_append.specs.declared.encoding.Encoded.{Encoded}
+use Rattle.hg_docket.specs.Docket.{docket_of}
+use Rattle.hg_docket.specs.Number.{next_name}
 use Rattle.hg_entry.specs.Table.{Table}
 use Rattle.hg_image.specs.Reading.{RecordFault, reading_of}
 use Rattle.hg_mixed.specs.Held.{Held, table}
-use Rattle.hg_save.specs.Saved.{IsFree, IsLatest, IsOver, LeavesOnly, Records, ShowsOnly, Stands, published}
+use Rattle.hg_save.specs.Leads.{Leads}
+use Rattle.hg_save.specs.Saved.{IsFree, IsLatest, IsOver, KeepsOthers, LeavesOnly, Records, ShowsOnly, Stands, published}
 use Rattle.hg_save.proofs.Names.{next_free}
 use Rattle.hg_session.specs.Anew.{IsOverwritten, IsRecorded}
 use Rattle.hg_shelf.specs.Images.{Course, last_scene}
@@ -17,13 +20,17 @@ module _ (held : Held) (new : Encoded) (reads : ReadsAs (table held) (reading_of
   pub recorded_by : (c : Course) → Records c (published new) → IsRecorded held c
   recorded_by c records = record { found = reads.found; is = reads.same; records = subst (Records c) published_is records }
 
-  pub over_by : (loaded : List ℕ) (a b : Course) → IsOver loaded new → Stands loaded (last_scene a)
+  pub over_by : (loaded : List ℕ) (a b : Course) → held.docket.id ≡ (docket_of loaded).id → IsOver loaded new → Stands loaded (last_scene a)
       → (IsFree new.id (last_scene a) → LeavesOnly a b (published new)) → (IsFree new.id (last_scene a) → ShowsOnly a b (published new)) → (IsLatest (last_scene a) → IsLatest (last_scene b))
+      → Leads (KeepsOthers (docket_of loaded).id new.id) a b
       → IsOverwritten held a b
-  over_by loaded a b over stands crash shown latest = record {
+  over_by loaded a b same over stands crash shown latest others = record {
     found = reads.found;
     is = reads.same;
     crash = λ l. subst (LeavesOnly a b) published_is (crash (next_free loaded (last_scene a) new.id stands l over.next));
     shown = λ l. subst (ShowsOnly a b) published_is (shown (next_free loaded (last_scene a) new.id stands l over.next));
     latest = latest;
+    id = new.id;
+    next = ap next_name same ∙ over.next;
+    others = subst (λ (i : List ℕ). Leads (KeepsOthers i new.id) a b) (sym same) others;
   }

@@ -12,7 +12,7 @@ use Rattle.hg_report.specs.declared.fault.Fault.TheVariants as a_fault
 use Rattle.hg_save.proofs.Loads.{found_longer, tries_longer}
 use Rattle.hg_save.specs.Loads.{IsTry, Tries, Try, found_by, id_by}
 use Rattle.hg_save.specs.Record.{id_in, reading}
-use Rattle.hg_save.specs.Saved.{IsLatest, ReadsAsBeforeOr, name_after}
+use Rattle.hg_save.specs.Saved.{IsLatest, KeepsOthers, ReadsAsBeforeOr, name_after}
 use Rattle.hg_session.specs.Call.{Watched}
 use Rattle.hg_session.specs.Change.{Fits, FitsFirst, IsDone, IsKept, IsMade, IsPublished, IsReadFirst, IsSafe, IsUnwritten, MetChanging, NoneOurs, Stretch, up_to}
 use Rattle.hg_session.specs.Listed.{LoadMet}
@@ -205,6 +205,17 @@ module _ (a b c d : Course) (lock : Waits a.history b.history) (unlock : Waits c
             | inl same ↦ inl (reading_wide k (omega (arith, upto, is.stretch.end)) ∙ same ∙ sym (reading_wide from near))
             | inr new ↦ inr (reading_wide k (omega (arith, upto, is.stretch.end)) ∙ new)
           ];
+          id = is.id;
+          next = ap (λ (f : Files). next_name (id_in f)) (to_end from near).shown ∙ is.next;
+          others = λ k after upto.
+              subst (λ (f : Files). KeepsOthers (id_in f) is.id f (scene d k).files) (sym (to_end from near).shown)
+              (subst (λ (f : Files). KeepsOthers (id_in (scene c from).files) is.id (scene c from).files f) (sym (to_end k (omega (arith, upto, is.stretch.end))).shown) (is.others k after upto));
+          spared = λ k f after upto left.
+              let was = is.spared k f after upto ((to_end k (omega (arith, upto, is.stretch.end))).left f left) in (
+                was.0,
+                (from_end from near).left was.0 was.1,
+                subst (λ (x : Files). KeepsOthers (id_in x) is.id was.0 f) (sym (to_end from near).shown) was.2,
+              );
           latest = λ first. latest_same (scene c is.stretch.to) (scene d is.stretch.to) (to_end is.stretch.to is.stretch.end) (from_end is.stretch.to is.stretch.end) (is.latest (latest first));
         }
 

@@ -13,8 +13,9 @@ use Rattle.hg_mixed.specs.Held.{Held, table}
 use Rattle.hg_report.specs.Cause.{of_encode}
 use Rattle.hg_report.specs.declared.fault.Fault.{Fault}
 use Rattle.hg_report.specs.declared.fault.Fault.TheVariants as a_fault
+use Rattle.hg_save.specs.Leads.{Leads}
 use Rattle.hg_save.specs.Loads.{Loads, Try}
-use Rattle.hg_save.specs.Saved.{IsLatest, LeavesOnly, Records, ShowsOnly}
+use Rattle.hg_save.specs.Saved.{IsLatest, KeepsOthers, LeavesOnly, Records, ShowsOnly}
 use Rattle.hg_save.specs.declared.loaded.Loaded.{Loaded}
 use Rattle.hg_session.specs.Change.{IsUnwritten, MayFollowWriting}
 use Rattle.hg_session.specs.Loaded.{Refuses}
@@ -45,13 +46,17 @@ pub record CanWrite (held : Held) : Type 0 where
   pub next : is_some (next_name held.docket.id) ≡ true
 
 -- a table was written anew over the record that stood, wholly or in part: at each moment reads show that record or the table, and a crash
--- leaves what it might have left or the table; and the next one finds its identifier free
+-- leaves what it might have left or the table; no file is changed but the docket, the one that is written first, the data file that the docket names
+-- and the one with the identifier that follows; and the next one finds its identifier free
 pub record IsOverwritten (held : Held) (old new : Course) : Type 0 where
   pub found : Table
   pub is : IsSame found (table held)
   pub crash : IsLatest (last_scene old) → LeavesOnly old new (Some (Ok found))
   pub shown : IsLatest (last_scene old) → ShowsOnly old new (Some (Ok found))
   pub latest : IsLatest (last_scene old) → IsLatest (last_scene new)
+  pub id : List ℕ
+  pub next : next_name held.docket.id ≡ Some id
+  pub others : Leads (KeepsOthers held.docket.id id) old new
 
 -- nothing was written, or a table over the record that stood
 abbrev pub WritesOnly : Held → Course → Course → Option Fault → Type 0

@@ -16,7 +16,7 @@ use Rattle.hg_report.specs.declared.fault.Fault.{Fault}
 use Rattle.hg_report.specs.declared.fault.Fault.TheVariants as a_fault
 use Rattle.hg_save.specs.Loads.{During, files_at}
 use Rattle.hg_save.specs.Record.{id_in, reading}
-use Rattle.hg_save.specs.Saved.{IsLatest, ReadsAsBeforeOr}
+use Rattle.hg_save.specs.Saved.{IsLatest, KeepsOthers, ReadsAsBeforeOr}
 use Rattle.hg_session.specs.Acts.{AllIdle, AllSteps, refusals_text}
 use Rattle.hg_session.specs.Call.{Call, Count, Fails, Saved, Watched}
 use Rattle.hg_session.specs.Debug.{IsRead}
@@ -105,6 +105,15 @@ pub record IsPublished (command : Changing) (words : List (List ℕ)) (copy : Wa
   pub crash : IsLatest (scene saved.new stretch.from) → (k : ℕ) (c : shelf.Files) → stretch.from ≤ k → k ≤ stretch.to → (scene saved.new k).leaves c → ReadsAsBeforeOr (scene saved.new stretch.from) (Some (Ok found)) c
   pub shown : IsLatest (scene saved.new stretch.from) → (k : ℕ) → stretch.from ≤ k → k ≤ stretch.to
       → (reading (scene saved.new k).files ≡ reading (scene saved.new stretch.from).files) ⊎ (reading (scene saved.new k).files ≡ Some (Ok found))
+  -- the data file that is written has the identifier that follows that of the docket that stood
+  pub id : List ℕ
+  pub next : next_name (id_in (scene saved.new stretch.from).files) ≡ Some id
+  -- no file is changed but the docket, the one that is written first and the data files with these two identifiers: reads show each other file as it
+  -- was, and a crash leaves it as it might have left it
+  pub others : (k : ℕ) → stretch.from ≤ k → k ≤ stretch.to
+      → KeepsOthers (id_in (scene saved.new stretch.from).files) id (scene saved.new stretch.from).files (scene saved.new k).files
+  pub spared : (k : ℕ) (c : shelf.Files) → stretch.from ≤ k → k ≤ stretch.to → (scene saved.new k).leaves c
+      → (d : shelf.Files) × (scene saved.new stretch.from).leaves d × KeepsOthers (id_in (scene saved.new stretch.from).files) id d c
   -- the next one finds its identifier free
   pub latest : IsLatest (scene saved.new stretch.from) → IsLatest (scene saved.new stretch.to)
 
