@@ -1,5 +1,5 @@
 -- What a command that changes the record did, from what its parts did.
-use Rattle.std.proofs.Common.{ℕ, ◌≡◌, ◌≤◌, ◌⊎◌, true, false, List, [], ◌∷◌, Option, Some, None, is_some, Ok, Err, IsTrue, refl, sym, ap, ◌∙◌, subst, inl, inr, arith}
+use Rattle.std.proofs.Common.{ℕ, ◌≡◌, ◌≤◌, ◌⊎◌, true, false, List, [], ◌∷◌, Option, Some, None, is_some, Ok, Err, IsTrue, refl, sym, ap, ◌∙◌, subst, inl, inr, arith, true≢false}
 use Rattle.std.proofs.lemmas.Bool.{cases_Bool, cases_lt}
 use Rattle.hg_append.specs.Encoded.{HasCause}
 use Rattle.hg_append.specs.declared.fault.EncodeFault.{EncodeFault}
@@ -24,7 +24,7 @@ use Rattle.hg_save.proofs.Loads.{found_longer, last_within, tries_longer}
 use Rattle.hg_session.specs.Acts.{AllIdle, AllSteps, IsActed}
 use Rattle.hg_session.specs.Anew.{CanWrite, IsOpened, IsOverwritten, IsRecorded, LoadsOrRefuses, MetWriting, WritesOnly}
 use Rattle.hg_session.specs.Call.{Fails, Watched}
-use Rattle.hg_session.specs.Change.{FitsFirst, IsDone, IsKept, IsMade, IsPublished, IsReadFirst, IsSafe, IsUnwritten, MetChanging, MetSpent, up_to}
+use Rattle.hg_session.specs.Change.{FitsFirst, IsDone, IsKept, IsMade, IsPublished, IsReadFirst, IsSafe, IsUnwritten, MetChanging, up_to}
 use Rattle.hg_session.specs.Load.{by_load, of_read}
 use Rattle.hg_session.specs.Loaded.{NodesFind, Refuses}
 use Rattle.hg_session.specs.declared.acting.Changing.{Changing}
@@ -78,10 +78,10 @@ module _ (a b c : Course) (passes : Passes a.history b.history) (goes : Goes b c
   abbrev tried_within : (told : IsTrue a.history.told) → IsTry a.history b.history (loads told).1.tried.last
   tried_within told = last_within a.history b.history ((loads told).0 ∷ []) (loads told).1.tried
 
-  found_is : (told : IsTrue a.history.told) → found_by b.history (loads told).1.tried.last ≡ Some (Ok recorded)
+  pub found_is : (told : IsTrue a.history.told) → found_by b.history (loads told).1.tried.last ≡ Some (Ok recorded)
   found_is told = (loads told).1.answer.reading ∙ ap (λ r. Some r) (sound_reading loaded.docket.items loaded.nodes.items sound ∙ ap (λ r. of_data r) nodes)
 
-  pub read_first : IsTrue a.history.told → IsReadFirst a.history c.history recorded
+  abbrev pub read_first : IsTrue a.history.told → IsReadFirst a.history c.history recorded
   read_first told =
       let m = loads told in
       let longer : Extends b.history (up_to b.history.last c.history) = record { told = goes.past.told; later = omega arith; who = goes.past.who; stay = goes.past.stay } in
@@ -122,17 +122,6 @@ module _ (a b c : Course) (passes : Passes a.history b.history) (goes : Goes b c
         };
       }
 
-  -- a docket that names the last identifier was read
-  pub spent_by : (docket : Contents) → docket ≡ docket_of loaded.docket.items → next_name docket.id ≡ None → (before after : ℕ) → IsTrue a.history.told
-      → MetSpent (record { old = a.history; new = c.history; before = before; after = after })
-  spent_by docket is spent before after told =
-      let within = (tried_within told).docket in
-      record {
-        at = (loads told).1.tried.last.docket;
-        during = record { from = within.from; to = omega (arith, within.to, goes.past.later) };
-        spent = ap next_name (read_id told docket is) ∙ spent;
-      }
-
   -- ---- what the words made of it
 
   module _ (command : Changing) (words : List (List ℕ)) (copy : Watched tree.History) (opened made : Held) (begun : IsOpened (docket_of loaded.docket.items) recorded opened) (image : IsOfSameImage opened made)
@@ -149,14 +138,36 @@ module _ (a b c : Course) (passes : Passes a.history b.history) (goes : Goes b c
     abbrev made_by : (before after : ℕ) → IsMade command words copy (record { old = a.history; new = c.history; before = before; after = after }) acted.refused (table made)
     made_by before after = record { loaded = recorded; read = read_first; steps = steps_from }
 
-    by_encode : (before after : ℕ) (fault : EncodeFault) → HasCause made fault → MetChanging command words copy (record { old = a.history; new = c.history; before = before; after = after }) (of_encode fault)
-    by_encode before after an_encode.OutOfMemory cause = tt
-    by_encode before after (an_encode.TooLarge size) cause = record { refused = acted.refused; made = table made; is = made_by before after; held = made; same = same_table (table made); large = cause }
-    by_encode before after an_encode.IdsSpent cause = λ told. spent_by made.docket docket_is cause before after told
+    -- where no word changed anything, no mark is set
+    unmarked_by : AllIdle command copy.old copy.new words acted.refused recorded (table made) steps_from → made.changed ≡ false
+    unmarked_by idle = acted.idle (idle_start command copy.old copy.new (table opened) recorded begun.same words acted.refused (table made) acted.steps idle) ∙ begun.unchanged
+
+    busy_by : made.changed ≡ true → AllIdle command copy.old copy.new words acted.refused recorded (table made) steps_from → ⊥
+    busy_by set idle = true≢false (sym set ∙ unmarked_by idle)
+
+    by_encode : (before after : ℕ) (fault : EncodeFault) → HasCause made fault → made.changed ≡ true → MetChanging command words copy (record { old = a.history; new = c.history; before = before; after = after }) (of_encode fault)
+    by_encode before after an_encode.OutOfMemory cause set = tt
+    by_encode before after (an_encode.TooLarge size) cause set = record {
+      refused = acted.refused;
+      made = table made;
+      is = made_by before after;
+      busy = busy_by set;
+      held = made;
+      same = same_table (table made);
+      large = cause;
+      next = λ told. ap (λ (id : List ℕ). is_some (next_name id)) (read_id told made.docket docket_is) ∙ ap (λ (o : Option (List ℕ)). is_some o) cause.next.1;
+    }
+    by_encode before after an_encode.IdsSpent cause set = record {
+      refused = acted.refused;
+      made = table made;
+      is = made_by before after;
+      busy = busy_by set;
+      spent = λ told. ap next_name (read_id told made.docket docket_is) ∙ cause;
+    }
 
     -- it was not written
     pub met_writing : (before mid after : ℕ) (fault : Fault) → mid ≡ before → MetWriting made mid after fault → MetChanging command words copy (record { old = a.history; new = c.history; before = before; after = after }) fault
-    met_writing before mid after fault still (inl (e, is, cause)) = subst (MetChanging command words copy (record { old = a.history; new = c.history; before = before; after = after })) (sym is) (by_encode before after e cause)
+    met_writing before mid after fault still (inl (e, is, cause, set)) = subst (MetChanging command words copy (record { old = a.history; new = c.history; before = before; after = after })) (sym is) (by_encode before after e cause set)
     met_writing before mid after fault still (inr (is, rose)) =
         subst (MetChanging command words copy (record { old = a.history; new = c.history; before = before; after = after })) (sym is) (subst (λ (n : ℕ). Rose n after) still rose)
 
@@ -257,10 +268,6 @@ module _ (a b c : Course) (passes : Passes a.history b.history) (goes : Goes b c
 
     same_by : (opened.changed ≡ false → made.changed ≡ false → IsSame (table made) (table opened)) → made.changed ≡ false → IsSame (table made) recorded
     same_by stays none = subst (IsSame (table made)) (one_table (table opened) recorded begun.same) (stays begun.unchanged none)
-
-    -- where no word changed anything, no mark is set
-    unmarked_by : AllIdle command copy.old copy.new words acted.refused recorded (table made) steps_from → made.changed ≡ false
-    unmarked_by idle = acted.idle (idle_start command copy.old copy.new (table opened) recorded begun.same words acted.refused (table made) acted.steps idle) ∙ begun.unchanged
 
     -- the words were done, and what they made is recorded
     pub done_by : (before after : ℕ) → a.history.ours ≡ true → (opened.changed ≡ false → made.changed ≡ false → IsSame (table made) (table opened))

@@ -11,7 +11,7 @@ use Rattle.hg_ops.specs.declared.refusal.Refusal.{Refusal}
 use Rattle.hg_report.specs.Fault.{has_line}
 use Rattle.hg_report.specs.declared.fault.Fault.{Fault}
 use Rattle.hg_report.specs.declared.fault.Fault.TheVariants as a_fault
-use Rattle.hg_save.proofs.Loads.{unstepped_found}
+use Rattle.hg_save.proofs.Loads.{last_within, unstepped_found}
 use Rattle.hg_save.specs.Loads.{Try, files_at}
 use Rattle.hg_save.specs.Record.{id_in, reading}
 use Rattle.hg_session.proofs.Acted.{as_many, no_lines, none_refused}
@@ -19,7 +19,7 @@ use Rattle.hg_session.proofs.Commands.{not_without}
 use Rattle.hg_session.proofs.Readings.{unstepped_refuses}
 use Rattle.hg_session.specs.Acts.{AllSteps, refusals_text}
 use Rattle.hg_session.specs.Call.{Call, Count, Fails, Saved, Serves, Watched}
-use Rattle.hg_session.specs.Change.{FailsOrUnwritten, Fits, FitsFirst, IsDone, IsMade, IsReadFirst, IsSafe, MayFollowWriting, MetChanging, MetLocking, NoneOurs, files_of, up_to}
+use Rattle.hg_session.specs.Change.{FailsOrUnwritten, Fits, FitsFirst, IsDone, IsMade, IsReadFirst, IsSafe, MayFollowWriting, MetChanging, MetLocking, NoneOurs, files_of, id_read, up_to}
 use Rattle.hg_session.specs.Changed.{IsExpectedChange, IsMadeOf, IsPartlyTold, IsUnlooked, IsUnwrittenUnless, OnlyLooks, RanChange, TellsFault, status_of}
 use Rattle.hg_session.specs.Command.{IsFaultOrMemory, IsSilent, TellsLine}
 use Rattle.hg_session.specs.Listed.{LoadMet}
@@ -81,7 +81,14 @@ module _ (command : Changing) (words : List (List ℕ)) (copy : Watched tree.His
       let first = none_own a.history b.history is.upto own is.later is.within is.none in
       sym (unstepped_found a.history (up_to is.upto b.history) is.read.tries (extends_first a.history b.history is.upto past is.later) first is.read.tried) ∙ is.read.found
 
-  made_own : (refused : List (Option Refusal)) (made : Table) (is : IsMade command words copy files refused made) → IsMadeOf command words copy there is.loaded made
+  id_own : (loaded : Table) (is : IsReadFirst a.history b.history loaded) → id_in there ≡ id_read is
+  id_own loaded is =
+      let first = none_own a.history b.history is.upto own is.later is.within is.none in
+      let tried = (last_within a.history (up_to is.upto b.history) is.read.tries is.read.tried).docket in
+      let at : is.read.tried.last.docket ≡ a.history.last = omega (arith, tried.from, tried.to, first) in
+      sym (ap id_in (ap (files_at b.history) at ∙ (past.stay a.history.last (omega arith)).shown))
+
+  abbrev made_own : (refused : List (Option Refusal)) (made : Table) (is : IsMade command words copy files refused made) → IsMadeOf command words copy there is.loaded made
   made_own refused made is = record { recorded = read_own is.loaded (is.read own.told); refused = refused; steps = is.steps }
 
   fits_own : (made : Table) → FitsFirst a.history b.history made → Fits there made
@@ -127,15 +134,19 @@ module _ (command : Changing) (words : List (List ℕ)) (copy : Watched tree.His
     loaded = met.is.loaded;
     made = met.made;
     is = made_own met.refused met.made met.is;
+    busy = met.busy;
     held = met.held;
     same = met.same;
     large = met.large;
+    next = ap (λ (id : List ℕ). is_some (next_name id)) (id_own met.is.loaded (met.is.read own.told)) ∙ met.next own.told;
   }
-  met_own a_fault.IdsSpent safe met p q =
-      let m = met own.told in
-      let still = still_by a_fault.IdsSpent (apart a_fault.IdsSpent (λ is. cc is) (λ is. cc is) (λ is. cc is)) safe in
-      let first : m.at ≡ a.history.last = omega (arith, m.during.from, m.during.to, still) in
-      sym (ap (λ (f : Files). next_name (id_in f)) (ap (files_at b.history) first ∙ (past.stay a.history.last (omega arith)).shown)) ∙ m.spent
+  met_own a_fault.IdsSpent safe met p q = record {
+    loaded = met.is.loaded;
+    made = met.made;
+    is = made_own met.refused met.made met.is;
+    busy = met.busy;
+    spent = ap next_name (id_own met.is.loaded (met.is.read own.told)) ∙ met.spent own.told;
+  }
   met_own a_fault.TreeFailed safe met p q = steady_not_rose copy.before copy.after p met
   met_own a_fault.ShelfFailed safe met p q = steady_not_rose before after q met
   met_own a_fault.NotBuilt safe met p q = met

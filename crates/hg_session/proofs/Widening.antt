@@ -1,5 +1,5 @@
 -- What was done while the lock was held, said of the whole call.
-use Rattle.std.proofs.Common.{ℕ, ◌≡◌, ◌≤◌, List, ◌∷◌, [], map, Option, Some, Result, Ok, IsTrue, refl, sym, ap, ◌∙◌, subst, arith, inl, inr}
+use Rattle.std.proofs.Common.{ℕ, ◌≡◌, ◌≤◌, List, ◌∷◌, [], map, Option, Some, is_some, Result, Ok, IsTrue, refl, sym, ap, ◌∙◌, subst, arith, inl, inr}
 use Rattle.std.specs.List.{AllByRecursion}
 use Rattle.std.proofs.lemmas.Bool.{cases_lt}
 use Rattle.hg_base.specs.Fault.{Rose}
@@ -9,12 +9,12 @@ use Rattle.hg_image.specs.Reading.{RecordFault}
 use Rattle.hg_ops.specs.declared.refusal.Refusal.{Refusal}
 use Rattle.hg_report.specs.declared.fault.Fault.{Fault}
 use Rattle.hg_report.specs.declared.fault.Fault.TheVariants as a_fault
-use Rattle.hg_save.proofs.Loads.{found_longer, tries_longer}
+use Rattle.hg_save.proofs.Loads.{found_longer, last_within, tries_longer}
 use Rattle.hg_save.specs.Loads.{IsTry, Tries, Try, found_by, id_by}
 use Rattle.hg_save.specs.Record.{id_in, reading}
 use Rattle.hg_save.specs.Saved.{IsLatest, KeepsOthers, ReadsAsBeforeOr, name_after}
 use Rattle.hg_session.specs.Call.{Watched}
-use Rattle.hg_session.specs.Change.{Fits, FitsFirst, IsDone, IsKept, IsMade, IsPublished, IsReadFirst, IsSafe, IsUnwritten, MetChanging, NoneOurs, Stretch, up_to}
+use Rattle.hg_session.specs.Change.{Fits, FitsFirst, IsDone, IsKept, IsMade, IsPublished, IsReadFirst, IsSafe, IsUnwritten, MetChanging, NoneOurs, Stretch, id_read, up_to}
 use Rattle.hg_session.specs.Listed.{LoadMet}
 use Rattle.hg_session.specs.Loaded.{IsRefused}
 use Rattle.hg_session.specs.declared.acting.Changing.{Changing}
@@ -122,7 +122,7 @@ module _ (a b c d : Course) (lock : Waits a.history b.history) (unlock : Waits c
   reading_wide : (k : ℕ) → k ≤ c.history.last → reading (scene d k).files ≡ reading (scene c k).files
   reading_wide k within = ap reading (to_end k within).shown
 
-  read_wide : (loaded : Table) → IsReadFirst b.history c.history loaded → IsReadFirst a.history d.history loaded
+  abbrev read_wide : (loaded : Table) → IsReadFirst b.history c.history loaded → IsReadFirst a.history d.history loaded
   read_wide loaded is =
       let past = extends_up_to is.upto c.history d.history is.within r.past in
       let tries = tries_earlier a.history b.history (up_to is.upto d.history) is.read.tries later (tries_longer b.history (up_to is.upto c.history) (up_to is.upto d.history) is.read.tries past is.read.tried) in
@@ -137,6 +137,12 @@ module _ (a b c d : Course) (lock : Waits a.history b.history) (unlock : Waits c
           found = found_longer b.history (up_to is.upto c.history) (up_to is.upto d.history) is.read.tries past is.read.tried ∙ is.read.found;
         };
       }
+
+  -- the identifier that was read is the same, seen from the end
+  id_wide : (loaded : Table) (is : IsReadFirst b.history c.history loaded) → id_read (read_wide loaded is) ≡ id_read is
+  id_wide loaded is =
+      let tried = (last_within b.history (up_to is.upto c.history) is.read.tries is.read.tried).docket in
+      ap id_in (r.past.stay is.read.tried.last.docket (omega (arith, tried.to, is.within))).shown
 
   module _ (command : Changing) (words : List (List ℕ)) (copy : Watched tree.History) (before after start end : ℕ) where
     abbrev part : Watched History
@@ -246,17 +252,19 @@ module _ (a b c d : Course) (lock : Waits a.history b.history) (unlock : Waits c
       refused = met.refused;
       made = met.made;
       is = made_wide met.refused met.made met.is;
+      busy = met.busy;
       held = met.held;
       same = met.same;
       large = met.large;
+      next = λ told. ap (λ (id : List ℕ). is_some (next_name id)) (id_wide met.is.loaded (met.is.read (told_part told))) ∙ met.next (told_part told);
     }
-    met_wide a_fault.IdsSpent rose met = λ told.
-        let is = met (told_part told) in
-        record {
-          at = is.at;
-          during = record { from = omega (arith, later, is.during.from); to = omega (arith, is.during.to, r.past.later) };
-          spent = ap (λ (f : Files). next_name (id_in f)) (r.past.stay is.at is.during.to).shown ∙ is.spent;
-        }
+    met_wide a_fault.IdsSpent rose met = record {
+      refused = met.refused;
+      made = met.made;
+      is = made_wide met.refused met.made met.is;
+      busy = met.busy;
+      spent = λ told. ap next_name (id_wide met.is.loaded (met.is.read (told_part told))) ∙ met.spent (told_part told);
+    }
     met_wide a_fault.TreeFailed rose met = met
     met_wide a_fault.ShelfFailed rose met = rose met
     met_wide a_fault.NotBuilt rose met = met

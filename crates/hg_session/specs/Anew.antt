@@ -68,6 +68,6 @@ pub record IsRecorded (held : Held) (c : Course) : Type 0 where
   pub is : IsSame found (table held)
   pub records : Records c (Some (Ok found))
 
--- why a table wasn't written: it can't be, or the shelf failed
+-- why a table wasn't written: something was changed in it and it can't be, or the shelf failed
 abbrev pub MetWriting : Held → ℕ → ℕ → Fault → Type 0
-MetWriting held before after fault = ((e : EncodeFault) × (fault ≡ of_encode e) × HasCause held e) ⊎ ((fault ≡ a_fault.ShelfFailed) × Rose before after)
+MetWriting held before after fault = ((e : EncodeFault) × (fault ≡ of_encode e) × HasCause held e × (held.changed ≡ true)) ⊎ ((fault ≡ a_fault.ShelfFailed) × Rose before after)

@@ -66,6 +66,10 @@ pub record IsReadFirst (old new : shelf.History) (loaded : Table) : Type 0 where
   pub none : NoneOurs new old.last upto
   pub read : IsRead old (up_to upto new) loaded
 
+-- the identifier that the docket names that was read
+abbrev pub id_read : {old new : shelf.History} {loaded : Table} → IsReadFirst old new loaded → List ℕ
+id_read {new = new} is = id_in (files_at new is.read.tried.last.docket)
+
 -- the words make this of the record that was read in the call, and these are refused
 pub record IsMade (command : Changing) (words : List (List ℕ)) (copy : Watched tree.History) (files : Watched shelf.History) (refused : List (Option Refusal)) (made : Table) : Type 0 where
   pub loaded : Table
@@ -155,20 +159,24 @@ pub record IsDone (command : Changing) (words : List (List ℕ)) (copy : Watched
 
 -- ---- why it met a fault
 
--- the new record would take so many bytes, which are too many
+-- some word changed something, an identifier is left, and the new record would take so many bytes, which are too many
 pub record MetLarge (command : Changing) (words : List (List ℕ)) (copy : Watched tree.History) (files : Watched shelf.History) (size : ℕ) : Type 0 where
   pub refused : List (Option Refusal)
   pub made : Table
   pub is : IsMade command words copy files refused made
+  pub busy : AllIdle command copy.old copy.new words refused is.loaded made is.steps → ⊥
   pub held : Held
   pub same : IsSame (table held) made
   pub large : IsTooLarge held size
+  pub next : (told : IsTrue files.old.told) → is_some (next_name (id_read (is.read told))) ≡ true
 
--- a docket that was read names the last identifier
-pub record MetSpent (files : Watched shelf.History) : Type 0 where
-  pub at : ℕ
-  pub during : During files.old files.new at
-  pub spent : next_name (id_in (files_at files.new at)) ≡ None
+-- some word changed something, and the docket that was read names the last identifier
+pub record MetSpent (command : Changing) (words : List (List ℕ)) (copy : Watched tree.History) (files : Watched shelf.History) : Type 0 where
+  pub refused : List (Option Refusal)
+  pub made : Table
+  pub is : IsMade command words copy files refused made
+  pub busy : AllIdle command copy.old copy.new words refused is.loaded made is.steps → ⊥
+  pub spent : (told : IsTrue files.old.told) → next_name (id_read (is.read told)) ≡ None
 
 -- before anything was published, or while it was: what stood in the files, or a device that failed. Want of memory needs no reason
 abbrev pub MetChanging : Changing → List (List ℕ) → Watched tree.History → Watched shelf.History → Fault → Type 0
@@ -177,7 +185,7 @@ MetChanging command words copy files (a_fault.Docket fault) = LoadMet (a_read.Do
 MetChanging command words copy files (a_fault.Node fault) = LoadMet (a_read.Node fault) files
 MetChanging command words copy files (a_fault.DataGone ids) = LoadMet (a_read.DataGone ids) files
 MetChanging command words copy files (a_fault.TooLarge size) = MetLarge command words copy files size
-MetChanging command words copy files a_fault.IdsSpent = IsTrue files.old.told → MetSpent files
+MetChanging command words copy files a_fault.IdsSpent = MetSpent command words copy files
 MetChanging command words copy files a_fault.TreeFailed = Fails copy
 MetChanging command words copy files a_fault.ShelfFailed = Fails files
 MetChanging command words copy files a_fault.NotBuilt = ⊥

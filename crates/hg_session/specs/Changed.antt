@@ -1,5 +1,5 @@
 -- What the commands that change the record promise.
-use Rattle.std.specs.Prelude.{ℕ, ◌≡◌, ◌⊎◌, ◌<◌, if◌then◌else◌, List, Option, Some, None, Ok, Err, IsTrue, IfSome, MatchBool, is_some}
+use Rattle.std.specs.Prelude.{ℕ, true, ◌≡◌, ◌⊎◌, ◌<◌, if◌then◌else◌, List, Option, Some, None, Ok, Err, IsTrue, IfSome, MatchBool, is_some}
 use Rattle.std.specs.List.{AllByRecursion, list_any}
 use Rattle.hg_append.specs.Encoded.{IsTooLarge}
 use Rattle.hg_base.specs.Fault.{IsSteady}
@@ -13,7 +13,7 @@ use Rattle.hg_report.specs.Fault.{has_line}
 use Rattle.hg_report.specs.declared.fault.Fault.{Fault}
 use Rattle.hg_report.specs.declared.fault.Fault.TheVariants as a_fault
 use Rattle.hg_save.specs.Record.{id_in, reading}
-use Rattle.hg_session.specs.Acts.{AllSteps}
+use Rattle.hg_session.specs.Acts.{AllIdle, AllSteps}
 use Rattle.hg_session.specs.Call.{Call, Fails, Serves, Watched}
 use Rattle.hg_session.specs.Change.{ChangeCause, Fits, IsDone, IsSafe, IsUnwritten, files_of}
 use Rattle.hg_session.specs.Command.{IsFaultOrMemory, IsSilent, TellsLine}
@@ -79,14 +79,24 @@ pub record CanBeDone (command : Changing) (words : List (List ℕ)) (copy : Watc
   pub is : IsMadeOf command words copy files loaded made
   pub fits : IsSame made loaded ⊎ Fits files made
 
--- the words make one that takes so many bytes, which are too many
+-- the words change the record, an identifier is left, and what they make takes so many bytes, which are too many
 pub record IsTooLargeFor (command : Changing) (words : List (List ℕ)) (copy : Watched tree.History) (files : shelf.Files) (size : ℕ) : Type 0 where
   pub loaded : Table
   pub made : Table
   pub is : IsMadeOf command words copy files loaded made
+  pub busy : AllIdle command copy.old copy.new words is.refused loaded made is.steps → ⊥
   pub held : Held
   pub same : IsSame (table held) made
   pub large : IsTooLarge held size
+  pub next : is_some (next_name (id_in files)) ≡ true
+
+-- the words change the record, and no identifier is left
+pub record IsSpentFor (command : Changing) (words : List (List ℕ)) (copy : Watched tree.History) (files : shelf.Files) : Type 0 where
+  pub loaded : Table
+  pub made : Table
+  pub is : IsMadeOf command words copy files loaded made
+  pub busy : AllIdle command copy.old copy.new words is.refused loaded made is.steps → ⊥
+  pub spent : next_name (id_in files) ≡ None
 
 -- the answer to these words where the files stand so, nobody else steps, no device fails and no lock is refused; want of memory may come at any time
 abbrev pub IsExpectedChange : Changing → List (List ℕ) → Watched tree.History → shelf.Files → Option Fault → Type 0
@@ -96,7 +106,7 @@ IsExpectedChange command words copy files (Some (a_fault.Docket fault)) = readin
 IsExpectedChange command words copy files (Some (a_fault.Node fault)) = reading files ≡ Some (Err (a_record_fault.Node fault))
 IsExpectedChange command words copy files (Some (a_fault.DataGone ids)) = (reading files ≡ None) × AllByRecursion (λ id. id ≡ id_in files) ids
 IsExpectedChange command words copy files (Some (a_fault.TooLarge size)) = IsTooLargeFor command words copy files size
-IsExpectedChange command words copy files (Some a_fault.IdsSpent) = next_name (id_in files) ≡ None
+IsExpectedChange command words copy files (Some a_fault.IdsSpent) = IsSpentFor command words copy files
 IsExpectedChange command words copy files (Some a_fault.NotBuilt) = ⊥
 IsExpectedChange command words copy files (Some (a_fault.NoManifest id)) = ⊥
 IsExpectedChange command words copy files (Some (a_fault.ManifestTooLarge size)) = ⊥
