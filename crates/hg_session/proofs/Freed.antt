@@ -4,7 +4,6 @@ use Rattle.std.specs.Result.{result_err}
 use Rattle.hg_base.specs.Fault.{HasCause, Rose}
 use Rattle.hg_base.specs.declared.fault.Failed.{Failed}
 use Rattle.hg_report.specs.declared.fault.Fault.{Fault}
-use Rattle.hg_report.specs.declared.fault.Fault.TheVariants as a_fault
 use Rattle.hg_session.proofs.Widening.{calm_within, done_wide, met_wide, safe_wide, unwritten_wide}
 use Rattle.hg_session.specs.Call.{Count, Saved, Watched}
 use Rattle.hg_session.specs.Change.{FailsOrUnwritten, IsDone, IsSafe, MetChanging, MetLocking, once_freed}

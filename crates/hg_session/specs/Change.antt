@@ -8,13 +8,12 @@ use Rattle.hg_append.specs.Tree.{IsTreeOf, Tree}
 use Rattle.hg_base.specs.Fault.{Rose}
 use Rattle.hg_docket.specs.Number.{next_name}
 use Rattle.hg_entry.specs.Table.{Table}
-use Rattle.hg_image.specs.Reading as a_record_fault
 use Rattle.hg_mixed.specs.Edits.{IsSame}
 use Rattle.hg_mixed.specs.Held.{Held, table}
 use Rattle.hg_ops.specs.declared.refusal.Refusal.{Refusal}
 use Rattle.hg_report.specs.declared.fault.Fault.{Fault}
 use Rattle.hg_report.specs.declared.fault.Fault.TheVariants as a_fault
-use Rattle.hg_save.specs.Loads.{During, files_at}
+use Rattle.hg_save.specs.Loads.{files_at}
 use Rattle.hg_save.specs.Record.{id_in, reading}
 use Rattle.hg_save.specs.Saved.{IsLatest, KeepsOthers, ReadsAsBeforeOr}
 use Rattle.hg_session.specs.Acts.{AllIdle, AllSteps, refusals_text}

@@ -59,7 +59,7 @@ pub record OnlyLooks (copy : Watched tree.History) : Type 0 where
   pub passes : tree.Passes copy.old copy.new
   pub asked : IsTrue copy.old.told → copy.new.asked ≡ copy.old.asked
 
--- the tree isn't asked at all
+-- the tree isn't asked at all: what it tells and its count of failures stay
 pub record IsUnlooked (copy : Watched tree.History) : Type 0 where
   pub same : copy.new ≡ copy.old
   pub count : copy.after ≡ copy.before

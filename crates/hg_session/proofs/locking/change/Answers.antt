@@ -2,10 +2,8 @@
 use Rattle.std.proofs.Common.{inr}
 use Rattle.hg_session.proofs.Freed.{once_done, once_met, once_safe, once_unwritten}
 use Rattle.hg_session.specs.Change.{files_of}
-use Rattle.hg_shelf.specs.History.{History}
 use Rattle.hg_shelf.specs.Images.{course}
 use Rattle.hg_shelf.proofs.Scenes.{goes_trans}
-use Rattle.hg_tree.specs.History as tree
 use Rattle.hg_session.proofs.locking.change.Goals as goal
 
 pub returns-in-Ok-true-clause-done : goal.returns-in-Ok-true-clause-done
