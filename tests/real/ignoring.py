@@ -95,6 +95,8 @@ REFUSED = [
     ("a look ahead", b"a\n(?=a)\n", ".hgignore line 2: regexp"),
     ("a group without its end", b"(a\n", ".hgignore line 1: regexp"),
     ("a regexp that is too big", b"((a{1000}){1000}){1000}\n", ".hgignore line 1: size"),
+    ("one that is too heavy", b"a\na{100000}\n", ".hgignore line 2: size"),
+    ("4,000 regexps", b"".join(b"^no\\w+%d\\.(?:tmp|bak)$\n" % i for i in range(4_000)), None),
     ("another file", b"# a comment\ninclude:other\n", ".hgignore line 2: include"),
     ("another file below", b"subinclude:d/other\n", ".hgignore line 1: include"),
     ("the first of two", b"glob:{a\n(a\n", ".hgignore line 1: glob"),

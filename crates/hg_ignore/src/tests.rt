@@ -207,6 +207,31 @@ fn too_big_where_it_was_told(rt: HostRuntime) -> Result<(), Fail> {
     Ok(())
 }
 
+/// So many times a line.
+fn repeated(alloc: Global, line: &str, count: usize) -> Result<String, Fail> {
+    let mut text = String::new(alloc);
+    for _ in 0..count {
+        text.push_str(line)?;
+    }
+    Ok(text)
+}
+
+#[test]
+fn too_heavy_together(rt: HostRuntime) -> Result<(), Fail> {
+    for (line, count, is_refused) in [
+        ("\\w+b\n", 100, false),
+        ("a{3000}\n", 1, false),
+        ("a{3000}\n", 100, true),
+    ] {
+        let text = repeated(rt.alloc(), line, count)?;
+        let met = fault(rt.alloc(), text.as_str().as_bytes())?;
+        let is_too_big = matches!(met, Some(IgnoreFault::RegexpTooBig { .. }));
+        assert_eq!(rt; is_too_big, is_refused, "{line:?}");
+        assert_eq!(rt; met.is_some(), is_refused, "{line:?}");
+    }
+    Ok(())
+}
+
 /// The digits of a hash.
 fn digits(alloc: Global, hash: [u8; 20]) -> Result<String, Fail> {
     let mut text = String::new(alloc);
