@@ -1,6 +1,7 @@
 -- What a whole status asks the tree: first the patterns, then what is compared, and then what is listed.
 use Rattle.std.proofs.Common.{ℕ, ◌≡◌, Bool, true, false, cond, List, [], ◌++◌, map, append-nil, Option, None, refl, sym, ap, ◌∙◌, subst, inl, inr, arith}
-use Rattle.hg_ignore.specs.Source.{AsksOnce, FileDuring, has_file, reads_of, the_read}
+use Rattle.hg_ignore.specs.Patterns.{reads_at}
+use Rattle.hg_ignore.specs.Source.{AsksOnce, FileDuring, has_file, the_read}
 use Rattle.hg_ignore.specs.State.{Ignore, Ignored, Piece}
 use Rattle.hg_tree.specs.History.{Extends, History, IsOurs, Passes, now}
 use Rattle.hg_tree.specs.Moment.{Moment}
@@ -21,22 +22,22 @@ during_longer a b c second (k, from, to, has) = (k, from, omega (arith, to, seco
 
 read_longer : (wanted : Wanted) (a b c : History) (first : List Asked) → Extends b c → IsPatternsRead wanted a b first → IsPatternsRead wanted a c first
 read_longer wanted a b c first second (inl none) = inl none
-read_longer wanted a b c first second (inr (needed, during, is)) = inr (needed, during_longer a b c second during, is)
+read_longer wanted a b c first second (inr (needed, (during, is))) = inr (needed, (during_longer a b c second during, is))
 
 -- one read of the file is
 pub asks_read : (wanted : Wanted) (old new : History) → needs_patterns wanted ≡ true → AsksOnce old new → AsksPatterns wanted old new
 asks_read wanted old new needed (inl none) = ([], inl refl, none ∙ sym (append-nil old.asked))
-asks_read wanted old new needed (inr (during, is)) = (the_read, inr (needed, during, refl), is)
+asks_read wanted old new needed (inr (during, is)) = (the_read, inr (needed, (during, refl)), is)
 
-pub own_needed : (wanted : Wanted) (old new : History) → needs_patterns wanted ≡ true → new.asked ≡ old.asked ++ reads_of (now old) → new.asked ≡ old.asked ++ pattern_reads wanted (now old)
-own_needed wanted old new needed is = is ∙ sym (ap (λ (b : Bool). old.asked ++ cond b (reads_of (now old)) []) needed)
+pub own_needed : (wanted : Wanted) (old new : History) → needs_patterns wanted ≡ true → new.asked ≡ old.asked ++ reads_at (now old) → new.asked ≡ old.asked ++ pattern_reads wanted (now old)
+own_needed wanted old new needed is = is ∙ sym (ap (λ (b : Bool). old.asked ++ cond b (reads_at (now old)) []) needed)
 
 -- nothing is asked where no patterns are needed
 pub asks_unneeded : (wanted : Wanted) (h : History) → AsksPatterns wanted h h
 asks_unneeded wanted h = ([], inl refl, sym (append-nil h.asked))
 
 pub own_unneeded : (wanted : Wanted) (h : History) → needs_patterns wanted ≡ false → h.asked ≡ h.asked ++ pattern_reads wanted (now h)
-own_unneeded wanted h none = sym (ap (λ (b : Bool). h.asked ++ cond b (reads_of (now h)) []) none ∙ append-nil h.asked)
+own_unneeded wanted h none = sym (ap (λ (b : Bool). h.asked ++ cond b (reads_at (now h)) []) none ∙ append-nil h.asked)
 
 -- ---- all calls
 

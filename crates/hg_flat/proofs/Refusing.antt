@@ -3,9 +3,9 @@ use Rattle.std.proofs.Common.{ℕ, ◌≡◌, ◌≤◌, ◌<◌, Bool, true, fa
 use Rattle.std.specs.Prelude.{IsSomeAnd, MatchBool}
 use Rattle.hg_base.specs.declared.stat.Kind.{Kind}
 use Rattle.hg_base.specs.declared.stat.Kind.TheVariants as a_kind
+use Rattle.hg_ignore.specs.Patterns.{HasBytes, HasFile, IsGiven, IsOver, KeepsPatterns, ReadSo, Saw, WereRead, most_text, warnings_in}
 use Rattle.hg_ignore.specs.Source.{FileDuring, HasTextCause, ReadDuring, has_file, text_at}
-use Rattle.hg_ignore.specs.State.{Ignore, Piece, ignore_file, items_of, state_of}
-use Rattle.hg_ignore.specs.Taking.{warnings_of}
+use Rattle.hg_ignore.specs.State.{Ignore, Piece, ignore_file, state_of}
 use Rattle.hg_ignore.specs.declared.fault.IgnoreFault.{IgnoreFault}
 use Rattle.hg_ignore.specs.declared.fault.IgnoreFault.TheVariants as an_ignore_fault
 use Rattle.hg_tree.specs.History.{Extends, History, IsOurs, Passes, now}
@@ -17,7 +17,7 @@ use Rattle.hg_tree.specs.declared.thing.Thing.TheVariants as a_thing
 use Rattle.hg_tree.proofs.Stillness.{same_kind}
 use Rattle.hg_flat.specs.Cause.{of_ignore}
 use Rattle.hg_flat.specs.Course.{IsKeptState, IsState, LacksPatterns, pieces_of, warned_of}
-use Rattle.hg_flat.specs.Patterns.{HadPatterns, HasBytes, HasFile, IsGiven, IsOver, KeepsPatterns, ReadSo, Saw, Warns, WereRead, most_text, needs_patterns}
+use Rattle.hg_flat.specs.Patterns.{HadPatterns, Warns, needs_patterns}
 use Rattle.hg_flat.specs.declared.row.Wanted.{Wanted}
 use Rattle.hg_flat.proofs.Faces.{bytes_seen}
 
@@ -92,7 +92,7 @@ module _ (old mid new : History) (first : Passes old mid) (second : Extends mid 
     is = inr (during_whole during, is ∙ ap (λ (m : Moment). state_of (text_at m)) (sym last_is));
   }
 
-  were_read : (state : List Piece) → IsState old mid state → WereRead old new (warnings_of (items_of state))
+  were_read : (state : List Piece) → IsState old mid state → WereRead old new (warnings_in state)
   were_read state is = record {
     state = state;
     given = λ told. given_whole state (is.given told);
@@ -104,11 +104,11 @@ module _ (old mid new : History) (first : Passes old mid) (second : Extends mid 
   pub warns : (wanted : Wanted) (ignore : Option (List Piece)) → IsKeptState wanted old mid ignore → Warns wanted old new (warned_of ignore)
   warns wanted None none = subst (λ (b : Bool). MatchBool b (WereRead old new (warned_of None)) (warned_of None ≡ [])) (sym none) refl
   warns wanted (Some state) is =
-      subst (λ (b : Bool). MatchBool b (WereRead old new (warnings_of (items_of state))) (warnings_of (items_of state) ≡ [])) (sym is.0) (were_read state is.1)
+      subst (λ (b : Bool). MatchBool b (WereRead old new (warnings_in state)) (warnings_in state ≡ [])) (sym is.0) (were_read state is.1)
 
   pub had : (wanted : Wanted) (ignore : Option (List Piece)) → IsKeptState wanted old mid ignore → HadPatterns wanted old new
   had wanted None none needed = absurd (cc (none, needed))
-  had wanted (Some state) is needed = (warnings_of (items_of state), were_read state is.1)
+  had wanted (Some state) is needed = (warnings_in state, were_read state is.1)
 
 pub state_still : (wanted : Wanted) (old mid : History) (ignore : Option (List Piece)) → IsKeptState wanted old mid ignore → IsOurs old mid → needs_patterns wanted ≡ true → pieces_of ignore ≡ Ignore (now old)
 state_still wanted old mid None none ours needed = absurd (cc (none, needed))

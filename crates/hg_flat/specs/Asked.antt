@@ -2,7 +2,7 @@
 use Rattle.std.specs.Prelude.{ℕ, ◌≡◌, ◌⊎◌, true, false, if◌then◌else◌, List, [], map, ◌++◌, Option, Some, None, IsTrue}
 use Rattle.std.specs.List.{Contains, IsDistinct}
 use Rattle.hg_base.specs.PathText.{is_same_dir, joined}
-use Rattle.hg_ignore.specs.Source.{FileDuring, reads_of, the_read}
+use Rattle.hg_ignore.specs.Patterns.{AreReads, reads_at}
 use Rattle.hg_tree.specs.Moment.{Moment, is_among, is_dir}
 use Rattle.hg_tree.specs.History.{History, IsOurs, now}
 use Rattle.hg_tree.specs.declared.asked.Asked.{Asked}
@@ -73,11 +73,11 @@ IsListedDir wanted old new dir =
 
 -- the patterns weren't read, or, where they are needed and a file of them was seen, they were
 abbrev pub IsPatternsRead : Wanted → History → History → List Asked → Type 0
-IsPatternsRead wanted old new first = (first ≡ []) ⊎ ((needs_patterns wanted ≡ true) × FileDuring old new × (first ≡ the_read))
+IsPatternsRead wanted old new first = (first ≡ []) ⊎ ((needs_patterns wanted ≡ true) × AreReads old new first)
 
 -- the reads of patterns at a moment
 abbrev pub pattern_reads : Wanted → Moment → List Asked
-pattern_reads wanted moment = if needs_patterns wanted then reads_of moment else []
+pattern_reads wanted moment = if needs_patterns wanted then reads_at moment else []
 
 -- these calls were made besides, then these paths were read, and then these directories listed, each once; no directory is the root
 pub record AsksBehind (first : List Asked) (Compared : List ℕ → Type 0) (Within : Option (List ℕ) → Type 0) (old new : History) : Type 0 where

@@ -6,9 +6,8 @@ use Rattle.hg_tree.specs.History as trees
 use Rattle.hg_tree.specs.Moment.{Moment}
 use Rattle.hg_tree.specs.declared.asked.Asked.{Asked}
 use Rattle.hg_tree.specs.declared.thing.Placed.{Placed}
-use Rattle.hg_ignore.specs.Source.{ReadDuring}
-use Rattle.hg_ignore.specs.State.{Ignore, Piece, items_of}
-use Rattle.hg_ignore.specs.Taking.{warnings_of}
+use Rattle.hg_ignore.specs.Patterns.{AreFine, HasBadLine, IsCutAt, IsGivenLast, IsOver, warnings_in}
+use Rattle.hg_ignore.specs.State.{Ignore, Piece}
 use Rattle.hg_ignore.specs.declared.fault.IgnoreFault.TheVariants as an_ignore_fault
 use Rattle.hg_ignore.specs.declared.warnings.Warning.{Warning}
 use Rattle.hg_shelf.specs.History as shelves
@@ -28,7 +27,7 @@ use Rattle.hg_compare.specs.declared.looked.Looked.TheVariants as a_look
 use Rattle.hg_flat.specs.Asked.{IsPatternsRead}
 use Rattle.hg_flat.specs.Met.{Holds, Met, Status, WasRead}
 use Rattle.hg_flat.specs.Parent.{HasContents, IsServed, parent_rows, row_of}
-use Rattle.hg_flat.specs.Patterns.{AreFine, HasBadLine, IsCutAt, IsOver, needs_patterns}
+use Rattle.hg_flat.specs.Patterns.{needs_patterns}
 use Rattle.hg_flat.specs.declared.fault.StatusFault.{StatusFault}
 use Rattle.hg_flat.specs.declared.fault.StatusFault.TheVariants as a_fault
 use Rattle.hg_flat.specs.declared.parent.Loaded.{Loaded}
@@ -39,7 +38,7 @@ use Rattle.hg_flat.specs.declared.row.Wanted.{Wanted}
 
 -- a state that was read in a call, and nothing is wrong with it
 pub record IsState (old new : trees.History) (state : List Piece) : Type 0 where
-  pub given : IsTrue old.told → ReadDuring old new state
+  pub given : IsTrue old.told → IsGivenLast old new state
   pub still : trees.IsOurs old new → state ≡ Ignore (trees.now old)
   pub fine : AreFine state
 
@@ -56,7 +55,7 @@ pieces_of (Some state) = state
 -- what its reader is warned of
 abbrev pub warned_of : Option (List Piece) → List Warning
 warned_of None = []
-warned_of (Some state) = warnings_of (items_of state)
+warned_of (Some state) = warnings_in state
 
 -- why patterns that are needed could not be read
 abbrev pub LacksPatterns : trees.History → trees.History → StatusFault → Type 0

@@ -5,6 +5,7 @@ use Rattle.hg_base.specs.declared.stat.Stat.{Stat}
 use Rattle.hg_entry.specs.Table.{Flat}
 use Rattle.hg_tree.specs.History as tree
 use Rattle.hg_tree.specs.Moment.{Moment, stat_at}
+use Rattle.hg_ignore.specs.Patterns.{HasBadLine, IsCutAt, IsOver}
 use Rattle.hg_ignore.specs.declared.fault.IgnoreFault.TheVariants as an_ignore_fault
 use Rattle.hg_shelf.specs.History as shelf
 use Rattle.hg_shelf.specs.Reads.{size_of}
@@ -16,7 +17,7 @@ use Rattle.hg_manifest.specs.declared.fault.ManifestFault.TheVariants as a_manif
 use Rattle.hg_manifest.specs.declared.row.FileRow.{FileRow}
 use Rattle.hg_compare.specs.Alike.{contents_name, is_alike}
 use Rattle.hg_flat.specs.Parent.{IsAsked, is_compared, row_of}
-use Rattle.hg_flat.specs.Patterns.{HasBadLine, IsCutAt, IsOver, needs_patterns}
+use Rattle.hg_flat.specs.Patterns.{needs_patterns}
 use Rattle.hg_flat.specs.declared.fault.StatusFault.{StatusFault}
 use Rattle.hg_flat.specs.declared.fault.StatusFault.TheVariants as a_fault
 use Rattle.hg_flat.specs.declared.row.Wanted.{Wanted}

@@ -7,6 +7,7 @@ use Rattle.hg_entry.specs.Table.{Flat, Marks}
 use Rattle.hg_tree.specs.History as tree
 use Rattle.hg_tree.specs.Moment.{Moment, stat_at}
 use Rattle.hg_tree.specs.Still.{Untouched}
+use Rattle.hg_ignore.specs.Patterns.{KeepsPatterns}
 use Rattle.hg_shelf.specs.History as shelf
 use Rattle.hg_shelf.specs.Polite.{KeepsFile}
 use Rattle.hg_manifest.specs.Load.{manifest_in}
@@ -17,7 +18,7 @@ use Rattle.hg_manifest.specs.declared.row.FileRow.{FileRow}
 use Rattle.hg_compare.specs.Alike.{contents_name, is_alike}
 use Rattle.hg_compare.specs.Same.{parent_row}
 use Rattle.hg_compare.specs.Tracked.{ParentRow, is_file_or_link}
-use Rattle.hg_flat.specs.Patterns.{KeepsPatterns, needs_patterns}
+use Rattle.hg_flat.specs.Patterns.{needs_patterns}
 use Rattle.hg_flat.specs.declared.row.Wanted.{Wanted}
 
 -- the manifest of a parent, or its fault

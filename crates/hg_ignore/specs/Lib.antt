@@ -3,6 +3,7 @@ pub mod Building
 pub mod Kept
 pub mod Line
 pub mod Normal
+pub mod Patterns
 pub mod Regexp
 pub mod Source
 pub mod State

@@ -11,11 +11,12 @@ use Rattle.hg_entry.specs.Table as plain
 use Rattle.hg_flat.specs.Full.{IsFull}
 use Rattle.hg_flat.specs.Met as flat_met
 use Rattle.hg_flat.specs.Parent.{IsAsked, IsServed, manifest_at, parent_rows}
-use Rattle.hg_flat.specs.Patterns.{HadPatterns, HasBadLine, HasBytes, HasFile, ReadSo, ignored_at, needs_patterns, most_text}
+use Rattle.hg_flat.specs.Patterns.{HadPatterns, ignored_at, needs_patterns}
 use Rattle.hg_flat.specs.declared.row.Row.{Row}
 use Rattle.hg_flat.specs.declared.row.Wanted.{Wanted}
 use Rattle.hg_flat.proofs.Fullness.{full_of}
 use Rattle.hg_ignore.specs.Line.{lines_of}
+use Rattle.hg_ignore.specs.Patterns.{HasBadLine, HasBytes, HasFile, ReadSo, RefusesLines, RefusesPatterns, most_text}
 use Rattle.hg_ignore.specs.State.{ignore_file}
 use Rattle.hg_ignore.specs.Taking.{HasLineCause}
 use Rattle.hg_ignore.specs.declared.fault.IgnoreFault.{IgnoreFault}
@@ -31,7 +32,7 @@ use Rattle.hg_tree.specs.Moment.{stat_at}
 use Rattle.hg_tree.proofs.Spans.{ours_unstepped}
 use Rattle.hg_tree.proofs.Stillness.{ours_untouched}
 use Rattle.hg_session.specs.Call.{Call, Looked, Serves}
-use Rattle.hg_session.specs.Command.{CommandCause, HasBadManifest, HasBadPatterns, IsExpected, IsReady, LacksContents, MetBefore, RefusesLines, RefusesPatterns, wanted_in}
+use Rattle.hg_session.specs.Command.{CommandCause, HasBadManifest, HasBadPatterns, IsExpected, IsReady, LacksContents, MetBefore, wanted_in}
 use Rattle.hg_session.specs.Flags.{is_status}
 use Rattle.hg_session.specs.Listed.{IsListable, IsListed, IsListedFor, IsLoaded, IsOwn, IsRecorded, IsUntouched, ListingCause, LoadMet, first_parent, status_over}
 use Rattle.hg_save.specs.Record.{id_in, record_in}

@@ -6,7 +6,7 @@ use Rattle.hg_entry.specs.Table as plain
 use Rattle.hg_flat.specs.Full.{IsFullFor}
 use Rattle.hg_flat.specs.Met as flat_met
 use Rattle.hg_flat.specs.Parent.{IsAsked, IsLeft, IsServed, parent_rows}
-use Rattle.hg_flat.specs.Patterns.{CountsOversize, HadPatterns, WereRead, Warns, ignored_at, is_of_parent}
+use Rattle.hg_flat.specs.Patterns.{CountsOversize, HadPatterns, Warns, ignored_at, is_of_parent}
 use Rattle.hg_flat.specs.Shown.{flat_in}
 use Rattle.hg_flat.specs.declared.listed.Listed.{Listed}
 use Rattle.hg_flat.specs.declared.fault.StatusFault.{StatusFault}
@@ -14,6 +14,7 @@ use Rattle.hg_flat.specs.declared.fault.StatusFault.TheVariants as a_status
 use Rattle.hg_flat.specs.declared.flat.Flat.{Flat}
 use Rattle.hg_flat.specs.declared.row.Row.{Row}
 use Rattle.hg_flat.specs.declared.row.Wanted.{Wanted}
+use Rattle.hg_ignore.specs.Patterns.{WereRead}
 use Rattle.hg_ignore.specs.declared.warnings.Warning.{Warning}
 use Rattle.hg_report.specs.Cause.{of_status}
 use Rattle.hg_report.specs.declared.fault.Fault.{Fault}

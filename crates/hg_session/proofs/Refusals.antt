@@ -1,8 +1,9 @@
 -- What a call saw of the ignore patterns, where nobody else steps: it stands there.
 use Rattle.std.proofs.Common.{ℕ, ◌≡◌, ◌≤◌, ◌<◌, true, List, length, Option, Some, None, ap, ◌∙◌, subst, inl, inr, arith}
 use Rattle.std.specs.Option.{IsSomeAnd}
-use Rattle.hg_flat.specs.Patterns.{AreFine, HadPatterns, HasBytes, IsOver, KeepsPatterns, ReadSo, Saw, most_text, needs_patterns}
+use Rattle.hg_flat.specs.Patterns.{HadPatterns, needs_patterns}
 use Rattle.hg_flat.specs.declared.row.Wanted.{Wanted}
+use Rattle.hg_ignore.specs.Patterns.{AreFine, HasBytes, IsOver, KeepsPatterns, ReadSo, RefusesPatterns, Saw, most_text}
 use Rattle.hg_ignore.specs.Source.{text_at}
 use Rattle.hg_ignore.specs.State.{Ignore, ignore_file}
 use Rattle.hg_ignore.specs.declared.fault.IgnoreFault.TheVariants as an_ignore
@@ -10,7 +11,6 @@ use Rattle.hg_tree.specs.History.{History, IsOurs, Passes, now}
 use Rattle.hg_tree.specs.Moment.{Moment}
 use Rattle.hg_tree.proofs.Spans.{ours_unstepped}
 use Rattle.hg_tree.proofs.Stillness.{ours_untouched}
-use Rattle.hg_session.specs.Command.{RefusesPatterns}
 
 large_of : (most size : ℕ) (o : Option (List ℕ)) → most < size → IsSomeAnd o (λ text. size ≡ length text) → IsSomeAnd o (λ text. (most < length text) × (size ≡ length text))
 large_of most size None large is = absurd is

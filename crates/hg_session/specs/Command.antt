@@ -1,19 +1,17 @@
 -- What a command answers, and why.
-use Rattle.std.specs.Prelude.{ℕ, ◌≡◌, ◌⊎◌, ◌≤◌, ◌<◌, true, false, List, length, Option, Some, None, Result, Ok, Err, IfErr, IfSome, IsTrue, MatchBool, OnOk}
+use Rattle.std.specs.Prelude.{ℕ, ◌≡◌, ◌⊎◌, true, false, List, Option, Some, None, Result, Ok, Err, IfErr, IfSome, IsTrue, MatchBool, OnOk}
 use Rattle.std.specs.List.{AllByRecursion}
-use Rattle.std.specs.Str.{IsUtf8, IsValidUpTo}
 use Rattle.hg_base.specs.Fault.{Rose}
 use Rattle.hg_base.specs.declared.id.Id20.{Id20}
 use Rattle.hg_base.specs.declared.stat.Stat.{Stat}
 use Rattle.hg_compare.specs.Alike.{contents_name, is_alike}
 use Rattle.hg_entry.specs.Table.{Table, flat_of}
 use Rattle.hg_flat.specs.Parent.{IsAsked, IsServed, manifest_at, row_of}
-use Rattle.hg_flat.specs.Patterns.{AreFine, HasBytes, Warns, most_text, needs_patterns}
+use Rattle.hg_flat.specs.Patterns.{Warns, needs_patterns}
 use Rattle.hg_flat.specs.declared.row.Row.{Row}
 use Rattle.hg_flat.specs.declared.row.Wanted.{Wanted}
-use Rattle.hg_ignore.specs.Line.{lines_of}
+use Rattle.hg_ignore.specs.Patterns.{AreFine, RefusesPatterns}
 use Rattle.hg_ignore.specs.State.{Ignore}
-use Rattle.hg_ignore.specs.Taking.{HasLineCause}
 use Rattle.hg_ignore.specs.declared.fault.IgnoreFault.{IgnoreFault}
 use Rattle.hg_ignore.specs.declared.fault.IgnoreFault.TheVariants as an_ignore_fault
 use Rattle.hg_ignore.specs.declared.warnings.Warning.{Warning}
@@ -137,22 +135,6 @@ pub record LacksContents (wanted : Wanted) (files : shelf.Files) (moment : Momen
   pub names : row.id ≡ gone
   pub alike : (stat : Stat) × (stat_at moment path ≡ Some stat) × IsTrue (is_alike row stat)
   pub absent : files (contents_name gone.0) ≡ None
-
--- a text within the limit stands there, and its lines are refused so
-abbrev pub RefusesLines : Moment → IgnoreFault → Type 0
-RefusesLines moment fault = HasBytes (λ text. (length text ≤ most_text) × IsUtf8 text × HasLineCause (lines_of text) fault) moment
-
--- the file of ignore patterns stands there and is refused so: it is over the limit; or it is within it, and is no text from some byte on, or
--- a text whose lines are refused
-abbrev pub RefusesPatterns : Moment → IgnoreFault → Type 0
-RefusesPatterns moment an_ignore_fault.OutOfMemory = ⊥
-RefusesPatterns moment an_ignore_fault.Failed = ⊥
-RefusesPatterns moment (an_ignore_fault.IgnoreTooLarge size) = HasBytes (λ text. (most_text < length text) × (size ≡ length text)) moment
-RefusesPatterns moment (an_ignore_fault.IgnoreText at) = HasBytes (λ text. (length text ≤ most_text) × IsValidUpTo text at) moment
-RefusesPatterns moment (an_ignore_fault.BadGlob line) = RefusesLines moment (an_ignore_fault.BadGlob line)
-RefusesPatterns moment (an_ignore_fault.BadRegexp line) = RefusesLines moment (an_ignore_fault.BadRegexp line)
-RefusesPatterns moment (an_ignore_fault.RegexpTooBig line) = RefusesLines moment (an_ignore_fault.RegexpTooBig line)
-RefusesPatterns moment (an_ignore_fault.BadInclude line) = RefusesLines moment (an_ignore_fault.BadInclude line)
 
 -- the ignore patterns are needed, the files record a table, and the patterns are refused so
 pub record HasBadPatterns (wanted : Wanted) (files : shelf.Files) (moment : Moment) (fault : IgnoreFault) : Type 0 where
