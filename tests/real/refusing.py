@@ -194,6 +194,30 @@ def run_below(tests):
         tests.compare("from a folder below: no other .hg", [os.path.isdir(f"{root}/{it}/.hg") for it in ("sub", "sub/deep")], 2 * [False])
 
 
+# from which folder, the words with a dash in front, alone or beside others
+DASHED = [
+    (at, words)
+    for at in ("", "sub", "sub/deep")
+    for words in (["add", "--help"], ["forget", "--", "x"], ["add", "-x"], ["add", "x", "-x"], ["forget", "x", "-"], ["add", "--version"])
+]
+# words that tell a path with a dash in front from the root
+TELLS_DASHED = [("", ["add", "./-x"]), ("sub", ["add", "../-x"]), ("sub", ["forget", "../-d/x"]), ("-d", ["add", "x"]), ("-d", ["add", "./x"])]
+
+
+def run_dashed(tests):
+    """A word with a dash in front is none of a file, in every folder, and so is a path with one."""
+    with tests.working_copy() as root:
+        lay_out(root, ["x", "-x", "--", "--help", "sub/x", "sub/-x", "sub/--", "sub/--help", "sub/deep/x", "sub/deep/-x", "-d/x"])
+        put_record(root, *written([b"--", b"--help", b"-d/x", b"-x", b"sub/--", b"sub/deep/x", b"sub/x", b"x"]))
+        for at, words in DASHED + TELLS_DASHED:
+            before = recorded(root)
+            got = tests.run(os.path.join(root, at), words)
+            tests.compare(f"with a dash in front, in {at or '.'}: {' '.join(words)}", (*got, recorded(root) == before), (255, b"", aborted("not built yet"), True))
+        answer = tests.run(f"{root}/sub", ("add", "./-x", "deep/-x")), tests.run(f"{root}/sub/deep", ("forget", "./../--"))
+        now = tests.run(root, ("status", "-a", "-n"))
+        tests.compare("behind a folder a dash is part of a name", (answer, now), (2 * ((0, b"", b""),), (0, lines("--", "--help", "-d/x", "-x", "sub/-x", "sub/deep/-x", "sub/deep/x", "sub/x", "x"), b"")))
+
+
 def run(tests):
-    for part in (run_words, run_locked, run_damaged, run_rights, run_modes, run_outside, run_below):
+    for part in (run_words, run_locked, run_damaged, run_rights, run_modes, run_outside, run_below, run_dashed):
         part(tests)

@@ -3,14 +3,13 @@ use Rattle.std.proofs.Common.{ℕ, ◌≡◌, ◌+◌, ◌<◌, Bool, true, fals
 use Rattle.std.specs.List.{slice_get}
 use Rattle.std.proofs.lemmas.List.{at_drop_more, map-id}
 use Rattle.std.proofs.lemmas.Option.{get_or_from_slice_get}
-use Rattle.hg_words.specs.Command.{has_file_words, located, takes_files}
-use Rattle.hg_words.specs.Told.{from_folder}
+use Rattle.hg_words.specs.Command.{has_file_words, located, placed, takes_files}
 
 -- what a word becomes behind a command
 abbrev pub behind : List ℕ → Bool → List ℕ → List ℕ
-behind folder takes word = cond takes (from_folder folder word) word
+behind folder takes word = cond takes (placed folder word) word
 
-each : (folder : List ℕ) (takes : Bool) (words : List (List ℕ)) → map (behind folder takes) words ≡ cond takes (map (from_folder folder) words) words
+each : (folder : List ℕ) (takes : Bool) (words : List (List ℕ)) → map (behind folder takes) words ≡ cond takes (map (placed folder) words) words
 each folder true words = refl
 each folder false words = map-id words
 
@@ -24,7 +23,7 @@ begun folder command [] takes first is = absurd (cc)
 begun folder command (word ∷ words) takes first is =
     ap (λ (t : Bool). command ∷ map (behind folder t) words) (is ∙ ap takes_files (sym (some_same word command first)))
     ∙ ap (λ (l : List (List ℕ)). command ∷ l) (each folder (takes_files word) words)
-    ∙ ap (λ (c : List ℕ). c ∷ cond (takes_files word) (map (from_folder folder) words) words) (sym (some_same word command first))
+    ∙ ap (λ (c : List ℕ). c ∷ cond (takes_files word) (map (placed folder) words) words) (sym (some_same word command first))
 
 -- one more is put, and what is left becomes the rest
 pub one_on : (f : List ℕ → List ℕ) (words : List (List ℕ)) (i : ℕ) (word : List ℕ) (now new whole : List (List ℕ)) → i < length words → slice_get words i ≡ Some word
@@ -50,4 +49,4 @@ pub none_told : (folder : List ℕ) (words : List (List ℕ)) → has_file_words
 none_told folder [] without = refl
 none_told folder (command ∷ []) without = sym (ap (λ (l : List (List ℕ)). command ∷ l) (each folder (takes_files command) []))
 none_told folder (command ∷ word ∷ words) without =
-    ap (λ (t : Bool). command ∷ cond t (map (from_folder folder) (word ∷ words)) (word ∷ words)) without
+    ap (λ (t : Bool). command ∷ cond t (map (placed folder) (word ∷ words)) (word ∷ words)) without

@@ -2,7 +2,6 @@
 
 ghost use Rattle.std.specs.Prelude.{◌≡◌, ◌<◌, IfOk, if◌then◌else◌, length};
 ghost use Rattle.hg_words.specs.Command as commands;
-ghost use Rattle.hg_words.specs.Told as told;
 
 use crate::folder::from_folder;
 use hg_base::{OutOfMemory, Text, Words};
@@ -26,18 +25,25 @@ pub fn has_file_words(words: &Words) -> bool
     takes_files(words.at(0).as_str())
 }
 
+// Whether a word begins with a dash.
+fn is_dashed(word: &str) -> bool
+    ensures { result ≡ commands.is_dashed word.now }
+{
+    word.starts_with('-')
+}
+
 // A word behind a command.
 fn behind(alloc: Global, folder: &str, takes: bool, word: &str) -> Result<Text, OutOfMemory>
-    ensures { IfOk result (λ text. text ≡ (if takes then told.from_folder folder.now word.now else word.now)) }
+    ensures { IfOk result (λ text. text ≡ (if takes then commands.placed folder.now word.now else word.now)) }
 {
-    if takes {
+    if takes && !is_dashed(word) {
         return from_folder(alloc, folder, word);
     }
     Text::of(alloc, word)
 }
 
-/// The words of a command that is given in a folder: behind `add` and `forget` each word as the path that it tells there, and all
-/// others as they are.
+/// The words of a command that is given in a folder: behind `add` and `forget` each word as the path that it tells there, but
+/// for those that begin with a dash, and all others as they are.
 pub fn located(alloc: Global, folder: &str, words: &Words) -> Result<Words, OutOfMemory>
     ensures { IfOk result (λ all. all ≡ commands.located folder.now words.now) }
 {

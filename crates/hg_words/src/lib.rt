@@ -14,10 +14,12 @@
 //! A word that tells nothing stays as it is, and is no path: nothing is made up and nothing dropped. `.`, `..` and `x/../c` become texts that are no
 //! paths either, since each would end in `.` or `..` or have it inside. Links aren't followed.
 //!
+//! Behind a command a word that begins with a dash isn't told from a folder (`located`), so that it is one in every folder.
+//!
 //! ```text
 //! from_folder(alloc, "a/b", "../c")?;  // "a/c"
 //! from_folder(alloc, "", "c")?;        // "c"
-//! located(alloc, "a", &words)?;        // of `add c ../d`: `add a/c d`
+//! located(alloc, "a", &words)?;        // of `add c ../d -e`: `add a/c d -e`
 //! has_file_words(&words);              // true
 //! ```
 #![tactic(auto)]

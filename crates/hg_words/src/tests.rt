@@ -106,9 +106,15 @@ const COMMANDS: &[(&[&str], bool, &[&str])] = &[
         &["add", "d/e/add", "d/forget", "", "../../../a"],
     ),
     (
-        &["forget", "./a b", "-f"],
+        &["forget", "./a b", "-f", "--", "-", "a-"],
         true,
-        &["forget", "d/e/a b", "d/e/-f"],
+        &["forget", "d/e/a b", "-f", "--", "-", "d/e/a-"],
+    ),
+    (&["add", "--help"], true, &["add", "--help"]),
+    (
+        &["add", "./-x", "../../-x", ".-"],
+        true,
+        &["add", "d/e/-x", "-x", "d/e/.-"],
     ),
     (
         &["status", "-m", "add", "./a"],
