@@ -16,6 +16,8 @@
 #[cfg(test)]
 mod bytes;
 #[cfg(test)]
+mod calls;
+#[cfg(test)]
 mod crashes;
 #[cfg(test)]
 mod data_faults;

@@ -1,8 +1,13 @@
 // By which faults `add` and `forget` end, what is left then, and what they leave of a path that a parent has.
 use crate::bytes::{DocketOf, NODE, ONE, Record, data, docket};
 use crate::parents::{P1, W, files_of};
-use crate::saving::{A, A_B, THERE, expect_file, expect_record, expect_run, expect_told, one};
-use crate::setting::{EMPTY, Files, Plain, Setting, Things, What, both, run_beside, shelf_of};
+use crate::saving::{
+    A, A_B, NOTHING, THERE, expect_file, expect_record, expect_run, expect_told, one,
+};
+use crate::setting::{
+    EMPTY, Files, NONE, Plain, Setting, Things, Told, What, both, run_beside, shelf_of,
+};
+use hg_shelf::MemShelf;
 use std::alloc::Global;
 use std::process::Abort;
 use std::test::Fail;
@@ -27,6 +32,125 @@ fn waits_for_no_lock(rt: HostRuntime) -> Result<(), Fail> {
         shelf.hold(false);
         expect_run(&rt, &mut shelf, &["add", "b"], "", "", 0)?;
         expect_record(&rt, line, &mut shelf, A_B)?;
+    }
+    Ok(())
+}
+
+// A file beside which nothing stands.
+const NOTES: Things = &[("notes.txt", What::File)];
+
+fn beside_notes(alloc: Global, shelf: &mut MemShelf, words: &[&str]) -> Result<Told, Fail> {
+    let setting = Setting {
+        words,
+        things: NOTES,
+        ..EMPTY
+    };
+    run_beside(alloc, shelf, setting)
+}
+
+fn expect_notes<R: Abort + AllocGlobal>(
+    rt: &R,
+    shelf: &mut MemShelf,
+    words: &[&str],
+    out: &str,
+    err: &str,
+    status: u8,
+) -> Result<(), Fail> {
+    let told = beside_notes(rt.alloc(), shelf, words)?;
+    expect_told(rt, err, &told, out, err, status)
+}
+
+fn expect_no_files<R: Abort + AllocGlobal>(rt: &R, shelf: &mut MemShelf) -> Result<(), Fail> {
+    expect_file(rt, shelf, "dirstate", None)?;
+    expect_file(rt, shelf, "dirstate-new", None)?;
+    expect_file(rt, shelf, "dirstate.0000000000000000", None)
+}
+
+// The same where no record stands yet: nothing is written, and who only looks needs no lock.
+#[test]
+fn waits_for_no_first_lock(rt: HostRuntime) -> Result<(), Fail> {
+    let mut shelf = shelf_of(rt.alloc(), &NONE, EMPTY)?;
+    let add = ["add", "notes.txt"];
+    shelf.hold(true);
+    let line = "abort: working copy is locked\n";
+    expect_notes(&rt, &mut shelf, &add, "", line, 255)?;
+    assert_eq!(rt; shelf.calls(), 1);
+    expect_no_files(&rt, &mut shelf)?;
+    expect_notes(&rt, &mut shelf, &["status"], "? notes.txt\n", "", 0)?;
+    expect_notes(&rt, &mut shelf, &["debugdirstate"], NOTHING, "", 0)?;
+    shelf.hold(false);
+    expect_notes(&rt, &mut shelf, &add, "", "", 0)?;
+    shelf.hold(true);
+    expect_notes(&rt, &mut shelf, &["status"], "A notes.txt\n", "", 0)
+}
+
+// So many times `a`, behind `add ` and before the refusal.
+fn line_of(alloc: Global, len: usize, refusal: &str) -> Result<String, Fail> {
+    let mut line = String::from_str(alloc, "add ")?;
+    for _ in 0..len {
+        line.push('a')?;
+    }
+    line.push_str(": ")?;
+    line.push_str(refusal)?;
+    line.push('\n')?;
+    Ok(line)
+}
+
+fn word_in(line: &str) -> &str {
+    match line.split_once(": ") {
+        Some((front, _)) => front.split_once(' ').unwrap_or(("", front)).1,
+        None => line,
+    }
+}
+
+// A word is refused by its length where no record stands yet, and nothing is written: the lock is taken, the docket is read, and the lock is given back.
+#[test]
+fn refuses_a_word_that_is_too_long(rt: HostRuntime) -> Result<(), Fail> {
+    for (len, refusal) in [(65_535, "no such file"), (65_536, "bad path")] {
+        let line = line_of(rt.alloc(), len, refusal)?;
+        let words = ["add", word_in(line.as_str())];
+        let mut shelf = shelf_of(rt.alloc(), &NONE, EMPTY)?;
+        expect_run(&rt, &mut shelf, &words, "", line.as_str(), 1)?;
+        assert_eq!(rt; shelf.calls(), 3, "{refusal}");
+        expect_no_files(&rt, &mut shelf)?;
+    }
+    Ok(())
+}
+
+// The words, the failing call of the working copy and that of the files below `.hg`, the line, how many calls are made of the latter, and the record. The fault that is
+// told is the first: a change that failed isn't told by a lock that isn't given back either.
+const TWICE: &[(&[&str], u64, u64, &str, u64, &str)] = &[
+    (&["add", "b"], 0, 3, "abort: .hg failed\n", 5, A),
+    (&["add", "b"], 0, 4, "abort: working copy failed\n", 5, A),
+    (
+        &["add", "a", "nofile", "b"],
+        1,
+        4,
+        "abort: working copy failed\n",
+        5,
+        A,
+    ),
+    (&["add", "b"], 1, 4, "abort: .hg failed\n", 6, A),
+    (&["add", "nofile"], 1, 4, "abort: .hg failed\n", 5, A),
+    (&["add", "b", "d"], 2, 11, "abort: .hg failed\n", 12, A_B),
+];
+
+#[test]
+fn tells_the_first_of_two_faults(rt: HostRuntime) -> Result<(), Fail> {
+    let files = one(rt.alloc())?;
+    for (words, tree, call, line, calls, record) in TWICE {
+        let setting = Setting {
+            words,
+            things: THERE,
+            tree_fails: Some(*tree),
+            shelf_fails: Some(*call),
+            ..EMPTY
+        };
+        let mut shelf = shelf_of(rt.alloc(), &files, setting)?;
+        let told = run_beside(rt.alloc(), &mut shelf, setting)?;
+        expect_told(&rt, line, &told, "", line, 255)?;
+        assert_eq!(rt; shelf.calls(), *calls, "{words:?}");
+        expect_record(&rt, line, &mut shelf, record)?;
     }
     Ok(())
 }
