@@ -4,7 +4,7 @@ use hg_cli::{RealShelf, RealTree, Root};
 use hg_shelf::Shelf;
 use hg_tree::Tree;
 use std::fs::Permissions;
-use std::os::unix::fs::{PermissionsExt, symlink};
+use std::os::unix::fs::{MetadataExt, PermissionsExt, symlink};
 use std::process::Abort;
 use std::test::Fail;
 use std::time::{Duration, SystemTime};
@@ -130,6 +130,94 @@ fn tells_times(rt: HostRuntime) -> Result<(), Fail> {
         );
     }
     fs::remove_file(&rt, "timed_test")?;
+    Ok(())
+}
+
+// Gives a file or a folder a time. Neither is written to.
+fn set_time(rt: &HostRuntime, path: &str, time: SystemTime) -> io::Result<()> {
+    let file = fs::OpenOptions::new().read(true).open(rt, path)?;
+    file.set_modified(time)
+}
+
+type Shown = (i64, i64, Option<SystemTime>);
+
+// The time of what stands at a name of the root: what the adapter says of it, and what std does, by its numbers and as one value.
+fn shown_at(
+    rt: &HostRuntime,
+    tree: &mut RealTree<'_, HostRuntime>,
+    name: &str,
+) -> Result<((i64, i64), Shown), Fail> {
+    let stat = tree
+        .stat(PathRef::read(name)?)
+        .ok()
+        .ok_or("a failure")?
+        .ok_or("nothing there")?;
+    let metadata = fs::symlink_metadata(rt, name)?;
+    let shown = (
+        metadata.mtime(),
+        metadata.mtime_nsec(),
+        metadata.modified().ok(),
+    );
+    Ok(((stat.mtime.seconds, i64::from(stat.mtime.nanos)), shown))
+}
+
+// A time that is set, and what is told of it then. (std makes no time before 1970.)
+const TIMES: &[(u64, u32)] = &[
+    (1_234_567_890, 123_456_789),
+    (0, 999_999_999),
+    (4_294_967_296, 1),
+];
+
+fn lay_out_timed(rt: &HostRuntime) -> io::Result<()> {
+    let _ = fs::remove_file(rt, "timed_file");
+    let _ = fs::remove_dir_all(rt, "timed_folder");
+    fs::write(rt, "timed_file", b"one".as_slice())?;
+    fs::create_dir(rt, "timed_folder")
+}
+
+// The time that was set is told by the adapter as by std, of a file and of a folder, also behind a change of the mode alone.
+#[test]
+fn tells_the_times_that_std_tells(rt: HostRuntime) -> Result<(), Fail> {
+    let root = Root::nameless();
+    let mut tree = RealTree::new(&rt, &root);
+    lay_out_timed(&rt)?;
+    for (seconds, nanos) in TIMES {
+        let time = SystemTime::UNIX_EPOCH + Duration::new(*seconds, *nanos);
+        let told = (*seconds as i64, i64::from(*nanos));
+        for name in ["timed_file", "timed_folder"] {
+            set_time(&rt, name, time)?;
+            for mode in [0o700, 0o755, 0o600] {
+                fs::set_permissions(&rt, name, Permissions::from_mode(mode))?;
+                let shown = shown_at(&rt, &mut tree, name)?;
+                assert_eq!(rt;
+                    shown,
+                    (told, (told.0, told.1, Some(time))),
+                    "{name} {mode}"
+                );
+            }
+        }
+    }
+    fs::remove_file(&rt, "timed_file")?;
+    fs::remove_dir(&rt, "timed_folder")?;
+    Ok(())
+}
+
+// The time of a link is its own, and not that of the file to which it leads.
+#[test]
+fn tells_the_time_of_a_link(rt: HostRuntime) -> Result<(), Fail> {
+    let root = Root::nameless();
+    let mut tree = RealTree::new(&rt, &root);
+    let _ = fs::remove_file(&rt, "timed_link");
+    fs::write(&rt, "timed_target", b"one".as_slice())?;
+    symlink(&rt, "timed_target", "timed_link")?;
+    let time = SystemTime::UNIX_EPOCH + Duration::new(3, 5);
+    set_time(&rt, "timed_link", time)?;
+    let (ours, theirs) = shown_at(&rt, &mut tree, "timed_link")?;
+    let (target, _) = shown_at(&rt, &mut tree, "timed_target")?;
+    fs::remove_file(&rt, "timed_link")?;
+    fs::remove_file(&rt, "timed_target")?;
+    assert_eq!(rt; ours, (theirs.0, theirs.1));
+    assert_eq!(rt; (target, ours.0 > 3), ((3, 5), true));
     Ok(())
 }
 
