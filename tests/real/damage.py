@@ -1,8 +1,10 @@
 """Dirstates that are damaged or odd, each with the line that has to be printed."""
 
+import resource
+
 from dirstate import (ALL_UNKNOWN_RECORDED, DIRECTORY, EXPECTED_STATE_IS_MODIFIED, HAS_MODE_AND_SIZE, HAS_MTIME, IDENTIFIER,
                       P1_TRACKED, P2_INFO, WDIR_TRACKED, docket, record, written)
-from folder import aborted, lay_out, lines, put_record
+from folder import aborted, lay_out, limited, lines, put_record
 
 GOOD, DATA = written([b"a"])
 PARENT = b"\x11" * 20
@@ -125,6 +127,29 @@ def run_depth(tests):
     check(tests, "2,049 components", *written([f"{path}/a".encode()]), aborted("dirstate data: node 4097: depth"))
 
 
+# All the memory that a run may take where a count is wrong.
+SOME_MEMORY = 48 * 1024 * 1024
+
+
+def limited_memory():
+    limited()
+    resource.setrlimit(resource.RLIMIT_AS, (SOME_MEMORY, SOME_MEMORY))
+
+
+def run_counts(tests):
+    """The greatest counts of a docket, over two nodes, take no memory for what isn't there."""
+    data = b"ab" + record(0, 1) + record(1, 1)
+    for count in (0, 2, 4294967295):
+        for words, told in ((["status"], lines("A a", "! b", "? c")), (["debugdirstate"], None)):
+            with tests.working_copy() as root:
+                lay_out(root, ["a", "c"])
+                put_record(root, docket(len(data), (2, 2), counts=(count, count, count)), data)
+                status, out, err = tests.run(root, words, preexec_fn=limited_memory)
+                tests.compare(f"{count:,} entries over two nodes, within {SOME_MEMORY:,} bytes: {words[0]}", (status, told is None or out == told, err), (0, True, b""))
+                added = tests.run(root, ("add", "c"), preexec_fn=limited_memory), tests.run(root)
+                tests.compare(f"{count:,} entries over two nodes: add", added, ((0, b"", b""), (0, lines("A a", "A c", "! b"), b"")))
+
+
 def run(tests):
     for what, docket_bytes, has_data, line in DOCKETS:
         check(tests, f"docket: {what}", docket_bytes, DATA if has_data else None, aborted(line))
@@ -150,3 +175,4 @@ def run(tests):
                 put_record(root, docket_bytes, data, identifier)
                 tests.check(f"taken: {what}", root, lines(*told))
     run_depth(tests)
+    run_counts(tests)

@@ -83,6 +83,30 @@ TEXTS = [
     ("many regexps", b"".join(b"\\.ext%d$\n(^|/)no%d/such\n" % (i, i) for i in range(300)) + b"\\.c$\n"),
 ]
 
+# Where the two differ (docs/DECISIONS.md): what for, the text, what of these files is ignored by ours, and by hg.
+OTHERS = [
+    "a", "a.txt", "bar", "foo/x", "include/config.h", "include/x", "lib/include/config.h", "line\nfeed.txt", "myinclude", "sub/bar", "[!]x", "\u00e4.txt", "\u20ac",
+]
+ALL = [".hgignore", *OTHERS]
+BEYOND = "\u00e4.txt"
+CONFIGS = ["include/config.h", "lib/include/config.h"]
+DIFFERENT = [
+    ("the word include", b"include\n", ["include/config.h", "include/x", "lib/include/config.h", "myinclude"], ["include/config.h", "include/x"]),
+    ("the word include as a glob", b"syntax: glob\ninclude\n", ["include/config.h", "include/x", "lib/include/config.h"], ["include/config.h", "include/x"]),
+    ("include in front", b"include/config.h\n", CONFIGS, ["include/config.h"]),
+    ("include in front of a glob", b"syntax: glob\ninclude/config.h\n", CONFIGS, ["include/config.h"]),
+    ("one character of two bytes in a glob", b"syntax: glob\n?.txt\n", ["a.txt", BEYOND], ["a.txt"]),
+    ("one character of three bytes", b"syntax: glob\n?\n", ["a", "foo/x", "include/x", "\u20ac"], ["a", "foo/x", "include/x"]),
+    ("a character of two bytes in a class", "syntax: glob\n[\u00e4\u00f6].txt\n".encode(), [BEYOND], []),
+    ("one character of two bytes in a regexp", rb"^.\.txt$" b"\n", ["a.txt", BEYOND], ["a.txt"]),
+    ("a character of two bytes in a regexp's class", "^[\u00e4\u00f6]\\.txt$\n".encode(), [BEYOND], []),
+    ("two dots in a glob", b"syntax: glob\nfoo/../bar\n", [], ["bar", "sub/bar"]),
+    ("a regexp of the empty path", b"^$\n", [], ALL),
+    ("a glob of the empty path", b"syntax: glob\n{,a}\n", ["a"], ALL),
+    ("a glob over a line feed", b"syntax: glob\n*.txt\n", ["a.txt", "line\nfeed.txt", BEYOND], ["a.txt", BEYOND]),
+    ("a bracket without its end", b"syntax: glob\n[!]x\n", ["[!]x"], None),
+]
+
 MOST = 1_048_576
 # What a text is refused for.
 REFUSED = [
@@ -93,6 +117,9 @@ REFUSED = [
     ("a glob of 4,096 bytes", b"syntax: glob\n" + 4096 * b"a" + b"\n", ".hgignore line 2: glob"),
     ("a glob of 4,095 bytes is taken", b"syntax: glob\n" + 4095 * b"a" + b"\n", None),
     ("a look ahead", b"a\n(?=a)\n", ".hgignore line 2: regexp"),
+    ("a look behind", b"(?<=a)b\n", ".hgignore line 1: regexp"),
+    ("a back reference", rb"(a)\1" b"\n", ".hgignore line 1: regexp"),
+    ("the end of a text by \\Z", rb"a\Z" b"\n", ".hgignore line 1: regexp"),
     ("a group without its end", b"(a\n", ".hgignore line 1: regexp"),
     ("a regexp that is too big", b"((a{1000}){1000}){1000}\n", ".hgignore line 1: size"),
     ("one that is too heavy", b"a\na{100000}\n", ".hgignore line 2: size"),
@@ -119,6 +146,28 @@ def run_texts(tests):
             for words in (("status", "-A"), ("status",), ("status", "-i"), ("status", "-u")):
                 wanted = hg(root, *words)
                 tests.compare(f"ignoring: {what}: {' '.join(words)}", tests.run(root, words), (0, wanted.stdout, b""))
+
+
+def ended(paths):
+    """The bytes of a listing of these paths, each ended by NUL."""
+    return b"".join(it + b"\0" for it in sorted(map(os.fsencode, paths)))
+
+
+def run_different(tests, with_hg):
+    """What the two differ in: each by what ours says, and by what hg says where it is there."""
+    with tests.working_copy() as root:
+        if with_hg:
+            init(root)
+        lay_out(root, [".hg/", *OTHERS])
+        for what, text, ours, theirs in DIFFERENT:
+            put(f"{root}/.hgignore", text)
+            tests.compare(f"ignoring, other than hg: {what}", tests.run(root, ("status", "-i", "-n", "-0")), (0, ended(ours), b""))
+            if with_hg:
+                ran = hg(root, "status", "-i", "-n", "-0")
+                tests.compare(f"ignoring, other than hg: {what}: hg", (ran.returncode, ran.stdout), (255, b"") if theirs is None else (0, ended(theirs)))
+        put(f"{root}/.hgignore", b"syntax: include\nfoo\n")
+        warned = lines(".hgignore line 1: unknown syntax include")
+        tests.compare("ignoring, other than hg: the syntax include", tests.run(root, ("status", "-i", "-n", "-0")), (0, ended(["foo/x"]), warned))
 
 
 def run_refused(tests):
@@ -160,6 +209,7 @@ def run(tests):
     run_refused(tests)
     run_warned(tests)
     run_unread(tests)
+    run_different(tests, shutil.which("hg") is not None)
     if shutil.which("hg") is None:
         tests.skip("the command hg is not installed, so no ignore texts were compared")
         return

@@ -6,7 +6,8 @@ import sys
 from dirstate import written
 from folder import lay_out, lines, put_record
 
-TOGGLES = 1_000
+# how often a neighbour comes and goes, and how often at most that is done again where it was never seen
+TOGGLES, ROUNDS = 1_000, 10
 TRACKED = [b"a", b"d/gone", b"d/t", b"d/e/below"]
 THINGS = ["a", "d/t", "d/u", "d/e/below", "d/e/w", "d/l -> u"]
 STAY = lines("A a", "A d/e/below", "A d/t", "! d/gone", "? d/e/w", "? d/l", "? d/u")
@@ -32,32 +33,44 @@ def run_neighbour(tests):
     with tests.working_copy() as root:
         lay_out(root, THINGS)
         put_record(root, *written(TRACKED))
-        toggler = subprocess.Popen([sys.executable, "-c", TOGGLER, str(TOGGLES)], cwd=root)
-        runs, bad, came = 0, [], set()
-        while toggler.poll() is None:
-            status, out, err = tests.run(root)
-            rows = out.split(b"\n")
-            runs += 1
-            came |= COME & set(rows) - {b""}
-            kept = [row for row in rows if row not in COME or not row]
-            if (status, b"\n".join(kept), err) != (0, STAY, b"") or len(set(rows)) != len(rows):
-                bad.append((status, out, err))
-        tests.compare(f"a neighbour that comes and goes {TOGGLES:,} times: {runs} runs, {len(came)} of 3 seen", (bad[:2], toggler.returncode, runs > 20), ([], 0, True))
+        runs, bad, came, missed, ends = 0, [], set(), 0, set()
+        for _ in range(ROUNDS):
+            toggler = subprocess.Popen([sys.executable, "-c", TOGGLER, str(TOGGLES)], cwd=root)
+            while toggler.poll() is None:
+                status, out, err = tests.run(root)
+                rows = out.split(b"\n")
+                now = COME & set(rows) - {b""}
+                runs, came, missed = runs + 1, came | now, missed + (len(now) < len(COME) - 1)
+                kept = [row for row in rows if row not in COME or not row]
+                if (status, b"\n".join(kept), err) != (0, STAY, b"") or len(set(rows)) != len(rows):
+                    bad.append((status, out, err))
+            ends.add(toggler.returncode)
+            # (a status that saw it come and one that didn't: without both there was no neighbour that comes and goes)
+            if bad or came and missed and runs > 20:
+                break
+        what = f"a neighbour that comes and goes {TOGGLES:,} times: {runs} runs, {len(came)} of 3 seen, {missed} runs without one of them"
+        tests.compare(what, (bad[:2], ends, runs > 20, bool(came), missed > 0), ([], {0}, True, True, True))
         tests.compare("the neighbour is gone", tests.run(root), (0, STAY, b""))
 
 
 def run_flushed(tests):
-    """All that was printed stands in a file when the program has ended, and the line of a fault behind it."""
-    with tests.working_copy() as root:
-        names = [f"n{i:05}" for i in range(3_000)]
-        lay_out(root, names)
-        path = f"{tests.room}/printed"
-        for words, wanted in [(("status",), lines(*[f"? {it}" for it in names])), (("stat",), b"abort: not built yet\n")]:
-            with open(path, "wb") as both:
-                status = tests.run(root, words, stdout=both, stderr=both)[0]
-            with open(path, "rb") as both:
-                said = both.read()
-            tests.compare(f"{words[0]} into a file", (status, said.removeprefix(b"hgtrack: no .hg here or above\n")), (0 if words == ("status",) else 255, wanted))
+    """All that was printed stands in a file when the program has ended, also behind the last line feed or without any, and the line of a fault behind it."""
+    for names in (["n"], [f"n{i:05}" for i in range(3_000)]):
+        with tests.working_copy() as root:
+            lay_out(root, names)
+            path = f"{tests.room}/printed"
+            for words, wanted in [
+                (("status",), lines(*[f"? {it}" for it in names])),
+                (("status", "-0"), b"".join(b"? %b\0" % it.encode() for it in names)),
+                (("status", "-0", "-n"), b"".join(b"%b\0" % it.encode() for it in names)),
+                (("stat",), b"abort: not built yet\n"),
+            ]:
+                with open(path, "wb") as both:
+                    status = tests.run(root, words, stdout=both, stderr=both)[0]
+                with open(path, "rb") as both:
+                    said = both.read()
+                answer = status, said.removeprefix(b"hgtrack: no .hg here or above\n")
+                tests.compare(f"{' '.join(words)} of {len(names):,} files into a file", answer, (0 if words[0] == "status" else 255, wanted))
 
 
 def run(tests):

@@ -13,7 +13,7 @@ from folder import aborted, as_nobody, because, lay_out, lines, put, put_record,
 from saving import told
 
 GOOD, DATA = written([b"a", b"d/b"])
-DATA_FILE = f"dirstate.{0:016x}"
+DATA_FILE, DATA_NEXT = (f"dirstate.{it:016x}" for it in (0, 1))
 LOCKED = aborted("working copy is locked")
 
 # the words, and what is said of them
@@ -108,10 +108,35 @@ def run_damaged(tests):
                 refused(tests, what, root, words, (255, b"", aborted(line)))
 
 
-def small_files():
-    """No file may grow: a write fails, in place of a signal."""
-    signal.signal(signal.SIGXFSZ, signal.SIG_IGN)
-    resource.setrlimit(resource.RLIMIT_FSIZE, (0, 0))
+def files_of(most):
+    """No file may be of more bytes: a write ends there, and the next one fails, in place of a signal."""
+
+    def small_files():
+        signal.signal(signal.SIGXFSZ, signal.SIG_IGN)
+        resource.setrlimit(resource.RLIMIT_FSIZE, (most, most))
+
+    return small_files
+
+
+# the command, how many bytes a file may have, the file of which that isn't enough, and how many it then has
+NO_ROOM = [
+    (["add", "new"], 0, DATA_NEXT, 0),
+    (["forget", "a"], 0, DATA_NEXT, 0),
+    (["add", "new"], 20, DATA_NEXT, 20),
+    (["forget", "a"], 20, DATA_NEXT, 20),
+    (["add", "new", "l"], 100, DATA_NEXT, 100),
+    # (the data where `a` alone is tracked have 45 bytes, and the docket 141)
+    (["forget", "d/b"], 100, "dirstate-new", 100),
+]
+
+
+def contents(root):
+    """The bytes of each file in `.hg`."""
+    found = {}
+    for name in os.listdir(f"{root}/.hg"):
+        with open(f"{root}/.hg/{name}", "rb") as file:
+            found[name] = file.read()
+    return found
 
 
 def run_rights(tests):
@@ -126,17 +151,18 @@ def run_rights(tests):
         before = seen(root)
         got = tests.run(root, ("add", "a"), **as_nobody())
         tests.compare("no .hg may be made", (got[0], got[1], b"abort: .hg failed\n" in got[2], seen(root) == before), (255, b"", True, True))
-    for words in (["add", "new"], ["forget", "a"]):
+    for words, most, name, part in NO_ROOM:
         with tests.working_copy() as root:
             lay_some(root)
-            before = {name: open(f"{root}/.hg/{name}", "rb").read() for name in os.listdir(f"{root}/.hg")}
-            name = f".hg/dirstate.{1:016x}"
-            got = tests.run(root, words, preexec_fn=small_files)
-            left = sorted(os.listdir(f"{root}/.hg"))
-            same = all(open(f"{root}/.hg/{it}", "rb").read() == content for it, content in before.items())
-            tests.compare(f"no file may grow: {words[0]}", (got, same), ((255, b"", aborted(".hg failed") + because(name, "file too large")), True))
-            tests.compare(f"no file may grow: what is left behind {words[0]}", set(left) - set(before) - {f"dirstate.{1:016x}"}, set())
-            tests.compare("and then there is room", tests.run(root, words), (0, b"", b""))
+            before = contents(root)
+            shown = tests.run(root, ("debugdirstate",))
+            got = tests.run(root, words, preexec_fn=files_of(most))
+            left = contents(root)
+            same = all(left.get(it) == content for it, content in before.items())
+            case = f"no file of more than {most} bytes: {' '.join(words)}"
+            tests.compare(case, (got, same, tests.run(root, ("debugdirstate",))), ((255, b"", aborted(".hg failed") + because(f".hg/{name}", "file too large")), True, shown))
+            tests.compare(f"{case}: what is left behind", (set(left) - set(before) <= {DATA_NEXT, name}, len(left.get(name, b""))), (True, part))
+            tests.compare(f"{case}: and then there is room", (tests.run(root, words), sorted(contents(root))), ((0, b"", b""), ["dirstate", DATA_NEXT]))
 
 
 def mode(path):

@@ -9,7 +9,7 @@ import time
 
 from calls import let_go, watched
 from folder import SECONDS, aborted, lay_out
-from mercurial import hg
+from mercurial import OPTIONS, hg
 from parents import export, init
 from saving import told
 
@@ -95,31 +95,41 @@ def run_turns(tests, what, committed):
 
 
 def run_their_lock(tests):
-    """Mercurial has the lock: by a running hg, and by the link that it makes."""
-    with tests.working_copy() as root:
+    """Mercurial has the lock: in the midst of a commit, which a hook holds there, and by the link that it makes."""
+    with tests.working_copy() as room:
+        root, inside, go = f"{room}/root", f"{room}/inside", f"{room}/go"
+        lay_out(root, ["a", "b", "c"])
         hg(root, "init")
-        lay_out(root, ["a", "b"])
+        hg(root, "add", "a")
+        before = f"{root}/.hg/dirstate"
+        hook = f"hooks.pretxncommit.wait=touch {inside}; n=0; while [ ! -e {go} ] && [ $n -lt {20 * SECONDS} ]; do sleep 0.05; n=$((n+1)); done"
         env = {**os.environ, "HGRCPATH": "", "HGPLAIN": "1"}
-        slow = ["--config", "storage.dirstate-v2.slow-path=allow"]
-        at = subprocess.Popen(["hg", "debuglocks", "--set-wlock", *slow], cwd=root, env=env, stdin=subprocess.DEVNULL, stdout=subprocess.PIPE, stderr=subprocess.PIPE)
+        at = subprocess.Popen(["hg", "commit", "-m", "one", "--config", hook, *OPTIONS], cwd=root, env=env, stdin=subprocess.DEVNULL, stdout=subprocess.PIPE, stderr=subprocess.PIPE)
         try:
             until = time.monotonic() + SECONDS
-            while not os.path.islink(f"{root}/.hg/wlock") and time.monotonic() < until:
+            while not os.path.exists(inside) and at.poll() is None and time.monotonic() < until:
                 time.sleep(0.01)
-            tests.compare("hg holds its lock", os.path.islink(f"{root}/.hg/wlock"), True)
-            for words in (("add", "a"), ("forget", "a")):
-                tests.compare(f"{words[0]} while hg holds its lock", tests.run(root, words), (255, b"", LOCKED))
-            tests.compare("and the lock is as it was", os.path.islink(f"{root}/.hg/wlock"), True)
+            lock = f"{root}/.hg/wlock"
+            tests.compare("hg is in the midst of a commit, with its lock", (at.poll(), os.path.exists(inside), os.path.islink(lock)), (None, True, True))
+            held, docket = os.readlink(lock), read(before)
+            for words in (("add", "b"), ("forget", "a"), ("add", "gone")):
+                tests.compare(f"{' '.join(words)} while hg commits", tests.run(root, words), (255, b"", LOCKED))
+            tests.compare("a status while hg commits", tests.run(root, ("status", "-a", "-u")), (0, b"A a\n? b\n? c\n", b""))
+            tests.compare("and hg has its lock and its record as they were", (at.poll(), os.readlink(lock), read(before) == docket), (None, held, True))
         finally:
-            at.terminate()
-            at.communicate()
-        if os.path.islink(f"{root}/.hg/wlock"):
-            os.remove(f"{root}/.hg/wlock")
-        tests.compare("add behind hg's lock", tests.run(root, ("add", "a")), (0, b"", b""))
-        os.symlink("somewhere:1", f"{root}/.hg/wlock")
-        tests.compare("add beside the link of a lock", tests.run(root, ("add", "b")), (255, b"", LOCKED))
-        os.remove(f"{root}/.hg/wlock")
-        tests.compare("and it was left out", hg(root, "status").stdout, b"A a\n? b\n")
+            lay_out(room, ["go"])
+            err = at.communicate(timeout=SECONDS)[1]
+        tests.compare("hg's commit ends well", (at.returncode, err, hg(root, "status").stdout), (0, b"", b"? b\n? c\n"))
+        tests.compare("add behind hg's lock", (tests.run(root, ("add", "b")), hg(root, "status").stdout), ((0, b"", b""), b"A b\n? c\n"))
+        os.symlink("somewhere:1", lock)
+        tests.compare("add beside the link of a lock", tests.run(root, ("add", "c")), (255, b"", LOCKED))
+        os.remove(lock)
+        tests.compare("and it was left out", hg(root, "status").stdout, b"A b\n? c\n")
+
+
+def read(path):
+    with open(path, "rb") as file:
+        return file.read()
 
 
 def run_our_lock(tests, calls):
