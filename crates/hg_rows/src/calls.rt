@@ -39,7 +39,7 @@ const CALLS: &[(&str, &str, &str, &str)] = &[
     ("no further call", "b-ab", "b--b", "b--b"),
 ];
 
-const NAMES: [&str; 4] = [
+const NAMES: &[&str] = &[
     "dirstate",
     "dirstate-new",
     "dirstate.0000000000000000",
@@ -94,12 +94,12 @@ fn expect_crash<R: Abort + AllocGlobal>(
     let a = one(rt.alloc())?;
     let b = two(rt.alloc())?;
     let mut left = crashed(shelf, call, pick)?;
-    let mut letters = [b'.'; 4];
-    for (letter, name) in letters.iter_mut().zip(NAMES) {
-        *letter = look(&mut left, name, &a, &b)?;
+    let mut letters = Vec::new(rt.alloc());
+    for name in NAMES {
+        letters.push(look(&mut left, name, &a, &b)?)?;
     }
     assert_eq!(rt;
-        &letters[..],
+        letters.as_slice(),
         wanted.as_bytes(),
         "pick {pick} before call {call}"
     );
@@ -120,7 +120,7 @@ fn calls_in_order(rt: HostRuntime) -> Result<(), Fail> {
     Ok(())
 }
 
-// What others put in place of a file: a text of one byte, the data of `a` without their last byte, those of `c`, or those of `a`.
+// What others put in place of a file: a text of one byte, the record of `a` without the text before it, the data of `c`, or those of `a`.
 #[derive(Clone, Copy, Debug)]
 enum By {
     Torn,
@@ -166,8 +166,8 @@ const DOCKET: &str = "dirstate";
 
 const DATA: &str = "dirstate.0000000000000000";
 
-// What others put just before which call of `add a` over no files: the line, how many calls are made, and the record. The docket is read by the second
-// call, and by none before or after it.
+// What others put just before which call of `add a` over no files: the line, how many calls are made, and the record. The docket is read
+// by the second call, and by none before or after it.
 const FIRST: &[(&[(u64, &str, By)], &str, u64, &str)] = &[
     (&[(1, DOCKET, By::Torn)], MARKER, 3, ""),
     (&[(2, DOCKET, By::Torn)], "", 9, A),

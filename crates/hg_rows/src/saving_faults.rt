@@ -103,7 +103,8 @@ fn word_in(line: &str) -> &str {
     }
 }
 
-// A word is refused by its length where no record stands yet, and nothing is written: the lock is taken, the docket is read, and the lock is given back.
+// A word is refused by its length where no record stands yet, and nothing is written: the lock is taken, the docket is read, and the lock
+// is given back.
 #[test]
 fn refuses_a_word_that_is_too_long(rt: HostRuntime) -> Result<(), Fail> {
     for (len, refusal) in [(65_535, "no such file"), (65_536, "bad path")] {
@@ -117,8 +118,8 @@ fn refuses_a_word_that_is_too_long(rt: HostRuntime) -> Result<(), Fail> {
     Ok(())
 }
 
-// The words, the failing call of the working copy and that of the files below `.hg`, the line, how many calls are made of the latter, and the record. The fault that is
-// told is the first: a change that failed isn't told by a lock that isn't given back either.
+// The words, the failing call of the working copy and that of the files below `.hg`, the line, how many calls are made of the latter, and the
+// record. The fault that is told is the first; where that isn't the lock's, the lock is tried to be given back all the same.
 const TWICE: &[(&[&str], u64, u64, &str, u64, &str)] = &[
     (&["add", "b"], 0, 3, "abort: .hg failed\n", 5, A),
     (&["add", "b"], 0, 4, "abort: working copy failed\n", 5, A),
