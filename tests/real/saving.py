@@ -15,6 +15,8 @@ PARENT = b"\x11" * 20
 KILLED = -9
 NEXT = "next"
 NO_WAY = aborted("working copy failed") + because(".", "no way to the root or back")
+# The first two data files that a record names.
+DATA = [f"dirstate.{it:016x}" for it in (0, 1)]
 # What no save leaves behind, and the next one takes away where an earlier one was stopped.
 LEFT = {"wlock", "dirstate-new"}
 
@@ -79,9 +81,6 @@ SCENES = [
     Scene("forget files of a commit", ["forget", "a", "d/b"], dict.fromkeys(["a", "c", "d/b"], "n"), {"a": "r", "c": "n", "d/b": "r"}, PARENT),
 ]
 
-
-# The scenes in which each call fails too.
-FAILING = {"the first files, no .hg", "files to a record of some", "a file behind an earlier stop", "forget some"}
 
 # In memory where there is such a place: what is synced there takes no time, and a process that is killed loses nothing else than on a disk.
 MEMORY = "/dev/shm"
@@ -179,6 +178,68 @@ def run_failures(tests, calls, scene, template):
     return passed
 
 
+# What each call of the record's device is to the system, by the names of its files below `.hg`, which is `.` itself: taking the lock, looking at
+# what isn't there, the size, reading, writing, making sure, renaming over a file or not, making names sure, removing, giving the lock back.
+LOCK = ["mkdir .", "statx wlock", "openat wlock", "flock wlock", "statx wlock", "statx wlock"]
+UNLOCK = ["statx wlock", "statx wlock", "unlink wlock", "close wlock (deleted)"]
+SYNC_NAMES = ["openat .", "fsync .", "close ."]
+
+
+def size(name):
+    return [f"statx {name}"]
+
+
+def read_at(name, reads):
+    return [f"{call} {name}" for call in ("statx", "openat", "lseek", *reads * ["read"], "close")]
+
+
+def write_at(name):
+    return ["mkdir ."] + [f"{call} {name}" for call in ("statx", "openat", "statx", "lseek", "write", "close")]
+
+
+def sync(name):
+    return [f"{call} {name}" for call in ("statx", "openat", "fsync", "close")] + SYNC_NAMES
+
+
+def rename(old, new, is_there):
+    return [f"statx {old}", "mkdir .", f"statx {new}"] + is_there * [f"chmod {old}"] + [f"rename {old}"]
+
+
+def remove(name):
+    return [f"unlink {name}"]
+
+
+# The shelf's calls of two commands, one after another, by name and in order. (The docket is read into more room than it takes, so up to a read of
+# nothing, and of the data as many bytes as there are.)
+IN_ORDER = [
+    (["add", "a"], [
+        LOCK, size("dirstate"), write_at(DATA[0]), sync(DATA[0]), write_at("dirstate-new"), sync("dirstate-new"),
+        rename("dirstate-new", "dirstate", False), SYNC_NAMES, UNLOCK,
+    ]),
+    (["add", "b"], [
+        LOCK, read_at("dirstate", 2), size(DATA[0]), read_at(DATA[0], 1), write_at(DATA[1]), sync(DATA[1]), write_at("dirstate-new"), sync("dirstate-new"),
+        rename("dirstate-new", "dirstate", True), SYNC_NAMES, remove(DATA[0]), UNLOCK,
+    ]),
+]
+
+
+def named(root, row):
+    """A row of the watcher, with what it names as a path from `.hg`; nothing where that is the root, or what stands beside `.hg`."""
+    call, _, path = row.partition(" ")
+    name = os.path.relpath(path, f"{os.path.realpath(root)}/.hg")
+    return [] if name.startswith("..") else [f"{call} {name}"]
+
+
+def run_in_order(tests, calls):
+    """What two commands do below `.hg`, call by call: nothing else, and in this order. Before it there is the look for `.hg`."""
+    with tests.working_copy() as root:
+        lay_out(root, [".hg/", "a", "b"])
+        for words, wanted in IN_ORDER:
+            status, rows = calls.listed(root, words)
+            names = [it for row in rows for it in named(root, row)]
+            tests.compare(f"in order: {' '.join(words)}: {len(wanted)} calls of the shelf", (status, names), (0, ["statx ."] + sum(wanted, [])))
+
+
 def run_below(tests, calls):
     """From a folder below the root, a look for `.hg` that fails makes no other working copy of that folder."""
     for number in (1, 2):
@@ -198,9 +259,9 @@ def run(tests):
         with tests.working_copy() as template:
             scene.make(template)
             stops += run_stops(tests, calls, scene, template)
-            if scene.what in FAILING:
-                passed |= run_failures(tests, calls, scene, template)
+            passed |= run_failures(tests, calls, scene, template)
     run_below(tests, calls)
+    run_in_order(tests, calls)
     tests.compare(f"{stops} stops", stops >= 300, True)
     tests.compare("calls whose failure changes nothing", sorted(passed), PASSED)
 
