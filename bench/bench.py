@@ -418,6 +418,27 @@ SHORT = {
     "with choices of one character": [f"~{{{a},{b},?}}*" for a in PRINTED for b in WIDE],
 }
 
+# Regexps that match nothing there, and that keep many places in mind at each character: gaps of many lengths between classes that most characters are in,
+# by themselves and as alternatives. As many stand in a text as may together, which no formula of this script says: the program is asked.
+BITS = "packgedirothxt012/."
+CLASSES = [f"[{''.join(BITS[(i * step + start) % len(BITS)] for i in range(9))}]" for start in range(len(BITS)) for step in (1, 2, 4, 5)]
+TAILS = ["[0-9]{4}", "[p-z]{6}"]
+
+
+def wide(number, *gaps):
+    """A regexp of classes with such gaps between them, another for each number."""
+    classes = [CLASSES[(number * 7 + i * 13 + number // len(CLASSES)) % len(CLASSES)] for i in range(len(gaps))]
+    return "".join(f"{it}[.-z]{{{number % 4},{gap + number % 9}}}" for it, gap in zip(classes, gaps)) + TAILS[number % 2]
+
+
+MINDFUL = {
+    "of one gap": [wide(i, 5) for i in range(20_000)],
+    "of two gaps": [wide(i, 20, 15) for i in range(2_000)],
+    "of three gaps": [wide(i, 20, 20, 20) for i in range(1_000)],
+    "of ten alternatives": ["(?:" + "|".join(wide(10 * i + j, 20, 20, 20) for j in range(10)) + ")" for i in range(200)],
+    "of forty alternatives": ["(?:" + "|".join(wide(40 * i + j, 20, 20, 20) for j in range(40)) + ")" for i in range(60)],
+}
+
 
 def fitting(lines):
     """As many of the lines as fit in the text with the most bytes that is read."""
@@ -462,7 +483,21 @@ def patterns(bench):
         lines = fitting(forms)
         what, seconds, _, most = told(f"with {len(lines):,} lines {name}", ignore_text("glob", lines), 20, 1)
         bench.tell(f"its time {what}", seconds, most, " s")
+    for name, forms in MINDFUL.items():
+        lines = taken(bench, root, forms)
+        what, seconds, memory, most = told(f"with {len(lines):,} regexps {name}", ignore_text("regexp", lines), 20, 1)
+        bench.tell(f"its time {what} ({memory:.0f} MB)", seconds, most, " s")
     shutil.rmtree(root)
+
+
+def taken(bench, root, forms):
+    """As many of the regexps as the program takes together: it names the first line that is too much."""
+    with open(f"{root}/.hgignore", "w", encoding="utf-8") as file:
+        file.write(ignore_text("regexp", fitting(forms)))
+    ran = subprocess.run([bench.program, "status"], cwd=root, stdin=subprocess.DEVNULL, stdout=subprocess.DEVNULL, stderr=subprocess.PIPE)
+    words = ran.stderr.decode().split()
+    # (the first line names the syntax)
+    return forms[:int(words[3].rstrip(":")) - 2] if ran.returncode else fitting(forms)
 
 
 PARTS = {
