@@ -15,6 +15,8 @@ use Rattle.hg_session.specs.Call.{Call, Watched}
 use Rattle.hg_session.specs.Command.{CommandCause, IsFaultOrMemory, IsPartlyWarned, IsSilent, LeavesErr, LeavesFront, LeavesOut, Prints, RanStatus, Tells, TellsLine, wanted_in}
 use Rattle.hg_session.specs.Flags.{is_status, style_of}
 use Rattle.hg_session.specs.Listed.{AsksLittle, IsOwn}
+use Rattle.hg_session.specs.declared.list_fault.ListFault.TheVariants as a_list
+use Rattle.hg_session.specs.declared.read_fault.ReadFault.TheVariants as a_read
 use Rattle.hg_session.proofs.Expectations.{cause_expected, listed_own, none_expected}
 
 -- ---- what a fault leaves
@@ -30,8 +32,8 @@ told_apart fault told is = let never : false ≡ true = sym (ap has_line is) ∙
 
 -- what a fault leaves may also be left where there is no memory for its line
 left_any : (call : Call) (fault : Fault) → has_line fault ≡ true → LeavesOut call fault → LeavesOut call a_fault.OutOfMemory
-left_any call fault told (inl (before, same)) = inl (inr tt, same)
-left_any call fault told (inr (inl (printing, begun))) = inr (inl (record { listable = printing.listable; failed = printing.failed; kind = tt }, begun))
+left_any call fault told (inl (before, same)) = inl (inr (a_list.Read a_read.OutOfMemory, refl, tt), same)
+left_any call fault told (inr (inl (printing, begun))) = inr (inl (record { listable = printing.listable; failed = printing.failed; kind = inr refl }, begun))
 left_any call fault told (inr (inr (warning, printed))) = told_apart fault told warning.kind
 
 -- and it is left whatever is told behind it

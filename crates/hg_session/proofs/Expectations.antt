@@ -12,6 +12,7 @@ use Rattle.hg_flat.specs.Full.{IsFull}
 use Rattle.hg_flat.specs.Met as flat_met
 use Rattle.hg_flat.specs.Parent.{IsAsked, IsServed, manifest_at, parent_rows}
 use Rattle.hg_flat.specs.Patterns.{HadPatterns, ignored_at, needs_patterns}
+use Rattle.hg_flat.specs.declared.fault.StatusFault.TheVariants as a_status
 use Rattle.hg_flat.specs.declared.row.Row.{Row}
 use Rattle.hg_flat.specs.declared.row.Wanted.{Wanted}
 use Rattle.hg_flat.proofs.Fullness.{full_of}
@@ -24,7 +25,6 @@ use Rattle.hg_ignore.specs.declared.fault.IgnoreFault.TheVariants as an_ignore
 use Rattle.hg_manifest.specs.declared.fault.ManifestFault.{ManifestFault}
 use Rattle.hg_manifest.specs.declared.fault.ManifestFault.TheVariants as a_manifest
 use Rattle.hg_report.specs.declared.fault.Fault.{Fault}
-use Rattle.hg_report.specs.declared.fault.Fault.TheVariants as a_fault
 use Rattle.hg_shelf.specs.History as shelf
 use Rattle.hg_shelf.proofs.Histories as shelves
 use Rattle.hg_tree.specs.History as tree
@@ -34,7 +34,10 @@ use Rattle.hg_tree.proofs.Stillness.{ours_untouched}
 use Rattle.hg_session.specs.Call.{Call, Looked, Serves}
 use Rattle.hg_session.specs.Command.{CommandCause, HasBadManifest, HasBadPatterns, IsExpected, IsReady, LacksContents, MetBefore, wanted_in}
 use Rattle.hg_session.specs.Flags.{is_status}
-use Rattle.hg_session.specs.Listed.{IsListable, IsListed, IsListedFor, IsLoaded, IsOwn, IsRecorded, IsUntouched, ListingCause, LoadMet, first_parent, status_over}
+use Rattle.hg_session.specs.Listed.{IsListable, IsListed, IsListedFor, IsLoaded, IsOwn, IsRecorded, IsUntouched, ListingCause, LoadMet, MetReading, first_parent, status_over}
+use Rattle.hg_session.specs.Load.{of_list, of_read}
+use Rattle.hg_session.specs.declared.list_fault.ListFault.{ListFault}
+use Rattle.hg_session.specs.declared.list_fault.ListFault.TheVariants as a_list
 use Rattle.hg_save.specs.Record.{id_in, record_in}
 use Rattle.hg_save.specs.Loads.{Try}
 use Rattle.hg_session.specs.Loaded.{IsRefused}
@@ -155,45 +158,44 @@ module _ (call : Call) (copy : tree.Passes call.looked.tree.old call.looked.tree
   all_same id [] = tt
   all_same id (one ∷ more) = (refl, all_same id more)
 
-  listing_expected : (fault : Fault) → ListingCause call.looked (wanted_in call) fault → Serves call.looked.tree → Serves call.looked.shelf → Expects (Some fault)
-  listing_expected a_fault.OutOfMemory cause p q = tt
-  listing_expected a_fault.NotBuilt cause p q = absurd cause
-  listing_expected (a_fault.Docket fault) cause p q = (met_now (a_read.Docket fault) cause).1
-  listing_expected (a_fault.Node fault) cause p q = (met_now (a_read.Node fault) cause).1
-  listing_expected (a_fault.DataGone ids) cause p q =
+  reading_expected : (fault : ReadFault) → MetReading call.looked.shelf fault → Serves call.looked.shelf → Expects (Some (of_read fault))
+  reading_expected a_read.OutOfMemory cause q = tt
+  reading_expected (a_read.Docket fault) cause q = (met_now (a_read.Docket fault) cause).1
+  reading_expected (a_read.Node fault) cause q = (met_now (a_read.Node fault) cause).1
+  reading_expected (a_read.DataGone ids) cause q =
       let m = met_now (a_read.DataGone ids) cause in
       (m.1.0, subst (AllByRecursion (λ id. id ≡ id_in (shelf.now call.looked.shelf.old).files)) (sym m.1.1) (all_same (id_in (shelf.now call.looked.shelf.old).files) m.0))
-  listing_expected (a_fault.NoManifest gone) cause p q =
+  reading_expected a_read.Failed cause q = absurd (steady_not_rose call.looked.shelf.before call.looked.shelf.after q cause)
+
+  listing_expected : (fault : ListFault) → ListingCause call.looked (wanted_in call) fault → Serves call.looked.tree → Serves call.looked.shelf → Expects (Some (of_list fault))
+  listing_expected (a_list.Read fault) cause p q = reading_expected fault cause q
+  listing_expected (a_list.Status a_status.OutOfMemory) cause p q = tt
+  listing_expected (a_list.Status a_status.TreeFailed) cause p q = absurd (steady_not_rose call.looked.tree.before call.looked.tree.after p cause.0)
+  listing_expected (a_list.Status a_status.ShelfFailed) cause p q = absurd (steady_not_rose call.looked.shelf.before call.looked.shelf.after q cause)
+  listing_expected (a_list.Status (a_status.NoManifest gone)) cause p q =
       bad_manifest cause.flat cause.loaded (cause.behind refl) cause.met.0 (a_manifest.NoManifest gone)
       (gone_now (over cause.flat) copy.past files.past still_tree still_shelf own.tree.told own.shelf.told gone cause.met.0.committed cause.met.1 cause.met.2)
-  listing_expected (a_fault.ManifestTooLarge size) cause p q =
+  listing_expected (a_list.Status (a_status.ManifestTooLarge size)) cause p q =
       bad_manifest cause.flat cause.loaded (cause.behind refl) cause.met.0 (a_manifest.ManifestTooLarge size)
       (large_now (over cause.flat) copy.past files.past still_tree still_shelf own.tree.told own.shelf.told size cause.met.0.committed cause.met.1 cause.met.2)
-  listing_expected (a_fault.ManifestLine line) cause p q =
+  listing_expected (a_list.Status (a_status.ManifestLine line)) cause p q =
       bad_manifest cause.flat cause.loaded (cause.behind refl) cause.met.0 (a_manifest.ManifestLine line)
       (read_now (over cause.flat) copy.past files.past still_tree still_shelf own.tree.told own.shelf.told (Err (a_manifest.ManifestLine line)) cause.met.0.committed cause.met.1)
-  listing_expected (a_fault.ManifestOrder line) cause p q =
+  listing_expected (a_list.Status (a_status.ManifestOrder line)) cause p q =
       bad_manifest cause.flat cause.loaded (cause.behind refl) cause.met.0 (a_manifest.ManifestOrder line)
       (read_now (over cause.flat) copy.past files.past still_tree still_shelf own.tree.told own.shelf.told (Err (a_manifest.ManifestOrder line)) cause.met.0.committed cause.met.1)
-  listing_expected (a_fault.NoContents gone) cause p q = lacks_contents cause.flat cause.loaded (cause.behind refl) gone cause.met
-  listing_expected (a_fault.IgnoreTooLarge size) cause p q =
+  listing_expected (a_list.Status (a_status.NoContents gone)) cause p q = lacks_contents cause.flat cause.loaded (cause.behind refl) gone cause.met
+  listing_expected (a_list.Status (a_status.IgnoreTooLarge size)) cause p q =
       bad_patterns cause.flat cause.loaded cause.met.0 (an_ignore.IgnoreTooLarge size) (over_now call.looked.tree.old call.looked.tree.new copy own.tree size cause.met.1)
-  listing_expected (a_fault.IgnoreText at) cause p q = bad_patterns cause.flat cause.loaded cause.met.0 (an_ignore.IgnoreText at) (read_so (λ text. (length text ≤ most_text) × IsValidUpTo text at) cause.met.1)
-  listing_expected (a_fault.BadGlob line) cause p q = bad_patterns cause.flat cause.loaded cause.met.0 (an_ignore.BadGlob line) (lines_so (an_ignore.BadGlob line) cause.met.1)
-  listing_expected (a_fault.BadRegexp line) cause p q = bad_patterns cause.flat cause.loaded cause.met.0 (an_ignore.BadRegexp line) (lines_so (an_ignore.BadRegexp line) cause.met.1)
-  listing_expected (a_fault.RegexpTooBig line) cause p q = bad_patterns cause.0.flat cause.0.loaded cause.0.met.0 (an_ignore.RegexpTooBig line) (lines_so (an_ignore.RegexpTooBig line) cause.0.met.1)
-  listing_expected (a_fault.BadInclude line) cause p q = bad_patterns cause.flat cause.loaded cause.met.0 (an_ignore.BadInclude line) (lines_so (an_ignore.BadInclude line) cause.met.1)
-  listing_expected a_fault.Held cause p q = absurd cause
-  listing_expected (a_fault.TooLarge size) cause p q = absurd cause
-  listing_expected a_fault.IdsSpent cause p q = absurd cause
-  listing_expected a_fault.TreeFailed cause p q = absurd (steady_not_rose call.looked.tree.before call.looked.tree.after p cause.0)
-  listing_expected a_fault.ShelfFailed cause p q = absurd (steady_not_rose call.looked.shelf.before call.looked.shelf.after q cause)
-  listing_expected a_fault.OutFailed cause p q = absurd cause
-  listing_expected a_fault.ErrFailed cause p q = absurd cause
+  listing_expected (a_list.Status (a_status.IgnoreText at)) cause p q = bad_patterns cause.flat cause.loaded cause.met.0 (an_ignore.IgnoreText at) (read_so (λ text. (length text ≤ most_text) × IsValidUpTo text at) cause.met.1)
+  listing_expected (a_list.Status (a_status.BadGlob line)) cause p q = bad_patterns cause.flat cause.loaded cause.met.0 (an_ignore.BadGlob line) (lines_so (an_ignore.BadGlob line) cause.met.1)
+  listing_expected (a_list.Status (a_status.BadRegexp line)) cause p q = bad_patterns cause.flat cause.loaded cause.met.0 (an_ignore.BadRegexp line) (lines_so (an_ignore.BadRegexp line) cause.met.1)
+  listing_expected (a_list.Status (a_status.RegexpTooBig line)) cause p q = bad_patterns cause.0.flat cause.0.loaded cause.0.met.0 (an_ignore.RegexpTooBig line) (lines_so (an_ignore.RegexpTooBig line) cause.0.met.1)
+  listing_expected (a_list.Status (a_status.BadInclude line)) cause p q = bad_patterns cause.flat cause.loaded cause.met.0 (an_ignore.BadInclude line) (lines_so (an_ignore.BadInclude line) cause.met.1)
 
   before_expected : (fault : Fault) → MetBefore call fault → Serves call.looked.tree → Serves call.looked.shelf → Expects (Some fault)
   before_expected fault (inl (other, is)) p q = subst (λ (f : Fault). Expects (Some f)) (sym is) other
-  before_expected fault (inr cause) p q = listing_expected fault cause p q
+  before_expected fault (inr (f, is, cause)) p q = subst (λ (f : Fault). Expects (Some f)) (sym is) (listing_expected f cause p q)
 
   pub cause_expected : (fault : Fault) → CommandCause call fault → Serves call.looked.tree → Serves call.looked.shelf → Serves call.out → Serves call.err → Expects (Some fault)
   cause_expected fault (inl before) p q r w = before_expected fault before p q

@@ -16,17 +16,14 @@ use Rattle.hg_flat.specs.declared.row.Row.{Row}
 use Rattle.hg_flat.specs.declared.row.Wanted.{Wanted}
 use Rattle.hg_ignore.specs.Patterns.{WereRead}
 use Rattle.hg_ignore.specs.declared.warnings.Warning.{Warning}
-use Rattle.hg_report.specs.Cause.{of_status}
-use Rattle.hg_report.specs.declared.fault.Fault.{Fault}
 use Rattle.hg_shelf.specs.History as shelf
 use Rattle.hg_tree.specs.History as tree
 use Rattle.hg_session.specs.Call.{Fails, Looked, Watched}
 use Rattle.hg_session.specs.Listed.{IsListable, IsListedFor, IsLoaded, IsRecorded, ListingCause, Loaded, StatusMet, first_parent}
-use Rattle.hg_session.specs.Load.{of_read}
 use Rattle.hg_save.specs.Loads.{Try}
 use Rattle.hg_session.specs.Loaded.{IsFlatOf, Reads}
-use Rattle.hg_session.specs.declared.read_fault.ReadFault.{ReadFault}
-use Rattle.hg_session.specs.declared.read_fault.ReadFault.TheVariants as a_read
+use Rattle.hg_session.specs.declared.list_fault.ListFault.{ListFault}
+use Rattle.hg_session.specs.declared.list_fault.ListFault.TheVariants as a_list
 use Rattle.hg_session.proofs.Causes.{met_longer}
 use Rattle.hg_save.proofs.Loads.{found_longer, tries_longer}
 use Rattle.hg_session.proofs.Parents.{full_moved, served_moved}
@@ -58,14 +55,6 @@ loaded_by files mid flat second found told =
 
 pub loaded_some : (files : Watched shelf.History) (flat : plain.Flat) → IsLoaded files flat → Loaded files
 loaded_some files flat loaded told = (flat, loaded told)
-
-pub cause_load : (looked : Looked) (wanted : Wanted) (fault : ReadFault) → (IsTrue looked.shelf.old.told → (tried : Try) × Reads IsFlatOf looked.shelf.old looked.shelf.new (tried ∷ []) (Err fault)) → (fault ≡ a_read.Failed → Fails looked.shelf)
-    → ListingCause looked wanted (of_read fault)
-cause_load looked wanted a_read.OutOfMemory met failed = tt
-cause_load looked wanted (a_read.Docket fault) met failed = λ told. let m = met told in (m.0 ∷ [], record { tried = m.1.tried; answer = m.1.answer })
-cause_load looked wanted (a_read.Node fault) met failed = λ told. let m = met told in (m.0 ∷ [], record { tried = m.1.tried; answer = m.1.answer })
-cause_load looked wanted (a_read.DataGone ids) met failed = λ told. let m = met told in (m.0 ∷ [], record { tried = m.1.tried; answer = m.1.answer })
-cause_load looked wanted a_read.Failed met failed = failed refl
 
 -- the first parent, as the flat map has it
 pub id_is : (id : Id20) (flat : plain.Flat) → id.0 ≡ flat.p1 → id ≡ first_parent flat
@@ -101,7 +90,7 @@ module _ (looked : Looked) (wanted : Wanted) (behind : shelf.History) (flat : pl
   }
 
   cause_by : (fault : StatusFault) → Behind fault → (fault ≡ a_status.TreeFailed → Fails looked.tree) → (fault ≡ a_status.ShelfFailed → Fails looked.shelf)
-      → CountsOversize {T = Listed} looked.oversize.before looked.oversize.after (Err fault) → flat_met.Met (later id) fault → ListingCause looked wanted (of_status fault)
+      → CountsOversize {T = Listed} looked.oversize.before looked.oversize.after (Err fault) → flat_met.Met (later id) fault → ListingCause looked wanted (a_list.Status fault)
   cause_by a_status.OutOfMemory patterns tree_failed shelf_failed counts met = tt
   cause_by a_status.TreeFailed patterns tree_failed shelf_failed counts met = (tree_failed refl, loaded_some looked.shelf flat loaded)
   cause_by a_status.ShelfFailed patterns tree_failed shelf_failed counts met = shelf_failed refl
@@ -117,7 +106,7 @@ module _ (looked : Looked) (wanted : Wanted) (behind : shelf.History) (flat : pl
   cause_by (a_status.RegexpTooBig line) patterns tree_failed shelf_failed counts met = (met_here (a_status.RegexpTooBig line) patterns met, counts.1)
   cause_by (a_status.BadInclude line) patterns tree_failed shelf_failed counts met = met_here (a_status.BadInclude line) patterns met
 
-  pub cause_status : (fault : StatusFault) (answered : Fault) → answered ≡ of_status fault → Behind fault → (fault ≡ a_status.TreeFailed → Fails looked.tree) → (fault ≡ a_status.ShelfFailed → Fails looked.shelf)
+  pub cause_status : (fault : StatusFault) (answered : ListFault) → answered ≡ a_list.Status fault → Behind fault → (fault ≡ a_status.TreeFailed → Fails looked.tree) → (fault ≡ a_status.ShelfFailed → Fails looked.shelf)
       → CountsOversize {T = Listed} looked.oversize.before looked.oversize.after (Err fault) → flat_met.Met (later id) fault → ListingCause looked wanted answered
   cause_status fault answered same patterns tree_failed shelf_failed counts met =
       subst (ListingCause looked wanted) (sym same) (cause_by fault patterns tree_failed shelf_failed counts met)

@@ -2,6 +2,7 @@
 use Rattle.std.proofs.Common.{ℕ, ◌≡◌, Bool, true, false, List, Result, Ok, Err, refl, sym, ap, ◌∙◌, subst, inl, inr}
 use Rattle.std.specs.Prelude.{MatchBool}
 use Rattle.hg_flat.specs.Patterns.{Warns}
+use Rattle.hg_flat.specs.declared.fault.StatusFault.TheVariants as a_status
 use Rattle.hg_flat.specs.declared.listed.Listed.{Listed}
 use Rattle.hg_flat.specs.declared.row.Row.{Row}
 use Rattle.hg_flat.specs.declared.row.Wanted.{Wanted}
@@ -16,13 +17,17 @@ use Rattle.hg_stream.specs.Stream.{Grown, GrownByFront}
 use Rattle.hg_session.specs.Call.{Call, Fails, Looked}
 use Rattle.hg_session.specs.Command.{IsBegunFor, IsPartlyWarned, IsPrintedFor, IsSilent, IsWarned, LeavesErr, Prints, wanted_in}
 use Rattle.hg_session.specs.Flags.{is_status, style_of, wanted_of}
-use Rattle.hg_session.specs.Listed.{IsListedFor, ListingCause, Lists}
+use Rattle.hg_session.specs.Listed.{IsListedFor, Lists}
+use Rattle.hg_session.specs.Load.{of_list}
+use Rattle.hg_session.specs.declared.list_fault.ListFault.{ListFault}
+use Rattle.hg_session.specs.declared.list_fault.ListFault.TheVariants as a_list
+use Rattle.hg_session.specs.declared.read_fault.ReadFault.TheVariants as a_read
 
 wrong_words : {Q : Type 0} (words : List (List ℕ)) (answer : Bool) → answer ≡ is_status words → answer ≡ true → is_status words ≡ false → Q
 wrong_words words answer is built other = absurd (cc (is, built, other))
 
 -- what a listing does is so by the words, and so is the text
-pub lists_as : (looked : Looked) (words : List (List ℕ)) (wanted : Wanted) (result : Result Listed Fault) → wanted ≡ wanted_of words → Lists looked wanted result → Lists looked (wanted_of words) result
+pub lists_as : (looked : Looked) (words : List (List ℕ)) (wanted : Wanted) (result : Result Listed ListFault) → wanted ≡ wanted_of words → Lists looked wanted result → Lists looked (wanted_of words) result
 lists_as looked words wanted result is lists = subst (λ (w : Wanted). Lists looked w result) is lists
 
 pub text_as : (rows : List Row) (text : List ℕ) (style : Style) (words : List (List ℕ)) → style ≡ style_of words → text ≡ text_of style rows → text ≡ text_of (style_of words) rows
@@ -48,30 +53,26 @@ partly_warned call warnings text are is grown failed = record {
 }
 
 -- a fault of a listing has a line, which isn't told yet
-listing_told : (looked : Looked) (wanted : Wanted) (fault : Fault) → ListingCause looked wanted fault → has_line fault ≡ true
-listing_told looked wanted a_fault.OutOfMemory cause = refl
-listing_told looked wanted a_fault.NotBuilt cause = refl
-listing_told looked wanted (a_fault.Docket fault) cause = refl
-listing_told looked wanted (a_fault.Node fault) cause = refl
-listing_told looked wanted (a_fault.DataGone ids) cause = refl
-listing_told looked wanted (a_fault.NoManifest id) cause = refl
-listing_told looked wanted (a_fault.ManifestTooLarge size) cause = refl
-listing_told looked wanted (a_fault.ManifestLine line) cause = refl
-listing_told looked wanted (a_fault.ManifestOrder line) cause = refl
-listing_told looked wanted (a_fault.NoContents id) cause = refl
-listing_told looked wanted (a_fault.IgnoreTooLarge size) cause = refl
-listing_told looked wanted (a_fault.IgnoreText at) cause = refl
-listing_told looked wanted (a_fault.BadGlob line) cause = refl
-listing_told looked wanted (a_fault.BadRegexp line) cause = refl
-listing_told looked wanted (a_fault.RegexpTooBig line) cause = refl
-listing_told looked wanted (a_fault.BadInclude line) cause = refl
-listing_told looked wanted a_fault.Held cause = refl
-listing_told looked wanted (a_fault.TooLarge size) cause = refl
-listing_told looked wanted a_fault.IdsSpent cause = refl
-listing_told looked wanted a_fault.TreeFailed cause = refl
-listing_told looked wanted a_fault.ShelfFailed cause = refl
-listing_told looked wanted a_fault.OutFailed cause = refl
-listing_told looked wanted a_fault.ErrFailed cause = absurd cause
+listing_told : (fault : ListFault) → has_line (of_list fault) ≡ true
+listing_told (a_list.Read a_read.OutOfMemory) = refl
+listing_told (a_list.Read (a_read.Docket f)) = refl
+listing_told (a_list.Read (a_read.Node f)) = refl
+listing_told (a_list.Read (a_read.DataGone ids)) = refl
+listing_told (a_list.Read a_read.Failed) = refl
+listing_told (a_list.Status a_status.OutOfMemory) = refl
+listing_told (a_list.Status a_status.TreeFailed) = refl
+listing_told (a_list.Status a_status.ShelfFailed) = refl
+listing_told (a_list.Status (a_status.NoManifest id)) = refl
+listing_told (a_list.Status (a_status.ManifestTooLarge size)) = refl
+listing_told (a_list.Status (a_status.ManifestLine line)) = refl
+listing_told (a_list.Status (a_status.ManifestOrder line)) = refl
+listing_told (a_list.Status (a_status.NoContents id)) = refl
+listing_told (a_list.Status (a_status.IgnoreTooLarge size)) = refl
+listing_told (a_list.Status (a_status.IgnoreText at)) = refl
+listing_told (a_list.Status (a_status.BadGlob line)) = refl
+listing_told (a_list.Status (a_status.BadRegexp line)) = refl
+listing_told (a_list.Status (a_status.RegexpTooBig line)) = refl
+listing_told (a_list.Status (a_status.BadInclude line)) = refl
 
 silent_by : (call : Call) (fault : Fault) → has_line fault ≡ true → IsSilent call.err → LeavesErr call fault
 silent_by call fault told silent = subst (λ (b : Bool). MatchBool b (IsSilent call.err) (IsPartlyWarned call)) (sym told) silent
@@ -79,15 +80,15 @@ silent_by call fault told silent = subst (λ (b : Bool). MatchBool b (IsSilent c
 -- ---- what a status does, exit by exit
 
 module _ (call : Call) (built : Bool) (is : built ≡ is_status call.words) (yes_built : built ≡ true) where
-  pub met_listing : (fault : Fault) → Lists call.looked (wanted_in call) (Err fault) → call.out.new ≡ call.out.old → IsSilent call.err → Prints call (Err fault)
+  pub met_listing : (fault : ListFault) → Lists call.looked (wanted_in call) (Err fault) → call.out.new ≡ call.out.old → IsSilent call.err → Prints call (Err (of_list fault))
   met_listing fault lists same silent = record {
     tree = lists.tree;
     shelf = lists.shelf;
     still = tt;
     warned = tt;
     listable = tt;
-    left = inl (inr lists.cause, same);
-    left_err = silent_by call fault (listing_told call.looked (wanted_in call) fault lists.cause) silent;
+    left = inl (inr (fault, refl, lists.cause), same);
+    left_err = silent_by call (of_list fault) (listing_told fault) silent;
     words = wrong_words call.words built is yes_built;
     asked = lists.asked;
     asked_own = tt;
@@ -106,7 +107,7 @@ module _ (call : Call) (built : Bool) (is : built ≡ is_status call.words) (yes
     still = tt;
     warned = tt;
     listable = tt;
-    left = inl (inr tt, same);
+    left = inl (inr (a_list.Read a_read.OutOfMemory, refl, tt), same);
     left_err = silent;
     words = wrong_words call.words built is yes_built;
     asked = lists.asked;
@@ -126,7 +127,7 @@ module _ (call : Call) (built : Bool) (is : built ≡ is_status call.words) (yes
     still = tt;
     warned = tt;
     listable = tt;
-    left = inr (inl (record { listable = lists.listable; failed = failed; kind = tt }, begun_for call listed.rows text lists.still same grown));
+    left = inr (inl (record { listable = lists.listable; failed = failed; kind = inl refl }, begun_for call listed.rows text lists.still same grown));
     left_err = silent;
     words = wrong_words call.words built is yes_built;
     asked = lists.asked;

@@ -1,5 +1,5 @@
 -- What reading the record finds, from what a load found and what its nodes lead to.
-use Rattle.std.proofs.Common.{ℕ, ◌≡◌, List, [], ◌∷◌, map, Option, Some, None, Result, Ok, Err, sym, ap, ◌∙◌, subst, arith}
+use Rattle.std.proofs.Common.{ℕ, ◌≡◌, List, [], ◌∷◌, map, Option, Some, None, Result, Ok, Err, IsTrue, refl, sym, ap, ◌∙◌, subst, arith}
 use Rattle.hg_base.specs.Fault.{HasCause}
 use Rattle.hg_docket.specs.Docket.{docket_of, docket_refusal}
 use Rattle.hg_docket.specs.declared.fault.DocketFault.{DocketFault}
@@ -12,6 +12,8 @@ use Rattle.hg_save.specs.Record.{id_in, record_in}
 use Rattle.hg_save.specs.declared.load_fault.LoadFault.{LoadFault}
 use Rattle.hg_save.specs.declared.load_fault.LoadFault.TheVariants as a_load
 use Rattle.hg_save.specs.declared.loaded.Loaded.{Loaded}
+use Rattle.hg_session.specs.Call.{Fails, Watched}
+use Rattle.hg_session.specs.Listed.{MetReading}
 use Rattle.hg_session.specs.Load.{by_load}
 use Rattle.hg_session.specs.Loaded.{Answers, IsRefused, NodesFind, Reads, Refuses}
 use Rattle.hg_session.specs.declared.read_fault.ReadFault.{ReadFault}
@@ -59,6 +61,15 @@ refused_by a_load.Failed old new tries loads = tt
 -- a load that was refused
 pub unread : {X : Type 0} (IsOf : Table → X → Type 0) (old new : History) (tried : Try) (fault : LoadFault) → Loads old new (tried ∷ []) (Err fault) → Reads IsOf old new (tried ∷ []) (Err (by_load fault))
 unread IsOf old new tried fault loads = record { tried = loads.tried; answer = refused_by fault old new (tried ∷ []) loads }
+
+-- why a reading was refused
+pub met_reading : {X : Type 0} (IsOf : Table → X → Type 0) (files : Watched History) (fault : ReadFault) → (IsTrue files.old.told → (tried : Try) × Reads IsOf files.old files.new (tried ∷ []) (Err fault))
+    → (fault ≡ a_fault.Failed → Fails files) → MetReading files fault
+met_reading IsOf files a_fault.OutOfMemory met failed = tt
+met_reading IsOf files (a_fault.Docket fault) met failed = λ told. let m = met told in (m.0 ∷ [], record { tried = m.1.tried; answer = m.1.answer })
+met_reading IsOf files (a_fault.Node fault) met failed = λ told. let m = met told in (m.0 ∷ [], record { tried = m.1.tried; answer = m.1.answer })
+met_reading IsOf files (a_fault.DataGone ids) met failed = λ told. let m = met told in (m.0 ∷ [], record { tried = m.1.tried; answer = m.1.answer })
+met_reading IsOf files a_fault.Failed met failed = failed refl
 
 -- where the shelf made no step, the record is refused as it stands there, whatever the tries: each names the same identifier
 pub unstepped_refuses : (old new : History) (tries : List Try) (fault : ReadFault) → Extends old new → new.last ≡ old.last → Refuses old new tries fault

@@ -13,10 +13,10 @@ use Rattle.hg_report.proofs.Recorded.{one_text}
 use Rattle.hg_shelf.specs.History as shelf
 use Rattle.hg_shelf.proofs.Histories as shelves
 use Rattle.hg_tree.specs.History as tree
-use Rattle.hg_session.specs.Call.{Call, Fails, Serves, Watched}
+use Rattle.hg_session.specs.Call.{Call, Serves, Watched}
 use Rattle.hg_session.specs.Command.{Does, IsFaultOrMemory, IsSilent, Prints, Ran, Tells, TellsLine}
-use Rattle.hg_session.specs.Debug.{HasText, IsExpectedOf, IsLeftAlone, IsRead, IsReadable, IsTextIn, LeavesRecord, LeavesText, MetReading, OneRecord, PrintsRecord, RanRecord, RecordCause, is_debug}
-use Rattle.hg_session.specs.Listed.{LoadMet}
+use Rattle.hg_session.specs.Debug.{HasText, IsExpectedOf, IsLeftAlone, IsRead, IsReadable, IsTextIn, LeavesRecord, LeavesText, OneRecord, PrintsRecord, RanRecord, RecordCause, is_debug}
+use Rattle.hg_session.specs.Listed.{LoadMet, MetReading}
 use Rattle.hg_save.specs.Record.{id_in, record_in}
 use Rattle.hg_save.specs.Loads.{Try}
 use Rattle.hg_session.specs.Load.{of_read}
@@ -45,14 +45,6 @@ has_text files text found some = elim (cases_Bool files.old.told) [
   | inr not ↦ record { table = some.0; read = λ told. absurd (true≢false (sym told ∙ not)); is = some.1 }
 ]
 
-pub met_reading : (files : Watched shelf.History) (fault : ReadFault) → (IsTrue files.old.told → (tried : Try) × Reads IsBytesOf files.old files.new (tried ∷ []) (Err fault)) → (fault ≡ a_read.Failed → Fails files)
-    → MetReading files (of_read fault)
-met_reading files a_read.OutOfMemory met failed = tt
-met_reading files (a_read.Docket fault) met failed = λ told. let m = met told in (m.0 ∷ [], record { tried = m.1.tried; answer = m.1.answer })
-met_reading files (a_read.Node fault) met failed = λ told. let m = met told in (m.0 ∷ [], record { tried = m.1.tried; answer = m.1.answer })
-met_reading files (a_read.DataGone ids) met failed = λ told. let m = met told in (m.0 ∷ [], record { tried = m.1.tried; answer = m.1.answer })
-met_reading files a_read.Failed met failed = failed refl
-
 -- ---- where nobody else steps
 
 module _ (files : Watched shelf.History) (passes : shelf.Passes files.old files.new) (own : shelf.IsOurs files.old files.new) where
@@ -75,35 +67,17 @@ module _ (files : Watched shelf.History) (passes : shelf.Passes files.old files.
   all_same id [] = tt
   all_same id (one ∷ more) = (refl, all_same id more)
 
-  reading_expected : (fault : Fault) → MetReading files fault → Serves files → IsExpectedOf there (Some fault)
-  reading_expected a_fault.OutOfMemory met p = tt
-  reading_expected a_fault.NotBuilt met p = absurd met
-  reading_expected (a_fault.Docket fault) met p = (met_now (a_read.Docket fault) met).1
-  reading_expected (a_fault.Node fault) met p = (met_now (a_read.Node fault) met).1
-  reading_expected (a_fault.DataGone ids) met p =
+  reading_expected : (fault : ReadFault) → MetReading files fault → Serves files → IsExpectedOf there (Some (of_read fault))
+  reading_expected a_read.OutOfMemory met p = tt
+  reading_expected (a_read.Docket fault) met p = (met_now (a_read.Docket fault) met).1
+  reading_expected (a_read.Node fault) met p = (met_now (a_read.Node fault) met).1
+  reading_expected (a_read.DataGone ids) met p =
       let m = met_now (a_read.DataGone ids) met in
       (m.1.0, subst (AllByRecursion (λ id. id ≡ id_in there)) (sym m.1.1) (all_same (id_in there) m.0))
-  reading_expected (a_fault.NoManifest id) met p = absurd met
-  reading_expected (a_fault.ManifestTooLarge size) met p = absurd met
-  reading_expected (a_fault.ManifestLine line) met p = absurd met
-  reading_expected (a_fault.ManifestOrder line) met p = absurd met
-  reading_expected (a_fault.NoContents id) met p = absurd met
-  reading_expected (a_fault.IgnoreTooLarge size) met p = absurd met
-  reading_expected (a_fault.IgnoreText at) met p = absurd met
-  reading_expected (a_fault.BadGlob line) met p = absurd met
-  reading_expected (a_fault.BadRegexp line) met p = absurd met
-  reading_expected (a_fault.RegexpTooBig line) met p = absurd met
-  reading_expected (a_fault.BadInclude line) met p = absurd met
-  reading_expected a_fault.Held met p = absurd met
-  reading_expected (a_fault.TooLarge size) met p = absurd met
-  reading_expected a_fault.IdsSpent met p = absurd met
-  reading_expected a_fault.TreeFailed met p = absurd met
-  reading_expected a_fault.ShelfFailed met p = absurd (steady_not_rose files.before files.after p met)
-  reading_expected a_fault.OutFailed met p = absurd met
-  reading_expected a_fault.ErrFailed met p = absurd met
+  reading_expected a_read.Failed met p = absurd (steady_not_rose files.before files.after p met)
 
   record_expected : (out : Watched (Option (List ℕ))) (fault : Fault) → RecordCause files out fault → Serves files → Serves out → IsExpectedOf there (Some fault)
-  record_expected out fault (inl met) p q = reading_expected fault met p
+  record_expected out fault (inl (f, is, met)) p q = subst (λ (g : Fault). IsExpectedOf there (Some g)) (sym is) (reading_expected f met p)
   record_expected out fault (inr writing) p q = absurd (steady_not_rose out.before out.after q writing.failed)
 
   none_expected : IsReadable files → IsExpectedOf there None
@@ -121,8 +95,8 @@ cause_of files out fault (inr (writing, begun)) = inr writing
 
 -- what a fault leaves may also be left where there is no memory for its line
 left_any : (files : Watched shelf.History) (out : Watched (Option (List ℕ))) (fault : Fault) → LeavesText files out fault → LeavesText files out a_fault.OutOfMemory
-left_any files out fault (inl (met, same)) = inl (tt, same)
-left_any files out fault (inr (writing, begun)) = inr (record { readable = writing.readable; failed = writing.failed; kind = tt }, begun)
+left_any files out fault (inl (met, same)) = inl ((a_read.OutOfMemory, refl, tt), same)
+left_any files out fault (inr (writing, begun)) = inr (record { readable = writing.readable; failed = writing.failed; kind = inr refl }, begun)
 
 readable_text : (files : Watched shelf.History) (text : List ℕ) → HasText files text → IsReadable files
 readable_text files text has told = (has.table, has.read told)
@@ -160,13 +134,17 @@ record_err copy files out fault answered is (alone, prints) = record {
       (record_left files prints.passes own out fault prints.left) (record_left files prints.passes own out fault prints.left);
 }
 
--- no fault of the record is the error stream's
-record_told : (files : Watched shelf.History) (out : Watched (Option (List ℕ))) (fault : Fault) → fault ≡ a_fault.ErrFailed → LeavesText files out fault → ⊥
-record_told files out fault is left = never (subst (LeavesText files out) is left)
-  where
-    never : LeavesText files out a_fault.ErrFailed → ⊥
-    never (inl (met, same)) = met
-    never (inr (writing, begun)) = writing.kind
+-- each fault of the record has a line
+read_told : (fault : ReadFault) → has_line (of_read fault) ≡ true
+read_told a_read.OutOfMemory = refl
+read_told (a_read.Docket fault) = refl
+read_told (a_read.Node fault) = refl
+read_told (a_read.DataGone ids) = refl
+read_told a_read.Failed = refl
+
+record_told : (files : Watched shelf.History) (out : Watched (Option (List ℕ))) (fault : Fault) → LeavesText files out fault → has_line fault ≡ true
+record_told files out fault (inl ((f, is, met), same)) = ap has_line is ∙ read_told f
+record_told files out fault (inr (writing, begun)) = elim writing.kind [ inl is ↦ ap has_line is | inr is ↦ ap has_line is ]
 
 -- ---- by the words
 
@@ -208,34 +186,9 @@ did_untold call fault does = record {
   status = λ it. ran_as call fault (does.status it);
 }
 
-unwritten : (fault : Fault) → has_line fault ≡ false → fault ≡ a_fault.ErrFailed
-unwritten a_fault.OutOfMemory is = absurd (cc (is))
-unwritten a_fault.NotBuilt is = absurd (cc (is))
-unwritten (a_fault.Docket fault) is = absurd (cc (is))
-unwritten (a_fault.Node fault) is = absurd (cc (is))
-unwritten (a_fault.DataGone ids) is = absurd (cc (is))
-unwritten (a_fault.NoManifest id) is = absurd (cc (is))
-unwritten (a_fault.ManifestTooLarge size) is = absurd (cc (is))
-unwritten (a_fault.ManifestLine line) is = absurd (cc (is))
-unwritten (a_fault.ManifestOrder line) is = absurd (cc (is))
-unwritten (a_fault.NoContents id) is = absurd (cc (is))
-unwritten (a_fault.IgnoreTooLarge size) is = absurd (cc (is))
-unwritten (a_fault.IgnoreText at) is = absurd (cc (is))
-unwritten (a_fault.BadGlob line) is = absurd (cc (is))
-unwritten (a_fault.BadRegexp line) is = absurd (cc (is))
-unwritten (a_fault.RegexpTooBig line) is = absurd (cc (is))
-unwritten (a_fault.BadInclude line) is = absurd (cc (is))
-unwritten a_fault.Held is = absurd (cc (is))
-unwritten (a_fault.TooLarge size) is = absurd (cc (is))
-unwritten a_fault.IdsSpent is = absurd (cc (is))
-unwritten a_fault.TreeFailed is = absurd (cc (is))
-unwritten a_fault.ShelfFailed is = absurd (cc (is))
-unwritten a_fault.OutFailed is = absurd (cc (is))
-unwritten a_fault.ErrFailed is = refl
-
 pub untold : (call : Call) (fault : Fault) → has_line fault ≡ false → Does call (Err fault) → Tells call (Some fault)
 untold call fault none does = elim (cases_Bool (is_debug call.words)) [
-  | inl it ↦ absurd (record_told call.looked.shelf call.out fault (unwritten fault none) (does.debug it).1.left)
+  | inl it ↦ absurd (both_ways (has_line fault) none (record_told call.looked.shelf call.out fault (does.debug it).1.left))
   | inr other ↦ partly_told call fault none (does.status other).left_err
 ]
 

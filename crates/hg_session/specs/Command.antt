@@ -33,6 +33,8 @@ use Rattle.hg_session.specs.Call.{Call, Fails, Serves, Watched}
 use Rattle.hg_session.specs.Debug.{IsLeftAlone, IsOutFault, PrintsRecord, RanRecord, is_debug}
 use Rattle.hg_session.specs.Flags.{is_status, style_of, wanted_of}
 use Rattle.hg_session.specs.Listed.{AsksLittle, AsksOwn, IsListable, IsListed, IsListedFor, IsOwn, ListingCause, first_parent}
+use Rattle.hg_session.specs.Load.{of_list}
+use Rattle.hg_session.specs.declared.list_fault.ListFault.{ListFault}
 use Rattle.hg_save.specs.Record.{id_in, record_in}
 
 -- ---- what was printed
@@ -78,7 +80,7 @@ LeavesFront words files moment old new = (new ≡ old) ⊎ IsBegun words files m
 
 -- before anything was printed: the words, or what a listing meets
 abbrev pub MetBefore : Call → Fault → Type 0
-MetBefore call fault = ((is_status call.words ≡ false) × (fault ≡ a_fault.NotBuilt)) ⊎ ListingCause call.looked (wanted_in call) fault
+MetBefore call fault = ((is_status call.words ≡ false) × (fault ≡ a_fault.NotBuilt)) ⊎ ((f : ListFault) × (fault ≡ of_list f) × ListingCause call.looked (wanted_in call) f)
 
 -- while it printed: no fault was found before, and standard output failed
 pub record MetPrinting (call : Call) (fault : Fault) : Type 0 where

@@ -11,10 +11,11 @@ use Rattle.hg_shelf.specs.History as shelf
 use Rattle.hg_stream.specs.Stream.{Grown, GrownByFront}
 use Rattle.hg_tree.specs.History as tree
 use Rattle.hg_session.specs.Call.{Fails, Serves, Watched}
-use Rattle.hg_session.specs.Listed.{LoadMet}
+use Rattle.hg_session.specs.Listed.{MetReading}
+use Rattle.hg_session.specs.Load.{of_read}
 use Rattle.hg_save.specs.Record.{id_in, record_in}
 use Rattle.hg_save.specs.Loads.{Tries, Try, found_by}
-use Rattle.hg_session.specs.declared.read_fault.ReadFault.TheVariants as a_read
+use Rattle.hg_session.specs.declared.read_fault.ReadFault.{ReadFault}
 
 -- the command that prints the record: `debugdirstate` without a further word
 abbrev pub is_debug : List (List ℕ) → Bool
@@ -76,57 +77,13 @@ OneRecord = (files : shelf.Files) (old a b : Option (List ℕ)) → IsRecordPrin
 
 -- ---- why the command met a fault
 
--- while it read: what stood in the files, or a shelf that failed. Want of memory needs no reason
-abbrev pub MetReading : Watched shelf.History → Fault → Type 0
-MetReading files a_fault.OutOfMemory = Unit {0}
-MetReading files (a_fault.Docket fault) = LoadMet (a_read.Docket fault) files
-MetReading files (a_fault.Node fault) = LoadMet (a_read.Node fault) files
-MetReading files (a_fault.DataGone ids) = LoadMet (a_read.DataGone ids) files
-MetReading files a_fault.ShelfFailed = Fails files
-MetReading files a_fault.NotBuilt = ⊥
-MetReading files (a_fault.NoManifest id) = ⊥
-MetReading files (a_fault.ManifestTooLarge size) = ⊥
-MetReading files (a_fault.ManifestLine line) = ⊥
-MetReading files (a_fault.ManifestOrder line) = ⊥
-MetReading files (a_fault.NoContents id) = ⊥
-MetReading files (a_fault.IgnoreTooLarge size) = ⊥
-MetReading files (a_fault.IgnoreText at) = ⊥
-MetReading files (a_fault.BadGlob line) = ⊥
-MetReading files (a_fault.BadRegexp line) = ⊥
-MetReading files (a_fault.RegexpTooBig line) = ⊥
-MetReading files (a_fault.BadInclude line) = ⊥
-MetReading files a_fault.Held = ⊥
-MetReading files (a_fault.TooLarge size) = ⊥
-MetReading files a_fault.IdsSpent = ⊥
-MetReading files a_fault.TreeFailed = ⊥
-MetReading files a_fault.OutFailed = ⊥
-MetReading files a_fault.ErrFailed = ⊥
+-- before it printed: the record wasn't read
+abbrev pub MetLoading : Watched shelf.History → Fault → Type 0
+MetLoading files fault = (f : ReadFault) × (fault ≡ of_read f) × MetReading files f
 
 -- a fault that printing may meet; for the line of the one there may be no memory
 abbrev pub IsOutFault : Fault → Type 0
-IsOutFault a_fault.OutFailed = Unit {0}
-IsOutFault a_fault.OutOfMemory = Unit {0}
-IsOutFault a_fault.NotBuilt = ⊥
-IsOutFault (a_fault.Docket fault) = ⊥
-IsOutFault (a_fault.Node fault) = ⊥
-IsOutFault (a_fault.DataGone ids) = ⊥
-IsOutFault (a_fault.NoManifest id) = ⊥
-IsOutFault (a_fault.ManifestTooLarge size) = ⊥
-IsOutFault (a_fault.ManifestLine line) = ⊥
-IsOutFault (a_fault.ManifestOrder line) = ⊥
-IsOutFault (a_fault.NoContents id) = ⊥
-IsOutFault (a_fault.IgnoreTooLarge size) = ⊥
-IsOutFault (a_fault.IgnoreText at) = ⊥
-IsOutFault (a_fault.BadGlob line) = ⊥
-IsOutFault (a_fault.BadRegexp line) = ⊥
-IsOutFault (a_fault.RegexpTooBig line) = ⊥
-IsOutFault (a_fault.BadInclude line) = ⊥
-IsOutFault a_fault.Held = ⊥
-IsOutFault (a_fault.TooLarge size) = ⊥
-IsOutFault a_fault.IdsSpent = ⊥
-IsOutFault a_fault.TreeFailed = ⊥
-IsOutFault a_fault.ShelfFailed = ⊥
-IsOutFault a_fault.ErrFailed = ⊥
+IsOutFault fault = (fault ≡ a_fault.OutFailed) ⊎ (fault ≡ a_fault.OutOfMemory)
 
 -- while it printed: no fault was found before, and standard output failed
 pub record MetWriting (files : Watched shelf.History) (out : Watched (Option (List ℕ))) (fault : Fault) : Type 0 where
@@ -135,11 +92,11 @@ pub record MetWriting (files : Watched shelf.History) (out : Watched (Option (Li
   pub kind : IsOutFault fault
 
 abbrev pub RecordCause : Watched shelf.History → Watched (Option (List ℕ)) → Fault → Type 0
-RecordCause files out fault = MetReading files fault ⊎ MetWriting files out fault
+RecordCause files out fault = MetLoading files fault ⊎ MetWriting files out fault
 
 -- a fault that is met while reading leaves standard output as it was; one that printing meets leaves a front of the text
 abbrev pub LeavesText : Watched shelf.History → Watched (Option (List ℕ)) → Fault → Type 0
-LeavesText files out fault = (MetReading files fault × (out.new ≡ out.old)) ⊎ (MetWriting files out fault × IsTextBegun files out)
+LeavesText files out fault = (MetLoading files fault × (out.new ≡ out.old)) ⊎ (MetWriting files out fault × IsTextBegun files out)
 
 -- nothing was printed, or a front of the text of the record in these files
 abbrev pub LeavesRecord : shelf.Files → Option (List ℕ) → Option (List ℕ) → Type 0

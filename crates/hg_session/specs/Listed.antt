@@ -14,8 +14,6 @@ use Rattle.hg_flat.specs.declared.fault.StatusFault.TheVariants as a_status
 use Rattle.hg_flat.specs.declared.listed.Listed.{Listed}
 use Rattle.hg_flat.specs.declared.row.Row.{Row}
 use Rattle.hg_flat.specs.declared.row.Wanted.{Wanted}
-use Rattle.hg_report.specs.declared.fault.Fault.{Fault}
-use Rattle.hg_report.specs.declared.fault.Fault.TheVariants as a_fault
 use Rattle.hg_shelf.specs.History as shelf
 use Rattle.hg_tree.specs.History as tree
 use Rattle.hg_tree.specs.Moment.{Moment}
@@ -23,6 +21,8 @@ use Rattle.hg_session.specs.Call.{Fails, Looked, Watched}
 use Rattle.hg_save.specs.Record.{record_in}
 use Rattle.hg_save.specs.Loads.{Tries, Try, found_by}
 use Rattle.hg_session.specs.Loaded.{Refuses}
+use Rattle.hg_session.specs.declared.list_fault.ListFault.{ListFault}
+use Rattle.hg_session.specs.declared.list_fault.ListFault.TheVariants as a_list
 use Rattle.hg_session.specs.declared.read_fault.ReadFault.{ReadFault}
 use Rattle.hg_session.specs.declared.read_fault.ReadFault.TheVariants as a_read
 
@@ -47,6 +47,14 @@ Loaded files = IsTrue files.old.told → ((flat : plain.Flat) × IsRecorded file
 -- the record at moments of the call was refused so, where the files are told
 abbrev pub LoadMet : ReadFault → Watched shelf.History → Type 0
 LoadMet fault files = IsTrue files.old.told → ((tries : List Try) × Refuses files.old files.new tries fault)
+
+-- why the record wasn't read: what stood in the files, or a shelf that failed. Want of memory needs no reason
+abbrev pub MetReading : Watched shelf.History → ReadFault → Type 0
+MetReading files a_read.OutOfMemory = Unit {0}
+MetReading files (a_read.Docket fault) = LoadMet (a_read.Docket fault) files
+MetReading files (a_read.Node fault) = LoadMet (a_read.Node fault) files
+MetReading files (a_read.DataGone ids) = LoadMet (a_read.DataGone ids) files
+MetReading files a_read.Failed = Fails files
 
 -- the first parent of a flat map
 abbrev pub first_parent : plain.Flat → Id20
@@ -94,30 +102,22 @@ pub record StatusMet (looked : Looked) (wanted : Wanted) (fault : StatusFault) :
   pub met : Met (status_over looked wanted flat) fault
 
 -- what stood in the files or at the root, or a device that failed; and that no earlier fault was found. Want of memory needs no reason
-abbrev pub ListingCause : Looked → Wanted → Fault → Type 0
-ListingCause looked wanted a_fault.OutOfMemory = Unit {0}
-ListingCause looked wanted a_fault.NotBuilt = ⊥
-ListingCause looked wanted (a_fault.Docket fault) = LoadMet (a_read.Docket fault) looked.shelf
-ListingCause looked wanted (a_fault.Node fault) = LoadMet (a_read.Node fault) looked.shelf
-ListingCause looked wanted (a_fault.DataGone ids) = LoadMet (a_read.DataGone ids) looked.shelf
-ListingCause looked wanted (a_fault.NoManifest id) = StatusMet looked wanted (a_status.NoManifest id)
-ListingCause looked wanted (a_fault.ManifestTooLarge size) = StatusMet looked wanted (a_status.ManifestTooLarge size)
-ListingCause looked wanted (a_fault.ManifestLine line) = StatusMet looked wanted (a_status.ManifestLine line)
-ListingCause looked wanted (a_fault.ManifestOrder line) = StatusMet looked wanted (a_status.ManifestOrder line)
-ListingCause looked wanted (a_fault.NoContents id) = StatusMet looked wanted (a_status.NoContents id)
-ListingCause looked wanted (a_fault.IgnoreTooLarge size) = StatusMet looked wanted (a_status.IgnoreTooLarge size)
-ListingCause looked wanted (a_fault.IgnoreText at) = StatusMet looked wanted (a_status.IgnoreText at)
-ListingCause looked wanted (a_fault.BadGlob line) = StatusMet looked wanted (a_status.BadGlob line)
-ListingCause looked wanted (a_fault.BadRegexp line) = StatusMet looked wanted (a_status.BadRegexp line)
-ListingCause looked wanted (a_fault.RegexpTooBig line) = StatusMet looked wanted (a_status.RegexpTooBig line) × Rose looked.oversize.before looked.oversize.after
-ListingCause looked wanted (a_fault.BadInclude line) = StatusMet looked wanted (a_status.BadInclude line)
-ListingCause looked wanted a_fault.Held = ⊥
-ListingCause looked wanted (a_fault.TooLarge size) = ⊥
-ListingCause looked wanted a_fault.IdsSpent = ⊥
-ListingCause looked wanted a_fault.TreeFailed = Fails looked.tree × Loaded looked.shelf
-ListingCause looked wanted a_fault.ShelfFailed = Fails looked.shelf
-ListingCause looked wanted a_fault.OutFailed = ⊥
-ListingCause looked wanted a_fault.ErrFailed = ⊥
+abbrev pub ListingCause : Looked → Wanted → ListFault → Type 0
+ListingCause looked wanted (a_list.Read fault) = MetReading looked.shelf fault
+ListingCause looked wanted (a_list.Status a_status.OutOfMemory) = Unit {0}
+ListingCause looked wanted (a_list.Status a_status.TreeFailed) = Fails looked.tree × Loaded looked.shelf
+ListingCause looked wanted (a_list.Status a_status.ShelfFailed) = Fails looked.shelf
+ListingCause looked wanted (a_list.Status (a_status.NoManifest id)) = StatusMet looked wanted (a_status.NoManifest id)
+ListingCause looked wanted (a_list.Status (a_status.ManifestTooLarge size)) = StatusMet looked wanted (a_status.ManifestTooLarge size)
+ListingCause looked wanted (a_list.Status (a_status.ManifestLine line)) = StatusMet looked wanted (a_status.ManifestLine line)
+ListingCause looked wanted (a_list.Status (a_status.ManifestOrder line)) = StatusMet looked wanted (a_status.ManifestOrder line)
+ListingCause looked wanted (a_list.Status (a_status.NoContents id)) = StatusMet looked wanted (a_status.NoContents id)
+ListingCause looked wanted (a_list.Status (a_status.IgnoreTooLarge size)) = StatusMet looked wanted (a_status.IgnoreTooLarge size)
+ListingCause looked wanted (a_list.Status (a_status.IgnoreText at)) = StatusMet looked wanted (a_status.IgnoreText at)
+ListingCause looked wanted (a_list.Status (a_status.BadGlob line)) = StatusMet looked wanted (a_status.BadGlob line)
+ListingCause looked wanted (a_list.Status (a_status.BadRegexp line)) = StatusMet looked wanted (a_status.BadRegexp line)
+ListingCause looked wanted (a_list.Status (a_status.RegexpTooBig line)) = StatusMet looked wanted (a_status.RegexpTooBig line) × Rose looked.oversize.before looked.oversize.after
+ListingCause looked wanted (a_list.Status (a_status.BadInclude line)) = StatusMet looked wanted (a_status.BadInclude line)
 
 -- ---- the rows
 
@@ -162,7 +162,7 @@ AsksOwn looked wanted =
     × AsksBehind (pattern_reads wanted (tree.now looked.tree.old)) (IsCompared wanted flat) (IsListedDir wanted looked.tree.old looked.tree.new) looked.tree.old looked.tree.new
 
 -- what a listing does: it only asks, and answers the rows and the warnings, or a fault
-pub record Lists (looked : Looked) (wanted : Wanted) (result : Result Listed Fault) : Type 0 where
+pub record Lists (looked : Looked) (wanted : Wanted) (result : Result Listed ListFault) : Type 0 where
   pub tree : tree.Passes looked.tree.old looked.tree.new
   pub shelf : shelf.Passes looked.shelf.old looked.shelf.new
   pub still : IfOk result (λ listed. IsListedFor looked wanted listed.rows)

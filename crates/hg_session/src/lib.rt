@@ -18,6 +18,7 @@ mod choosing;
 mod debug;
 mod ending;
 mod flags;
+mod list_fault;
 mod listing;
 mod locking;
 mod looking;

@@ -2,10 +2,10 @@
 
 ghost use Rattle.hg_session.specs.Listed.{Lists};
 
+use crate::list_fault::ListFault;
 use crate::reading::read_flat;
 use hg_flat::{Listed, Wanted, plain_status};
 use hg_ignore::Regexps;
-use hg_report::Fault;
 use hg_shelf::Shelf;
 use hg_tree::Tree;
 use std::alloc::Global;
@@ -17,7 +17,7 @@ pub(crate) fn list<T: Tree, S: Shelf, G: Regexps>(
     shelf: &mut S,
     regexps: &mut G,
     wanted: Wanted,
-) -> Result<Listed, Fault>
+) -> Result<Listed, ListFault>
     ensures { Lists
         (record {
           tree = record { old = T.history tree.old; new = T.history tree.new; before = T.faults tree.old; after = T.faults tree.new };

@@ -1,7 +1,9 @@
 use Rattle.std.proofs.Common.{refl, inl, inr, subst, List, ℕ}
 use Rattle.std.proofs.lemmas.Result.{err_from_is_err_and}
 use Rattle.hg_stream.specs.Stream.{Grown, GrownByFront}
-use Rattle.hg_session.proofs.Records.{has_text, met_reading, readable_by}
+use Rattle.hg_session.specs.Loaded.{IsBytesOf}
+use Rattle.hg_session.proofs.Readings.{met_reading}
+use Rattle.hg_session.proofs.Records.{has_text, readable_by}
 use Rattle.hg_session.proofs.debug.print_record.Goals as goal
 
 pub returns-in_err-text : goal.returns-in_err-text
@@ -10,7 +12,7 @@ returns-in_err-text g c =
     rw (p.1, p.2) record {
       passes = c.load_text.ensures.passes;
       printed = tt;
-      left = inl (met_reading _ c.in_err-text.field-0.0 c.in_err-text.ensures.found c.in_err-text.ensures.cause.rose, refl);
+      left = inl ((c.in_err-text.field-0.0, refl, met_reading IsBytesOf _ c.in_err-text.field-0.0 c.in_err-text.ensures.found c.in_err-text.ensures.cause.rose), refl);
       calm_shelf = tt;
       calm_out = tt;
     }
@@ -21,7 +23,7 @@ returns-in-Err g c = record {
   printed = tt;
   left =
       inr (
-        record { readable = readable_by (record { old = g.S.Shelf.history c.args.shelf.now; new = g.S.Shelf.history c.load_text.new.shelf; before = g.S.Shelf.faults c.args.shelf.now; after = g.S.Shelf.faults c.load_text.new.shelf }) c.in_ok-text.text c.in_ok-text.ensures.found; failed = c.in-Err.ensures.cause.rose tt; kind = tt },
+        record { readable = readable_by (record { old = g.S.Shelf.history c.args.shelf.now; new = g.S.Shelf.history c.load_text.new.shelf; before = g.S.Shelf.faults c.args.shelf.now; after = g.S.Shelf.faults c.load_text.new.shelf }) c.in_ok-text.text c.in_ok-text.ensures.found; failed = c.in-Err.ensures.cause.rose tt; kind = inl refl },
         record {
           text = c.in_ok-text.text.items;
           is = has_text _ c.in_ok-text.text c.in_ok-text.ensures.found c.in_ok-text.ensures.some;

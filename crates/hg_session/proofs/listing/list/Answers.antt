@@ -5,7 +5,9 @@ use Rattle.hg_flat.specs.Shown.{flat_in}
 use Rattle.hg_shelf.proofs.Histories as shelves
 use Rattle.hg_tree.proofs.Spans.{passes_same}
 use Rattle.hg_session.specs.Call.{Looked}
-use Rattle.hg_session.proofs.Listings.{cause_load, cause_status, had_patterns, id_is, listable_by, listed_for, loaded_by}
+use Rattle.hg_session.proofs.Listings.{cause_status, had_patterns, id_is, listable_by, listed_for, loaded_by}
+use Rattle.hg_session.specs.Loaded.{IsFlatOf}
+use Rattle.hg_session.proofs.Readings.{met_reading}
 use Rattle.hg_session.proofs.listing.list.Goals as goal
 
 pub returns-in_err-flat : goal.returns-in_err-flat
@@ -17,7 +19,7 @@ returns-in_err-flat g c =
       still = tt;
       warns = tt;
       listable = tt;
-      cause = cause_load _ c.args.wanted c.in_err-flat.field-0.0 c.in_err-flat.ensures.found c.in_err-flat.ensures.cause.rose;
+      cause = met_reading IsFlatOf _ c.in_err-flat.field-0.0 c.in_err-flat.ensures.found c.in_err-flat.ensures.cause.rose;
       asked = λ told. inl refl;
       asked_own = tt;
       calm_tree = tt;
