@@ -12,19 +12,14 @@ use Rattle.hg_shelf.specs.History as shelf
 use Rattle.hg_stream.specs.Stream.{Grown, GrownByFront}
 use Rattle.hg_tree.specs.History as tree
 use Rattle.hg_session.specs.Call.{Call, Watched}
-use Rattle.hg_session.specs.Command.{CommandCause, IsFaultOrMemory, IsPartlyWarned, IsSilent, LeavesErr, LeavesFront, LeavesOut, Prints, RanStatus, Tells, TellsLine, wanted_in}
+use Rattle.hg_session.specs.Command.{IsFaultOrMemory, IsIdle, IsPartlyWarned, IsSilent, LeavesErr, LeavesFront, LeavesOut, Prints, RanStatus, Tells, TellsLine, wanted_in}
 use Rattle.hg_session.specs.Flags.{is_status, style_of}
 use Rattle.hg_session.specs.Listed.{AsksLittle, IsOwn}
 use Rattle.hg_session.specs.declared.list_fault.ListFault.TheVariants as a_list
 use Rattle.hg_session.specs.declared.read_fault.ReadFault.TheVariants as a_read
-use Rattle.hg_session.proofs.Expectations.{cause_expected, listed_own, none_expected}
+use Rattle.hg_session.proofs.Expectations.{left_expected, listed_own, none_expected}
 
 -- ---- what a fault leaves
-
-pub cause_left : (call : Call) (fault : Fault) → LeavesOut call fault → CommandCause call fault
-cause_left call fault (inl (before, same)) = inl before
-cause_left call fault (inr (inl (printing, begun))) = inr (inl printing)
-cause_left call fault (inr (inr (warning, printed))) = inr (inr warning)
 
 -- one that is told isn't that of the error stream
 told_apart : {Q : Type 0} (fault : Fault) → has_line fault ≡ true → fault ≡ a_fault.ErrFailed → Q
@@ -45,6 +40,18 @@ left_ended call err fault told (inl (before, same)) = inl (before, same)
 left_ended call err fault told (inr (inl (printing, begun))) =
     inr (inl (record { listable = printing.listable; failed = printing.failed; kind = printing.kind }, record { rows = begun.rows; listing = begun.listing; printed = begun.printed }))
 left_ended call err fault told (inr (inr (warning, printed))) = told_apart fault told warning.kind
+
+-- and nothing else is done behind it
+idle_ended : (call : Call) (err : Watched (Option (List ℕ))) → IsIdle call → IsIdle (ends call err)
+idle_ended call err idle = record {
+  tree = idle.tree;
+  shelf = idle.shelf;
+  shelf_count = idle.shelf_count;
+  saved = idle.saved;
+  locks = idle.locks;
+  regexps = idle.regexps;
+  out = idle.out;
+}
 
 -- the whole is a front of itself
 grown_whole : (old new : Option (List ℕ)) (text : List ℕ) → Grown old new text → GrownByFront old new text
@@ -83,34 +90,34 @@ ran_ok call u prints = record {
     listing = listed_own call.looked (wanted_in call) prints.still.rows prints.tree prints.shelf own prints.still.listing;
     printed = prints.still.printed;
   };
-  cause = tt;
   words = λ other. let never = prints.words other in absurd (cc (never));
+  idle = prints.idle;
   listable = λ none. prints.listable;
   complete = λ own p q r w. none_expected call prints.tree prints.shelf own (is_built call u prints) prints.listable;
   calm_tree = λ none. prints.calm_tree;
   calm_shelf = λ none. prints.calm_shelf;
   calm_out = λ none. prints.calm_out;
   calm_regexps = λ none. prints.calm_regexps;
-  asked = λ built. record { tree = prints.tree; shelf = prints.shelf; little = prints.asked };
+  asked = record { tree = prints.tree; shelf = prints.shelf; little = prints.asked };
   asked_own = λ none. prints.asked_own;
   left = tt;
   front = λ own. tt;
 }
 
 ran_fault : (call : Call) (fault : Fault) → tree.Passes call.looked.tree.old call.looked.tree.new → shelf.Passes call.looked.shelf.old call.looked.shelf.new → AsksLittle call.looked (wanted_in call) → LeavesOut call fault
-    → (is_status call.words ≡ false → IsFaultOrMemory (Some fault) a_fault.NotBuilt) → RanStatus call (Some fault)
-ran_fault call fault copy files asked left words = record {
+    → (is_status call.words ≡ false → IsFaultOrMemory (Some fault) a_fault.NotBuilt) → (is_status call.words ≡ false → IsIdle call) → RanStatus call (Some fault)
+ran_fault call fault copy files asked left words idle = record {
   still = λ none. absurd (cc (none));
   listed = λ none. absurd (cc (none));
-  cause = cause_left call fault left;
   words = words;
+  idle = idle;
   listable = λ none. absurd (cc (none));
-  complete = λ own p q r w. cause_expected call copy files own fault (cause_left call fault left) p q r w;
+  complete = λ own p q r w. left_expected call copy files own fault left p q r w;
   calm_tree = λ none. absurd (cc (none));
   calm_shelf = λ none. absurd (cc (none));
   calm_out = λ none. absurd (cc (none));
   calm_regexps = λ none. absurd (cc (none));
-  asked = λ built. record { tree = copy; shelf = files; little = asked };
+  asked = record { tree = copy; shelf = files; little = asked };
   asked_own = λ none. absurd (cc (none));
   left = left;
   front = λ own. front_left call fault copy files own left;
@@ -119,16 +126,17 @@ ran_fault call fault copy files asked left words = record {
 -- the fault that was met, where its line isn't told
 pub ran_as : (call : Call) (fault : Fault) → Prints call (Err fault) → RanStatus call (Some fault)
 ran_as call fault prints =
-    ran_fault call fault prints.tree prints.shelf prints.asked prints.left (λ other. let met : fault ≡ a_fault.NotBuilt = cc (prints.words other) in inl (ap Some met))
+    ran_fault call fault prints.tree prints.shelf prints.asked prints.left (λ other. let met : fault ≡ a_fault.NotBuilt = cc (prints.words other) in inl (ap Some met)) prints.idle
 
 -- and where it is
 pub ran_err : (call : Call) (err : Watched (Option (List ℕ))) (fault : Fault) (answered : Option Fault) → has_line fault ≡ true → Prints call (Err fault) → IsFaultOrMemory answered fault
     → RanStatus (ends call err) answered
 ran_err call err fault answered told prints is =
     let left : LeavesOut (ends call err) fault = left_ended call err fault told prints.left in
+    let idle : is_status call.words ≡ false → IsIdle (ends call err) = λ other. idle_ended call err (prints.idle other) in
     answered_by (RanStatus (ends call err)) answered fault is
-    (ran_fault (ends call err) fault prints.tree prints.shelf prints.asked left (λ other. let met : fault ≡ a_fault.NotBuilt = cc (prints.words other) in inl (ap Some met)))
-    (ran_fault (ends call err) a_fault.OutOfMemory prints.tree prints.shelf prints.asked (left_any (ends call err) fault told left) (λ other. inr refl))
+    (ran_fault (ends call err) fault prints.tree prints.shelf prints.asked left (λ other. let met : fault ≡ a_fault.NotBuilt = cc (prints.words other) in inl (ap Some met)) idle)
+    (ran_fault (ends call err) a_fault.OutOfMemory prints.tree prints.shelf prints.asked (left_any (ends call err) fault told left) (λ other. inr refl) idle)
 
 -- ---- what is told
 

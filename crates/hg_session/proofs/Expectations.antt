@@ -32,7 +32,7 @@ use Rattle.hg_tree.specs.Moment.{stat_at}
 use Rattle.hg_tree.proofs.Spans.{ours_unstepped}
 use Rattle.hg_tree.proofs.Stillness.{ours_untouched}
 use Rattle.hg_session.specs.Call.{Call, Looked, Serves}
-use Rattle.hg_session.specs.Command.{CommandCause, HasBadManifest, HasBadPatterns, IsExpected, IsReady, LacksContents, MetBefore, wanted_in}
+use Rattle.hg_session.specs.Command.{HasBadManifest, HasBadPatterns, IsExpected, IsReady, LacksContents, LeavesOut, MetBefore, wanted_in}
 use Rattle.hg_session.specs.Flags.{is_status}
 use Rattle.hg_session.specs.Listed.{IsListable, IsListed, IsListedFor, IsLoaded, IsOwn, IsRecorded, IsUntouched, ListingCause, LoadMet, MetReading, first_parent, status_over}
 use Rattle.hg_session.specs.Load.{of_list, of_read}
@@ -197,10 +197,10 @@ module _ (call : Call) (copy : tree.Passes call.looked.tree.old call.looked.tree
   before_expected fault (inl (other, is)) p q = subst (λ (f : Fault). Expects (Some f)) (sym is) other
   before_expected fault (inr (f, is, cause)) p q = subst (λ (f : Fault). Expects (Some f)) (sym is) (listing_expected f cause p q)
 
-  pub cause_expected : (fault : Fault) → CommandCause call fault → Serves call.looked.tree → Serves call.looked.shelf → Serves call.out → Serves call.err → Expects (Some fault)
-  cause_expected fault (inl before) p q r w = before_expected fault before p q
-  cause_expected fault (inr (inl printing)) p q r w = absurd (steady_not_rose call.out.before call.out.after r printing.failed)
-  cause_expected fault (inr (inr warning)) p q r w = absurd (steady_not_rose call.err.before call.err.after w warning.failed)
+  pub left_expected : (fault : Fault) → LeavesOut call fault → Serves call.looked.tree → Serves call.looked.shelf → Serves call.out → Serves call.err → Expects (Some fault)
+  left_expected fault (inl (before, same)) p q r w = before_expected fault before p q
+  left_expected fault (inr (inl (printing, begun))) p q r w = absurd (steady_not_rose call.out.before call.out.after r printing.failed)
+  left_expected fault (inr (inr (warning, printed))) p q r w = absurd (steady_not_rose call.err.before call.err.after w warning.failed)
 
   pub none_expected : (is_status call.words ≡ true) → IsListable call.looked (wanted_in call) → Expects None
   none_expected built listable =

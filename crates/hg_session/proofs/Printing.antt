@@ -90,6 +90,7 @@ module _ (call : Call) (built : Bool) (is : built ≡ is_status call.words) (yes
     left = inl (inr (fault, refl, lists.cause), same);
     left_err = silent_by call (of_list fault) (listing_told fault) silent;
     words = wrong_words call.words built is yes_built;
+    idle = wrong_words call.words built is yes_built;
     asked = lists.asked;
     asked_own = tt;
     calm_tree = tt;
@@ -110,6 +111,7 @@ module _ (call : Call) (built : Bool) (is : built ≡ is_status call.words) (yes
     left = inl (inr (a_list.Read a_read.OutOfMemory, refl, tt), same);
     left_err = silent;
     words = wrong_words call.words built is yes_built;
+    idle = wrong_words call.words built is yes_built;
     asked = lists.asked;
     asked_own = tt;
     calm_tree = tt;
@@ -130,6 +132,7 @@ module _ (call : Call) (built : Bool) (is : built ≡ is_status call.words) (yes
     left = inr (inl (record { listable = lists.listable; failed = failed; kind = inl refl }, begun_for call listed.rows text lists.still same grown));
     left_err = silent;
     words = wrong_words call.words built is yes_built;
+    idle = wrong_words call.words built is yes_built;
     asked = lists.asked;
     asked_own = tt;
     calm_tree = tt;
@@ -150,6 +153,7 @@ module _ (call : Call) (built : Bool) (is : built ≡ is_status call.words) (yes
     left = inr (inr (record { listable = lists.listable; failed = failed; kind = refl }, printed_for call listed.rows text lists.still same grown));
     left_err = partly_warned call listed.warnings lines lists.warns warns begun failed;
     words = wrong_words call.words built is yes_built;
+    idle = wrong_words call.words built is yes_built;
     asked = lists.asked;
     asked_own = tt;
     calm_tree = tt;
@@ -170,6 +174,7 @@ module _ (call : Call) (built : Bool) (is : built ≡ is_status call.words) (yes
     left = tt;
     left_err = tt;
     words = wrong_words call.words built is yes_built;
+    idle = wrong_words call.words built is yes_built;
     asked = lists.asked;
     asked_own = lists.asked_own;
     calm_tree = lists.calm_tree;

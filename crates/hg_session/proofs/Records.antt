@@ -15,7 +15,7 @@ use Rattle.hg_shelf.proofs.Histories as shelves
 use Rattle.hg_tree.specs.History as tree
 use Rattle.hg_session.specs.Call.{Call, Serves, Watched}
 use Rattle.hg_session.specs.Command.{Does, IsFaultOrMemory, IsSilent, Prints, Ran, Tells, TellsLine}
-use Rattle.hg_session.specs.Debug.{HasText, IsExpectedOf, IsLeftAlone, IsRead, IsReadable, IsTextIn, LeavesRecord, LeavesText, OneRecord, PrintsRecord, RanRecord, RecordCause, is_debug}
+use Rattle.hg_session.specs.Debug.{HasText, IsExpectedOf, IsLeftAlone, IsRead, IsReadable, IsTextIn, LeavesRecord, LeavesText, OneRecord, PrintsRecord, RanRecord, is_debug}
 use Rattle.hg_session.specs.Listed.{LoadMet, MetReading}
 use Rattle.hg_save.specs.Record.{id_in, record_in}
 use Rattle.hg_save.specs.Loads.{Try}
@@ -76,9 +76,9 @@ module _ (files : Watched shelf.History) (passes : shelf.Passes files.old files.
       (m.1.0, subst (AllByRecursion (λ id. id ≡ id_in there)) (sym m.1.1) (all_same (id_in there) m.0))
   reading_expected a_read.Failed met p = absurd (steady_not_rose files.before files.after p met)
 
-  record_expected : (out : Watched (Option (List ℕ))) (fault : Fault) → RecordCause files out fault → Serves files → Serves out → IsExpectedOf there (Some fault)
-  record_expected out fault (inl (f, is, met)) p q = subst (λ (g : Fault). IsExpectedOf there (Some g)) (sym is) (reading_expected f met p)
-  record_expected out fault (inr writing) p q = absurd (steady_not_rose out.before out.after q writing.failed)
+  record_expected : (out : Watched (Option (List ℕ))) (fault : Fault) → LeavesText files out fault → Serves files → Serves out → IsExpectedOf there (Some fault)
+  record_expected out fault (inl ((f, is, met), same)) p q = subst (λ (g : Fault). IsExpectedOf there (Some g)) (sym is) (reading_expected f met p)
+  record_expected out fault (inr (writing, begun)) p q = absurd (steady_not_rose out.before out.after q writing.failed)
 
   none_expected : IsReadable files → IsExpectedOf there None
   none_expected readable = let r = readable own.told in (r.0, read_now r.0 r.1)
@@ -88,10 +88,6 @@ module _ (files : Watched shelf.History) (passes : shelf.Passes files.old files.
   record_left out fault (inr (writing, begun)) = inr (record { text = begun.text; is = text_in begun.text begun.is; printed = begun.printed })
 
 -- ---- the command
-
-cause_of : (files : Watched shelf.History) (out : Watched (Option (List ℕ))) (fault : Fault) → LeavesText files out fault → RecordCause files out fault
-cause_of files out fault (inl (met, same)) = inl met
-cause_of files out fault (inr (writing, begun)) = inr writing
 
 -- what a fault leaves may also be left where there is no memory for its line
 left_any : (files : Watched shelf.History) (out : Watched (Option (List ℕ))) (fault : Fault) → LeavesText files out fault → LeavesText files out a_fault.OutOfMemory
@@ -105,7 +101,6 @@ record_ok : (copy : Watched tree.History) (files : Watched shelf.History) (out :
 record_ok copy files out u (alone, prints) = record {
   printed = λ none. prints.printed;
   whole = λ none own. record { text = prints.printed.text; is = text_in files prints.passes own prints.printed.text prints.printed.is; printed = prints.printed.printed };
-  cause = tt;
   complete = λ own p q. none_expected files prints.passes own (readable_text files prints.printed.text prints.printed.is);
   calm_shelf = λ none. prints.calm_shelf;
   calm_out = λ none. prints.calm_out;
@@ -120,10 +115,9 @@ record_err : (copy : Watched tree.History) (files : Watched shelf.History) (out 
 record_err copy files out fault answered is (alone, prints) = record {
   printed = λ none. not_without answered fault is none;
   whole = λ none. not_without answered fault is none;
-  cause = answered_by (λ o. IfSome o (RecordCause files out)) answered fault is (cause_of files out fault prints.left) (cause_of files out a_fault.OutOfMemory (left_any files out fault prints.left));
   complete = λ own p q.
       answered_by (IsExpectedOf (shelf.now files.old).files) answered fault is
-      (record_expected files prints.passes own out fault (cause_of files out fault prints.left) p q) tt;
+      (record_expected files prints.passes own out fault prints.left p q) tt;
   calm_shelf = λ none. not_without answered fault is none;
   calm_out = λ none. not_without answered fault is none;
   alone = alone;

@@ -26,6 +26,7 @@ use Rattle.hg_report.specs.Warnings.{warnings_text}
 use Rattle.hg_report.specs.declared.fault.Fault.{Fault}
 use Rattle.hg_report.specs.declared.fault.Fault.TheVariants as a_fault
 use Rattle.hg_shelf.specs.History as shelf
+use Rattle.hg_shelf.specs.Images.{Goes}
 use Rattle.hg_stream.specs.Stream.{Grown, GrownByFront}
 use Rattle.hg_tree.specs.History as tree
 use Rattle.hg_tree.specs.Moment.{Moment, stat_at}
@@ -93,9 +94,6 @@ pub record MetWarning (call : Call) (fault : Fault) : Type 0 where
   pub listable : IsListable call.looked (wanted_in call)
   pub failed : Fails call.err
   pub kind : fault ≡ a_fault.ErrFailed
-
-abbrev pub CommandCause : Call → Fault → Type 0
-CommandCause call fault = MetBefore call fault ⊎ (MetPrinting call fault ⊎ MetWarning call fault)
 
 -- a fault that is met before printing leaves standard output as it was; one that printing meets leaves a front of the text of rows, and one
 -- that warning meets the whole text
@@ -220,6 +218,16 @@ Tells call (Some fault) = MatchBool (has_line fault) (TellsLine call.err.old cal
 abbrev pub LeavesErr : Call → Fault → Type 0
 LeavesErr call fault = MatchBool (has_line fault) (IsSilent call.err) (IsPartlyWarned call)
 
+-- every device but the error stream is as it was, no count of theirs rose, and a crash leaves what it might have left before
+pub record IsIdle (call : Call) : Type 0 where
+  pub tree : IsLeftAlone call.looked.tree
+  pub shelf : call.looked.shelf.new ≡ call.looked.shelf.old
+  pub shelf_count : call.looked.shelf.after ≡ call.looked.shelf.before
+  pub saved : Goes call.saved.old call.saved.new
+  pub locks : call.locks.after ≡ call.locks.before
+  pub regexps : call.looked.oversize.after ≡ call.looked.oversize.before
+  pub out : IsSilent call.out
+
 -- a listing, its text and its warnings, or a fault
 pub record Prints (call : Call) (result : Result Unit Fault) : Type 0 where
   pub tree : tree.Passes call.looked.tree.old call.looked.tree.new
@@ -230,6 +238,7 @@ pub record Prints (call : Call) (result : Result Unit Fault) : Type 0 where
   pub left : IfErr result (LeavesOut call)
   pub left_err : IfErr result (LeavesErr call)
   pub words : is_status call.words ≡ false → result ≡ Err a_fault.NotBuilt
+  pub idle : is_status call.words ≡ false → IsIdle call
   pub asked : AsksLittle call.looked (wanted_in call)
   pub asked_own : OnOk result (AsksOwn call.looked (wanted_in call))
   pub calm_tree : OnOk result (call.looked.tree.after ≡ call.looked.tree.before)
@@ -245,7 +254,7 @@ pub record Does (call : Call) (result : Result Unit Fault) : Type 0 where
   pub silent : is_debug call.words ≡ true → IsSilent call.err
   pub status : is_debug call.words ≡ false → Prints call result
 
--- a status only asks
+-- only asking
 pub record OnlyAsks (call : Call) : Type 0 where
   pub tree : tree.Passes call.looked.tree.old call.looked.tree.new
   pub shelf : shelf.Passes call.looked.shelf.old call.looked.shelf.new
@@ -258,10 +267,9 @@ pub record RanStatus (call : Call) (fault : Option Fault) : Type 0 where
   -- and where nobody else made a step, they are the full listing
   pub listed : fault ≡ None → IsOwn call.looked
       → IsPrinted call.words (shelf.now call.looked.shelf.old).files (tree.now call.looked.tree.old) call.out.old call.out.new
-  -- each fault comes only for its cause
-  pub cause : IfSome fault (CommandCause call)
-  -- other words are answered as such, whatever else holds
+  -- other words are answered as such, whatever else holds, and leave all as it was
   pub words : is_status call.words ≡ false → IsFaultOrMemory fault a_fault.NotBuilt
+  pub idle : is_status call.words ≡ false → IsIdle call
   -- there is no fault only where none was found
   pub listable : fault ≡ None → IsListable call.looked (wanted_in call)
   -- where nobody else steps and no count rises, the answer is the expected one, or there was no memory
@@ -273,12 +281,12 @@ pub record RanStatus (call : Call) (fault : Option Fault) : Type 0 where
   pub calm_out : fault ≡ None → call.out.after ≡ call.out.before
   -- and where a regexp was too big
   pub calm_regexps : fault ≡ None → call.looked.oversize.after ≡ call.looked.oversize.before
-  -- a status changes nothing, reads the ignore patterns and only paths whose bytes are compared, and lists directories only where `?` or I is
+  -- nothing is changed; it reads the ignore patterns and only paths whose bytes are compared, and lists directories only where `?` or I is
   -- wanted, each once at most; where nobody else steps visible ones alone, and without I none that is ignored
-  pub asked : is_status call.words ≡ true → OnlyAsks call
+  pub asked : OnlyAsks call
   -- without a fault, and where nobody else steps, the patterns are read exactly where they are needed and stand there
   pub asked_own : fault ≡ None → AsksOwn call.looked (wanted_in call)
-  -- what stands in standard output after a fault
+  -- each fault was met before printing, while it printed or while it warned, and what stands in standard output then
   pub left : IfSome fault (LeavesOut call)
   pub front : IsOwn call.looked
       → IfSome fault (λ _. LeavesFront call.words (shelf.now call.looked.shelf.old).files (tree.now call.looked.tree.old) call.out.old call.out.new)

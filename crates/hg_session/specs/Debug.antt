@@ -91,9 +91,6 @@ pub record MetWriting (files : Watched shelf.History) (out : Watched (Option (Li
   pub failed : Fails out
   pub kind : IsOutFault fault
 
-abbrev pub RecordCause : Watched shelf.History → Watched (Option (List ℕ)) → Fault → Type 0
-RecordCause files out fault = MetLoading files fault ⊎ MetWriting files out fault
-
 -- a fault that is met while reading leaves standard output as it was; one that printing meets leaves a front of the text
 abbrev pub LeavesText : Watched shelf.History → Watched (Option (List ℕ)) → Fault → Type 0
 LeavesText files out fault = (MetLoading files fault × (out.new ≡ out.old)) ⊎ (MetWriting files out fault × IsTextBegun files out)
@@ -152,8 +149,6 @@ pub record RanRecord (copy : Watched tree.History) (files : Watched shelf.Histor
   pub printed : fault ≡ None → IsTextPrinted files out
   -- and where nobody else made a step below `.hg`, that of the record that stands there
   pub whole : fault ≡ None → shelf.IsOurs files.old files.new → IsRecordPrinted (shelf.now files.old).files out.old out.new
-  -- each fault comes only for its cause
-  pub cause : IfSome fault (RecordCause files out)
   -- where nobody else steps and no count rises, the answer is the expected one, or there was no memory
   pub complete : shelf.IsOurs files.old files.new → Serves files → Serves out → IsExpectedOf (shelf.now files.old).files fault
   -- where a device failed there is a fault
@@ -162,6 +157,6 @@ pub record RanRecord (copy : Watched tree.History) (files : Watched shelf.Histor
   -- it changes nothing, and doesn't look at the working copy
   pub alone : IsLeftAlone copy
   pub passes : shelf.Passes files.old files.new
-  -- what stands in standard output after a fault
+  -- each fault was met before printing or while it printed, and what stands in standard output then
   pub left : IfSome fault (LeavesText files out)
   pub front : shelf.IsOurs files.old files.new → IfSome fault (λ _. LeavesRecord (shelf.now files.old).files out.old out.new)

@@ -3,6 +3,8 @@ use Rattle.std.proofs.Common.{◌∙◌, inl, refl, sym}
 use Rattle.std.proofs.lemmas.Result.{err_from_is_err_and}
 use Rattle.hg_tree.proofs.Spans.{passes_same}
 use Rattle.hg_shelf.proofs.Histories as shelves
+use Rattle.hg_shelf.proofs.Scenes.{goes_same}
+use Rattle.hg_shelf.specs.Images.{course}
 use Rattle.hg_session.proofs.Printing.{did_print, lists_as, met_listing, met_memory, met_printing, met_warning, text_as}
 use Rattle.hg_session.proofs.looking.status.Goals as goal
 
@@ -16,6 +18,15 @@ returns-then-not-is_status g c = record {
   left = inl (inl (sym c.is_status.ensures ∙ c.if-not-is_status.true, refl), refl);
   left_err = record { bytes = refl; count = refl };
   words = λ other. refl;
+  idle = λ other. record {
+    tree = record { history = refl; count = refl };
+    shelf = refl;
+    shelf_count = refl;
+    saved = goes_same (course (g.S.Shelf.history c.args.shelf.now) (g.S.Shelf.images c.args.shelf.now));
+    locks = refl;
+    regexps = refl;
+    out = record { bytes = refl; count = refl };
+  };
   asked = λ told. inl refl;
   asked_own = tt;
   calm_tree = tt;
