@@ -1,4 +1,5 @@
 pub mod Acted
+pub mod Caused
 pub mod Causes
 pub mod Changes
 pub mod Commands

@@ -1,6 +1,8 @@
 pub mod Acts
 pub mod Anew
+pub mod Answered
 pub mod Call
+pub mod Cause
 pub mod Change
 pub mod Changed
 pub mod Command

@@ -1,11 +1,10 @@
 //! One command over a working copy, the files below `.hg`, and the standard streams.
 
-ghost use Rattle.std.specs.Prelude.{◌≡◌, ◌⊎◌, None, IfSome, MatchOption, drop};
+ghost use Rattle.std.specs.Prelude.{◌≡◌, drop};
 ghost use Rattle.std.specs.List.{list_any};
+ghost use Rattle.hg_session.specs.Answered.{IsAnswered};
 ghost use Rattle.hg_session.specs.Change as changes_are;
 ghost use Rattle.hg_session.specs.Change.{changing_named, changing_of};
-ghost use Rattle.hg_session.specs.Changed.{RanChange};
-ghost use Rattle.hg_session.specs.Command.{Ran, Tells};
 ghost use Rattle.hg_shelf.specs.Images.{course};
 
 use crate::acting::Changing;
@@ -72,28 +71,8 @@ pub fn command<T: Tree, S: Shelf, G: Regexps, O: Sink, E: Sink>(
     out: &mut O,
     err: &mut E,
 ) -> Outcome
-    // What a command that only looks answers and leaves: `Ran` in specs/Command.antt, by its words, a sentence a field.
-    ensures ran { changing_of words.now ≡ None
-        → Ran
-        (record {
-          words = words.now;
-          looked =
-              record {
-                tree = record { old = T.history tree.old; new = T.history tree.new; before = T.faults tree.old; after = T.faults tree.new };
-                shelf = record { old = S.history shelf.old; new = S.history shelf.new; before = S.faults shelf.old; after = S.faults shelf.new };
-                oversize = record { before = G.oversize regexps.old; after = G.oversize regexps.new };
-              };
-          saved = record { old = course (S.history shelf.old) (S.images shelf.old); new = course (S.history shelf.new) (S.images shelf.new) };
-          locks = record { before = S.held shelf.old; after = S.held shelf.new };
-          out = record { old = O.bytes out.old; new = O.bytes out.new; before = O.faults out.old; after = O.faults out.new };
-          err = record { old = E.bytes err.old; new = E.bytes err.new; before = E.faults err.old; after = E.faults err.new };
-        })
-        result.fault }
-    // What one that changes the record does: `RanChange` in specs/Changed.antt, a sentence a field.
-    ensures changed { IfSome
-        (changing_of words.now)
-        (λ command. RanChange
-        command
+    // What the call did and answers: `IsAnswered` in specs/Answered.antt, a sentence a field.
+    ensures { IsAnswered
         (record {
           words = words.now;
           looked =
@@ -108,27 +87,7 @@ pub fn command<T: Tree, S: Shelf, G: Regexps, O: Sink, E: Sink>(
           err = record { old = E.bytes err.old; new = E.bytes err.new; before = E.faults err.old; after = E.faults err.new };
         })
         result.status
-        result.fault) }
-    // What stands on the error stream of one that only looks, and with which status it ends.
-    ensures told { changing_of words.now ≡ None
-        → Tells
-        (record {
-          words = words.now;
-          looked =
-              record {
-                tree = record { old = T.history tree.old; new = T.history tree.new; before = T.faults tree.old; after = T.faults tree.new };
-                shelf = record { old = S.history shelf.old; new = S.history shelf.new; before = S.faults shelf.old; after = S.faults shelf.new };
-                oversize = record { before = G.oversize regexps.old; after = G.oversize regexps.new };
-              };
-          saved = record { old = course (S.history shelf.old) (S.images shelf.old); new = course (S.history shelf.new) (S.images shelf.new) };
-          locks = record { before = S.held shelf.old; after = S.held shelf.new };
-          out = record { old = O.bytes out.old; new = O.bytes out.new; before = O.faults out.old; after = O.faults out.new };
-          err = record { old = E.bytes err.old; new = E.bytes err.new; before = E.faults err.old; after = E.faults err.new };
-        })
         result.fault }
-    ensures steady_err { result.fault ≡ None → E.faults err.new ≡ E.faults err.old }
-    ensures status { MatchOption result.fault ((result.status ≡ 0) ⊎ (result.status ≡ 1)) (λ fault. result.status ≡ 255) }
-    ensures looked { changing_of words.now ≡ None → result.fault ≡ None → result.status ≡ 0 }
 {
     match changing(words) {
         None => look(alloc, words, tree, shelf, regexps, out, err),

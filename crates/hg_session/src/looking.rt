@@ -1,7 +1,8 @@
 //! The commands that only look: `status`, and `debugdirstate`.
 
-ghost use Rattle.std.specs.Prelude.{◌≡◌, None, MatchOption};
-ghost use Rattle.hg_session.specs.Command.{Does, Prints, Ran, Tells};
+ghost use Rattle.std.specs.Prelude.{◌≡◌};
+ghost use Rattle.hg_session.specs.Answered.{Looks};
+ghost use Rattle.hg_session.specs.Command.{Does, Prints};
 ghost use Rattle.hg_session.specs.Debug.{is_debug};
 ghost use Rattle.hg_shelf.specs.Images.{course};
 
@@ -106,7 +107,7 @@ pub(crate) fn look<T: Tree, S: Shelf, G: Regexps, O: Sink, E: Sink>(
     out: &mut O,
     err: &mut E,
 ) -> Outcome
-    ensures ran { Ran
+    ensures { Looks
         (record {
           words = words.now;
           looked =
@@ -120,24 +121,8 @@ pub(crate) fn look<T: Tree, S: Shelf, G: Regexps, O: Sink, E: Sink>(
           out = record { old = O.bytes out.old; new = O.bytes out.new; before = O.faults out.old; after = O.faults out.new };
           err = record { old = E.bytes err.old; new = E.bytes err.new; before = E.faults err.old; after = E.faults err.new };
         })
+        result.status
         result.fault }
-    ensures told { Tells
-        (record {
-          words = words.now;
-          looked =
-              record {
-                tree = record { old = T.history tree.old; new = T.history tree.new; before = T.faults tree.old; after = T.faults tree.new };
-                shelf = record { old = S.history shelf.old; new = S.history shelf.new; before = S.faults shelf.old; after = S.faults shelf.new };
-                oversize = record { before = G.oversize regexps.old; after = G.oversize regexps.new };
-              };
-          saved = record { old = course (S.history shelf.old) (S.images shelf.old); new = course (S.history shelf.new) (S.images shelf.new) };
-          locks = record { before = S.held shelf.old; after = S.held shelf.new };
-          out = record { old = O.bytes out.old; new = O.bytes out.new; before = O.faults out.old; after = O.faults out.new };
-          err = record { old = E.bytes err.old; new = E.bytes err.new; before = E.faults err.old; after = E.faults err.new };
-        })
-        result.fault }
-    ensures steady_err { result.fault ≡ None → E.faults err.new ≡ E.faults err.old }
-    ensures status { MatchOption result.fault (result.status ≡ 0) (λ fault. result.status ≡ 255) }
 {
     match carry_out(alloc, words, tree, shelf, regexps, out, err) {
         Ok(()) => Outcome {

@@ -1,0 +1,55 @@
+-- Why a command met a fault: one table, a line a fault, for every command.
+use Rattle.std.specs.Prelude.{◌≡◌, false, List, None, Some, ℕ, IsTrue}
+use Rattle.hg_base.specs.Fault.{Rose}
+use Rattle.hg_flat.specs.declared.fault.StatusFault.{StatusFault}
+use Rattle.hg_flat.specs.declared.fault.StatusFault.TheVariants as a_status
+use Rattle.hg_report.specs.declared.fault.Fault.{Fault}
+use Rattle.hg_report.specs.declared.fault.Fault.TheVariants as a_fault
+use Rattle.hg_session.specs.Call.{Call, Fails}
+use Rattle.hg_session.specs.Change.{MetLarge, MetSpent, changing_of, files_of}
+use Rattle.hg_session.specs.Command.{wanted_in}
+use Rattle.hg_session.specs.Debug.{is_debug}
+use Rattle.hg_session.specs.Flags.{is_status}
+use Rattle.hg_session.specs.Listed.{LoadMet, StatusMet}
+use Rattle.hg_session.specs.declared.acting.Changing.{Changing}
+use Rattle.hg_session.specs.declared.read_fault.ReadFault.TheVariants as a_read
+
+-- the words are those of no command
+pub record IsNoCommand (words : List (List ℕ)) : Type 0 where
+  pub status : is_status words ≡ false
+  pub debug : is_debug words ≡ false
+  pub changing : changing_of words ≡ None
+
+-- the words are a status, whose listing met this fault
+abbrev pub MetByStatus : Call → StatusFault → Type 0
+MetByStatus call fault = IsTrue (is_status call.words) × StatusMet call.looked (wanted_in call) fault
+
+-- the words are a command that changes the record, which met its fault so
+abbrev pub MetByChange : Call → (Changing → Type 0) → Type 0
+MetByChange call IsMet = (command : Changing) × (changing_of call.words ≡ Some command) × IsMet command
+
+-- each fault comes only for its cause; want of memory needs none
+abbrev pub CommandCause : Call → Fault → Type 0
+CommandCause call a_fault.OutOfMemory = Unit {0}
+CommandCause call a_fault.NotBuilt = IsNoCommand call.words
+CommandCause call (a_fault.Docket fault) = LoadMet (a_read.Docket fault) call.looked.shelf
+CommandCause call (a_fault.Node fault) = LoadMet (a_read.Node fault) call.looked.shelf
+CommandCause call (a_fault.DataGone ids) = LoadMet (a_read.DataGone ids) call.looked.shelf
+CommandCause call (a_fault.NoManifest id) = MetByStatus call (a_status.NoManifest id)
+CommandCause call (a_fault.ManifestTooLarge size) = MetByStatus call (a_status.ManifestTooLarge size)
+CommandCause call (a_fault.ManifestLine line) = MetByStatus call (a_status.ManifestLine line)
+CommandCause call (a_fault.ManifestOrder line) = MetByStatus call (a_status.ManifestOrder line)
+CommandCause call (a_fault.NoContents id) = MetByStatus call (a_status.NoContents id)
+CommandCause call (a_fault.IgnoreTooLarge size) = MetByStatus call (a_status.IgnoreTooLarge size)
+CommandCause call (a_fault.IgnoreText at) = MetByStatus call (a_status.IgnoreText at)
+CommandCause call (a_fault.BadGlob line) = MetByStatus call (a_status.BadGlob line)
+CommandCause call (a_fault.BadRegexp line) = MetByStatus call (a_status.BadRegexp line)
+CommandCause call (a_fault.RegexpTooBig line) = MetByStatus call (a_status.RegexpTooBig line) × Rose call.looked.oversize.before call.looked.oversize.after
+CommandCause call (a_fault.BadInclude line) = MetByStatus call (a_status.BadInclude line)
+CommandCause call a_fault.Held = MetByChange call (λ command. Rose call.locks.before call.locks.after)
+CommandCause call (a_fault.TooLarge size) = MetByChange call (λ command. MetLarge command (files_of call.words) call.looked.tree call.looked.shelf size)
+CommandCause call a_fault.IdsSpent = MetByChange call (λ command. IsTrue call.looked.shelf.old.told → MetSpent call.looked.shelf)
+CommandCause call a_fault.TreeFailed = Fails call.looked.tree
+CommandCause call a_fault.ShelfFailed = Fails call.looked.shelf
+CommandCause call a_fault.OutFailed = Fails call.out
+CommandCause call a_fault.ErrFailed = Fails call.err
