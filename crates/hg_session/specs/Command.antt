@@ -254,7 +254,7 @@ pub record Does (call : Call) (result : Result Unit Fault) : Type 0 where
   pub silent : is_debug call.words ≡ true → IsSilent call.err
   pub status : is_debug call.words ≡ false → Prints call result
 
--- only asking
+-- the working copy and the files below `.hg` are only asked, the working copy by a listing or not at all
 pub record OnlyAsks (call : Call) : Type 0 where
   pub tree : tree.Passes call.looked.tree.old call.looked.tree.new
   pub shelf : shelf.Passes call.looked.shelf.old call.looked.shelf.new
