@@ -226,7 +226,7 @@ IN_ORDER = [
 def named(root, row):
     """A row of the watcher, with what it names as a path from `.hg`; nothing where that is the root, or what stands beside `.hg`."""
     call, _, path = row.partition(" ")
-    name = os.path.relpath(path, f"{os.path.realpath(root)}/.hg")
+    name = os.path.relpath(os.path.join(root, path), f"{root}/.hg")
     return [] if name.startswith("..") else [f"{call} {name}"]
 
 
@@ -234,6 +234,7 @@ def run_in_order(tests, calls):
     """What two commands do below `.hg`, call by call: nothing else, and in this order. Before it there is the look for `.hg`."""
     with tests.working_copy() as root:
         lay_out(root, [".hg/", "a", "b"])
+        root = os.path.realpath(root)
         for words, wanted in IN_ORDER:
             status, rows = calls.listed(root, words)
             names = [it for row in rows for it in named(root, row)]
