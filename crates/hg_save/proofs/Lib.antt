@@ -4,6 +4,7 @@ pub mod Loads
 pub mod Names
 pub mod Others
 pub mod Parts
+pub mod Published
 pub mod Readings
 pub mod Stages
 pub mod Tails

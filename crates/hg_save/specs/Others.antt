@@ -1,11 +1,13 @@
 -- What others keep to as they publish.
-use Rattle.std.specs.Prelude.{ℕ, ◌≡◌, ◌≤◌, ◌<◌, List, length, take, Option, Some, None, Result, IsTrue}
+use Rattle.std.specs.Prelude.{ℕ, ◌≡◌, ◌≤◌, ◌<◌, ◌+◌, ◌⊎◌, List, length, take, Option, Some, None, Result, Ok, IsTrue}
 use Rattle.hg_docket.specs.Docket.{docket_of, docket_refusal}
 use Rattle.hg_entry.specs.Table.{Table}
 use Rattle.hg_image.specs.Reading.{RecordFault}
-use Rattle.hg_shelf.specs.History.{Files, History}
+use Rattle.hg_shelf.specs.History.{Files, History, Who, others}
+use Rattle.hg_shelf.specs.Images.{Course, Scene, scene}
 use Rattle.hg_save.specs.Loads.{During, files_at}
 use Rattle.hg_save.specs.Record.{data_name, docket_in, reading}
+use Rattle.hg_save.specs.Saved.{IsLatest}
 
 -- a docket is sound, and uses bytes of its data file
 pub record UsesData (docket : List ℕ) : Type 0 where
@@ -41,3 +43,34 @@ pub record WasRecorded (old new : History) (recorded : Result Table RecordFault)
   pub at : ℕ
   pub during : During old new at
   pub reading : reading (files_at new at) ≡ Some recorded
+
+-- ---- what others publish
+
+-- files have the docket that others have, and record what these do
+pub record RecordsAs (old new : Files) : Type 0 where
+  pub docket : docket_in new ≡ docket_in old
+  pub read : reading new ≡ reading old
+
+-- another docket came to stand
+abbrev pub IsPublication : Scene → Scene → Type 0
+IsPublication before behind = docket_in behind.files ≡ docket_in before.files → ⊥
+
+-- a step keeps to how a record is published: whatever a crash leaves behind it has the docket and the record that it might have left before or,
+-- where another docket came to stand, those that reads show then; these are sound, and no docket that a crash might leave is ahead of that one
+pub record IsOrderly (before behind : Scene) : Type 0 where
+  pub left : (c : Files) → behind.leaves c → ((d : Files) × before.leaves d × RecordsAs d c) ⊎ (IsPublication before behind × RecordsAs behind.files c)
+  pub sound : IsPublication before behind → (t : Table) × (reading behind.files ≡ Some (Ok t))
+  pub latest : IsPublication before behind → IsLatest behind
+
+-- from a moment on each step of one keeps to how a record is published
+pub record KeepsRecords (by : Who) (c : Course) (from : ℕ) : Type 0 where
+  pub each : (k : ℕ) → from ≤ k → k < c.history.last → c.history.who k ≡ by → IsOrderly (scene c k) (scene c (k + 1))
+
+-- others published this, by a step from one moment on and before another
+pub record WasPublished (c : Course) (start end : ℕ) (recorded : Option (Result Table RecordFault)) : Type 0 where
+  pub at : ℕ
+  pub from : start ≤ at
+  pub to : at < end
+  pub by : c.history.who at ≡ others
+  pub fresh : IsPublication (scene c at) (scene c (at + 1))
+  pub shown : reading (scene c (at + 1)).files ≡ recorded

@@ -1,0 +1,135 @@
+-- What a crash leaves after steps of others that keep to how a record is published.
+use Rattle.std.proofs.Common.{ℕ, zero, suc, ◌≡◌, ◌+◌, ◌-◌, ◌<◌, ◌≤◌, Bool, true, false, List, Option, Some, Result, Ok, refl, sym, ap, ◌∙◌, subst, arith, inl, inr, ◌⊎◌}
+use Rattle.std.specs.Str.{bytes_eq}
+use Rattle.std.proofs.lemmas.Slice.Eq.{bytes_eq-Decides}
+use Rattle.hg_base.proofs.Within.{same_bytes}
+use Rattle.hg_entry.specs.Table.{Table}
+use Rattle.hg_image.specs.Reading.{RecordFault}
+use Rattle.hg_shelf.specs.History.{Files, History, Who, us, readers, others}
+use Rattle.hg_shelf.specs.Images.{Course, Remains, Scene, scene}
+use Rattle.hg_shelf.specs.Polite.{OthersOnlyRead}
+use Rattle.hg_docket.specs.Docket.{docket_of}
+use Rattle.hg_save.specs.Others.{IsOrderly, IsPublication, KeepsRecords, RecordsAs, WasPublished}
+use Rattle.hg_save.specs.Record.{docket_in, id_in, reading}
+use Rattle.hg_save.specs.Saved.{IsLatest, name_after}
+
+-- what was published by a moment was by a later one
+pub published_later : (c : Course) (start early late : ℕ) (r : Option (Result Table RecordFault)) → early ≤ late → WasPublished c start early r → WasPublished c start late r
+published_later c start early late r order was = record {
+  at = was.at;
+  from = was.from;
+  to = omega (arith, order, was.to);
+  by = was.by;
+  fresh = was.fresh;
+  shown = was.shown;
+}
+
+-- and since an earlier one
+pub published_earlier : (c : Course) (first start end : ℕ) (r : Option (Result Table RecordFault)) → first ≤ start → WasPublished c start end r → WasPublished c first end r
+published_earlier c first start end r order was = record {
+  at = was.at;
+  from = omega (arith, order, was.from);
+  to = was.to;
+  by = was.by;
+  fresh = was.fresh;
+  shown = was.shown;
+}
+
+-- ---- one step
+
+-- another docket came to stand or not
+fresh_or_same : (before behind : Scene) → IsPublication before behind ⊎ (docket_in behind.files ≡ docket_in before.files)
+fresh_or_same before behind = by_test (bytes_eq (docket_in behind.files) (docket_in before.files)) refl where
+  by_test : (t : Bool) → bytes_eq (docket_in behind.files) (docket_in before.files) ≡ t → IsPublication before behind ⊎ (docket_in behind.files ≡ docket_in before.files)
+  by_test true is = inr (same_bytes (docket_in behind.files) (docket_in before.files) is)
+  by_test false is = inl (λ same. let test : bytes_eq (docket_in behind.files) (docket_in before.files) ≡ true = (bytes_eq-Decides (docket_in behind.files) (docket_in before.files)).1 same in cc (sym is ∙ test))
+
+latest_still : (a b : Scene) → Remains a b → IsLatest a → IsLatest b
+latest_still a b still is = record {
+  latest = λ c left n named. is.latest c (still.left c left) n (ap (λ (f : Files). name_after n (id_in f)) (sym still.shown) ∙ named);
+}
+
+latest_orderly : (a b : Scene) → IsOrderly a b → IsLatest a → IsLatest b
+latest_orderly a b step is = elim (fresh_or_same a b) [
+  | inl fresh ↦ step.latest fresh
+  | inr same ↦ record {
+      latest = λ c left n named. elim (step.left c left) [
+        | inl was ↦
+            is.latest was.0 was.1 n
+            (ap (λ (d : List ℕ). name_after n (docket_of d).id) (sym same) ∙ named ∙ ap (λ (d : List ℕ). Some (docket_of d).id) was.2.docket)
+        | inr new ↦ new.0 same
+      ];
+    }
+]
+
+-- ---- many steps
+
+-- none of the steps of a span is the caller's
+abbrev NoneOurs : Course → ℕ → ℕ → Type 0
+NoneOurs c from to = (j : ℕ) → from ≤ j → j < to → c.history.who j ≡ us → ⊥
+
+module _ (c : Course) (from : ℕ) (only : OthersOnlyRead c from) (keep : KeepsRecords others c from) where
+  latest_step : (j : ℕ) → from ≤ j → j < c.history.last → (w : Who) → c.history.who j ≡ w → (w ≡ us → ⊥) → IsLatest (scene c j) → IsLatest (scene c (j + 1))
+  latest_step j after before us who not_us is = absurd (not_us refl)
+  latest_step j after before readers who not_us is = latest_still (scene c j) (scene c (j + 1)) (only.same j after before who) is
+  latest_step j after before others who not_us is = latest_orderly (scene c j) (scene c (j + 1)) (keep.each j after before who) is
+
+  -- no docket that a crash may leave is ahead of the standing one, after so many steps of others
+  latest_over : (n k : ℕ) → k ≡ from + n → NoneOurs c from k → k ≤ c.history.last → IsLatest (scene c from) → IsLatest (scene c k)
+  latest_over zero k at none within is = subst (λ (m : ℕ). IsLatest (scene c m)) (omega (arith, at)) is
+  latest_over (suc n) k at none within is =
+      let next : from + n + 1 ≡ k = omega (arith, at) in
+      let before : IsLatest (scene c (from + n)) = latest_over n (from + n) refl (λ j after below. none j after (omega (arith, below, next))) (omega (arith, within, next)) is in
+      let j = from + n in
+      subst (λ (m : ℕ). IsLatest (scene c m)) next
+      (latest_step j (omega arith) (omega (arith, within, next)) (c.history.who j) refl (none j (omega arith) (omega (arith, next))) before)
+
+  pub latest_until : (k : ℕ) → from ≤ k → NoneOurs c from k → k ≤ c.history.last → IsLatest (scene c from) → IsLatest (scene c k)
+  latest_until k after none within is = latest_over (k - from) k (omega (arith, after)) none within is
+
+  module _ (Known : Option (Result Table RecordFault) → Type 0) where
+    -- of what was known at first, or published by others since
+    abbrev IsOf : ℕ → Files → Type 0
+    IsOf k f = Known (reading f) ⊎ WasPublished c from k (reading f)
+
+    of_later : (early late : ℕ) (f : Files) → early ≤ late → IsOf early f → IsOf late f
+    of_later early late f order (inl known) = inl known
+    of_later early late f order (inr was) = inr (published_later c from early late (reading f) order was)
+
+    of_same : (k : ℕ) (f g : Files) → RecordsAs g f → IsOf k g → IsOf k f
+    of_same k f g same is = subst (λ (r : Option (Result Table RecordFault)). Known r ⊎ WasPublished c from k r) (sym same.read) is
+
+    left_step : (j : ℕ) → from ≤ j → j < c.history.last → (w : Who) → c.history.who j ≡ w → (w ≡ us → ⊥) → ((f : Files) → (scene c j).leaves f → IsOf j f)
+        → (f : Files) → (scene c (j + 1)).leaves f → IsOf (j + 1) f
+    left_step j after before us who not_us is f left = absurd (not_us refl)
+    left_step j after before readers who not_us is f left = of_later j (j + 1) f (omega arith) (is f ((only.same j after before who).left f left))
+    left_step j after before others who not_us is f left =
+        let step : IsOrderly (scene c j) (scene c (j + 1)) = keep.each j after before who in
+        elim (step.left f left) [
+          | inl was ↦ of_later j (j + 1) f (omega arith) (of_same j f was.0 was.2 (is was.0 was.1))
+          | inr new ↦ inr (record {
+              at = j;
+              from = after;
+              to = omega arith;
+              by = who;
+              fresh = new.0;
+              shown = sym new.1.read;
+            })
+        ]
+
+    -- what a crash leaves after so many steps of others is of what was known at first, or they published it since
+    left_over : (n k : ℕ) → k ≡ from + n → NoneOurs c from k → k ≤ c.history.last → ((f : Files) → (scene c from).leaves f → Known (reading f))
+        → (f : Files) → (scene c k).leaves f → IsOf k f
+    left_over zero k at none within start f left = inl (start f (subst (λ (m : ℕ). (scene c m).leaves f) (omega (arith, at)) left))
+    left_over (suc n) k at none within start f left =
+        let next : from + n + 1 ≡ k = omega (arith, at) in
+        let before : (g : Files) → (scene c (from + n)).leaves g → IsOf (from + n) g =
+          left_over n (from + n) refl (λ j after below. none j after (omega (arith, below, next))) (omega (arith, within, next)) start in
+        let j = from + n in
+        let there : (scene c (j + 1)).leaves f = subst (λ (m : ℕ). (scene c m).leaves f) (sym next) left in
+        subst (λ (m : ℕ). IsOf m f) next
+        (left_step j (omega arith) (omega (arith, within, next)) (c.history.who j) refl (none j (omega arith) (omega (arith, next))) before f there)
+
+    pub left_until : (k : ℕ) → from ≤ k → NoneOurs c from k → k ≤ c.history.last → ((f : Files) → (scene c from).leaves f → Known (reading f))
+        → (f : Files) → (scene c k).leaves f → Known (reading f) ⊎ WasPublished c from k (reading f)
+    left_until k after none within start f left = left_over (k - from) k (omega (arith, after)) none within start f left
