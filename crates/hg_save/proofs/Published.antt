@@ -9,7 +9,7 @@ use Rattle.hg_shelf.specs.History.{Files, History, Who, us, readers, others}
 use Rattle.hg_shelf.specs.Images.{Course, Remains, Scene, scene}
 use Rattle.hg_shelf.specs.Polite.{OthersOnlyRead}
 use Rattle.hg_docket.specs.Docket.{docket_of}
-use Rattle.hg_save.specs.Others.{IsOrderly, IsPublication, KeepsRecords, RecordsAs, WasPublished}
+use Rattle.hg_save.specs.Others.{IsOrderly, IsPublication, IsSound, KeepsRecords, RecordsAs, WasPublished}
 use Rattle.hg_save.specs.Record.{docket_in, id_in, reading}
 use Rattle.hg_save.specs.Saved.{IsLatest, name_after}
 
@@ -35,6 +35,16 @@ published_earlier c first start end r order was = record {
   shown = was.shown;
 }
 
+-- who keeps to it from a moment on does from a later one on
+pub keeps_later : (by : Who) (c : Course) (from start : ℕ) → from ≤ start → KeepsRecords by c from → KeepsRecords by c start
+keeps_later by c from start order keep = record { each = λ k after before who. keep.each k (omega (arith, order, after)) before who }
+
+-- what was published is sound
+pub published_sound : (c : Course) (start end : ℕ) (r : Option (Result Table RecordFault)) → KeepsRecords others c start → end ≤ c.history.last → WasPublished c start end r → IsSound r
+published_sound c start end r keep within was =
+    let is = (keep.each was.at was.from (omega (arith, was.to, within)) was.by).sound was.fresh in
+    (is.0, sym was.shown ∙ is.1)
+
 -- ---- one step
 
 -- another docket came to stand or not
@@ -44,7 +54,7 @@ fresh_or_same before behind = by_test (bytes_eq (docket_in behind.files) (docket
   by_test true is = inr (same_bytes (docket_in behind.files) (docket_in before.files) is)
   by_test false is = inl (λ same. let test : bytes_eq (docket_in behind.files) (docket_in before.files) ≡ true = (bytes_eq-Decides (docket_in behind.files) (docket_in before.files)).1 same in cc (sym is ∙ test))
 
-latest_still : (a b : Scene) → Remains a b → IsLatest a → IsLatest b
+pub latest_still : (a b : Scene) → Remains a b → IsLatest a → IsLatest b
 latest_still a b still is = record {
   latest = λ c left n named. is.latest c (still.left c left) n (ap (λ (f : Files). name_after n (id_in f)) (sym still.shown) ∙ named);
 }

@@ -51,6 +51,10 @@ pub record RecordsAs (old new : Files) : Type 0 where
   pub docket : docket_in new ≡ docket_in old
   pub read : reading new ≡ reading old
 
+-- a record is sound: it reads as a table
+abbrev pub IsSound : Option (Result Table RecordFault) → Type 0
+IsSound recorded = (t : Table) × (recorded ≡ Some (Ok t))
+
 -- another docket came to stand
 abbrev pub IsPublication : Scene → Scene → Type 0
 IsPublication before behind = docket_in behind.files ≡ docket_in before.files → ⊥
@@ -59,7 +63,7 @@ IsPublication before behind = docket_in behind.files ≡ docket_in before.files 
 -- where another docket came to stand, those that reads show then; these are sound, and no docket that a crash might leave is ahead of that one
 pub record IsOrderly (before behind : Scene) : Type 0 where
   pub left : (c : Files) → behind.leaves c → ((d : Files) × before.leaves d × RecordsAs d c) ⊎ (IsPublication before behind × RecordsAs behind.files c)
-  pub sound : IsPublication before behind → (t : Table) × (reading behind.files ≡ Some (Ok t))
+  pub sound : IsPublication before behind → IsSound (reading behind.files)
   pub latest : IsPublication before behind → IsLatest behind
 
 -- from a moment on each step of one keeps to how a record is published

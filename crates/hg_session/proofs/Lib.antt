@@ -3,6 +3,7 @@ pub mod Caused
 pub mod Causes
 pub mod Changes
 pub mod Commands
+pub mod Crashes
 pub mod Expectations
 pub mod Freed
 pub mod Listings

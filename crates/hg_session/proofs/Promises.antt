@@ -16,6 +16,7 @@ use Rattle.hg_save.specs.Loads.{Try, files_at}
 use Rattle.hg_save.specs.Record.{id_in, reading}
 use Rattle.hg_session.proofs.Acted.{as_many, no_lines, none_refused}
 use Rattle.hg_session.proofs.Commands.{not_without}
+use Rattle.hg_session.proofs.Crashes.{crash_safe, lasting}
 use Rattle.hg_session.proofs.Readings.{unstepped_refuses}
 use Rattle.hg_session.specs.Acts.{AllSteps, refusals_text}
 use Rattle.hg_session.specs.Call.{Call, Count, Fails, Saved, Serves, Watched}
@@ -220,6 +221,8 @@ module _ (command : Changing) (words : List (List ℕ)) (copy : Watched tree.His
   ran_done status lines done grown is safe calm_tree calm_shelf calm_err unheld well = record {
     stepped = λ none. record { lines = lines; done = done; told = grown; ends = is };
     safe = safe;
+    crash = λ calm keep first. crash_safe a b kept calm keep command (files_of words) copy first None (safe calm);
+    lasts = λ well calm keep. lasting a b kept calm keep done.is.loaded done.made (done.kept calm);
     unwritten = tt;
     cause = tt;
     held = λ rose. absurd (unheld rose);
@@ -237,12 +240,18 @@ module _ (command : Changing) (words : List (List ℕ)) (copy : Watched tree.His
     freed = freed;
   }
 
+  safe_untold : IsSafe command (files_of words) copy call.saved None → IsSafe command (files_of words) copy call.saved (Some a_fault.ErrFailed)
+  safe_untold (inl none) = inl none
+  safe_untold (inr (may, is)) = inr (inr (inl refl), is)
+
   -- the error stream failed while the refused words were told
   pub ran_untold : (lines : List ℕ) (done : IsDone command (files_of words) copy call.looked.shelf call.saved lines) → GrownByFront err.old err.new lines → Fails err
       → (Undisturbed a b → IsSafe command (files_of words) copy call.saved None) → (locks.before < locks.after → ⊥) → (copy.before < copy.after → ⊥) → (status : ℕ) → RanChange command call status (Some a_fault.ErrFailed)
   ran_untold lines done grown failed safe unheld well status = record {
     stepped = λ none. absurd (cc none);
-    safe = λ calm. elim (safe calm) [ inl none ↦ inl none | inr is ↦ inr (inr (inl refl), is.1) ];
+    safe = λ calm. safe_untold (safe calm);
+    crash = λ calm keep first. crash_safe a b kept calm keep command (files_of words) copy first (Some a_fault.ErrFailed) (safe_untold (safe calm));
+    lasts = λ well. absurd (cc well);
     unwritten = inl refl;
     cause = inr (refl, failed);
     held = λ rose. absurd (unheld rose);
@@ -292,6 +301,8 @@ module _ (command : Changing) (words : List (List ℕ)) (copy : Watched tree.His
       subst (λ (f : Fault). TellsLine err.old err.new err.before err.after f → RanChange command call status (Some f)) (sym same) (λ told. record {
         stepped = λ none. absurd (cc none);
         safe = safe;
+        crash = λ calm keep first. crash_safe a b kept calm keep command (files_of words) copy first (Some fault) (safe calm);
+        lasts = λ well. absurd (cc well);
         unwritten = unless_same fault met written;
         cause = inl met;
         held = λ rose. inl (ap Some (held rose));
@@ -312,6 +323,8 @@ module _ (command : Changing) (words : List (List ℕ)) (copy : Watched tree.His
       subst (λ (f : Fault). TellsLine err.old err.new err.before err.after f → RanChange command call status (Some f)) (sym memory) (λ told. record {
         stepped = λ none. absurd (cc none);
         safe = λ calm. safe_any fault (safe calm);
+        crash = λ calm keep first. crash_safe a b kept calm keep command (files_of words) copy first (Some a_fault.OutOfMemory) (safe_any fault (safe calm));
+        lasts = λ well. absurd (cc well);
         unwritten = unless_memory fault met written;
         cause = inl (inl tt);
         held = λ rose. inr refl;

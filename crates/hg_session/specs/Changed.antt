@@ -12,16 +12,19 @@ use Rattle.hg_ops.specs.declared.refusal.Refusal.{Refusal}
 use Rattle.hg_report.specs.Fault.{has_line}
 use Rattle.hg_report.specs.declared.fault.Fault.{Fault}
 use Rattle.hg_report.specs.declared.fault.Fault.TheVariants as a_fault
+use Rattle.hg_save.specs.Others.{KeepsRecords}
 use Rattle.hg_save.specs.Record.{id_in, reading}
+use Rattle.hg_save.specs.Saved.{IsLatest}
 use Rattle.hg_session.specs.Acts.{AllIdle, AllSteps}
 use Rattle.hg_session.specs.Call.{Call, Fails, Serves, Watched}
 use Rattle.hg_session.specs.Change.{ChangeCause, Fits, IsDone, IsSafe, IsUnwritten, files_of}
 use Rattle.hg_session.specs.Command.{IsFaultOrMemory, IsSilent, TellsLine}
+use Rattle.hg_session.specs.Crash.{IsCrashSafe, IsLasting}
 use Rattle.hg_session.specs.Listed.{IsOwn}
 use Rattle.hg_session.specs.declared.acting.Changing.{Changing}
 use Rattle.hg_session.specs.declared.acting.Changing.TheVariants as a_change
 use Rattle.hg_shelf.specs.History as shelf
-use Rattle.hg_shelf.specs.Images.{Goes}
+use Rattle.hg_shelf.specs.Images.{Goes, last_scene}
 use Rattle.hg_shelf.specs.Polite.{Undisturbed}
 use Rattle.hg_stream.specs.Stream.{Grown, GrownByFront}
 use Rattle.hg_tree.specs.History as tree
@@ -133,6 +136,13 @@ pub record RanChange (command : Changing) (call : Call) (status : ℕ) (fault : 
   pub stepped : fault ≡ None → IsStepped command call status
   -- whatever the answer, at each moment of the call a crash leaves the record as it was or as it is after, and so do reads
   pub safe : Undisturbed call.saved.old call.saved.new → IsSafe command (files_of call.words) call.looked.tree call.saved fault
+  -- and where others keep to how a record is published, also before the lock was got and behind it: at each moment since the call's start a crash
+  -- leaves a record of what it might have left then, of what the call published, or of what others published since
+  pub crash : (calm : Undisturbed call.saved.old call.saved.new) → KeepsRecords shelf.others call.saved.new call.saved.old.history.last → IsLatest (last_scene call.saved.old)
+      → IsCrashSafe command (files_of call.words) call.looked.tree call.saved fault (safe calm)
+  -- what was acknowledged is what a crash leaves from then on, until others publish
+  pub lasts : (well : fault ≡ None) (calm : Undisturbed call.saved.old call.saved.new) → KeepsRecords shelf.others call.saved.new call.saved.old.history.last
+      → IsLasting (stepped well).done.is.loaded (stepped well).done.made call.saved ((stepped well).done.kept calm)
   -- after a fault that comes before a publication nothing is written, whatever others do
   pub unwritten : IfSome fault (IsUnwrittenUnless call)
   -- each fault comes only for its cause

@@ -6,6 +6,7 @@ pub mod Cause
 pub mod Change
 pub mod Changed
 pub mod Command
+pub mod Crash
 pub mod Debug
 pub mod Flags
 pub mod Listed

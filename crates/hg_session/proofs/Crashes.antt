@@ -1,0 +1,137 @@
+-- What a crash may leave at each moment of a whole call, from what was said of the stretch in which the lock was held.
+use Rattle.std.proofs.Common.{ℕ, ◌≡◌, ◌<◌, ◌≤◌, List, Option, Some, Result, Ok, refl, sym, ◌∙◌, subst, arith, inl, inr, ◌⊎◌}
+use Rattle.std.proofs.lemmas.Bool.{cases_lt}
+use Rattle.hg_entry.specs.Table.{Table}
+use Rattle.hg_image.specs.Reading.{RecordFault}
+use Rattle.hg_mixed.specs.Edits.{IsSame}
+use Rattle.hg_report.specs.declared.fault.Fault.{Fault}
+use Rattle.hg_save.proofs.Published.{keeps_later, latest_still, latest_until, left_until, published_earlier, published_later, published_sound}
+use Rattle.hg_save.specs.Others.{IsSound, KeepsRecords, WasPublished}
+use Rattle.hg_save.specs.Record.{reading}
+use Rattle.hg_save.specs.Saved.{IsLatest, ReadsAsBeforeOr}
+use Rattle.hg_session.specs.Call.{Saved, Watched}
+use Rattle.hg_session.specs.Change.{IsKept, IsPublished, IsSafe, IsUnwritten, NoneOurs}
+use Rattle.hg_session.specs.Crash.{IsCrashSafe, IsLasting, IsOwnRecord, LeavesSound, MightBeLeft}
+use Rattle.hg_session.specs.declared.acting.Changing.{Changing}
+use Rattle.hg_shelf.proofs.Scenes.{only_later}
+use Rattle.hg_shelf.specs.History.{Files, others}
+use Rattle.hg_shelf.specs.Images.{Course, Goes, last_scene, scene}
+use Rattle.hg_shelf.specs.Polite.{OthersOnlyRead, Undisturbed}
+use Rattle.hg_tree.specs.History as tree
+
+-- none of the steps of a span is the caller's, so none of those of its front or its end is
+none_before : (c : Course) (from to early : ℕ) → early ≤ to → NoneOurs c.history from to → NoneOurs c.history from early
+none_before c from to early order none = λ j after before. none j after (omega (arith, order, before))
+
+module _ (a b : Course) (goes : Goes a b) (calm : Undisturbed a b) (keep : KeepsRecords others b a.history.last) where
+  abbrev saved : Saved
+  saved = record { old = a; new = b }
+
+  abbrev start : ℕ
+  start = a.history.last
+
+  -- the start, seen from the end
+  at_start : (f : Files) → (scene b start).leaves f → MightBeLeft (last_scene a) (reading f)
+  at_start f left = (f, (goes.kept start (omega arith)).left f left, refl)
+
+  -- a record that might have been left at the start, or is the call's own, or was published by others since
+  abbrev IsKnown : (Option (Result Table RecordFault) → Type 0) → ℕ → Option (Result Table RecordFault) → Type 0
+  IsKnown Own k r = MightBeLeft (last_scene a) r ⊎ (Own r ⊎ WasPublished b start k r)
+
+  known_later : (Own : Option (Result Table RecordFault) → Type 0) (early late : ℕ) (r : Option (Result Table RecordFault)) → early ≤ late → IsKnown Own early r → IsKnown Own late r
+  known_later Own early late r order (inl was) = inl was
+  known_later Own early late r order (inr (inl own)) = inr (inl own)
+  known_later Own early late r order (inr (inr was)) = inr (inr (published_later b start early late r order was))
+
+  -- as long as the caller made no step
+  known_before : (Own : Option (Result Table RecordFault) → Type 0) (k : ℕ) → start ≤ k → NoneOurs b.history start k → k ≤ b.history.last → (f : Files) → (scene b k).leaves f → IsKnown Own k (reading f)
+  known_before Own k after none within f left = elim (left_until b start calm.others keep (MightBeLeft (last_scene a)) k after none within at_start f left) [
+    | inl was ↦ inl was
+    | inr was ↦ inr (inr was)
+  ]
+
+  -- and from where it made its last one
+  known_behind : (Own : Option (Result Table RecordFault) → Type 0) (to k : ℕ) → start ≤ to → to ≤ k → NoneOurs b.history to k → k ≤ b.history.last
+      → ((f : Files) → (scene b to).leaves f → IsKnown Own to (reading f)) → (f : Files) → (scene b k).leaves f → IsKnown Own k (reading f)
+  known_behind Own to k later after none within there f left =
+      elim (left_until b to (only_later b start to later calm.others) (keeps_later others b start to later keep) (IsKnown Own to) k after none within there f left) [
+        | inl known ↦ known_later Own to k (reading f) after known
+        | inr was ↦ inr (inr (published_earlier b start to k (reading f) later was))
+      ]
+
+  known_sound : (Own : Option (Result Table RecordFault) → Type 0) → ((r : Option (Result Table RecordFault)) → Own r → IsSound r) → LeavesSound (last_scene a) → (k : ℕ) → k ≤ b.history.last
+      → (r : Option (Result Table RecordFault)) → IsKnown Own k r → IsSound r
+  known_sound Own own_sound sound k within r (inl was) = let is = sound was.0 was.1 in (is.0, was.2 ∙ is.1)
+  known_sound Own own_sound sound k within r (inr (inl own)) = own_sound r own
+  known_sound Own own_sound sound k within r (inr (inr was)) = published_sound b start k r keep within was
+
+  module _ (command : Changing) (words : List (List ℕ)) (copy : Watched tree.History) (first : IsLatest (last_scene a)) where
+    first_there : IsLatest (scene b start)
+    first_there = latest_still (last_scene a) (scene b start) (goes.kept start (omega arith)) first
+
+    module _ (is : IsPublished command words copy saved) where
+      abbrev Own : Option (Result Table RecordFault) → Type 0
+      Own r = r ≡ Some (Ok is.found)
+
+      latest_from : IsLatest (scene b is.stretch.from)
+      latest_from = latest_until b start calm.others keep is.stretch.from is.stretch.start is.stretch.before (omega (arith, is.stretch.order, is.stretch.end)) first_there
+
+      known_from : (f : Files) → (scene b is.stretch.from).leaves f → IsKnown Own is.stretch.from (reading f)
+      known_from = known_before Own is.stretch.from is.stretch.start is.stretch.before (omega (arith, is.stretch.order, is.stretch.end))
+
+      known_by : (k : ℕ) (f : Files) → is.stretch.from ≤ k → ReadsAsBeforeOr (scene b is.stretch.from) (Some (Ok is.found)) f → IsKnown Own k (reading f)
+      known_by k f after (inl was) =
+          subst (IsKnown Own k) (sym was.2) (known_later Own is.stretch.from k (reading was.0) after (known_from was.0 was.1))
+      known_by k f after (inr own) = inr (inl own)
+
+      known_within : (k : ℕ) → is.stretch.from ≤ k → k ≤ is.stretch.to → (f : Files) → (scene b k).leaves f → IsKnown Own k (reading f)
+      known_within k after upto f left = known_by k f after (is.crash latest_from k f after upto left)
+
+      known_to : (f : Files) → (scene b is.stretch.to).leaves f → IsKnown Own is.stretch.to (reading f)
+      known_to = known_within is.stretch.to is.stretch.order (omega arith)
+
+      known_each : (k : ℕ) (f : Files) → start ≤ k → k ≤ b.history.last → (scene b k).leaves f → IsKnown Own k (reading f)
+      known_each k f after within left = elim (cases_lt k is.stretch.from) [
+        | inl early ↦ known_before Own k after (none_before b start is.stretch.from k (omega (arith, early)) is.stretch.before) within f left
+        | inr late ↦ elim (cases_lt is.stretch.to k) [
+            | inl behind ↦
+                known_behind Own is.stretch.to k (omega (arith, is.stretch.start, is.stretch.order)) (omega (arith, behind))
+                (none_before b is.stretch.to b.history.last k within is.stretch.behind) within known_to f left
+            | inr upto ↦ known_within k late upto f left
+          ]
+      ]
+
+      latest_end : IsLatest (last_scene b)
+      latest_end =
+          let later : start ≤ is.stretch.to = omega (arith, is.stretch.start, is.stretch.order) in
+          latest_until b is.stretch.to (only_later b start is.stretch.to later calm.others) (keeps_later others b start is.stretch.to later keep) b.history.last is.stretch.end is.stretch.behind (omega arith)
+          (is.latest latest_from)
+
+    pub crash_safe : (fault : Option Fault) (safe : IsSafe command words copy saved fault) → IsCrashSafe command words copy saved fault safe
+    crash_safe fault (inl none) =
+        let known : (k : ℕ) (f : Files) → start ≤ k → k ≤ b.history.last → (scene b k).leaves f → IsKnown (λ r. ⊥) k (reading f) =
+          λ k f after within left. known_before (λ r. ⊥) k after (none_before b start b.history.last k within none.none) within f left in
+        record {
+          each = known;
+          sound = λ sound k after within f left. known_sound (λ r. ⊥) (λ r never. absurd never) sound k within (reading f) (known k f after within left);
+          latest = latest_until b start calm.others keep b.history.last goes.past.later none.none (omega arith) first_there;
+        }
+    crash_safe fault (inr (may, is)) = record {
+      each = known_each is;
+      sound = λ sound k after within f left. known_sound (Own is) (λ r own. (is.found, own)) sound k within (reading f) (known_each is k f after within left);
+      latest = latest_end is;
+    }
+
+  lasts_by : (loaded made : Table) (kept : IsKept loaded made saved)
+      → (((c : Files) → (scene b kept.stretch.to).leaves c → reading c ≡ Some (Ok kept.found)) ⊎ (IsSame made loaded × IsUnwritten a.history b.history)) → IsLasting loaded made saved kept
+  lasts_by loaded made kept (inl each) =
+      let later : start ≤ kept.stretch.to = omega (arith, kept.stretch.start, kept.stretch.order) in
+      inl (record {
+        each = λ k f after within left.
+            left_until b kept.stretch.to (only_later b start kept.stretch.to later calm.others) (keeps_later others b start kept.stretch.to later keep) (λ r. r ≡ Some (Ok kept.found)) k after
+            (none_before b kept.stretch.to b.history.last k within kept.stretch.behind) within each f left;
+      })
+  lasts_by loaded made kept (inr same) = inr same
+
+  pub lasting : (loaded made : Table) (kept : IsKept loaded made saved) → IsLasting loaded made saved kept
+  lasting loaded made kept = lasts_by loaded made kept kept.left
