@@ -1,7 +1,8 @@
 -- Where a publication may end: what has been led to there.
-use Rattle.std.proofs.Common.{◌≡◌, ℕ, List, ap, IsSome, is_some, codes}
+use Rattle.std.proofs.Common.{◌≡◌, ◌∙◌, ℕ, List, ap, sym, IsSome, is_some, codes}
 use Rattle.hg_append.specs.declared.encoding.Encoded.{Encoded}
 use Rattle.hg_docket.specs.Docket.{docket_of}
+use Rattle.hg_docket.specs.Number.{next_name}
 use Rattle.hg_shelf.specs.Images.{Course, Goes, last_scene}
 use Rattle.hg_shelf.specs.Polite.{Undisturbed}
 use Rattle.hg_shelf.specs.Rules.{Perhaps, moved, without}
@@ -9,18 +10,23 @@ use Rattle.hg_shelf.proofs.Scenes.{first_part, goes_trans, second_part}
 use Rattle.hg_save.specs.Leads.{ButFor, IsDone, IsWhole, Leads}
 use Rattle.hg_save.specs.Record.{data_name, id_in}
 use Rattle.hg_save.specs.Saved.{IsFree, IsLatest, IsOver, KeepsOthers, LeavesOnly, Records, ShowsOnly, Stands, new_docket, published}
+use Rattle.hg_save.proofs.Names.{never_itself}
 use Rattle.hg_save.proofs.Stages.{Puts, cleared_records, done_left, done_shown, latest_cleared, latest_spared, latest_swapped, only_cleared, only_four, only_one, only_spared, only_swapped, only_three, only_two, ready_left, ready_shown, shown_one, shown_two, shows_cleared, shows_spared, shows_swapped, spared_one, spared_two}
 
 -- ---- a call in parts
 
 module _ (loaded : List ℕ) (new : Encoded) (over : IsOver loaded new) (a b : Course) (first : Goes a b) where
+  -- the next identifier is another one
+  apart : (docket_of loaded).id ≡ new.id → ⊥
+  apart same = never_itself 0 new.id (ap next_name (sym same) ∙ over.next)
+
   -- the data file is written
   module _ (one : Undisturbed a b → Leads (ButFor (data_name new.id)) a b) where
     pub crash_one : Undisturbed a b → IsFree new.id (last_scene a) → LeavesOnly a b (published new)
     crash_one calm free = only_spared loaded new over a free b (spared_one loaded new over a b (one calm))
 
     pub others_one : Undisturbed a b → Leads (KeepsOthers (docket_of loaded).id new.id) a b
-    others_one calm = only_one (docket_of loaded).id new.id a b (one calm)
+    others_one calm = only_one (docket_of loaded).id new.id apart a b (one calm)
 
     pub latest_one : Undisturbed a b → Stands loaded (last_scene a) → IsLatest (last_scene a) → IsLatest (last_scene b)
     latest_one calm stands latest = latest_spared loaded new over a stands latest b first.past.later (shown_one loaded new over a b (one calm)) (spared_one loaded new over a b (one calm))
@@ -34,7 +40,7 @@ module _ (loaded : List ℕ) (new : Encoded) (over : IsOver loaded new) (a b : C
     crash_two calm free = only_spared loaded new over a free c (spared_two loaded new over a b c first second (one (first_part a b c second calm)) (two (second_part a b c first calm)))
 
     pub others_two : Undisturbed a c → Leads (KeepsOthers (docket_of loaded).id new.id) a c
-    others_two calm = only_two (docket_of loaded).id new.id a b c first second (one (first_part a b c second calm)) (two (second_part a b c first calm))
+    others_two calm = only_two (docket_of loaded).id new.id apart a b c first second (one (first_part a b c second calm)) (two (second_part a b c first calm))
 
     pub latest_two : Undisturbed a c → Stands loaded (last_scene a) → IsLatest (last_scene a) → IsLatest (last_scene c)
     latest_two calm stands latest =
@@ -81,8 +87,8 @@ module _ (loaded : List ℕ) (new : Encoded) (over : IsOver loaded new) (a b : C
 
     pub others_three : (Undisturbed c d → IsSome ((last_scene c).files new_docket) → Leads (Perhaps (moved new_docket (codes "dirstate"))) c d) → Undisturbed a d → Leads (KeepsOthers (docket_of loaded).id new.id) a d
     others_three three calm =
-        only_three (docket_of loaded).id new.id a c d (goes_trans a b c first second) third
-        (only_two (docket_of loaded).id new.id a b c first second (one (calm_one calm)).leads (two (calm_two calm)).leads) (three (calm_three calm) (there calm))
+        only_three (docket_of loaded).id new.id apart a c d (goes_trans a b c first second) third
+        (only_two (docket_of loaded).id new.id apart a b c first second (one (calm_one calm)).leads (two (calm_two calm)).leads) (three (calm_three calm) (there calm))
 
     -- the docket has its place, and the old data file goes
     module _ (three : Undisturbed c d → IsSome ((last_scene c).files new_docket) → Leads (Perhaps (moved new_docket (codes "dirstate"))) c d)
@@ -115,7 +121,7 @@ module _ (loaded : List ℕ) (new : Encoded) (over : IsOver loaded new) (a b : C
 
       pub others_four : Undisturbed a z → Leads (KeepsOthers (docket_of loaded).id new.id) a z
       others_four calm =
-          only_four (docket_of loaded).id new.id a d z (goes_trans a c d (goes_trans a b c first second) third) fourth (others_three three (calm_front calm)) (four (calm_four calm))
+          only_four (docket_of loaded).id new.id apart a d z (goes_trans a c d (goes_trans a b c first second) third) fourth (others_three three (calm_front calm)) (four (calm_four calm))
 
       pub latest_four : Undisturbed a z → Stands loaded (last_scene a) → IsLatest (last_scene a) → IsLatest (last_scene z)
       latest_four calm stands latest =

@@ -8,10 +8,11 @@ use Rattle.hg_docket.specs.Docket.{docket_of}
 use Rattle.hg_shelf.specs.History.{Files}
 use Rattle.hg_shelf.specs.Images.{Course, Goes, last_scene, scene}
 use Rattle.hg_shelf.specs.Rules.{Perhaps, content, moved, overwritten, without}
+use Rattle.hg_shelf.specs.Torn.{same_name}
 use Rattle.hg_save.specs.Leads.{ButFor, IsDone, IsSure, IsWhole, Leads}
 use Rattle.hg_save.specs.Record.{data_name, id_in, reading}
 use Rattle.hg_save.specs.Saved.{IsFree, IsLatest, IsOver, KeepsOthers, LeavesOnly, ReadsAsBeforeOr, Records, ShowsOnly, Stands, name_after, new_docket, published}
-use Rattle.hg_save.proofs.Names.{data_not_new, later_still, never_itself, others_apart}
+use Rattle.hg_save.proofs.Names.{data_not_new, docket_not_data, later_still, never_itself, one_data, others_apart}
 use Rattle.hg_save.proofs.Readings.{Begins, Holds, IsReady, Spares, id_published, moved_ready, reads_published, same_id, same_reading, spared, spared_id, without_old}
 
 -- ---- moments of a call
@@ -221,26 +222,49 @@ module _ (loaded : List ℕ) (new : Encoded) (over : IsOver loaded new) (a : Cou
 
 -- ---- no other file
 
-module _ (loaded id : List ℕ) where
+module _ (loaded id : List ℕ) (apart : loaded ≡ id → ⊥) where
+  keeps_data : (x y z : Option (List ℕ)) → (y ≡ x) ⊎ (y ≡ None) → (z ≡ y) ⊎ (z ≡ None) → (z ≡ x) ⊎ (z ≡ None)
+  keeps_data x y z first (inr gone) = inr gone
+  keeps_data x y z (inl was) (inl same) = inl (same ∙ was)
+  keeps_data x y z (inr gone) (inl same) = inr (same ∙ gone)
+
   keeps_both : (x y z : Files) → KeepsOthers loaded id x y → KeepsOthers loaded id y z → KeepsOthers loaded id x z
-  keeps_both x y z first second = λ at docket beside old nodes. second at docket beside old nodes ∙ first at docket beside old nodes
+  keeps_both x y z first second = record {
+    others = λ at docket beside old nodes. second.others at docket beside old nodes ∙ first.others at docket beside old nodes;
+    named = keeps_data (x (data_name loaded)) (y (data_name loaded)) (z (data_name loaded)) first.named second.named;
+  }
 
   keeps_file : (c d : Files) → ButFor (data_name id) c d → KeepsOthers loaded id c d
-  keeps_file c d same = λ at docket beside old nodes. same at nodes
+  keeps_file c d same = record {
+    others = λ at docket beside old nodes. same at nodes;
+    named = inl (same (data_name loaded) (λ is. apart (one_data loaded id is)));
+  }
 
   keeps_docket : (c d : Files) → ButFor new_docket c d → KeepsOthers loaded id c d
-  keeps_docket c d same = λ at docket beside old nodes. same at beside
+  keeps_docket c d same = record {
+    others = λ at docket beside old nodes. same at beside;
+    named = inl (same (data_name loaded) (data_not_new loaded));
+  }
 
-  keeps_moved : (c d : Files) → Perhaps (moved new_docket (codes "dirstate")) c d → KeepsOthers loaded id c d
-  keeps_moved c d (inl same) = λ at docket beside old nodes. same at
-  keeps_moved c d (inr moves) = λ at docket beside old nodes.
+  moved_at : (c d : Files) → ((at : List ℕ) → d at ≡ moved new_docket (codes "dirstate") c at) → (at : List ℕ) → (at ≡ codes "dirstate" → ⊥) → (at ≡ new_docket → ⊥) → d at ≡ c at
+  moved_at c d moves at docket beside =
       moves at
       ∙ ap (λ (t : Bool). cond t (c new_docket) (cond (bytes_eq new_docket at) None (c at))) (others_apart (codes "dirstate") at (λ is. docket (sym is)))
       ∙ ap (λ (t : Bool). cond t None (c at)) (others_apart new_docket at (λ is. beside (sym is)))
 
+  keeps_moved : (c d : Files) → Perhaps (moved new_docket (codes "dirstate")) c d → KeepsOthers loaded id c d
+  keeps_moved c d (inl same) = record { others = λ at docket beside old nodes. same at; named = inl (same (data_name loaded)) }
+  keeps_moved c d (inr moves) = record {
+    others = λ at docket beside old nodes. moved_at c d moves at docket beside;
+    named = inl (moved_at c d moves (data_name loaded) (λ is. docket_not_data loaded (sym is)) (data_not_new loaded));
+  }
+
   keeps_cleared : (c d : Files) → Perhaps (without (data_name loaded)) c d → KeepsOthers loaded id c d
-  keeps_cleared c d (inl same) = λ at docket beside old nodes. same at
-  keeps_cleared c d (inr gone) = λ at docket beside old nodes. gone at ∙ ap (λ (t : Bool). cond t None (c at)) (others_apart (data_name loaded) at (λ is. old (sym is)))
+  keeps_cleared c d (inl same) = record { others = λ at docket beside old nodes. same at; named = inl (same (data_name loaded)) }
+  keeps_cleared c d (inr gone) = record {
+    others = λ at docket beside old nodes. gone at ∙ ap (λ (t : Bool). cond t None (c at)) (others_apart (data_name loaded) at (λ is. old (sym is)));
+    named = inr (gone (data_name loaded) ∙ ap (λ (t : Bool). cond t None (c (data_name loaded))) (same_name (data_name loaded)));
+  }
 
   pub only_one : (a b : Course) → Leads (ButFor (data_name id)) a b → Leads (KeepsOthers loaded id) a b
   only_one a b leads = leads_weaker a b (ButFor (data_name id)) (KeepsOthers loaded id) keeps_file leads

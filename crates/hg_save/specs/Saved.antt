@@ -62,7 +62,8 @@ pub record Records (c : Course) (table : Option (Result Table RecordFault)) : Ty
 pub record ShowsOnly (old new : Course) (table : Option (Result Table RecordFault)) : Type 0 where
   pub each : (k : ℕ) → old.history.last ≤ k → k ≤ new.history.last → (reading (scene new k).files ≡ reading (last_scene old).files) ⊎ (reading (scene new k).files ≡ table)
 
--- no file is changed but the docket, the one that is written first, and the data files with these identifiers
-abbrev pub KeepsOthers : List ℕ → List ℕ → Files → Files → Type 0
-KeepsOthers loaded id old new =
-    (at : List ℕ) → (at ≡ codes "dirstate" → ⊥) → (at ≡ new_docket → ⊥) → (at ≡ data_name loaded → ⊥) → (at ≡ data_name id → ⊥) → new at ≡ old at
+-- no file is changed but the docket, the one that is written first, and the data files with these identifiers; that of the loaded docket is as it was or
+-- gone
+pub record KeepsOthers (loaded id : List ℕ) (old new : Files) : Type 0 where
+  pub others : (at : List ℕ) → (at ≡ codes "dirstate" → ⊥) → (at ≡ new_docket → ⊥) → (at ≡ data_name loaded → ⊥) → (at ≡ data_name id → ⊥) → new at ≡ old at
+  pub named : (new (data_name loaded) ≡ old (data_name loaded)) ⊎ (new (data_name loaded) ≡ None)

@@ -16,7 +16,7 @@ use Rattle.hg_report.specs.Cause.{of_encode}
 use Rattle.hg_report.specs.declared.fault.Fault.{Fault}
 use Rattle.hg_save.specs.Leads.{Leads}
 use Rattle.hg_save.specs.Loads.{IsTry, Loads, Try, files_at, found_by}
-use Rattle.hg_save.specs.Record.{docket_in, id_in, reading}
+use Rattle.hg_save.specs.Record.{data_name, docket_in, id_in, reading}
 use Rattle.hg_save.specs.Saved.{KeepsOthers, LeavesOnly, ReadsAsBeforeOr, ShowsOnly, Stands}
 use Rattle.hg_save.specs.declared.load_fault.LoadFault.{LoadFault}
 use Rattle.hg_save.specs.declared.loaded.Loaded.{Loaded}
@@ -212,7 +212,9 @@ module _ (a b c : Course) (passes : Passes a.history b.history) (goes : Goes b c
       others_over was id leads k from to = elim (cases_lt b.history.last k) [
         | inl late ↦
             subst (λ (f : Files). KeepsOthers was id f (scene c k).files) (end_remains a b c ours passes goes calm).shown (leads.shown k (omega (arith, late)) to)
-        | inr early ↦ (λ at p q r s. ap (λ (f : Files). f at) (front_remains a b c ours passes goes calm k from early).shown)
+        | inr early ↦
+            let same = (front_remains a b c ours passes goes calm k from early).shown in
+            record { others = λ at p q r s. ap (λ (f : Files). f at) same; named = inl (ap (λ (f : Files). f (data_name was)) same) }
       ]
 
       spared_over : (was id : List ℕ) → Leads (KeepsOthers was id) b c → (k : ℕ) (f : Files) → a.history.last ≤ k → k ≤ c.history.last → (scene c k).leaves f
@@ -221,7 +223,7 @@ module _ (a b c : Course) (passes : Passes a.history b.history) (goes : Goes b c
         | inl late ↦
             let before = leads.left k f (omega (arith, late)) to is in
             (before.0, (end_remains a b c ours passes goes calm).left before.0 before.1, before.2)
-        | inr early ↦ (f, (front_remains a b c ours passes goes calm k from early).left f is, λ at p q r s. refl)
+        | inr early ↦ (f, (front_remains a b c ours passes goes calm k from early).left f is, record { others = λ at p q r s. refl; named = inl refl })
       ]
 
       published_by : IsOverwritten made b c → IsPublished command words copy (record { old = a; new = c })
@@ -255,6 +257,9 @@ module _ (a b c : Course) (passes : Passes a.history b.history) (goes : Goes b c
         is = is.is;
         shown = is.records.shown;
         left = inl is.records.left;
+        gone =
+            inl (λ some.
+            subst (λ (id : List ℕ). (last_scene c).files (data_name id) ≡ None) (sym id_there) (is.gone (λ empty. some (id_there ∙ empty))));
       }
 
       kept_still : c ≡ b → IsSame (table made) recorded → IsKept recorded (table made) (record { old = a; new = c })
@@ -264,6 +269,7 @@ module _ (a b c : Course) (passes : Passes a.history b.history) (goes : Goes b c
         is = subst (λ (t : Table). IsSame t (table made)) (one_table (table made) recorded same) (same_table (table made));
         shown = subst (λ (x : Course). reading (last_scene x).files ≡ Some (Ok recorded)) (sym none) (ap reading (end_remains a b c ours passes goes calm).shown ∙ there);
         left = inr (same, unwritten_still none);
+        gone = inr (unwritten_still none);
       }
 
     same_by : (opened.changed ≡ false → made.changed ≡ false → IsSame (table made) (table opened)) → made.changed ≡ false → IsSame (table made) recorded

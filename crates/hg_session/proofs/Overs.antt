@@ -1,5 +1,5 @@
 -- What publishing a table leads to, in the words of a command.
-use Rattle.std.proofs.Common.{ℕ, ◌≡◌, List, Some, Result, Ok, sym, ap, ◌∙◌, subst}
+use Rattle.std.proofs.Common.{ℕ, ◌≡◌, List, [], Some, None, Result, Ok, sym, ap, ◌∙◌, subst}
 use Rattle.hg_append.specs.Encoded.{ReadsAs}
 use Rattle.hg_append.specs.declared.encoding.Encoded.{Encoded}
 use Rattle.hg_docket.specs.Docket.{docket_of}
@@ -8,6 +8,7 @@ use Rattle.hg_entry.specs.Table.{Table}
 use Rattle.hg_image.specs.Reading.{RecordFault, reading_of}
 use Rattle.hg_mixed.specs.Held.{Held, table}
 use Rattle.hg_save.specs.Leads.{Leads}
+use Rattle.hg_save.specs.Record.{data_name}
 use Rattle.hg_save.specs.Saved.{IsFree, IsLatest, IsOver, KeepsOthers, LeavesOnly, Records, ShowsOnly, Stands, published}
 use Rattle.hg_save.proofs.Names.{next_free}
 use Rattle.hg_session.specs.Anew.{IsOverwritten, IsRecorded}
@@ -17,8 +18,14 @@ module _ (held : Held) (new : Encoded) (reads : ReadsAs (table held) (reading_of
   published_is : published new ≡ Some (Ok reads.found)
   published_is = ap (λ (r : Result Table RecordFault). Some r) reads.is
 
-  pub recorded_by : (c : Course) → Records c (published new) → IsRecorded held c
-  recorded_by c records = record { found = reads.found; is = reads.same; records = subst (Records c) published_is records }
+  pub recorded_by : (loaded : List ℕ) (c : Course) → held.docket.id ≡ (docket_of loaded).id → Records c (published new)
+      → (((docket_of loaded).id ≡ [] → ⊥) → (last_scene c).files (data_name (docket_of loaded).id) ≡ None) → IsRecorded held c
+  recorded_by loaded c same records gone = record {
+    found = reads.found;
+    is = reads.same;
+    records = subst (Records c) published_is records;
+    gone = λ some. subst (λ (id : List ℕ). (last_scene c).files (data_name id) ≡ None) (sym same) (gone (λ empty. some (same ∙ empty)));
+  }
 
   pub over_by : (loaded : List ℕ) (a b : Course) → held.docket.id ≡ (docket_of loaded).id → IsOver loaded new → Stands loaded (last_scene a)
       → (IsFree new.id (last_scene a) → LeavesOnly a b (published new)) → (IsFree new.id (last_scene a) → ShowsOnly a b (published new)) → (IsLatest (last_scene a) → IsLatest (last_scene b))

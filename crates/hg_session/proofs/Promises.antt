@@ -219,10 +219,9 @@ module _ (command : Changing) (words : List (List ℕ)) (copy : Watched tree.His
       → (Undisturbed a b → IsSafe command (files_of words) copy call.saved None) → copy.after ≡ copy.before → after ≡ before → err.after ≡ err.before → (locks.before < locks.after → ⊥) → (copy.before < copy.after → ⊥)
       → RanChange command call status None
   ran_done status lines done grown is safe calm_tree calm_shelf calm_err unheld well = record {
-    stepped = λ none. record { lines = lines; done = done; told = grown; ends = is };
+    stepped = λ none. record { lines = lines; done = done; told = grown; ends = is; lasts = λ calm keep. lasting a b kept calm keep done.is.loaded done.made (done.kept calm) };
     safe = safe;
     crash = λ calm keep first. crash_safe a b kept calm keep command (files_of words) copy first None (safe calm);
-    lasts = λ well calm keep. lasting a b kept calm keep done.is.loaded done.made (done.kept calm);
     unwritten = tt;
     cause = tt;
     held = λ rose. absurd (unheld rose);
@@ -251,7 +250,6 @@ module _ (command : Changing) (words : List (List ℕ)) (copy : Watched tree.His
     stepped = λ none. absurd (cc none);
     safe = λ calm. safe_untold (safe calm);
     crash = λ calm keep first. crash_safe a b kept calm keep command (files_of words) copy first (Some a_fault.ErrFailed) (safe_untold (safe calm));
-    lasts = λ well. absurd (cc well);
     unwritten = inl refl;
     cause = inr (refl, failed);
     held = λ rose. absurd (unheld rose);
@@ -260,7 +258,7 @@ module _ (command : Changing) (words : List (List ℕ)) (copy : Watched tree.His
     calm_tree = λ none. absurd (cc none);
     calm_shelf = λ none. absurd (cc none);
     calm_err = λ none. absurd (cc none);
-    told = record { lines = lines; done = done; told = grown; failed = failed };
+    told = record { lines = lines; done = done; told = grown; failed = failed; lasts = λ calm keep. lasting a b kept calm keep done.is.loaded done.made (done.kept calm) };
     silent = silent;
     uncounted = uncounted;
     looks = looks;
@@ -302,8 +300,7 @@ module _ (command : Changing) (words : List (List ℕ)) (copy : Watched tree.His
         stepped = λ none. absurd (cc none);
         safe = safe;
         crash = λ calm keep first. crash_safe a b kept calm keep command (files_of words) copy first (Some fault) (safe calm);
-        lasts = λ well. absurd (cc well);
-        unwritten = unless_same fault met written;
+            unwritten = unless_same fault met written;
         cause = inl met;
         held = λ rose. inl (ap Some (held rose));
         tree = λ rose. inl (ap Some (failed rose));
@@ -324,8 +321,7 @@ module _ (command : Changing) (words : List (List ℕ)) (copy : Watched tree.His
         stepped = λ none. absurd (cc none);
         safe = λ calm. safe_any fault (safe calm);
         crash = λ calm keep first. crash_safe a b kept calm keep command (files_of words) copy first (Some a_fault.OutOfMemory) (safe_any fault (safe calm));
-        lasts = λ well. absurd (cc well);
-        unwritten = unless_memory fault met written;
+            unwritten = unless_memory fault met written;
         cause = inl (inl tt);
         held = λ rose. inr refl;
         tree = λ rose. inr refl;

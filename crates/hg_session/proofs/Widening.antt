@@ -1,5 +1,5 @@
 -- What was done while the lock was held, said of the whole call.
-use Rattle.std.proofs.Common.{ℕ, ◌≡◌, ◌≤◌, List, ◌∷◌, [], map, Option, Some, is_some, Result, Ok, IsTrue, refl, sym, ap, ◌∙◌, subst, arith, inl, inr}
+use Rattle.std.proofs.Common.{ℕ, ◌≡◌, ◌≤◌, List, ◌∷◌, [], map, Option, Some, None, is_some, Result, Ok, IsTrue, refl, sym, ap, ◌∙◌, subst, arith, inl, inr}
 use Rattle.std.specs.List.{AllByRecursion}
 use Rattle.std.proofs.lemmas.Bool.{cases_lt}
 use Rattle.hg_base.specs.Fault.{Rose}
@@ -11,7 +11,7 @@ use Rattle.hg_report.specs.declared.fault.Fault.{Fault}
 use Rattle.hg_report.specs.declared.fault.Fault.TheVariants as a_fault
 use Rattle.hg_save.proofs.Loads.{found_longer, last_within, tries_longer}
 use Rattle.hg_save.specs.Loads.{IsTry, Tries, Try, found_by, id_by}
-use Rattle.hg_save.specs.Record.{id_in, reading}
+use Rattle.hg_save.specs.Record.{data_name, id_in, reading}
 use Rattle.hg_save.specs.Saved.{IsLatest, KeepsOthers, ReadsAsBeforeOr, name_after}
 use Rattle.hg_session.specs.Call.{Watched}
 use Rattle.hg_session.specs.Change.{Fits, FitsFirst, IsDone, IsKept, IsMade, IsPublished, IsReadFirst, IsSafe, IsUnwritten, MetChanging, NoneOurs, Stretch, id_read, up_to}
@@ -144,6 +144,15 @@ module _ (a b c d : Course) (lock : Waits a.history b.history) (unlock : Waits c
       let tried = (last_within b.history (up_to is.upto c.history) is.read.tries is.read.tried).docket in
       ap id_in (r.past.stay is.read.tried.last.docket (omega (arith, tried.to, is.within))).shown
 
+  -- a file that the docket of one moment named is gone at another
+  abbrev IsGone : Course → ℕ → ℕ → Type 0
+  IsGone x from to = (id_in (scene x from).files ≡ [] → ⊥) → (scene x to).files (data_name (id_in (scene x from).files)) ≡ None
+
+  gone_wide : (from to : ℕ) → from ≤ c.history.last → to ≤ c.history.last → IsGone c from to → IsGone d from to
+  gone_wide from to near far gone some =
+      subst (λ (f : Files). (scene d to).files (data_name (id_in f)) ≡ None) (sym (to_end from near).shown)
+      (subst (λ (f : Files). f (data_name (id_in (scene c from).files)) ≡ None) (sym (to_end to far).shown) (gone (λ empty. some (ap id_in (to_end from near).shown ∙ empty))))
+
   module _ (command : Changing) (words : List (List ℕ)) (copy : Watched tree.History) (before after start end : ℕ) where
     abbrev part : Watched History
     part = record { old = b.history; new = c.history; before = before; after = after }
@@ -176,6 +185,11 @@ module _ (a b c d : Course) (lock : Waits a.history b.history) (unlock : Waits c
           elim is.left [
             | inl each ↦ inl (λ f left. each f ((to_end is.stretch.to is.stretch.end).left f left))
             | inr same ↦ inr (same.0, unwritten_wide same.1)
+          ];
+      gone =
+          elim is.gone [
+            | inl gone ↦ inl (gone_wide is.stretch.from is.stretch.to (omega (arith, is.stretch.order, is.stretch.end)) is.stretch.end gone)
+            | inr none ↦ inr (unwritten_wide none)
           ];
     }
 

@@ -1,5 +1,5 @@
 -- What reading the record and writing it anew lead to, while the lock is held.
-use Rattle.std.specs.Prelude.{ℕ, ◌≡◌, ◌⊎◌, ◌<◌, ◌^◌, false, true, List, Option, Some, None, Result, Ok, Err, is_some}
+use Rattle.std.specs.Prelude.{ℕ, ◌≡◌, ◌⊎◌, ◌<◌, ◌^◌, false, true, List, [], Option, Some, None, Result, Ok, Err, is_some}
 use Rattle.hg_append.specs.Encoded.{HasCause}
 use Rattle.hg_append.specs.Layout.{size_of}
 use Rattle.hg_append.specs.Tree.{IsTreeOf, Tree}
@@ -15,6 +15,7 @@ use Rattle.hg_report.specs.declared.fault.Fault.{Fault}
 use Rattle.hg_report.specs.declared.fault.Fault.TheVariants as a_fault
 use Rattle.hg_save.specs.Leads.{Leads}
 use Rattle.hg_save.specs.Loads.{Loads, Try}
+use Rattle.hg_save.specs.Record.{data_name}
 use Rattle.hg_save.specs.Saved.{IsLatest, KeepsOthers, LeavesOnly, Records, ShowsOnly}
 use Rattle.hg_save.specs.declared.loaded.Loaded.{Loaded}
 use Rattle.hg_session.specs.Change.{IsUnwritten, MayFollowWriting}
@@ -62,11 +63,12 @@ pub record IsOverwritten (held : Held) (old new : Course) : Type 0 where
 abbrev pub WritesOnly : Held → Course → Course → Option Fault → Type 0
 WritesOnly held old new fault = IsUnwritten old.history new.history ⊎ (MayFollowWriting fault × IsOverwritten held old new)
 
--- a table is recorded, and whatever a crash leaves records it
+-- a table is recorded, whatever a crash leaves records it, and the data file that the docket named is gone
 pub record IsRecorded (held : Held) (c : Course) : Type 0 where
   pub found : Table
   pub is : IsSame found (table held)
   pub records : Records c (Some (Ok found))
+  pub gone : (held.docket.id ≡ [] → ⊥) → (last_scene c).files (data_name held.docket.id) ≡ None
 
 -- why a table wasn't written: something was changed in it and it can't be, or the shelf failed
 abbrev pub MetWriting : Held → ℕ → ℕ → Fault → Type 0

@@ -14,7 +14,7 @@ use Rattle.hg_ops.specs.declared.refusal.Refusal.{Refusal}
 use Rattle.hg_report.specs.declared.fault.Fault.{Fault}
 use Rattle.hg_report.specs.declared.fault.Fault.TheVariants as a_fault
 use Rattle.hg_save.specs.Loads.{files_at}
-use Rattle.hg_save.specs.Record.{id_in, reading}
+use Rattle.hg_save.specs.Record.{data_name, id_in, reading}
 use Rattle.hg_save.specs.Saved.{IsLatest, KeepsOthers, ReadsAsBeforeOr}
 use Rattle.hg_session.specs.Acts.{AllIdle, AllSteps, refusals_text}
 use Rattle.hg_session.specs.Call.{Call, Count, Fails, Saved, Watched}
@@ -111,8 +111,8 @@ pub record IsPublished (command : Changing) (words : List (List ℕ)) (copy : Wa
   -- the data file that is written has the identifier that follows that of the docket that stood
   pub id : List ℕ
   pub next : next_name (id_in (scene saved.new stretch.from).files) ≡ Some id
-  -- no file is changed but the docket, the one that is written first and the data files with these two identifiers: reads show each other file as it
-  -- was, and a crash leaves it as it might have left it
+  -- no file is changed but the docket, the one that is written first and the data files with these two identifiers, of which the old one at most goes:
+  -- reads show each other file as it was, and a crash leaves it as it might have left it
   pub others : (k : ℕ) → stretch.from ≤ k → k ≤ stretch.to
       → KeepsOthers (id_in (scene saved.new stretch.from).files) id (scene saved.new stretch.from).files (scene saved.new k).files
   pub spared : (k : ℕ) (c : shelf.Files) → stretch.from ≤ k → k ≤ stretch.to → (scene saved.new k).leaves c
@@ -127,6 +127,9 @@ pub record IsKept (loaded made : Table) (saved : Saved) : Type 0 where
   pub is : IsSame found made
   pub shown : reading (scene saved.new stretch.to).files ≡ Some (Ok found)
   pub left : ((c : shelf.Files) → (scene saved.new stretch.to).leaves c → reading c ≡ Some (Ok found)) ⊎ (IsSame made loaded × IsUnwritten saved.old.history saved.new.history)
+  -- and the data file that the docket named where the lock was got is gone
+  pub gone : ((id_in (scene saved.new stretch.from).files ≡ [] → ⊥) → (scene saved.new stretch.to).files (data_name (id_in (scene saved.new stretch.from).files)) ≡ None)
+      ⊎ IsUnwritten saved.old.history saved.new.history
 
 -- a table can be written anew over the record in these files: an identifier is left, and it isn't too large
 pub record Fits (files : shelf.Files) (made : Table) : Type 0 where

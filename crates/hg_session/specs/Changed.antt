@@ -39,6 +39,9 @@ pub record IsStepped (command : Changing) (call : Call) (status : ℕ) : Type 0 
   pub done : IsDone command (files_of call.words) call.looked.tree call.looked.shelf call.saved lines
   pub told : Grown call.err.old call.err.new lines
   pub ends : status ≡ status_of done.refused
+  -- what was published is what a crash leaves from then on, until others publish
+  pub lasts : (calm : Undisturbed call.saved.old call.saved.new) → KeepsRecords shelf.others call.saved.new call.saved.old.history.last
+      → IsLasting done.is.loaded done.made call.saved (done.kept calm)
 
 -- the words were done, the lines of the refused ones were told, or a front of them, and the stream failed
 pub record IsPartlyTold (command : Changing) (call : Call) : Type 0 where
@@ -46,6 +49,9 @@ pub record IsPartlyTold (command : Changing) (call : Call) : Type 0 where
   pub done : IsDone command (files_of call.words) call.looked.tree call.looked.shelf call.saved lines
   pub told : GrownByFront call.err.old call.err.new lines
   pub failed : Fails call.err
+  -- what was published is what a crash leaves from then on, until others publish
+  pub lasts : (calm : Undisturbed call.saved.old call.saved.new) → KeepsRecords shelf.others call.saved.new call.saved.old.history.last
+      → IsLasting done.is.loaded done.made call.saved (done.kept calm)
 
 -- with a fault its line alone is told; where the error stream failed while the refused words were told, a front of these
 abbrev pub TellsFault : Changing → Call → Fault → Type 0
@@ -140,9 +146,6 @@ pub record RanChange (command : Changing) (call : Call) (status : ℕ) (fault : 
   -- leaves a record of what it might have left then, of what the call published, or of what others published since
   pub crash : (calm : Undisturbed call.saved.old call.saved.new) → KeepsRecords shelf.others call.saved.new call.saved.old.history.last → IsLatest (last_scene call.saved.old)
       → IsCrashSafe command (files_of call.words) call.looked.tree call.saved fault (safe calm)
-  -- what was acknowledged is what a crash leaves from then on, until others publish
-  pub lasts : (well : fault ≡ None) (calm : Undisturbed call.saved.old call.saved.new) → KeepsRecords shelf.others call.saved.new call.saved.old.history.last
-      → IsLasting (stepped well).done.is.loaded (stepped well).done.made call.saved ((stepped well).done.kept calm)
   -- after a fault that comes before a publication nothing is written, whatever others do
   pub unwritten : IfSome fault (IsUnwrittenUnless call)
   -- each fault comes only for its cause

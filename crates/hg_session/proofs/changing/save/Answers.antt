@@ -32,7 +32,8 @@ returns-in-Err-clause-met g c = inr (refl, c.in-Err.ensures.cause.rose tt)
 
 pub returns-clause-recorded : goal.returns-clause-recorded
 returns-clause-recorded g c = λ calm some.
-    recorded_by c.args.table.now c.in_ok-new.new c.in_ok-new.ensures.reads (course (g.S.Shelf.history c.publish.new.shelf) (g.S.Shelf.images c.publish.new.shelf)) (c.in-Ok.ensures.sure calm)
+    recorded_by c.args.table.now c.in_ok-new.new c.in_ok-new.ensures.reads c.args.loaded.now.docket.items (course (g.S.Shelf.history c.publish.new.shelf) (g.S.Shelf.images c.publish.new.shelf)) c.requires.over
+    (c.in-Ok.ensures.sure calm) (c.in-Ok.ensures.gone calm)
 
 pub returns-clause-safe : goal.returns-clause-safe
 returns-clause-safe g c = λ calm stands.
