@@ -44,7 +44,7 @@ fresh_or_same before behind = by_test (bytes_eq (docket_in behind.files) (docket
   by_test true is = inr (same_bytes (docket_in behind.files) (docket_in before.files) is)
   by_test false is = inl (λ same. let test : bytes_eq (docket_in behind.files) (docket_in before.files) ≡ true = (bytes_eq-Decides (docket_in behind.files) (docket_in before.files)).1 same in cc (sym is ∙ test))
 
-latest_still : (a b : Scene) → Remains a b → IsLatest a → IsLatest b
+pub latest_still : (a b : Scene) → Remains a b → IsLatest a → IsLatest b
 latest_still a b still is = record {
   latest = λ c left n named. is.latest c (still.left c left) n (ap (λ (f : Files). name_after n (id_in f)) (sym still.shown) ∙ named);
 }

@@ -1,5 +1,5 @@
 -- What a publication leaves of the dirstate, at each moment and after a crash.
-use Rattle.std.specs.Prelude.{ℕ, zero, suc, ◌≡◌, ◌≤◌, ◌⊎◌, List, length, Option, Some, None, Result, codes}
+use Rattle.std.specs.Prelude.{ℕ, zero, suc, ◌≡◌, ◌≤◌, ◌⊎◌, List, length, Option, Some, None, Result, Ok, codes}
 use Rattle.std.specs.Option.{option_and_then}
 use Rattle.hg_append.specs.declared.encoding.Encoded.{Encoded}
 use Rattle.hg_docket.specs.Docket.{docket_of, docket_refusal}
@@ -27,6 +27,10 @@ pub record IsOver (loaded : List ℕ) (new : Encoded) : Type 0 where
 -- what is recorded once it is published
 abbrev pub published : Encoded → Option (Result Table RecordFault)
 published new = Some (reading_of new.docket.items new.bytes.items)
+
+-- it is a table, and no fault
+abbrev pub IsSound : Encoded → Type 0
+IsSound new = (t : Table) × (published new ≡ Some (Ok t))
 
 -- no docket that a crash may leave names this identifier
 pub record IsFree (id : List ℕ) (s : Scene) : Type 0 where
