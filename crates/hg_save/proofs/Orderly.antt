@@ -1,21 +1,21 @@
 -- Each step of a publication keeps to what is asked of others.
-use Rattle.std.proofs.Common.{◌≡◌, ℕ, ◌+◌, ◌≤◌, List, length, take, codes, IsSome, is_some, Option, Some, refl, sym, ap, ◌∙◌, subst, arith, inl, inr, ◌⊎◌}
+use Rattle.std.proofs.Common.{◌≡◌, ℕ, ◌+◌, ◌≤◌, List, take, codes, IsSome, is_some, Option, Some, refl, sym, ap, ◌∙◌, subst, arith, inl, inr, ◌⊎◌}
 use Rattle.hg_append.specs.declared.encoding.Encoded.{Encoded}
 use Rattle.hg_docket.specs.Docket.{docket_of}
 use Rattle.hg_shelf.specs.History.{Files, us}
 use Rattle.hg_shelf.specs.Images.{Course, Goes, Remains, Scene, last_scene, scene}
 use Rattle.hg_shelf.specs.Polite.{Undisturbed}
-use Rattle.hg_shelf.specs.Rules.{Perhaps, Surely, content, moved, without}
+use Rattle.hg_shelf.specs.Rules.{Perhaps, content, moved, without}
 use Rattle.hg_shelf.proofs.Scenes.{goes_same, goes_trans, first_part, second_part}
 use Rattle.hg_save.specs.Leads.{ButFor, FirstBy, IsDone, Leads, OnceBy, OwnSteps, StepBy}
 use Rattle.hg_save.specs.Others.{IsOrderly, IsPublication, KeepsRecords, RecordsAs}
 use Rattle.hg_save.specs.Record.{data_name, docket_in, id_in, reading}
-use Rattle.hg_save.specs.Saved.{IsFree, IsLatest, IsOver, IsSound, Stands, name_after, new_docket, published}
+use Rattle.hg_save.specs.Saved.{IsFree, IsLatest, IsOver, IsSound, Stands, name_after, new_docket}
 use Rattle.hg_save.proofs.Names.{docket_not_data, docket_not_new, never_itself, next_free, next_other}
 use Rattle.hg_save.proofs.Own.{steps_on}
 use Rattle.hg_save.proofs.Published.{latest_still}
 use Rattle.hg_save.proofs.Readings.{Holds, IsReady, Spares, id_published, moved_ready, reads_published, same_id, same_reading, spared, spared_id, without_old}
-use Rattle.hg_save.proofs.Stages.{Each, EachShown, Puts, Spared, cleared_each, cleared_shown, done_left, done_shown, not_after_new, ready_left, ready_shown, shown_two, spared_one, spared_two}
+use Rattle.hg_save.proofs.Stages.{Each, Puts, Spared, cleared_each, done_left, not_after_new, ready_left, ready_shown, shown_two, spared_one, spared_two}
 
 -- ---- one step
 
@@ -82,10 +82,13 @@ module _ (loaded : List ℕ) (new : Encoded) (over : IsOver loaded new) where
         let there : f (codes "dirstate") ≡ d new_docket = moves (codes "dirstate") in
         let shows : y.files (codes "dirstate") ≡ x.files new_docket = step.shown (codes "dirstate") in
         let same : f (codes "dirstate") ≡ y.files (codes "dirstate") = there ∙ set.beside d was ∙ sym (ap (λ (g : Files). g new_docket) step.since.shown) ∙ sym shows in
-        inr (fresh, record {
-          docket = same_docket y.files f same;
-          read = reads_published loaded new f over (moved_ready new d f (set.ready d was) moves) ∙ sym (reads_published loaded new y.files over holds);
-        })
+        inr (
+          fresh,
+          record {
+            docket = same_docket y.files f same;
+            read = reads_published loaded new f over (moved_ready new d f (set.ready d was) moves) ∙ sym (reads_published loaded new y.files over holds);
+          },
+        )
 
     named_by : (d f : Files) → x.leaves d → Perhaps (moved new_docket (codes "dirstate")) d f → (n : ℕ) → name_after n new.id ≡ Some (id_in f) → ⊥
     named_by d f is (inl same) n after = set.none d (step.since.left d is) n (after ∙ ap (λ (id : List ℕ). Some id) (same_id d f (same (codes "dirstate"))))
@@ -117,11 +120,14 @@ module _ (loaded : List ℕ) (new : Encoded) (over : IsOver loaded new) where
   cleared_orderly x y holds step =
       kept_orderly x y (docket_stays x.files y.files step.shown) (λ f is.
       let was = step.left f is in
-      let had : Holds new was.0 = holds was.0 was.1 in
-      (was.0, was.1, record {
-        docket = docket_stays was.0 f was.2;
-        read = reads_published loaded new f over (without_old loaded new was.0 f over had was.2) ∙ sym (reads_published loaded new was.0 over had);
-      }))
+      let had : Holds new was.0 = holds was.0 was.1 in (
+        was.0,
+        was.1,
+        record {
+          docket = docket_stays was.0 f was.2;
+          read = reads_published loaded new f over (without_old loaded new was.0 f over had was.2) ∙ sym (reads_published loaded new was.0 over had);
+        },
+      ))
 
   -- ---- the parts of a call
 
@@ -157,7 +163,7 @@ module _ (loaded : List ℕ) (new : Encoded) (over : IsOver loaded new) where
           shown = ready_shown loaded new over a b c second one two;
           beside = λ f is. two.sure.left f is ∙ sym two.sure.shown;
           stands = spared_id new.id (last_scene a).files (last_scene c).files (shown_two loaded new over a b c first second one.leads two.leads c.history.last later (omega arith))
-            ∙ ap (λ (bytes : List ℕ). (docket_of bytes).id) stands;
+              ∙ ap (λ (bytes : List ℕ). (docket_of bytes).id) stands;
           none = λ f is n after.
               let was = each c.history.last f later (omega arith) is in
               not_after_new loaded new over a stands latest was.0 was.1 n (after ∙ ap (λ (id : List ℕ). Some id) (spared_id new.id was.0 f was.2));

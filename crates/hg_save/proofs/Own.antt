@@ -1,12 +1,12 @@
 -- What each step of the caller's own does in a part of a publication.
-use Rattle.std.proofs.Common.{◌≡◌, ℕ, ◌+◌, ◌<◌, ◌≤◌, Bool, true, List, length, IsSome, refl, sym, ap, ◌∙◌, subst, arith, inl, inr, ◌⊎◌}
+use Rattle.std.proofs.Common.{◌≡◌, ℕ, ◌+◌, ◌<◌, ◌≤◌, Bool, true, List, IsSome, refl, sym, ap, ◌∙◌, subst, arith, inl, inr, ◌⊎◌}
 use Rattle.std.proofs.lemmas.Bool.{cases_lt}
 use Rattle.hg_shelf.specs.History.{By, Files, Passes, label, readers, us}
 use Rattle.hg_shelf.specs.Images.{Acts, Course, Goes, Remains, Scene, last_scene, scene}
 use Rattle.hg_shelf.specs.Polite.{Undisturbed}
-use Rattle.hg_shelf.specs.Rules.{Changes, Perhaps, Removes, Renames, Surely, Syncs, SyncsNames, Tears, TornAt, Writes, Written, moved, without}
+use Rattle.hg_shelf.specs.Rules.{Perhaps, Removes, Renames, Surely, Syncs, SyncsNames, Tears, Writes, moved, without}
 use Rattle.hg_shelf.proofs.Scenes.{Knows, first_part, knows_later, remains_trans, stays_until}
-use Rattle.hg_save.specs.Leads.{ButFor, FirstBy, OnceBy, OwnSteps, StepBy}
+use Rattle.hg_save.specs.Leads.{ButFor, OnceBy, OwnSteps, StepBy}
 
 -- ---- the steps of one call
 
@@ -21,9 +21,9 @@ own_place : (rule : Scene → Scene → Type 0) (a b : Course) → a.history.our
 own_place rule a b ours own k after before is = elim (cases_lt k own.place) [
   | inl early ↦ absurd (not_own a b a.history.last own.place k ours own.before after early is)
   | inr from ↦ elim (cases_lt own.place k) [
-      | inl late ↦ absurd (not_own a b (own.place + 1) b.history.last k ours own.behind (omega (arith, late)) before is)
-      | inr to ↦ omega (arith, from, to)
-    ]
+    | inl late ↦ absurd (not_own a b (own.place + 1) b.history.last k ours own.behind (omega (arith, late)) before is)
+    | inr to ↦ omega (arith, from, to)
+  ]
 ]
 
 one_step : (rule other : Scene → Scene → Type 0) (a b : Course) → a.history.ours ≡ true → (own : Acts rule a b) → other (scene b own.place) (scene b (own.place + 1)) → OwnSteps other a b
@@ -109,7 +109,7 @@ remains_until rule a b ours goes calm own =
     let before : By readers b.history a.history.last own.place = subst (λ (t : Bool). By (label t) b.history a.history.last own.place) ours own.before in
     let start : Knows (last_scene a) S (last_scene a).leaves (last_scene a).named = record { shown = refl; left = λ f is. is; done = λ f is. is } in
     let there = stays_until b a.history.last own.place own.place S (last_scene a).leaves (last_scene a).named calm.others before (omega (arith, own.to))
-      (knows_later a b S (last_scene a).leaves (last_scene a).named goes start) own.from (omega arith) in
+    (knows_later a b S (last_scene a).leaves (last_scene a).named goes start) own.from (omega arith) in
     record { shown = there.shown; left = there.left; done = there.done }
 
 rename_step : (from to : List ℕ) (start x y : Scene) → IsSome (start.files from) → Remains start x → Renames from to x y → OnceBy start (moved from to) x y
