@@ -2,7 +2,9 @@ pub mod Encodings
 pub mod Exits
 pub mod Loads
 pub mod Names
+pub mod Orderly
 pub mod Others
+pub mod Own
 pub mod Parts
 pub mod Published
 pub mod Readings

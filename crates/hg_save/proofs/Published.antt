@@ -1,16 +1,16 @@
 -- What a crash leaves after steps of others that keep to how a record is published.
-use Rattle.std.proofs.Common.{ℕ, zero, suc, ◌≡◌, ◌+◌, ◌-◌, ◌<◌, ◌≤◌, Bool, true, false, List, Option, Some, Result, Ok, refl, sym, ap, ◌∙◌, subst, arith, inl, inr, ◌⊎◌}
+use Rattle.std.proofs.Common.{ℕ, zero, suc, ◌≡◌, ◌+◌, ◌-◌, ◌<◌, ◌≤◌, Bool, true, false, List, Option, Some, Result, refl, sym, ap, ◌∙◌, subst, arith, inl, inr, ◌⊎◌}
 use Rattle.std.specs.Str.{bytes_eq}
 use Rattle.std.proofs.lemmas.Slice.Eq.{bytes_eq-Decides}
 use Rattle.hg_base.proofs.Within.{same_bytes}
 use Rattle.hg_entry.specs.Table.{Table}
 use Rattle.hg_image.specs.Reading.{RecordFault}
-use Rattle.hg_shelf.specs.History.{Files, History, Who, us, readers, others}
+use Rattle.hg_shelf.specs.History.{Files, Who, us, readers, others}
 use Rattle.hg_shelf.specs.Images.{Course, Remains, Scene, scene}
 use Rattle.hg_shelf.specs.Polite.{OthersOnlyRead}
 use Rattle.hg_docket.specs.Docket.{docket_of}
-use Rattle.hg_save.specs.Others.{IsOrderly, IsPublication, IsSound, KeepsRecords, RecordsAs, WasPublished}
-use Rattle.hg_save.specs.Record.{docket_in, id_in, reading}
+use Rattle.hg_save.specs.Others.{IsOrderly, IsPublication, KeepsRecords, RecordsAs, WasPublished}
+use Rattle.hg_save.specs.Record.{IsSound, docket_in, id_in, reading}
 use Rattle.hg_save.specs.Saved.{IsLatest, name_after}
 
 -- what was published by a moment was by a later one
@@ -63,13 +63,13 @@ latest_orderly : (a b : Scene) → IsOrderly a b → IsLatest a → IsLatest b
 latest_orderly a b step is = elim (fresh_or_same a b) [
   | inl fresh ↦ step.latest fresh
   | inr same ↦ record {
-      latest = λ c left n named. elim (step.left c left) [
-        | inl was ↦
-            is.latest was.0 was.1 n
-            (ap (λ (d : List ℕ). name_after n (docket_of d).id) (sym same) ∙ named ∙ ap (λ (d : List ℕ). Some (docket_of d).id) was.2.docket)
-        | inr new ↦ new.0 same
-      ];
-    }
+    latest = λ c left n named. elim (step.left c left) [
+      | inl was ↦
+          is.latest was.0 was.1 n
+          (ap (λ (d : List ℕ). name_after n (docket_of d).id) (sym same) ∙ named ∙ ap (λ (d : List ℕ). Some (docket_of d).id) was.2.docket)
+      | inr new ↦ new.0 same
+    ];
+  }
 ]
 
 -- ---- many steps
@@ -118,13 +118,13 @@ module _ (c : Course) (from : ℕ) (only : OthersOnlyRead c from) (keep : KeepsR
         elim (step.left f left) [
           | inl was ↦ of_later j (j + 1) f (omega arith) (of_same j f was.0 was.2 (is was.0 was.1))
           | inr new ↦ inr (record {
-              at = j;
-              from = after;
-              to = omega arith;
-              by = who;
-              fresh = new.0;
-              shown = sym new.1.read;
-            })
+            at = j;
+            from = after;
+            to = omega arith;
+            by = who;
+            fresh = new.0;
+            shown = sym new.1.read;
+          })
         ]
 
     -- what a crash leaves after so many steps of others is of what was known at first, or they published it since
@@ -134,7 +134,7 @@ module _ (c : Course) (from : ℕ) (only : OthersOnlyRead c from) (keep : KeepsR
     left_over (suc n) k at none within start f left =
         let next : from + n + 1 ≡ k = omega (arith, at) in
         let before : (g : Files) → (scene c (from + n)).leaves g → IsOf (from + n) g =
-          left_over n (from + n) refl (λ j after below. none j after (omega (arith, below, next))) (omega (arith, within, next)) start in
+        left_over n (from + n) refl (λ j after below. none j after (omega (arith, below, next))) (omega (arith, within, next)) start in
         let j = from + n in
         let there : (scene c (j + 1)).leaves f = subst (λ (m : ℕ). (scene c m).leaves f) (sym next) left in
         subst (λ (m : ℕ). IsOf m f) next

@@ -18,7 +18,7 @@ use Rattle.hg_save.proofs.Readings.{Begins, Holds, IsReady, Spares, id_published
 -- ---- moments of a call
 
 -- whatever a crash leaves at the moments of a call
-abbrev Each : Course → Course → (Files → Type 0) → Type 0
+abbrev pub Each : Course → Course → (Files → Type 0) → Type 0
 Each old new P = (k : ℕ) (f : Files) → old.history.last ≤ k → k ≤ new.history.last → (scene new k).leaves f → P f
 
 each_on : (a b c : Course) (P : Files → Type 0) → Each a b P → Goes b c → Each b c P → Each a c P
@@ -28,7 +28,7 @@ each_on a b c P first goes second = λ k f after before is. elim (cases_lt b.his
 ]
 
 -- what reads show at the moments of a call
-abbrev EachShown : Course → Course → (Files → Type 0) → Type 0
+abbrev pub EachShown : Course → Course → (Files → Type 0) → Type 0
 EachShown old new P = (k : ℕ) → old.history.last ≤ k → k ≤ new.history.last → P (scene new k).files
 
 shown_on : (a b c : Course) (P : Files → Type 0) → EachShown a b P → Goes b c → EachShown b c P → EachShown a c P
@@ -73,7 +73,7 @@ pub record Puts (name : List ℕ) (place : ℕ) (bytes : List ℕ) (a b : Course
 
 module _ (loaded : List ℕ) (new : Encoded) (over : IsOver loaded new) (a : Course) where
   -- an image that comes from one of the start, but for the new files
-  abbrev Spared : Files → Type 0
+  abbrev pub Spared : Files → Type 0
   Spared f = (d : Files) × (last_scene a).leaves d × Spares new.id d f
 
   pub spared_one : (b : Course) → Leads (ButFor (data_name new.id)) a b → Each a b Spared
@@ -179,7 +179,7 @@ module _ (loaded : List ℕ) (new : Encoded) (over : IsOver loaded new) (a : Cou
   not_after : (d : Files) → (last_scene a).leaves d → (n : ℕ) → name_after n (docket_of loaded).id ≡ Some (id_in d) → ⊥
   not_after d is n after = latest.latest d is n (ap (λ (bytes : List ℕ). name_after n (docket_of bytes).id) stands ∙ after)
 
-  not_after_new : (d : Files) → (last_scene a).leaves d → (n : ℕ) → name_after n new.id ≡ Some (id_in d) → ⊥
+  pub not_after_new : (d : Files) → (last_scene a).leaves d → (n : ℕ) → name_after n new.id ≡ Some (id_in d) → ⊥
   not_after_new d is n after = not_after d is (suc n) (later_still n (docket_of loaded).id new.id (id_in d) over.next after)
 
   pub latest_by : (x : Course) → id_in (last_scene x).files ≡ (docket_of loaded).id → ((f : Files) → (last_scene x).leaves f → (d : Files) × (last_scene a).leaves d × (id_in f ≡ id_in d)) → IsLatest (last_scene x)

@@ -1,8 +1,8 @@
 -- What a part of a publication changes: of what reads show, and of what a crash may leave.
-use Rattle.std.specs.Prelude.{ℕ, ◌≡◌, ◌≤◌, ◌⊎◌, List, Some}
-use Rattle.hg_shelf.specs.History.{Files}
-use Rattle.hg_shelf.specs.Images.{Course, last_scene, scene}
-use Rattle.hg_shelf.specs.Rules.{Surely}
+use Rattle.std.specs.Prelude.{ℕ, ◌≡◌, ◌≤◌, ◌<◌, ◌+◌, ◌⊎◌, List, Some}
+use Rattle.hg_shelf.specs.History.{Files, us}
+use Rattle.hg_shelf.specs.Images.{Course, Remains, Scene, last_scene, scene}
+use Rattle.hg_shelf.specs.Rules.{Perhaps, Surely}
 
 -- no other file is changed
 abbrev pub ButFor : List ℕ → Files → Files → Type 0
@@ -31,3 +31,24 @@ pub record IsStill (old new : Course) : Type 0 where
 -- a change is shown, or it isn't left by a crash either
 abbrev pub IsWhole : (Files → Files) → Course → Course → Type 0
 IsWhole change old new = Surely change (last_scene old).files (last_scene new).files ⊎ IsStill old new
+
+-- ---- single steps
+
+-- each step of the caller's own is by a rule
+pub record OwnSteps (rule : Scene → Scene → Type 0) (old new : Course) : Type 0 where
+  pub each : (k : ℕ) → old.history.last ≤ k → k < new.history.last → new.history.who k ≡ us → rule (scene new k) (scene new (k + 1))
+
+-- a step makes a change of what reads show, and whatever a crash leaves behind it comes by one from what it might have left before
+pub record StepBy (change : Files → Files → Type 0) (before behind : Scene) : Type 0 where
+  pub shown : change before.files behind.files
+  pub left : (c : Files) → behind.leaves c → (d : Files) × before.leaves d × change d c
+
+-- the first step since a scene makes a change of what reads show, which a crash leaves done or not
+pub record FirstBy (start : Scene) (change : Files → Files) (before behind : Scene) : Type 0 where
+  pub since : Remains start before
+  pub shown : Surely change before.files behind.files
+  pub left : (c : Files) → behind.leaves c → (d : Files) × before.leaves d × Perhaps change d c
+
+-- a step shows and leaves nothing new, or it is the first since a scene, by a change
+abbrev pub OnceBy : Scene → (Files → Files) → Scene → Scene → Type 0
+OnceBy start change before behind = Remains before behind ⊎ FirstBy start change before behind

@@ -6,7 +6,7 @@ use Rattle.hg_image.specs.Reading.{RecordFault}
 use Rattle.hg_shelf.specs.History.{Files, History, Who, others}
 use Rattle.hg_shelf.specs.Images.{Course, Scene, scene}
 use Rattle.hg_save.specs.Loads.{During, files_at}
-use Rattle.hg_save.specs.Record.{data_name, docket_in, reading}
+use Rattle.hg_save.specs.Record.{IsSound, data_name, docket_in, reading}
 use Rattle.hg_save.specs.Saved.{IsLatest}
 
 -- a docket is sound, and uses bytes of its data file
@@ -50,10 +50,6 @@ pub record WasRecorded (old new : History) (recorded : Result Table RecordFault)
 pub record RecordsAs (old new : Files) : Type 0 where
   pub docket : docket_in new ≡ docket_in old
   pub read : reading new ≡ reading old
-
--- a record is sound: it reads as a table
-abbrev pub IsSound : Option (Result Table RecordFault) → Type 0
-IsSound recorded = (t : Table) × (recorded ≡ Some (Ok t))
 
 -- another docket came to stand
 abbrev pub IsPublication : Scene → Scene → Type 0

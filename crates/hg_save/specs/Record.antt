@@ -1,5 +1,5 @@
 -- What the files below `.hg` record: the docket as it stands at one moment, the data file as it stands at that or a later one.
-use Rattle.std.specs.Prelude.{ℕ, if◌then◌else◌, List, [], ◌++◌, take, Option, Some, None, Result, codes, ◌==◌}
+use Rattle.std.specs.Prelude.{ℕ, if◌then◌else◌, List, [], ◌++◌, take, Option, Some, None, Result, Ok, ◌≡◌, codes, ◌==◌}
 use Rattle.std.specs.Option.{option_map}
 use Rattle.hg_docket.specs.Docket.{Contents, docket_of, docket_refusal}
 use Rattle.hg_docket.specs.declared.fault.DocketFault.{DocketFault}
@@ -36,6 +36,10 @@ record_in first second = named_reading (docket_in first) second
 -- what the files of one moment record
 abbrev pub reading : Files → Option (Result Table RecordFault)
 reading files = record_in files files
+
+-- a record is sound: it is there, and no fault
+abbrev pub IsSound : Option (Result Table RecordFault) → Type 0
+IsSound recorded = (t : Table) × (recorded ≡ Some (Ok t))
 
 -- the identifier that the docket names
 abbrev pub id_in : Files → List ℕ

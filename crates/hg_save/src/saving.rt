@@ -3,11 +3,13 @@
 ghost use Rattle.std.specs.Prelude.{◌≡◌, ◌≤◌, ◌∷◌, [], length, None, true, OnOk, OnErr};
 ghost use Rattle.hg_base.specs.Fault.{HasCause};
 ghost use Rattle.hg_docket.specs.Docket.{docket_of, docket_refusal};
+ghost use Rattle.hg_shelf.specs.History.{us};
 ghost use Rattle.hg_shelf.specs.Images.{Goes, course, last_scene};
 ghost use Rattle.hg_shelf.specs.Polite.{Undisturbed};
 ghost use Rattle.hg_shelf.specs.Rules.{Perhaps, without};
-ghost use Rattle.hg_save.specs.Leads.{Leads};
-ghost use Rattle.hg_save.specs.Record.{data_name};
+ghost use Rattle.hg_save.specs.Leads.{Leads, OwnSteps, StepBy};
+ghost use Rattle.hg_save.specs.Others.{KeepsRecords};
+ghost use Rattle.hg_save.specs.Record.{IsSound, data_name};
 ghost use Rattle.hg_save.specs.Saved.{IsFree, IsLatest, IsOver, KeepsOthers, LeavesOnly, Records, ShowsOnly, Stands, published};
 
 use crate::loaded::Loaded;
@@ -37,6 +39,12 @@ fn clear<S: Shelf>(shelf: &mut S, docket: &[u8]) -> Result<(), Failed>
         result
         (((docket_of docket.now).id ≡ [] → ⊥)
         → (last_scene (course (S.history shelf.new) (S.images shelf.new))).files (data_name (docket_of docket.now).id) ≡ None) }
+    // Each of its steps takes that file away, or nothing.
+    ensures steps { Undisturbed (course (S.history shelf.old) (S.images shelf.old)) (course (S.history shelf.new) (S.images shelf.new))
+        → OwnSteps
+        (StepBy (Perhaps (without (data_name (docket_of docket.now).id))))
+        (course (S.history shelf.old) (S.images shelf.old))
+        (course (S.history shelf.new) (S.images shelf.new)) }
     ensures kept { Goes (course (S.history shelf.old) (S.images shelf.old)) (course (S.history shelf.new) (S.images shelf.new)) }
     ensures ours { (S.history shelf.new).ours ≡ (S.history shelf.old).ours }
     ensures held { S.held shelf.new ≡ S.held shelf.old }
@@ -88,6 +96,12 @@ pub fn publish<S: Shelf>(shelf: &mut S, loaded: &Loaded, new: &Encoded) -> Resul
         → Stands loaded.now.docket.items (last_scene (course (S.history shelf.old) (S.images shelf.old)))
         → IsLatest (last_scene (course (S.history shelf.old) (S.images shelf.old)))
         → IsLatest (last_scene (course (S.history shelf.new) (S.images shelf.new))) }
+    // Each of its steps keeps to what is asked of others, where the new table is sound: so two of this program may save beside each other.
+    ensures orderly { Undisturbed (course (S.history shelf.old) (S.images shelf.old)) (course (S.history shelf.new) (S.images shelf.new))
+        → Stands loaded.now.docket.items (last_scene (course (S.history shelf.old) (S.images shelf.old)))
+        → IsLatest (last_scene (course (S.history shelf.old) (S.images shelf.old)))
+        → IsSound (published new.now)
+        → KeepsRecords us (course (S.history shelf.new) (S.images shelf.new)) (S.history shelf.old).last }
     // Where it succeeded, the old data file is gone.
     ensures gone { Undisturbed (course (S.history shelf.old) (S.images shelf.old)) (course (S.history shelf.new) (S.images shelf.new))
         → OnOk

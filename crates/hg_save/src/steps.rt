@@ -6,7 +6,7 @@ ghost use Rattle.hg_docket.specs.Docket.{docket_of, docket_refusal};
 ghost use Rattle.hg_shelf.specs.Images.{Goes, course, last_scene};
 ghost use Rattle.hg_shelf.specs.Polite.{Undisturbed};
 ghost use Rattle.hg_shelf.specs.Rules.{Perhaps, content, moved, overwritten, without};
-ghost use Rattle.hg_save.specs.Leads.{ButFor, IsDone, IsSure, IsWhole, Leads};
+ghost use Rattle.hg_save.specs.Leads.{ButFor, IsDone, IsSure, IsWhole, Leads, OnceBy, OwnSteps, StepBy};
 ghost use Rattle.hg_save.specs.Record.{data_name};
 
 use hg_base::Failed;
@@ -29,6 +29,9 @@ pub(crate) fn put<S: Shelf>(
         name.now
         (overwritten (content ((last_scene (course (S.history shelf.old) (S.images shelf.old))).files name.now)) place bytes.now)
         (course (S.history shelf.new) (S.images shelf.new))) }
+    // Each of its steps changes no other file.
+    ensures steps { Undisturbed (course (S.history shelf.old) (S.images shelf.old)) (course (S.history shelf.new) (S.images shelf.new))
+        → OwnSteps (StepBy (ButFor name.now)) (course (S.history shelf.old) (S.images shelf.old)) (course (S.history shelf.new) (S.images shelf.new)) }
     ensures kept { Goes (course (S.history shelf.old) (S.images shelf.old)) (course (S.history shelf.new) (S.images shelf.new)) }
     ensures ours { (S.history shelf.new).ours ≡ (S.history shelf.old).ours }
     ensures held { S.held shelf.new ≡ S.held shelf.old }
@@ -53,6 +56,13 @@ pub(crate) fn swap<S: Shelf>(shelf: &mut S, from: &str, to: &str) -> Result<(), 
     ensures whole { Undisturbed (course (S.history shelf.old) (S.images shelf.old)) (course (S.history shelf.new) (S.images shelf.new))
         → IsSome ((last_scene (course (S.history shelf.old) (S.images shelf.old))).files from.now)
         → IsWhole (moved from.now to.now) (course (S.history shelf.old) (S.images shelf.old)) (course (S.history shelf.new) (S.images shelf.new)) }
+    // Of its steps one moves the file, and the other shows and leaves nothing new.
+    ensures steps { Undisturbed (course (S.history shelf.old) (S.images shelf.old)) (course (S.history shelf.new) (S.images shelf.new))
+        → IsSome ((last_scene (course (S.history shelf.old) (S.images shelf.old))).files from.now)
+        → OwnSteps
+        (OnceBy (last_scene (course (S.history shelf.old) (S.images shelf.old))) (moved from.now to.now))
+        (course (S.history shelf.old) (S.images shelf.old))
+        (course (S.history shelf.new) (S.images shelf.new)) }
     ensures kept { Goes (course (S.history shelf.old) (S.images shelf.old)) (course (S.history shelf.new) (S.images shelf.new)) }
     ensures ours { (S.history shelf.new).ours ≡ (S.history shelf.old).ours }
     ensures held { S.held shelf.new ≡ S.held shelf.old }

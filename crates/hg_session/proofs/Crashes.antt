@@ -6,8 +6,8 @@ use Rattle.hg_image.specs.Reading.{RecordFault}
 use Rattle.hg_mixed.specs.Edits.{IsSame}
 use Rattle.hg_report.specs.declared.fault.Fault.{Fault}
 use Rattle.hg_save.proofs.Published.{keeps_later, latest_still, latest_until, left_until, published_earlier, published_later, published_sound}
-use Rattle.hg_save.specs.Others.{IsSound, KeepsRecords, WasPublished}
-use Rattle.hg_save.specs.Record.{reading}
+use Rattle.hg_save.specs.Others.{KeepsRecords, WasPublished}
+use Rattle.hg_save.specs.Record.{IsSound, reading}
 use Rattle.hg_save.specs.Saved.{IsLatest, ReadsAsBeforeOr}
 use Rattle.hg_session.specs.Call.{Saved, Watched}
 use Rattle.hg_session.specs.Change.{IsKept, IsPublished, IsSafe, IsUnwritten, NoneOurs}

@@ -5,8 +5,8 @@ use Rattle.hg_entry.specs.Table.{Table}
 use Rattle.hg_image.specs.Reading.{RecordFault}
 use Rattle.hg_mixed.specs.Edits.{IsSame}
 use Rattle.hg_report.specs.declared.fault.Fault.{Fault}
-use Rattle.hg_save.specs.Others.{IsSound, WasPublished}
-use Rattle.hg_save.specs.Record.{reading}
+use Rattle.hg_save.specs.Others.{WasPublished}
+use Rattle.hg_save.specs.Record.{IsSound, reading}
 use Rattle.hg_save.specs.Saved.{IsLatest}
 use Rattle.hg_session.specs.Call.{Saved, Watched}
 use Rattle.hg_session.specs.Change.{IsKept, IsSafe, IsUnwritten}

@@ -3,9 +3,10 @@ use Rattle.std.proofs.lemmas.Result.{on_ok_weaker}
 use Rattle.hg_docket.specs.Docket.{Contents, docket_of}
 use Rattle.hg_shelf.specs.Images.{course, last_scene}
 use Rattle.hg_shelf.specs.Rules.{Perhaps, without}
-use Rattle.hg_save.specs.Leads.{Leads}
+use Rattle.hg_save.specs.Leads.{Leads, OwnSteps, StepBy}
 use Rattle.hg_save.specs.Record.{data_name}
 use Rattle.hg_save.proofs.Names.{empty_id, read_id}
+use Rattle.hg_save.proofs.Own.{no_call, remove_steps}
 use Rattle.hg_save.proofs.Parts.{either, gone_from, perhaps_itself, remove_leads, remove_shown, unstepped}
 use Rattle.hg_save.proofs.saving.clear.Goals as goal
 
@@ -36,3 +37,14 @@ returns-clause-gone g c = λ calm.
     (remove_shown c.as_str.result.now (course (g.S.Shelf.history c.args.shelf.now) (g.S.Shelf.images c.args.shelf.now)) (course (g.S.Shelf.history c.remove.new.self) (g.S.Shelf.images c.remove.new.self))
     c.requires.held c.remove.ensures.ours c.remove.ensures.kept calm own)))
     (c.remove.ensures.removed calm.told)
+
+pub returns-then-is_empty-clause-steps : goal.returns-then-is_empty-clause-steps
+returns-then-is_empty-clause-steps g c = λ calm. no_call (StepBy (Perhaps (without (data_name (docket_of c.args.docket.now).id)))) (course (g.S.Shelf.history c.args.shelf.now) (g.S.Shelf.images c.args.shelf.now))
+
+pub returns-clause-steps : goal.returns-clause-steps
+returns-clause-steps g c = λ calm.
+    let id = read_id c.in-Some.id c.in-Ok.docket.id.now c.in-Some.ensures ∙ ap (λ (d : Contents). d.id) c.in-Ok.ensures.fields in
+    subst (λ (name : List ℕ). OwnSteps (StepBy (Perhaps (without name))) (course (g.S.Shelf.history c.args.shelf.now) (g.S.Shelf.images c.args.shelf.now)) (course (g.S.Shelf.history c.remove.new.self) (g.S.Shelf.images c.remove.new.self)))
+    (c.as_str.ensures ∙ c.of.ensures ∙ ap data_name id)
+    (remove_steps c.as_str.result.now (course (g.S.Shelf.history c.args.shelf.now) (g.S.Shelf.images c.args.shelf.now)) (course (g.S.Shelf.history c.remove.new.self) (g.S.Shelf.images c.remove.new.self))
+    c.requires.held (either c.remove.result (c.remove.ensures.removed calm.told) (c.remove.ensures.perhaps calm.told)))

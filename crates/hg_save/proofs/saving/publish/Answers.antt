@@ -4,6 +4,7 @@ use Rattle.hg_shelf.specs.History.{now}
 use Rattle.hg_shelf.specs.Images.{course}
 use Rattle.hg_shelf.proofs.Scenes.{goes_trans, second_part}
 use Rattle.hg_save.proofs.Exits.{crash_four, crash_one, crash_three, crash_two, latest_four, latest_one, latest_three, latest_two, left_four, left_one, left_three, left_two, others_four, others_one, others_three, others_two, records_four}
+use Rattle.hg_save.proofs.Orderly.{orderly_four, orderly_one, orderly_three, orderly_two}
 use Rattle.hg_save.proofs.Stages.{on_ok}
 use Rattle.hg_save.proofs.saving.publish.Goals as goal
 
@@ -149,3 +150,31 @@ returns-clause-latest g c =
 pub returns-clause-kept : goal.returns-clause-kept
 returns-clause-kept g c =
     goes_trans (course (g.S.Shelf.history c.args.shelf.now) (g.S.Shelf.images c.args.shelf.now)) (course (g.S.Shelf.history c.swap.new.shelf) (g.S.Shelf.images c.swap.new.shelf)) (course (g.S.Shelf.history c.clear.new.shelf) (g.S.Shelf.images c.clear.new.shelf)) (goes_trans (course (g.S.Shelf.history c.args.shelf.now) (g.S.Shelf.images c.args.shelf.now)) (course (g.S.Shelf.history c.put-2.new.shelf) (g.S.Shelf.images c.put-2.new.shelf)) (course (g.S.Shelf.history c.swap.new.shelf) (g.S.Shelf.images c.swap.new.shelf)) (goes_trans (course (g.S.Shelf.history c.args.shelf.now) (g.S.Shelf.images c.args.shelf.now)) (course (g.S.Shelf.history c.put.new.shelf) (g.S.Shelf.images c.put.new.shelf)) (course (g.S.Shelf.history c.put-2.new.shelf) (g.S.Shelf.images c.put-2.new.shelf)) c.in_ok-put.ensures.kept c.in_ok-put-2.ensures.kept) c.in_ok-swap.ensures.kept) c.clear.ensures.kept
+
+pub returns-in_err-put-clause-orderly : goal.returns-in_err-put-clause-orderly
+returns-in_err-put-clause-orderly g c =
+    orderly_one c.args.loaded.now.docket.items c.args.new.now c.requires.over (course (g.S.Shelf.history c.args.shelf.now) (g.S.Shelf.images c.args.shelf.now)) (course (g.S.Shelf.history c.put.new.shelf) (g.S.Shelf.images c.put.new.shelf)) c.in_err-put.ensures.kept
+    (rw (c.as_str.ensures, c.of-name.ensures) at c.in_err-put.ensures.leads) (rw (c.as_str.ensures, c.of-name.ensures) at c.in_err-put.ensures.steps)
+
+pub returns-in_err-put-2-clause-orderly : goal.returns-in_err-put-2-clause-orderly
+returns-in_err-put-2-clause-orderly g c =
+    orderly_two c.args.loaded.now.docket.items c.args.new.now c.requires.over (course (g.S.Shelf.history c.args.shelf.now) (g.S.Shelf.images c.args.shelf.now)) (course (g.S.Shelf.history c.put.new.shelf) (g.S.Shelf.images c.put.new.shelf)) c.in_ok-put.ensures.kept (course (g.S.Shelf.history c.put-2.new.shelf) (g.S.Shelf.images c.put-2.new.shelf)) c.in_err-put-2.ensures.kept
+    (rw (c.as_str.ensures, c.of-name.ensures) at c.in_ok-put.ensures.steps) c.in_err-put-2.ensures.steps
+    (rw (c.as_str.ensures, c.of-name.ensures) at c.in_ok-put.ensures.leads) c.in_err-put-2.ensures.leads
+
+pub returns-in_err-swap-clause-orderly : goal.returns-in_err-swap-clause-orderly
+returns-in_err-swap-clause-orderly g c =
+    orderly_three c.args.loaded.now.docket.items c.args.new.now c.requires.over (course (g.S.Shelf.history c.args.shelf.now) (g.S.Shelf.images c.args.shelf.now)) (course (g.S.Shelf.history c.put.new.shelf) (g.S.Shelf.images c.put.new.shelf)) c.in_ok-put.ensures.kept (course (g.S.Shelf.history c.put-2.new.shelf) (g.S.Shelf.images c.put-2.new.shelf)) c.in_ok-put-2.ensures.kept
+    (rw (c.as_str.ensures, c.of-name.ensures) at c.in_ok-put.ensures.steps) c.in_ok-put-2.ensures.steps
+    (λ calm. record { leads = (rw (c.as_str.ensures, c.of-name.ensures) at c.in_ok-put.ensures.leads) calm; sure = (rw (c.as_str.ensures, c.of-name.ensures, c.as_slice.ensures.value) at c.in_ok-put.ensures.sure) calm })
+    (λ calm. record { leads = c.in_ok-put-2.ensures.leads calm; sure = (rw c.as_slice-2.ensures.value at c.in_ok-put-2.ensures.sure) calm })
+    (course (g.S.Shelf.history c.swap.new.shelf) (g.S.Shelf.images c.swap.new.shelf)) c.in_err-swap.ensures.kept c.in_err-swap.ensures.steps
+
+pub returns-clause-orderly : goal.returns-clause-orderly
+returns-clause-orderly g c =
+    orderly_four c.args.loaded.now.docket.items c.args.new.now c.requires.over (course (g.S.Shelf.history c.args.shelf.now) (g.S.Shelf.images c.args.shelf.now)) (course (g.S.Shelf.history c.put.new.shelf) (g.S.Shelf.images c.put.new.shelf)) c.in_ok-put.ensures.kept (course (g.S.Shelf.history c.put-2.new.shelf) (g.S.Shelf.images c.put-2.new.shelf)) c.in_ok-put-2.ensures.kept
+    (rw (c.as_str.ensures, c.of-name.ensures) at c.in_ok-put.ensures.steps) c.in_ok-put-2.ensures.steps
+    (λ calm. record { leads = (rw (c.as_str.ensures, c.of-name.ensures) at c.in_ok-put.ensures.leads) calm; sure = (rw (c.as_str.ensures, c.of-name.ensures, c.as_slice.ensures.value) at c.in_ok-put.ensures.sure) calm })
+    (λ calm. record { leads = c.in_ok-put-2.ensures.leads calm; sure = (rw c.as_slice-2.ensures.value at c.in_ok-put-2.ensures.sure) calm })
+    (course (g.S.Shelf.history c.swap.new.shelf) (g.S.Shelf.images c.swap.new.shelf)) c.in_ok-swap.ensures.kept c.in_ok-swap.ensures.steps c.in_ok-swap.ensures.done
+    (course (g.S.Shelf.history c.clear.new.shelf) (g.S.Shelf.images c.clear.new.shelf)) c.clear.ensures.kept (rw c.as_slice-3.ensures.value at c.clear.ensures.leads) (rw c.as_slice-3.ensures.value at c.clear.ensures.steps)

@@ -1,6 +1,7 @@
 use Rattle.std.proofs.Common.{◌∙◌}
 use Rattle.hg_shelf.specs.Images.{course}
 use Rattle.hg_shelf.proofs.Scenes.{goes_trans}
+use Rattle.hg_save.proofs.Own.{put_steps, sync_failed_steps, write_failed_steps}
 use Rattle.hg_save.proofs.Parts.{put_leads, put_sure, sync_failed, write_failed}
 use Rattle.hg_save.proofs.steps.put.Goals as goal
 
@@ -38,3 +39,23 @@ returns-clause-sure g c = λ calm.
 
 pub returns-clause-kept : goal.returns-clause-kept
 returns-clause-kept g c = goes_trans _ _ _ c.in_ok-write_at.ensures.kept c.in_ok-sync.ensures.kept
+
+pub returns-in_err-write_at-clause-steps : goal.returns-in_err-write_at-clause-steps
+returns-in_err-write_at-clause-steps g c = λ calm.
+    write_failed_steps c.args.name.now c.args.place c.args.bytes.now
+    (course (g.S.Shelf.history c.args.shelf.now) (g.S.Shelf.images c.args.shelf.now)) (course (g.S.Shelf.history c.write_at.new.self) (g.S.Shelf.images c.write_at.new.self))
+    c.requires (c.in_err-write_at.ensures.torn calm.told)
+
+pub returns-in_err-sync-clause-steps : goal.returns-in_err-sync-clause-steps
+returns-in_err-sync-clause-steps g c = λ calm.
+    sync_failed_steps c.args.name.now c.args.place c.args.bytes.now
+    (course (g.S.Shelf.history c.args.shelf.now) (g.S.Shelf.images c.args.shelf.now)) (course (g.S.Shelf.history c.write_at.new.self) (g.S.Shelf.images c.write_at.new.self)) c.requires
+    (course (g.S.Shelf.history c.sync.new.self) (g.S.Shelf.images c.sync.new.self))
+    c.in_ok-write_at.ensures.ours c.in_err-sync.ensures.kept (c.in_ok-write_at.ensures.written calm.told) c.in_err-sync.ensures.unsynced
+
+pub returns-clause-steps : goal.returns-clause-steps
+returns-clause-steps g c = λ calm.
+    put_steps c.args.name.now c.args.place c.args.bytes.now
+    (course (g.S.Shelf.history c.args.shelf.now) (g.S.Shelf.images c.args.shelf.now)) (course (g.S.Shelf.history c.write_at.new.self) (g.S.Shelf.images c.write_at.new.self)) c.requires
+    (course (g.S.Shelf.history c.sync.new.self) (g.S.Shelf.images c.sync.new.self))
+    c.in_ok-write_at.ensures.ours c.in_ok-sync.ensures.kept (c.in_ok-write_at.ensures.written calm.told) (c.in_ok-sync.ensures.synced (c.in_ok-write_at.ensures.kept.past.told ∙ calm.told))

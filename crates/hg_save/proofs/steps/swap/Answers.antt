@@ -1,6 +1,7 @@
 use Rattle.std.proofs.Common.{◌∙◌, inl}
 use Rattle.hg_shelf.specs.Images.{course}
 use Rattle.hg_shelf.proofs.Scenes.{goes_trans}
+use Rattle.hg_save.proofs.Own.{names_failed_steps, rename_failed_steps, swap_steps}
 use Rattle.hg_save.proofs.Parts.{names_failed, names_whole, rename_failed, rename_whole, swap_done, swap_leads}
 use Rattle.hg_save.proofs.steps.swap.Goals as goal
 
@@ -62,3 +63,23 @@ returns-clause-whole g c = λ calm there.
     c.requires c.in_ok-rename.ensures.ours c.in_ok-sync_names.ensures.ours c.in_ok-rename.ensures.kept c.in_ok-sync_names.ensures.kept calm there
     (λ f is. g.met.S.Shelf.named_leaves c.args.shelf.now (g.S.Shelf.history c.args.shelf.now).last f is)
     (c.in_ok-rename.ensures.renamed calm.told) (c.in_ok-sync_names.ensures.synced (c.in_ok-rename.ensures.kept.past.told ∙ calm.told))).shown
+
+pub returns-in_err-rename-clause-steps : goal.returns-in_err-rename-clause-steps
+returns-in_err-rename-clause-steps g c = λ calm there.
+    rename_failed_steps c.args.from.now c.args.to.now
+    (course (g.S.Shelf.history c.args.shelf.now) (g.S.Shelf.images c.args.shelf.now)) (course (g.S.Shelf.history c.rename.new.self) (g.S.Shelf.images c.rename.new.self))
+    c.requires c.in_err-rename.ensures.kept there calm (c.in_err-rename.ensures.perhaps calm.told)
+
+pub returns-in_err-sync_names-clause-steps : goal.returns-in_err-sync_names-clause-steps
+returns-in_err-sync_names-clause-steps g c = λ calm there.
+    names_failed_steps c.args.from.now c.args.to.now
+    (course (g.S.Shelf.history c.args.shelf.now) (g.S.Shelf.images c.args.shelf.now)) (course (g.S.Shelf.history c.rename.new.self) (g.S.Shelf.images c.rename.new.self)) c.requires c.in_ok-rename.ensures.kept there
+    (course (g.S.Shelf.history c.sync_names.new.self) (g.S.Shelf.images c.sync_names.new.self))
+    c.in_ok-rename.ensures.ours c.in_err-sync_names.ensures.kept calm (c.in_ok-rename.ensures.renamed calm.told) c.in_err-sync_names.ensures.unsynced
+
+pub returns-clause-steps : goal.returns-clause-steps
+returns-clause-steps g c = λ calm there.
+    swap_steps c.args.from.now c.args.to.now
+    (course (g.S.Shelf.history c.args.shelf.now) (g.S.Shelf.images c.args.shelf.now)) (course (g.S.Shelf.history c.rename.new.self) (g.S.Shelf.images c.rename.new.self)) c.requires c.in_ok-rename.ensures.kept there
+    (course (g.S.Shelf.history c.sync_names.new.self) (g.S.Shelf.images c.sync_names.new.self))
+    c.in_ok-rename.ensures.ours c.in_ok-sync_names.ensures.kept calm (c.in_ok-rename.ensures.renamed calm.told) (c.in_ok-sync_names.ensures.synced (c.in_ok-rename.ensures.kept.past.told ∙ calm.told))
