@@ -1,12 +1,13 @@
 -- What a crash leaves after steps of others that keep to how a record is published.
 use Rattle.std.proofs.Common.{ℕ, zero, suc, ◌≡◌, ◌+◌, ◌-◌, ◌<◌, ◌≤◌, Bool, true, false, List, Option, Some, Result, refl, sym, ap, ◌∙◌, subst, arith, inl, inr, ◌⊎◌}
 use Rattle.std.specs.Str.{bytes_eq}
+use Rattle.std.proofs.lemmas.Bool.{cases_lt}
 use Rattle.std.proofs.lemmas.Slice.Eq.{bytes_eq-Decides}
 use Rattle.hg_base.proofs.Within.{same_bytes}
 use Rattle.hg_entry.specs.Table.{Table}
 use Rattle.hg_image.specs.Reading.{RecordFault}
 use Rattle.hg_shelf.specs.History.{Files, Who, us, readers, others}
-use Rattle.hg_shelf.specs.Images.{Course, Remains, Scene, scene}
+use Rattle.hg_shelf.specs.Images.{Course, Goes, Remains, Scene, scene}
 use Rattle.hg_shelf.specs.Polite.{OthersOnlyRead}
 use Rattle.hg_docket.specs.Docket.{docket_of}
 use Rattle.hg_save.specs.Others.{IsOrderly, IsPublication, KeepsRecords, RecordsAs, WasPublished}
@@ -39,6 +40,48 @@ published_earlier c first start end r order was = record {
 pub keeps_later : (by : Who) (c : Course) (from start : ℕ) → from ≤ start → KeepsRecords by c from → KeepsRecords by c start
 keeps_later by c from start order keep = record { each = λ k after before who. keep.each k (omega (arith, order, after)) before who }
 
+-- what is the latest still is, where the scene remains
+pub latest_still : (a b : Scene) → Remains a b → IsLatest a → IsLatest b
+latest_still a b still is = record {
+  latest = λ c left n named. is.latest c (still.left c left) n (ap (λ (f : Files). name_after n (id_in f)) (sym still.shown) ∙ named);
+}
+
+-- a step between scenes that are the same keeps to the same
+pub orderly_same : (a b x y : Scene) → Remains a x → Remains x a → Remains b y → Remains y b → IsOrderly a b → IsOrderly x y
+orderly_same a b x y to back there from step =
+    let fresh : IsPublication x y → IsPublication a b = λ is same. is (ap docket_in there.shown ∙ same ∙ ap docket_in back.shown) in
+    record {
+      left = λ c left. elim (step.left c (there.left c left)) [
+        | inl was ↦ inl (was.0, back.left was.0 was.1, was.2)
+        | inr new ↦ inr (
+            (λ same. new.0 (ap docket_in from.shown ∙ same ∙ ap docket_in to.shown)),
+            subst (λ (f : Files). RecordsAs f c) (sym there.shown) new.1,
+          )
+      ];
+      sound = λ is. subst (λ (f : Files). IsSound (reading f)) (sym there.shown) (step.sound (fresh is));
+      latest = λ is. latest_still b y there (step.latest (fresh is));
+    }
+
+-- steps that aren't there keep to anything
+pub keeps_front : (by : Who) (c : Course) (from start : ℕ) → ((k : ℕ) → from ≤ k → k < start → c.history.who k ≡ by → ⊥) → KeepsRecords by c start → KeepsRecords by c from
+keeps_front by c from start none keep = record {
+  each = λ k after before who. elim (cases_lt k start) [
+    | inl early ↦ absurd (none k after early who)
+    | inr late ↦ keep.each k late before who
+  ];
+}
+
+-- a longer course whose further steps are by none keeps to it as the shorter one does
+pub keeps_longer : (by : Who) (a b : Course) (from : ℕ) → Goes a b → ((k : ℕ) → a.history.last ≤ k → k < b.history.last → b.history.who k ≡ by → ⊥) → KeepsRecords by a from → KeepsRecords by b from
+keeps_longer by a b from goes none keep = record {
+  each = λ k after before who. elim (cases_lt k a.history.last) [
+    | inl early ↦
+        orderly_same (scene a k) (scene a (k + 1)) (scene b k) (scene b (k + 1)) (goes.kept k (omega (arith, early))) (goes.back k (omega (arith, early))) (goes.kept (k + 1) (omega (arith, early))) (goes.back (k + 1) (omega (arith, early)))
+        (keep.each k after early (sym (goes.past.who k early) ∙ who))
+    | inr late ↦ absurd (none k late before who)
+  ];
+}
+
 -- what was published is sound
 pub published_sound : (c : Course) (start end : ℕ) (r : Option (Result Table RecordFault)) → KeepsRecords others c start → end ≤ c.history.last → WasPublished c start end r → IsSound r
 published_sound c start end r keep within was =
@@ -53,11 +96,6 @@ fresh_or_same before behind = by_test (bytes_eq (docket_in behind.files) (docket
   by_test : (t : Bool) → bytes_eq (docket_in behind.files) (docket_in before.files) ≡ t → IsPublication before behind ⊎ (docket_in behind.files ≡ docket_in before.files)
   by_test true is = inr (same_bytes (docket_in behind.files) (docket_in before.files) is)
   by_test false is = inl (λ same. let test : bytes_eq (docket_in behind.files) (docket_in before.files) ≡ true = (bytes_eq-Decides (docket_in behind.files) (docket_in before.files)).1 same in cc (sym is ∙ test))
-
-pub latest_still : (a b : Scene) → Remains a b → IsLatest a → IsLatest b
-latest_still a b still is = record {
-  latest = λ c left n named. is.latest c (still.left c left) n (ap (λ (f : Files). name_after n (id_in f)) (sym still.shown) ∙ named);
-}
 
 latest_orderly : (a b : Scene) → IsOrderly a b → IsLatest a → IsLatest b
 latest_orderly a b step is = elim (fresh_or_same a b) [

@@ -21,6 +21,7 @@ use Rattle.hg_save.specs.Saved.{KeepsOthers, LeavesOnly, ReadsAsBeforeOr, ShowsO
 use Rattle.hg_save.specs.declared.load_fault.LoadFault.{LoadFault}
 use Rattle.hg_save.specs.declared.loaded.Loaded.{Loaded}
 use Rattle.hg_save.proofs.Loads.{found_longer, last_within, tries_longer}
+use Rattle.hg_save.proofs.Published.{keeps_front}
 use Rattle.hg_session.specs.Acts.{AllIdle, AllSteps, IsActed}
 use Rattle.hg_session.specs.Anew.{CanWrite, IsOpened, IsOverwritten, IsRecorded, LoadsOrRefuses, MetWriting, WritesOnly}
 use Rattle.hg_session.specs.Call.{Fails, Watched}
@@ -35,7 +36,7 @@ use Rattle.hg_session.proofs.Locked.{end_remains, front_docket, front_found, fro
 use Rattle.hg_session.proofs.Readings.{refused_by, sound_reading}
 use Rattle.hg_session.proofs.SameTables.{one_table}
 use Rattle.hg_shelf.specs.History as shelf
-use Rattle.hg_shelf.specs.History.{Extends, Files, History, Passes}
+use Rattle.hg_shelf.specs.History.{Extends, Files, History, Passes, us}
 use Rattle.hg_shelf.specs.Images.{Course, Goes, last_scene, scene}
 use Rattle.hg_shelf.specs.Polite.{Undisturbed}
 use Rattle.hg_tree.specs.History as tree
@@ -242,6 +243,7 @@ module _ (a b c : Course) (passes : Passes a.history b.history) (goes : Goes b c
         next = ap next_name id_there ∙ over.next;
         others = others_over (id_in (scene c a.history.last).files) over.id (subst (λ (i : List ℕ). Leads (KeepsOthers i over.id) b c) (sym id_there) over.others);
         spared = spared_over (id_in (scene c a.history.last).files) over.id (subst (λ (i : List ℕ). Leads (KeepsOthers i over.id) b c) (sym id_there) over.others);
+        orderly = λ latest. keeps_front us c a.history.last b.history.last (none_front a b c ours passes goes) (over.orderly (front_latest a b c ours passes goes calm latest));
         latest = λ latest. over.latest (front_latest a b c ours passes goes calm latest);
       }
 

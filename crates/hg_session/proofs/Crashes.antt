@@ -5,7 +5,7 @@ use Rattle.hg_entry.specs.Table.{Table}
 use Rattle.hg_image.specs.Reading.{RecordFault}
 use Rattle.hg_mixed.specs.Edits.{IsSame}
 use Rattle.hg_report.specs.declared.fault.Fault.{Fault}
-use Rattle.hg_save.proofs.Published.{keeps_later, latest_still, latest_until, left_until, published_earlier, published_later, published_sound}
+use Rattle.hg_save.proofs.Published.{keeps_front, keeps_later, latest_still, latest_until, left_until, published_earlier, published_later, published_sound}
 use Rattle.hg_save.specs.Others.{KeepsRecords, WasPublished}
 use Rattle.hg_save.specs.Record.{IsSound, reading}
 use Rattle.hg_save.specs.Saved.{IsLatest, ReadsAsBeforeOr}
@@ -14,7 +14,7 @@ use Rattle.hg_session.specs.Change.{IsKept, IsPublished, IsSafe, IsUnwritten, No
 use Rattle.hg_session.specs.Crash.{IsCrashSafe, IsLasting, IsOwnRecord, LeavesSound, MightBeLeft}
 use Rattle.hg_session.specs.declared.acting.Changing.{Changing}
 use Rattle.hg_shelf.proofs.Scenes.{only_later}
-use Rattle.hg_shelf.specs.History.{Files, others}
+use Rattle.hg_shelf.specs.History.{Files, others, us}
 use Rattle.hg_shelf.specs.Images.{Course, Goes, last_scene, scene}
 use Rattle.hg_shelf.specs.Polite.{OthersOnlyRead, Undisturbed}
 use Rattle.hg_tree.specs.History as tree
@@ -114,11 +114,13 @@ module _ (a b : Course) (goes : Goes a b) (calm : Undisturbed a b) (keep : Keeps
         record {
           each = known;
           sound = λ sound k after within f left. known_sound (λ r. ⊥) (λ r never. absurd never) sound k within (reading f) (known k f after within left);
+          orderly = record { each = λ k after before who. absurd (none.none k after before who) };
           latest = latest_until b start calm.others keep b.history.last goes.past.later none.none (omega arith) first_there;
         }
     crash_safe fault (inr (may, is)) = record {
       each = known_each is;
       sound = λ sound k after within f left. known_sound (Own is) (λ r own. (is.found, own)) sound k within (reading f) (known_each is k f after within left);
+      orderly = keeps_front us b start is.stretch.from is.stretch.before (is.orderly (latest_from is));
       latest = latest_end is;
     }
 

@@ -8,10 +8,12 @@ use Rattle.hg_entry.specs.Table.{Table}
 use Rattle.hg_image.specs.Reading.{RecordFault, reading_of}
 use Rattle.hg_mixed.specs.Held.{Held, table}
 use Rattle.hg_save.specs.Leads.{Leads}
-use Rattle.hg_save.specs.Record.{data_name}
+use Rattle.hg_save.specs.Others.{KeepsRecords}
+use Rattle.hg_save.specs.Record.{IsSound, data_name}
 use Rattle.hg_save.specs.Saved.{IsFree, IsLatest, IsOver, KeepsOthers, LeavesOnly, Records, ShowsOnly, Stands, published}
 use Rattle.hg_save.proofs.Names.{next_free}
 use Rattle.hg_session.specs.Anew.{IsOverwritten, IsRecorded}
+use Rattle.hg_shelf.specs.History.{us}
 use Rattle.hg_shelf.specs.Images.{Course, last_scene}
 
 module _ (held : Held) (new : Encoded) (reads : ReadsAs (table held) (reading_of new.docket.items new.bytes.items)) where
@@ -29,14 +31,15 @@ module _ (held : Held) (new : Encoded) (reads : ReadsAs (table held) (reading_of
 
   pub over_by : (loaded : List ℕ) (a b : Course) → held.docket.id ≡ (docket_of loaded).id → IsOver loaded new → Stands loaded (last_scene a)
       → (IsFree new.id (last_scene a) → LeavesOnly a b (published new)) → (IsFree new.id (last_scene a) → ShowsOnly a b (published new)) → (IsLatest (last_scene a) → IsLatest (last_scene b))
-      → Leads (KeepsOthers (docket_of loaded).id new.id) a b
+      → Leads (KeepsOthers (docket_of loaded).id new.id) a b → (IsLatest (last_scene a) → IsSound (published new) → KeepsRecords us b a.history.last)
       → IsOverwritten held a b
-  over_by loaded a b same over stands crash shown latest others = record {
+  over_by loaded a b same over stands crash shown latest others orderly = record {
     found = reads.found;
     is = reads.same;
     crash = λ l. subst (LeavesOnly a b) published_is (crash (next_free loaded (last_scene a) new.id stands l over.next));
     shown = λ l. subst (ShowsOnly a b) published_is (shown (next_free loaded (last_scene a) new.id stands l over.next));
     latest = latest;
+    orderly = λ l. orderly l (reads.found, published_is);
     id = new.id;
     next = ap next_name same ∙ over.next;
     others = subst (λ (i : List ℕ). Leads (KeepsOthers i new.id) a b) (sym same) others;

@@ -10,6 +10,7 @@ use Rattle.hg_ops.specs.declared.refusal.Refusal.{Refusal}
 use Rattle.hg_report.specs.declared.fault.Fault.{Fault}
 use Rattle.hg_report.specs.declared.fault.Fault.TheVariants as a_fault
 use Rattle.hg_save.proofs.Loads.{found_longer, last_within, tries_longer}
+use Rattle.hg_save.proofs.Published.{keeps_longer}
 use Rattle.hg_save.specs.Loads.{IsTry, Tries, Try, found_by, id_by}
 use Rattle.hg_save.specs.Record.{data_name, id_in, reading}
 use Rattle.hg_save.specs.Saved.{IsLatest, KeepsOthers, ReadsAsBeforeOr, name_after}
@@ -21,7 +22,7 @@ use Rattle.hg_session.specs.declared.acting.Changing.{Changing}
 use Rattle.hg_session.specs.declared.read_fault.ReadFault.{ReadFault}
 use Rattle.hg_session.specs.declared.read_fault.ReadFault.TheVariants as a_read
 use Rattle.hg_shelf.proofs.Scenes.{first_part, second_part}
-use Rattle.hg_shelf.specs.History.{Extends, Files, History, Waits}
+use Rattle.hg_shelf.specs.History.{Extends, Files, History, Waits, us}
 use Rattle.hg_shelf.specs.Images.{Course, Goes, Remains, Scene, scene}
 use Rattle.hg_shelf.specs.Polite.{Undisturbed}
 use Rattle.hg_tree.specs.History as tree
@@ -236,6 +237,7 @@ module _ (a b c d : Course) (lock : Waits a.history b.history) (unlock : Waits c
                 (from_end from near).left was.0 was.1,
                 subst (λ (x : Files). KeepsOthers (id_in x) is.id was.0 f) (sym (to_end from near).shown) was.2,
               );
+          orderly = λ first. keeps_longer us c d from r unlock.none (is.orderly (latest first));
           latest = λ first. latest_same (scene c is.stretch.to) (scene d is.stretch.to) (to_end is.stretch.to is.stretch.end) (from_end is.stretch.to is.stretch.end) (is.latest (latest first));
         }
 

@@ -15,13 +15,14 @@ use Rattle.hg_report.specs.declared.fault.Fault.{Fault}
 use Rattle.hg_report.specs.declared.fault.Fault.TheVariants as a_fault
 use Rattle.hg_save.specs.Leads.{Leads}
 use Rattle.hg_save.specs.Loads.{Loads, Try}
+use Rattle.hg_save.specs.Others.{KeepsRecords}
 use Rattle.hg_save.specs.Record.{data_name}
 use Rattle.hg_save.specs.Saved.{IsLatest, KeepsOthers, LeavesOnly, Records, ShowsOnly}
 use Rattle.hg_save.specs.declared.loaded.Loaded.{Loaded}
 use Rattle.hg_session.specs.Change.{IsUnwritten, MayFollowWriting}
 use Rattle.hg_session.specs.Loaded.{Refuses}
 use Rattle.hg_session.specs.declared.read_fault.ReadFault.{ReadFault}
-use Rattle.hg_shelf.specs.History.{History}
+use Rattle.hg_shelf.specs.History.{History, us}
 use Rattle.hg_shelf.specs.Images.{Course, last_scene}
 
 -- ---- what was read
@@ -48,13 +49,14 @@ pub record CanWrite (held : Held) : Type 0 where
 
 -- a table was written anew over the record that stood, wholly or in part: at each moment reads show that record or the table, and a crash
 -- leaves what it might have left or the table; no file is changed but the docket, the one that is written first, the data file that the docket names
--- and the one with the identifier that follows; and the next one finds its identifier free
+-- and the one with the identifier that follows; each step keeps to how a record is published, and the next one finds its identifier free
 pub record IsOverwritten (held : Held) (old new : Course) : Type 0 where
   pub found : Table
   pub is : IsSame found (table held)
   pub crash : IsLatest (last_scene old) → LeavesOnly old new (Some (Ok found))
   pub shown : IsLatest (last_scene old) → ShowsOnly old new (Some (Ok found))
   pub latest : IsLatest (last_scene old) → IsLatest (last_scene new)
+  pub orderly : IsLatest (last_scene old) → KeepsRecords us new old.history.last
   pub id : List ℕ
   pub next : next_name held.docket.id ≡ Some id
   pub others : Leads (KeepsOthers held.docket.id id) old new

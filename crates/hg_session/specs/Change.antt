@@ -14,6 +14,7 @@ use Rattle.hg_ops.specs.declared.refusal.Refusal.{Refusal}
 use Rattle.hg_report.specs.declared.fault.Fault.{Fault}
 use Rattle.hg_report.specs.declared.fault.Fault.TheVariants as a_fault
 use Rattle.hg_save.specs.Loads.{files_at}
+use Rattle.hg_save.specs.Others.{KeepsRecords}
 use Rattle.hg_save.specs.Record.{data_name, id_in, reading}
 use Rattle.hg_save.specs.Saved.{IsLatest, KeepsOthers, ReadsAsBeforeOr}
 use Rattle.hg_session.specs.Acts.{AllIdle, AllSteps, refusals_text}
@@ -117,6 +118,8 @@ pub record IsPublished (command : Changing) (words : List (List ℕ)) (copy : Wa
       → KeepsOthers (id_in (scene saved.new stretch.from).files) id (scene saved.new stretch.from).files (scene saved.new k).files
   pub spared : (k : ℕ) (c : shelf.Files) → stretch.from ≤ k → k ≤ stretch.to → (scene saved.new k).leaves c
       → (d : shelf.Files) × (scene saved.new stretch.from).leaves d × KeepsOthers (id_in (scene saved.new stretch.from).files) id d c
+  -- each step of the call keeps to how a record is published
+  pub orderly : IsLatest (scene saved.new stretch.from) → KeepsRecords shelf.us saved.new stretch.from
   -- the next one finds its identifier free
   pub latest : IsLatest (scene saved.new stretch.from) → IsLatest (scene saved.new stretch.to)
 

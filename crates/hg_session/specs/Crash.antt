@@ -5,13 +5,13 @@ use Rattle.hg_entry.specs.Table.{Table}
 use Rattle.hg_image.specs.Reading.{RecordFault}
 use Rattle.hg_mixed.specs.Edits.{IsSame}
 use Rattle.hg_report.specs.declared.fault.Fault.{Fault}
-use Rattle.hg_save.specs.Others.{WasPublished}
+use Rattle.hg_save.specs.Others.{KeepsRecords, WasPublished}
 use Rattle.hg_save.specs.Record.{IsSound, reading}
 use Rattle.hg_save.specs.Saved.{IsLatest}
 use Rattle.hg_session.specs.Call.{Saved, Watched}
 use Rattle.hg_session.specs.Change.{IsKept, IsSafe, IsUnwritten}
 use Rattle.hg_session.specs.declared.acting.Changing.{Changing}
-use Rattle.hg_shelf.specs.History.{Files}
+use Rattle.hg_shelf.specs.History.{Files, us}
 use Rattle.hg_shelf.specs.Images.{Scene, last_scene, scene}
 use Rattle.hg_tree.specs.History as tree
 
@@ -30,12 +30,14 @@ IsOwnRecord command words copy saved fault (inl none) recorded = ⊥
 IsOwnRecord command words copy saved fault (inr (may, is)) recorded = recorded ≡ Some (Ok is.found)
 
 -- at each moment from the call's start to its end, whatever a crash leaves records what it might have left at the start, what the call published, or
--- what others published since the start; it is sound where that at the start was; and no docket that a crash might leave at the end is ahead of the
--- one that stands, so that this can be said of the next call
+-- what others published since the start; it is sound where that at the start was; each step of the call keeps to how a record is published, as those
+-- of others do, so that this can be said beside another call; and no docket that a crash might leave at the end is ahead of the one that stands, so
+-- that it can be said of the next one
 pub record IsCrashSafe (command : Changing) (words : List (List ℕ)) (copy : Watched tree.History) (saved : Saved) (fault : Option Fault) (safe : IsSafe command words copy saved fault) : Type 0 where
   pub each : (k : ℕ) (c : Files) → saved.old.history.last ≤ k → k ≤ saved.new.history.last → (scene saved.new k).leaves c
       → MightBeLeft (last_scene saved.old) (reading c) ⊎ (IsOwnRecord command words copy saved fault safe (reading c) ⊎ WasPublished saved.new saved.old.history.last k (reading c))
   pub sound : LeavesSound (last_scene saved.old) → (k : ℕ) → saved.old.history.last ≤ k → k ≤ saved.new.history.last → LeavesSound (scene saved.new k)
+  pub orderly : KeepsRecords us saved.new saved.old.history.last
   pub latest : IsLatest (last_scene saved.new)
 
 -- from where the lock was given back to the call's end, whatever a crash leaves records what the words made, or what others published since
