@@ -1,5 +1,5 @@
 -- What others keep to as they publish.
-use Rattle.std.specs.Prelude.{ℕ, ◌≡◌, ◌≤◌, ◌<◌, ◌+◌, ◌⊎◌, List, length, take, Option, Some, None, Result, Ok, IsTrue}
+use Rattle.std.specs.Prelude.{ℕ, ◌≡◌, ◌≤◌, ◌<◌, ◌+◌, ◌⊎◌, List, length, take, Option, Some, None, Result, IsTrue}
 use Rattle.hg_docket.specs.Docket.{docket_of, docket_refusal}
 use Rattle.hg_entry.specs.Table.{Table}
 use Rattle.hg_image.specs.Reading.{RecordFault}
