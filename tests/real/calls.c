@@ -1,11 +1,8 @@
 // Runs a program and watches its system calls below `.hg` by ptrace, however they are made:
 //
-//     calls FD list ROOT PROGRAM WORD ..             writes each of them to FD, a line each: NAME TEXT
-//     calls FD before N ROOT PROGRAM WORD ..         kills the program before the Nth, counted from 1
-//     calls FD after N ROOT PROGRAM WORD ..          kills it when the Nth is done
-//     calls FD fail N ERROR ROOT PROGRAM WORD ..     does the Nth not, and has it answer that error
-//     calls FD hold N ROOT PROGRAM WORD ..           stops the program before the Nth, writes a line to FD, and goes on at the end of the
-//                                                    standard input
+//     calls FD list ROOT PROGRAM WORD ..       writes each of them to FD, a line each: NAME TEXT
+//     calls FD hold N ROOT PROGRAM WORD ..     stops the program before the Nth, counted from 1, writes a line to FD, and goes on at the
+//                                              end of the standard input
 //
 // A call counts where a path that it is given has a component `.hg`, or is the folder ROOT, or where the file that it is given is such a
 // one. It ends as the program does; with 99 where the system doesn't let a program be watched.
@@ -117,20 +114,6 @@ static void go_on(int with) {
     if (WSTOPSIG(status) != (SIGTRAP | 0x80)) go_on(status >> 16 ? 0 : WSTOPSIG(status));
 }
 
-static void kill_it(void) {
-    int status;
-    kill(child, SIGKILL);
-    while (waitpid(child, &status, 0) >= 0 && !WIFEXITED(status) && !WIFSIGNALED(status)) {
-    }
-    end_as(status);
-}
-
-// Has a call that is about to be made not be made.
-static void leave_out(struct user_regs_struct *regs) {
-    regs->orig_rax = -1;
-    ptrace(PTRACE_SETREGS, child, 0, regs);
-}
-
 static void hold(int told) {
     char byte;
     if (write(told, "held\n", 5) != 5) exit(98);
@@ -153,11 +136,8 @@ static void start(char **words, int told) {
 int main(int count, char **words) {
     static char text[PATH_MAX];
     if (count < 5) return 98;
-    int told = atoi(words[1]), status;
-    const char *what = words[2];
-    int is_list = !strcmp(what, "list"), fails = !strcmp(what, "fail");
+    int told = atoi(words[1]), status, is_list = !strcmp(words[2], "list"), at = is_list ? 3 : 4;
     long wanted = is_list ? 0 : atol(words[3]), seen = 0;
-    int error = fails ? atoi(words[4]) : 0, at = is_list ? 3 : fails ? 5 : 4;
     root = words[at];
     start(words + at + 1, told);
     if (waitpid(child, &status, 0) < 0) return 98;
@@ -166,19 +146,13 @@ int main(int count, char **words) {
     for (;;) {
         struct user_regs_struct regs;
         const struct known *call = 0;
+        // (once before a call, and once when it is done)
         go_on(0);
         ptrace(PTRACE_GETREGS, child, 0, &regs);
-        int counts = touches(&regs, &call, text, sizeof text), is_it = counts && ++seen == wanted;
-        if (counts && is_list) dprintf(told, "%s %s\n", call->name, text);
-        if (is_it && (!strcmp(what, "before") || fails)) leave_out(&regs);
-        if (is_it && !strcmp(what, "before")) kill_it();
-        if (is_it && !strcmp(what, "hold")) hold(told);
-        go_on(0);
-        if (is_it && !strcmp(what, "after")) kill_it();
-        if (is_it && fails) {
-            ptrace(PTRACE_GETREGS, child, 0, &regs);
-            regs.rax = -error;
-            ptrace(PTRACE_SETREGS, child, 0, &regs);
+        if (touches(&regs, &call, text, sizeof text)) {
+            if (is_list) dprintf(told, "%s %s\n", call->name, text);
+            if (++seen == wanted) hold(told);
         }
+        go_on(0);
     }
 }

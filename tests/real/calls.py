@@ -1,42 +1,79 @@
-"""Stops, fails and holds the program at its system calls below `.hg`, by calls.c, which watches it by ptrace: the program is linked
-dynamically, but a library that is loaded before it would only see the calls that are made by the C library's names."""
+"""Counts, stops and fails the program's calls below `.hg`, by a library that is loaded before the program's own (preloaded.c), and watches
+them from outside by ptrace (calls.c), where the system allows it."""
 
 import errno
 import os
 import shutil
 import subprocess
 
-from folder import SECONDS, limited
+from folder import SECONDS
 
 HERE = os.path.dirname(os.path.abspath(__file__))
 # What calls.c ends with where nothing can be watched.
 UNWATCHED = 99
 
 
+def has_gcc(tests, what):
+    """Whether there is a compiler; else the tests are skipped."""
+    if shutil.which("gcc") is None:
+        tests.skip(f"gcc is not installed: {what}")
+        return False
+    return True
+
+
+def compiled(tests, name, *flags):
+    """The path of what gcc makes of a file of this folder."""
+    path = f"{tests.room}/{name.removesuffix('.c')}"
+    subprocess.run(["gcc", "-O2", *flags, "-o", path, f"{HERE}/{name}", "-ldl"], check=True)
+    return path
+
+
 class Calls:
+    """The library, and runs of the program that has it loaded."""
+
+    def __init__(self, tests):
+        self.tests, self.library = tests, compiled(tests, "preloaded.c", "-shared", "-fPIC")
+
+    def env(self, root, how, number, error=0):
+        """The environment in which the library does something with the calls of a program."""
+        return {**os.environ, "LD_PRELOAD": self.library, "HGTRACK_CALLS": f"{how} {number} {error} {os.path.realpath(root)}"}
+
+    def run(self, root, words, *how):
+        """Runs the program, and stops it at a call or has that fail. Answers its status, its standard output and its error stream."""
+        return self.tests.run(root, words, env=self.env(root, *how))
+
+    def listed(self, root, words, watcher=None):
+        """The status and the calls of a whole run; the calls once more as the watcher sees them, where there is one."""
+        path = f"{self.tests.room}/counted"
+        with open(path, "wb") as told:
+            env = self.env(root, "list", told.fileno())
+            if watcher is None:
+                return self.tests.run(root, words, env=env, pass_fds=[told.fileno()])[0], rows_of(path), None
+            status, rows = watcher.listed(root, words, env, told.fileno())
+        return status, rows_of(path), rows
+
+
+def rows_of(path):
+    with open(path, encoding="utf-8", errors="replace") as file:
+        return file.read().splitlines()
+
+
+class Watcher:
     """The compiled watcher, and runs under it."""
 
     def __init__(self, tests):
-        self.tests, self.watcher = tests, f"{tests.room}/calls"
-        subprocess.run(["gcc", "-O2", "-o", self.watcher, f"{HERE}/calls.c"], check=True)
+        self.tests, self.watcher = tests, compiled(tests, "calls.c")
 
     def command(self, told, how, root, words):
         return [self.watcher, str(told), *how, os.path.realpath(root), self.tests.program, *words]
 
-    def run(self, root, words, *how):
-        """Runs the program under the watcher. Answers its status, its standard output and its error stream."""
-        with open(os.devnull, "wb") as told:
-            command = self.command(told.fileno(), how, root, words)
-            ran = subprocess.run(command, cwd=root, stdin=subprocess.DEVNULL, capture_output=True, timeout=SECONDS, preexec_fn=limited, pass_fds=[told.fileno()])
-        return ran.returncode, ran.stdout, ran.stderr
-
-    def listed(self, root, words):
-        """The calls below `.hg` of a whole run, as calls.c writes them."""
-        path = f"{self.tests.room}/calls.txt"
+    def listed(self, root, words, env=None, *passed):
+        """The status and the calls of a whole run, as calls.c writes them."""
+        path = f"{self.tests.room}/watched"
         with open(path, "wb") as told:
-            ran = subprocess.run(self.command(told.fileno(), ["list"], root, words), cwd=root, stdin=subprocess.DEVNULL, capture_output=True, timeout=SECONDS, pass_fds=[told.fileno()])
-        with open(path, encoding="utf-8", errors="replace") as told:
-            return ran.returncode, told.read().splitlines()
+            command = self.command(told.fileno(), ["list"], root, words)
+            ran = subprocess.run(command, cwd=root, env=env, stdin=subprocess.DEVNULL, capture_output=True, timeout=SECONDS, pass_fds=[told.fileno(), *passed])
+        return ran.returncode, rows_of(path)
 
     def held(self, root, words, number):
         """Starts the program, and answers when it is stopped before a call of it; at `let_go` it goes on."""
@@ -55,15 +92,14 @@ def let_go(at):
 
 
 def watched(tests, what):
-    """A watcher; none, and the tests are skipped, where there is no gcc or the system lets no program be watched."""
-    if shutil.which("gcc") is None:
-        tests.skip(f"gcc is not installed: {what}")
+    """A watcher; none, and what it is for is skipped, where there is no gcc or the system lets no program be watched."""
+    if not has_gcc(tests, what):
         return None
-    calls = Calls(tests)
-    if calls.listed(tests.room, ["--version"])[0] == UNWATCHED:
+    watcher = Watcher(tests)
+    if watcher.listed(tests.room, ["--version"])[0] == UNWATCHED:
         tests.skip(f"the system lets no program be watched: {what}")
         return None
-    return calls
+    return watcher
 
 
 ERRORS = {"input/output error": errno.EIO, "no space left on device": errno.ENOSPC}

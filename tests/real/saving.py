@@ -1,5 +1,5 @@
-"""Saving the record, stopped before and after each system call below `.hg`, and with each of these calls failing: the record is then as it
-was before or as it is after, and the next command succeeds."""
+"""Saving the record, stopped before and after each call below `.hg`, and with each of these calls failing: the record is then as it was before
+or as it is after, and the next command succeeds."""
 
 import errno
 import os
@@ -7,7 +7,7 @@ import re
 import shutil
 import tempfile
 
-from calls import ERRORS, watched
+from calls import ERRORS, Calls, has_gcc, watched
 from dirstate import NULL, P1_TRACKED, WDIR_TRACKED, docket, written
 from folder import NO_HG, aborted, because, lay_out, lines, put, put_record
 
@@ -115,7 +115,7 @@ def succeeds_then(tests, root, scene, which):
 
 def stopped(tests, calls, scene, root, how, number):
     """Stops the command at a call. Answers which record was there then, and what is wrong where something is."""
-    ran = calls.run(root, scene.words, how, str(number))
+    ran = calls.run(root, scene.words, how, number)
     if ran[0] != KILLED:
         return None, ran
     now = shown(tests, root)
@@ -123,10 +123,8 @@ def stopped(tests, calls, scene, root, how, number):
     return (which[0], succeeds_then(tests, root, scene, which[0])) if which else (None, now)
 
 
-def run_stops(tests, calls, scene, template):
+def run_stops(tests, calls, scene, template, names):
     """A scene stopped before and after each call: the record is the one before up to one call, and from there on the one after."""
-    status, names = copied(tests, template, lambda root: calls.listed(root, scene.words))
-    tests.compare(f"{scene.what}: not stopped", status, 0)
     seen = []
     for number, name in enumerate(names, 1):
         for how in ("before", "after"):
@@ -145,7 +143,7 @@ def short(name):
 
 def failed(tests, calls, scene, root, reason, number):
     """Has a call fail. Answers the status, and what is wrong where something is."""
-    status, out, err = calls.run(root, scene.words, "fail", str(number), str(ERRORS[reason]))
+    status, out, err = calls.run(root, scene.words, "fail", number, ERRORS[reason])
     now = shown(tests, root)
     which = [it for it in (0, 1) if now == (0, scene.texts()[it])]
     if not which:
@@ -165,9 +163,8 @@ def is_line(err, reason):
     return len(rows) == 3 and rows[0] + b"\n" in (aborted(".hg failed"), aborted("working copy failed")) and rows[1].endswith(os.fsencode(f": {reason}"))
 
 
-def run_failures(tests, calls, scene, template):
+def run_failures(tests, calls, scene, template, names):
     """A scene with each call failing. Answers the calls whose failure was passed over."""
-    names = copied(tests, template, lambda root: calls.listed(root, scene.words))[1]
     passed = set()
     for number, name in enumerate(names, 1):
         for reason in ERRORS:
@@ -194,11 +191,12 @@ def read_at(name, reads):
 
 
 def write_at(name):
-    return ["mkdir ."] + [f"{call} {name}" for call in ("statx", "openat", "statx", "lseek", "write", "close")]
+    return ["mkdir ."] + [f"{call} {name}" for call in ("statx", "openat", "statx", "lseek", "write")]
 
 
+# (of a file that was written, which is still open)
 def sync(name):
-    return [f"{call} {name}" for call in ("statx", "openat", "fsync", "close")] + SYNC_NAMES
+    return [f"{call} {name}" for call in ("statx", "fsync", "close")] + SYNC_NAMES
 
 
 def rename(old, new, is_there):
@@ -224,7 +222,7 @@ IN_ORDER = [
 
 
 def named(root, row):
-    """A row of the watcher, with what it names as a path from `.hg`; nothing where that is the root, or what stands beside `.hg`."""
+    """A call, with what it names as a path from `.hg`; nothing where that is the root, or what stands beside `.hg`."""
     call, _, path = row.partition(" ")
     name = os.path.relpath(os.path.join(root, path), f"{root}/.hg")
     return [] if name.startswith("..") else [f"{call} {name}"]
@@ -236,7 +234,7 @@ def run_in_order(tests, calls):
         lay_out(root, [".hg/", "a", "b"])
         root = os.path.realpath(root)
         for words, wanted in IN_ORDER:
-            status, rows = calls.listed(root, words)
+            status, rows, _ = calls.listed(root, words)
             names = [it for row in rows for it in named(root, row)]
             tests.compare(f"in order: {' '.join(words)}: {len(wanted)} calls of the shelf", (status, names), (0, ["statx ."] + sum(wanted, [])))
 
@@ -246,26 +244,52 @@ def run_below(tests, calls):
     for number in (1, 2):
         with tests.working_copy() as root:
             lay_out(root, [".hg/", "a", "sub/a"])
-            answer = calls.run(f"{root}/sub", ["add", "a"], "fail", str(number), str(errno.EIO))
+            answer = calls.run(f"{root}/sub", ["add", "a"], "fail", number, errno.EIO)
             made = os.path.isdir(f"{root}/sub/.hg")
             tests.compare(f"from a folder below, the look {number} for .hg fails", (answer, made), ((255, b"", NO_WAY), False))
 
 
+def closed_early(names):
+    """The files that were closed, or never made sure, behind a write to them."""
+    unsure, wrong = set(), set()
+    for name in names:
+        call, _, path = name.partition(" ")
+        if call == "write":
+            unsure.add(path)
+        elif call == "fsync":
+            unsure.discard(path)
+        elif call == "close" and path in unsure:
+            wrong.add(path)
+    return wrong | unsure
+
+
+def counted(tests, calls, watcher, scene, template):
+    """The calls of a scene: there are some, the watcher sees the same ones, and what is written stays open until it is made sure."""
+    status, names, others = copied(tests, template, lambda root: calls.listed(root, scene.words, watcher))
+    tests.compare(f"{scene.what}: not stopped", (status, bool(names)), (0, True))
+    if watcher is not None:
+        tests.compare(f"{scene.what}: {len(names)} calls are counted, and no other is seen", others, names)
+    written = [it for it in names if it.startswith("write ")]
+    tests.compare(f"{scene.what}: {len(written)} writes, each made sure before its file is closed", (bool(written), closed_early(names)), (True, set()))
+    return names
+
+
 def run(tests):
-    calls = watched(tests, "so saving was neither stopped nor failed")
-    if calls is None:
+    if not has_gcc(tests, "so saving was neither stopped nor failed"):
         return
+    calls, watcher = Calls(tests), watched(tests, "so no call was looked for that isn't counted")
     stops, passed = 0, set()
     for scene in SCENES:
         with tests.working_copy() as template:
             scene.make(template)
-            stops += run_stops(tests, calls, scene, template)
-            passed |= run_failures(tests, calls, scene, template)
+            names = counted(tests, calls, watcher, scene, template)
+            stops += run_stops(tests, calls, scene, template, names)
+            passed |= run_failures(tests, calls, scene, template, names)
     run_below(tests, calls)
     run_in_order(tests, calls)
     tests.compare(f"{stops} stops", stops >= 300, True)
     tests.compare("calls whose failure changes nothing", sorted(passed), PASSED)
 
 
-# The root's own name, which serves no more then, and the end of a file that was read or made sure before.
+# The look at the root's own name, which serves no more then, and the end of a file that was read or made sure before.
 PASSED = sorted([f"close of {it}" for it in (".hg", "copy", "dirstate", "dirstate-new", "dirstate.ID", "wlock (deleted)")] + ["statx of copy"])

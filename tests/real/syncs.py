@@ -1,5 +1,5 @@
 """The order in which a save makes things sure, as strace sees it: the data file and what names it before the docket, the docket before the
-rename, the rename before the old data file goes."""
+rename, the rename before the old data file goes; and each file by the very open file that was written."""
 
 import os
 import re
@@ -11,25 +11,39 @@ from folder import SECONDS, lay_out, put_record
 
 CALLS = "write,pwrite64,writev,pwritev,ftruncate,fsync,fdatasync,rename,renameat,renameat2,unlink,unlinkat,mkdir,mkdirat,link,linkat,symlink,symlinkat"
 ROW = re.compile(r"^(?:\d+ +)?(\w+)\((.*)\) += 0$|^(?:\d+ +)?(p?writev?(?:64)?)\((.*)\) += [1-9]\d*$")
+# A call on an open file: its name, the file's number and path.
+OF_FILE = re.compile(r"^(?:\d+ +)?(\w+)\((\d+)<(/[^>]*)>")
 OLD, NEW = (f"dirstate.{it:016x}" for it in (0, 1))
 
 
 def events(tests, root, words):
-    """What the program did below the root, in order: (call, name), with the root's own folder `.` and that of the record `.hg`."""
+    """What the program did below the root, in order: (call, name), with the root's own folder `.` and that of the record `.hg`; and what became
+    of the open files that were written."""
     path = f"{tests.room}/strace"
-    command = ["strace", "-f", "-y", "-s", "0", "-e", f"trace={CALLS}", "-o", path, tests.program, *words]
+    command = ["strace", "-f", "-y", "-s", "0", "-e", f"trace={CALLS},close", "-o", path, tests.program, *words]
     ran = subprocess.run(command, cwd=root, stdin=subprocess.DEVNULL, capture_output=True, timeout=SECONDS)
-    done = []
     with open(path, encoding="utf-8", errors="replace") as file:
-        for row in file:
-            it = ROW.match(row.rstrip("\n"))
-            if it:
-                call, rest = (it[1], it[2]) if it[1] else (it[3], it[4])
-                names = [os.path.relpath(name, os.path.realpath(root)) for name in re.findall(r'[<"](/[^>"]*)[>"]', rest)]
-                # (the current folder is named where a path is told from it)
-                names = [name for name in names if name != "." or call == "fsync"]
-                done.append((call.rstrip("v46").removeprefix("p") if "write" in call else call.removesuffix("at2").removesuffix("at"), " ".join(names)))
-    return ran, [(call, name) for call, name in done if name]
+        rows = file.read().splitlines()
+    done = []
+    for it in filter(None, map(ROW.match, rows)):
+        call, rest = (it[1], it[2]) if it[1] else (it[3], it[4])
+        names = [os.path.relpath(name, os.path.realpath(root)) for name in re.findall(r'[<"](/[^>"]*)[>"]', rest)]
+        # (the current folder is named where a path is told from it)
+        names = [name for name in names if name != "." or call == "fsync"]
+        if call != "close":
+            done.append((call.rstrip("v46").removeprefix("p") if "write" in call else call.removesuffix("at2").removesuffix("at"), " ".join(names)))
+    return ran, [(call, name) for call, name in done if name], behind_writes(rows)
+
+
+def behind_writes(rows):
+    """The calls on each open file below `.hg` from its first write on, each run of writes told once."""
+    calls = {}
+    for call, number, path in (it.groups() for it in filter(None, map(OF_FILE.match, rows))):
+        if "/.hg/" in path and ("write" in call or (number, path) in calls):
+            told = calls.setdefault((number, path), [])
+            if call != "write" or told[-1:] != ["write"]:
+                told.append(call)
+    return sorted(calls.values())
 
 
 def in_order(done, wanted):
@@ -53,16 +67,15 @@ def run_order(tests, what, things, tracked, words, wanted):
         lay_out(root, things)
         if tracked:
             put_record(root, *written(tracked))
-        ran, done = events(tests, root, words)
+        ran, done, files = events(tests, root, words)
         tests.compare(f"{what}: its end", (ran.returncode, ran.stderr.replace(b"hgtrack: no .hg here or above\n", b"")), (0, b""))
         if not tests.compare(f"{what}: in order", in_order(done, wanted), True):
             print(f"  done     {done}")
         changes = [it for it in done if it[0] not in ("fsync", "fdatasync") and ".hg" in it[1]]
         tests.compare(f"{what}: nothing else is written", changes, [it for it in wanted if it[0] != "fsync"])
-        syncs = [name for call, name in done if call in ("fsync", "fdatasync")]
+        tests.compare(f"{what}: each file is made sure where it was written, and closed then", files, 2 * [["write", "fsync", "close"]])
         last = max(i for i, it in enumerate(done) if it[0] == "write" and it[1].startswith(".hg/dirstate."))
         tests.compare(f"{what}: the data file isn't written again", done[last + 1][0] in ("fsync", "fdatasync") and done[last + 1][1] == done[last][1], True)
-        return syncs
 
 
 def run(tests):

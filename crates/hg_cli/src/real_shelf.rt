@@ -8,7 +8,9 @@ use crate::disk::{counted, is_absence};
 use crate::failure::{FirstFailure, Reason};
 use crate::lock_file::{give_back, take};
 use crate::root::Root;
-use crate::writing::{look, make_folder, remove_file, rename_seen, sync, sync_file, write_file};
+use crate::writing::{
+    Written, look, make_folder, remove_file, rename_seen, sync, sync_file, write_file,
+};
 use hg_base::{Failed, Got, risen};
 use hg_shelf::Shelf;
 use hg_stream::fill;
@@ -21,13 +23,15 @@ use std::rt::Files;
 ///
 /// It tells nothing of its history but whether it has the lock, and counts each call that the file system failed, and each lock that was
 /// refused. A file is absent where `.hg` or the file is missing, and where the system can't hold its name. What reads follows links;
-/// what is no regular file behind them is a failure. What writes follows none, and makes the folders that are missing. The lock is one of
-/// the system's on the file `wlock`, which it gives back at the end of the process.
+/// what is no regular file behind them is a failure. What writes follows none, and makes the folders that are missing. A file that was
+/// written stays open until it is made sure, by `sync` or before the next write. The lock is one of the system's on the file `wlock`, which
+/// it gives back at the end of the process.
 #[derive(Drop)]
 pub struct RealShelf<'a, R: Files> {
     rt: &'a R,
     root: &'a Root,
     lock: Option<File>,
+    written: Option<Written>,
     faults: u64,
     held: u64,
     failure: FirstFailure,
@@ -42,6 +46,7 @@ impl<'a, R: Files + AllocGlobal> RealShelf<'a, R> {
             rt,
             root,
             lock: None,
+            written: None,
             faults: 0,
             held: 0,
             failure: FirstFailure::new(),
@@ -97,12 +102,14 @@ impl<'a, R: Files<File = File> + AllocGlobal> Shelf for RealShelf<'a, R> {
     }
 
     fn write_at(&mut self, name: &str, place: u64, bytes: &[u8]) -> Result<(), Failed> {
-        let answer = put(self.rt, self.root, name, place, bytes);
-        self.answered(name, answer)
+        let before = self.written.take();
+        let answer = put(self.rt, self.root, before, name, place, bytes);
+        self.written = Some(self.answered(name, answer)?);
+        Ok(())
     }
 
     fn sync(&mut self, name: &str) -> Result<(), Failed> {
-        let answer = make_sure(self.rt, self.root, name);
+        let answer = make_sure(self.rt, self.root, &mut self.written, name);
         self.answered(name, answer)
     }
 
@@ -154,22 +161,32 @@ impl<'a, R: Files<File = File> + AllocGlobal> Shelf for RealShelf<'a, R> {
 // The file of the lock.
 const WLOCK: &str = "wlock";
 
-fn put<R: Files + AllocGlobal>(
+// What was written before is made sure first, so that nothing is closed without that.
+fn put<R: Files<File = File> + AllocGlobal>(
     rt: &R,
     root: &Root,
+    before: Option<Written>,
     name: &str,
     place: u64,
     bytes: &[u8],
-) -> Result<(), Reason> {
+) -> Result<Written, Reason> {
+    if let Some(before) = before {
+        before.sync()?;
+    }
     make_folders(rt, root, name)?;
     let path = below_hg(rt, root, name)?;
     write_file(rt, path.as_str(), place, bytes)
 }
 
 // The file, and that its folder names it.
-fn make_sure<R: Files + AllocGlobal>(rt: &R, root: &Root, name: &str) -> Result<(), Reason> {
+fn make_sure<R: Files + AllocGlobal>(
+    rt: &R,
+    root: &Root,
+    written: &mut Option<Written>,
+    name: &str,
+) -> Result<(), Reason> {
     let path = below_hg(rt, root, name)?;
-    sync_file(rt, path.as_str())?;
+    sync_file(rt, path.as_str(), written)?;
     sync_folder(rt, root, folder_of(name))
 }
 

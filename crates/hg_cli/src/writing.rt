@@ -2,7 +2,7 @@
 
 use crate::disk::is_absence;
 use crate::failure::Reason;
-use crate::spot::spot_of;
+use crate::spot::{Spot, spot_of};
 use std::fs::{self, File, Metadata, OpenFile};
 use std::io::{Error, ErrorKind, Seek, SeekFrom, Write};
 use std::os::unix::fs::OpenOptionsExt;
@@ -13,6 +13,21 @@ const MODE: u32 = 0o644;
 
 // What keeps a name from being written.
 const OTHER: Reason = Reason::Words("not a regular file");
+
+/// A file that was written, and stays open until it is made sure: some systems tell only at the close that there was no room for what
+/// was written, and std tells nothing of a close.
+#[derive(Drop)]
+pub(crate) struct Written {
+    spot: Spot,
+    file: File,
+}
+
+impl Written {
+    /// Makes sure what the file holds, and closes it.
+    pub(crate) fn sync(self) -> Result<(), Error> {
+        self.file.sync_all()
+    }
+}
 
 /// What stands at the path, without following a link, where anything does.
 pub(crate) fn look<R: Files>(rt: &R, path: &str) -> Result<Option<Metadata>, Error> {
@@ -66,28 +81,44 @@ fn open_or_make<R: Files>(rt: &R, path: &str) -> Result<R::File, Reason> {
 }
 
 /// Writes bytes at a place of a file, which is made where it is absent. A place past the end has zeros before it.
-pub(crate) fn write_file<R: Files>(
+pub(crate) fn write_file<R: Files<File = File>>(
     rt: &R,
     path: &str,
     place: u64,
     bytes: &[u8],
-) -> Result<(), Reason> {
+) -> Result<Written, Reason> {
     let mut file = open_or_make(rt, path)?;
-    if file.metadata()?.len() < place {
+    let metadata = file.metadata()?;
+    if metadata.len() < place {
         file.set_len(place)?;
     }
     file.seek(SeekFrom::Start(place))?;
     file.write_all(bytes)?;
-    Ok(())
+    Ok(Written {
+        spot: spot_of(&metadata),
+        file,
+    })
 }
 
-/// Makes sure what a regular file holds; an absent one has nothing to be made sure.
-pub(crate) fn sync_file<R: Files>(rt: &R, path: &str) -> Result<(), Reason> {
-    match look(rt, path)? {
-        None => Ok(()),
-        Some(seen) if seen.is_file() => Ok(sync(rt, path)?),
-        Some(_) => Err(OTHER),
+/// Makes sure what a regular file holds, by the open file that was written, where that is the one at the path. An absent one has nothing
+/// to be made sure.
+pub(crate) fn sync_file<R: Files>(
+    rt: &R,
+    path: &str,
+    written: &mut Option<Written>,
+) -> Result<(), Reason> {
+    let Some(seen) = look(rt, path)? else {
+        return Ok(());
+    };
+    if !seen.is_file() {
+        return Err(OTHER);
     }
+    let spot = spot_of(&seen);
+    match written.take_if(|it| it.spot == spot) {
+        Some(it) => it.sync()?,
+        None => sync(rt, path)?,
+    }
+    Ok(())
 }
 
 /// Makes sure what is open at the path: what a file holds, or which names a folder has.

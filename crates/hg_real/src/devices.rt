@@ -327,6 +327,46 @@ fn writes_below_hg(rt: HostRuntime) -> Result<(), Fail> {
     Ok(())
 }
 
+// What was written is made sure once, whatever else is written, renamed or taken away in between.
+#[test]
+fn makes_sure_what_was_written(rt: HostRuntime) -> Result<(), Fail> {
+    let _ = fs::remove_dir_all(&rt, ".hg");
+    let root = Root::current(&rt);
+    let mut shelf = RealShelf::new(&rt, &root);
+    let twice = [
+        shelf.write_at("one", 0, b"abc"),
+        shelf.write_at("one", 3, b"def"),
+        shelf.sync("one"),
+        shelf.sync("one"),
+    ];
+    let other = [
+        shelf.write_at("one", 0, b"A"),
+        shelf.write_at("other", 0, b"other"),
+        shelf.sync("one"),
+        shelf.sync("other"),
+    ];
+    let read = read_below(&rt, "one")?;
+    let renamed = [
+        shelf.write_at("new", 0, b"new"),
+        shelf.rename("new", "one"),
+        shelf.sync("new"),
+        shelf.sync("one"),
+    ];
+    let removed = [
+        shelf.write_at("other", 5, b" end"),
+        shelf.remove("other"),
+        shelf.sync("other"),
+        shelf.write_at("other", 1, b"2"),
+    ];
+    let behind = [read_below(&rt, "one")?, read_below(&rt, "other")?];
+    fs::remove_dir_all(&rt, ".hg")?;
+    assert_eq!(rt; [twice, other, renamed, removed], [[Ok(()); 4]; 4]);
+    assert_eq!(rt; read.as_str(), "Abcdef");
+    assert_eq!(rt; behind[0].as_str(), "new");
+    assert_eq!(rt; behind[1].as_str(), "\02");
+    Ok(())
+}
+
 fn read_below(rt: &HostRuntime, name: &str) -> Result<String, Fail> {
     let mut path = String::from_str(rt.alloc(), ".hg/")?;
     path.push_str(name)?;
