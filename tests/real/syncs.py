@@ -53,10 +53,10 @@ def in_order(done, wanted):
 
 
 def saves(new, old=None):
-    """The events of a save in the order in which they have to be."""
+    """The events of a save in the order in which they have to be. Before the first docket the folder that names `.hg` is made sure."""
     rows = [
         ("write", f".hg/{new}"), ("fsync", f".hg/{new}"), ("fsync", ".hg"),
-        ("write", ".hg/dirstate-new"), ("fsync", ".hg/dirstate-new"),
+        ("write", ".hg/dirstate-new"), ("fsync", ".hg/dirstate-new"), *([] if old else [("fsync", ".")]),
         ("rename", ".hg/dirstate-new .hg/dirstate"), ("fsync", ".hg"),
     ]
     return rows + ([("unlink", f".hg/{old}")] if old else []) + [("unlink", ".hg/wlock")]

@@ -41,6 +41,7 @@ def run_two(tests):
         ends = [it.communicate(timeout=600) for it in both]
         locked = b" and ".join(out.strip() for out, _ in ends).decode()
         tests.compare(f"two that add {EACH} files each: locked {locked} times", [(it.returncode, err) for it, (_, err) in zip(both, ends)], 2 * [(0, b"")])
+        tests.compare("and one of them found the working copy locked", any(int(out) for out, _ in ends if out.strip()), True)
         tests.compare("no path is lost", tests.run(root, ("debugdirstate",)), (0, told(dict.fromkeys(lists[0] + lists[1], "a")), b""))
         tests.compare("and nothing is left over", sorted(it for it in os.listdir(f"{root}/.hg")), ["dirstate", f"dirstate.{2 * EACH - 1:016x}"])
 

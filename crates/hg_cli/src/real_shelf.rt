@@ -202,7 +202,12 @@ fn change_name<R: Files + AllocGlobal>(
     };
     make_folders(rt, root, to)?;
     let to = below_hg(rt, root, to)?;
-    rename_seen(rt, from.as_str(), &seen, to.as_str())
+    let before = look(rt, to.as_str())?;
+    // The first docket of a folder `.hg` that an earlier call may have made, and ended before it was sure.
+    if before.is_none() {
+        sync(rt, root_name(root))?;
+    }
+    rename_seen(rt, from.as_str(), &seen, to.as_str(), before)
 }
 
 fn take_away<R: Files + AllocGlobal>(rt: &R, root: &Root, name: &str) -> Result<(), Reason> {

@@ -135,14 +135,15 @@ pub(crate) fn make_folder<R: Files>(rt: &R, path: &str) -> Result<bool, Error> {
     }
 }
 
-/// Gives what was seen at a path another name. A file that takes the place of a regular one gets its rights first.
+/// Gives what was seen at a path another name, where this was seen before. A file that takes the place of a regular one gets its rights first.
 pub(crate) fn rename_seen<R: Files>(
     rt: &R,
     from: &str,
     seen: &Metadata,
     to: &str,
+    before: Option<Metadata>,
 ) -> Result<(), Reason> {
-    match look(rt, to)? {
+    match before {
         Some(before) if before.is_file() && seen.is_file() => {
             fs::set_permissions(rt, from, before.permissions())?;
         }

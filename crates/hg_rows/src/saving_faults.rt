@@ -183,6 +183,13 @@ fn expect_damaged<R: Abort + AllocGlobal>(
         )?;
         expect_file(rt, &mut shelf, "dirstate-new", None)?;
         expect_file(rt, &mut shelf, "dirstate.0000000000000001", None)?;
+        // The same is told where the lock can't be given back behind it.
+        let setting = Setting {
+            shelf_fails: Some(calls.saturating_sub(1)),
+            ..EMPTY
+        };
+        let mut shelf = shelf_of(rt.alloc(), files, setting)?;
+        expect_run(rt, &mut shelf, &words, "", line, 255)?;
     }
     Ok(())
 }
@@ -230,6 +237,9 @@ fn finds_no_identifier(rt: HostRuntime) -> Result<(), Fail> {
     }
     expect_run(&rt, &mut shelf, &["add", "a"], "", "", 0)?;
     expect_file(&rt, &mut shelf, "dirstate", files.docket.as_deref())?;
+    // It is told also where the lock can't be given back behind it.
+    shelf.fail_at(shelf.calls().saturating_add(4))?;
+    expect_run(&rt, &mut shelf, &["add", "b"], "", line, 255)?;
     let out = "A a\n? b\n? c\n? e/f\n";
     expect_run(&rt, &mut shelf, &["status"], out, "", 0)
 }

@@ -54,9 +54,9 @@ orderly_same a b x y to back there from step =
       left = λ c left. elim (step.left c (there.left c left)) [
         | inl was ↦ inl (was.0, back.left was.0 was.1, was.2)
         | inr new ↦ inr (
-            (λ same. new.0 (ap docket_in from.shown ∙ same ∙ ap docket_in to.shown)),
-            subst (λ (f : Files). RecordsAs f c) (sym there.shown) new.1,
-          )
+          (λ same. new.0 (ap docket_in from.shown ∙ same ∙ ap docket_in to.shown)),
+          subst (λ (f : Files). RecordsAs f c) (sym there.shown) new.1,
+        )
       ];
       sound = λ is. subst (λ (f : Files). IsSound (reading f)) (sym there.shown) (step.sound (fresh is));
       latest = λ is. latest_still b y there (step.latest (fresh is));

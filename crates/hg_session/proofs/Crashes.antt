@@ -94,11 +94,11 @@ module _ (a b : Course) (goes : Goes a b) (calm : Undisturbed a b) (keep : Keeps
       known_each k f after within left = elim (cases_lt k is.stretch.from) [
         | inl early ↦ known_before Own k after (none_before b start is.stretch.from k (omega (arith, early)) is.stretch.before) within f left
         | inr late ↦ elim (cases_lt is.stretch.to k) [
-            | inl behind ↦
-                known_behind Own is.stretch.to k (omega (arith, is.stretch.start, is.stretch.order)) (omega (arith, behind))
-                (none_before b is.stretch.to b.history.last k within is.stretch.behind) within known_to f left
-            | inr upto ↦ known_within k late upto f left
-          ]
+          | inl behind ↦
+              known_behind Own is.stretch.to k (omega (arith, is.stretch.start, is.stretch.order)) (omega (arith, behind))
+              (none_before b is.stretch.to b.history.last k within is.stretch.behind) within known_to f left
+          | inr upto ↦ known_within k late upto f left
+        ]
       ]
 
       latest_end : IsLatest (last_scene b)
@@ -110,7 +110,7 @@ module _ (a b : Course) (goes : Goes a b) (calm : Undisturbed a b) (keep : Keeps
     pub crash_safe : (fault : Option Fault) (safe : IsSafe command words copy saved fault) → IsCrashSafe command words copy saved fault safe
     crash_safe fault (inl none) =
         let known : (k : ℕ) (f : Files) → start ≤ k → k ≤ b.history.last → (scene b k).leaves f → IsKnown (λ r. ⊥) k (reading f) =
-          λ k f after within left. known_before (λ r. ⊥) k after (none_before b start b.history.last k within none.none) within f left in
+        λ k f after within left. known_before (λ r. ⊥) k after (none_before b start b.history.last k within none.none) within f left in
         record {
           each = known;
           sound = λ sound k after within f left. known_sound (λ r. ⊥) (λ r never. absurd never) sound k within (reading f) (known k f after within left);

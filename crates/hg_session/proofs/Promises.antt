@@ -300,7 +300,7 @@ module _ (command : Changing) (words : List (List ℕ)) (copy : Watched tree.His
         stepped = λ none. absurd (cc none);
         safe = safe;
         crash = λ calm keep first. crash_safe a b kept calm keep command (files_of words) copy first (Some fault) (safe calm);
-            unwritten = unless_same fault met written;
+        unwritten = unless_same fault met written;
         cause = inl met;
         held = λ rose. inl (ap Some (held rose));
         tree = λ rose. inl (ap Some (failed rose));
@@ -321,7 +321,7 @@ module _ (command : Changing) (words : List (List ℕ)) (copy : Watched tree.His
         stepped = λ none. absurd (cc none);
         safe = λ calm. safe_any fault (safe calm);
         crash = λ calm keep first. crash_safe a b kept calm keep command (files_of words) copy first (Some a_fault.OutOfMemory) (safe_any fault (safe calm));
-            unwritten = unless_memory fault met written;
+        unwritten = unless_memory fault met written;
         cause = inl (inl tt);
         held = λ rose. inr refl;
         tree = λ rose. inr refl;
