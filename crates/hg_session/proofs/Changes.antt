@@ -243,7 +243,7 @@ module _ (a b c : Course) (passes : Passes a.history b.history) (goes : Goes b c
         next = ap next_name id_there ∙ over.next;
         others = others_over (id_in (scene c a.history.last).files) over.id (subst (λ (i : List ℕ). Leads (KeepsOthers i over.id) b c) (sym id_there) over.others);
         spared = spared_over (id_in (scene c a.history.last).files) over.id (subst (λ (i : List ℕ). Leads (KeepsOthers i over.id) b c) (sym id_there) over.others);
-        orderly = λ latest. keeps_front us c a.history.last b.history.last (none_front a b c ours passes goes) (over.orderly (front_latest a b c ours passes goes calm latest));
+        orderly = λ latest. keeps_front us c a.history.last b.history.last (none_front a b c passes goes) (over.orderly (front_latest a b c ours passes goes calm latest));
         latest = λ latest. over.latest (front_latest a b c ours passes goes calm latest);
       }
 

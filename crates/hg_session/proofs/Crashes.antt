@@ -1,5 +1,5 @@
 -- What a crash may leave at each moment of a whole call, from what was said of the stretch in which the lock was held.
-use Rattle.std.proofs.Common.{ℕ, ◌≡◌, ◌<◌, ◌≤◌, List, Option, Some, Result, Ok, refl, sym, ◌∙◌, subst, arith, inl, inr, ◌⊎◌}
+use Rattle.std.proofs.Common.{ℕ, ◌≡◌, ◌≤◌, List, Option, Some, Result, Ok, refl, sym, ◌∙◌, subst, arith, inl, inr, ◌⊎◌}
 use Rattle.std.proofs.lemmas.Bool.{cases_lt}
 use Rattle.hg_entry.specs.Table.{Table}
 use Rattle.hg_image.specs.Reading.{RecordFault}
@@ -11,12 +11,12 @@ use Rattle.hg_save.specs.Record.{IsSound, reading}
 use Rattle.hg_save.specs.Saved.{IsLatest, ReadsAsBeforeOr}
 use Rattle.hg_session.specs.Call.{Saved, Watched}
 use Rattle.hg_session.specs.Change.{IsKept, IsPublished, IsSafe, IsUnwritten, NoneOurs}
-use Rattle.hg_session.specs.Crash.{IsCrashSafe, IsLasting, IsOwnRecord, LeavesSound, MightBeLeft}
+use Rattle.hg_session.specs.Crash.{IsCrashSafe, IsLasting, LeavesSound, MightBeLeft}
 use Rattle.hg_session.specs.declared.acting.Changing.{Changing}
 use Rattle.hg_shelf.proofs.Scenes.{only_later}
 use Rattle.hg_shelf.specs.History.{Files, others, us}
 use Rattle.hg_shelf.specs.Images.{Course, Goes, last_scene, scene}
-use Rattle.hg_shelf.specs.Polite.{OthersOnlyRead, Undisturbed}
+use Rattle.hg_shelf.specs.Polite.{Undisturbed}
 use Rattle.hg_tree.specs.History as tree
 
 -- none of the steps of a span is the caller's, so none of those of its front or its end is
