@@ -141,9 +141,13 @@ def short(name):
     return f"{call} of {re.sub('[.][0-9a-f]{8,}$', '.ID', path.rpartition('/')[2])}"
 
 
-def failed(tests, calls, scene, root, reason, number):
-    """Has a call fail. Answers the status, and what is wrong where something is."""
+def failed(tests, calls, scene, root, reason, number, name):
+    """Has a call fail. Answers the status, and what is wrong where something is: the lock's file stays only where one of its own calls failed."""
+    lock = f"{root}/.hg/wlock"
+    may_stay = "wlock" in name or os.path.lexists(lock)
     status, out, err = calls.run(root, scene.words, "fail", number, ERRORS[reason])
+    if os.path.lexists(lock) and not may_stay:
+        return status, "the lock's file stays"
     now = shown(tests, root)
     which = [it for it in (0, 1) if now == (0, scene.texts()[it])]
     if not which:
@@ -168,7 +172,7 @@ def run_failures(tests, calls, scene, template, names):
     passed = set()
     for number, name in enumerate(names, 1):
         for reason in ERRORS:
-            status, wrong = copied(tests, template, lambda root: failed(tests, calls, scene, root, reason, number))
+            status, wrong = copied(tests, template, lambda root: failed(tests, calls, scene, root, reason, number, name))
             tests.compare(f"{scene.what}: {reason} at call {number}, {short(name)}", wrong, None)
             if status == 0:
                 passed.add(short(name))
