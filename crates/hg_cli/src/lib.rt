@@ -19,6 +19,7 @@
 #![tactic(auto)]
 
 mod ancestors;
+mod closing;
 mod contents;
 mod disk;
 mod entries;

@@ -1,5 +1,6 @@
 //! Writing below `.hg` in the file system. Nothing is written through a link, nor to what is no regular file.
 
+use crate::closing::close;
 use crate::disk::is_absence;
 use crate::failure::Reason;
 use crate::spot::{Spot, spot_of};
@@ -25,7 +26,8 @@ pub(crate) struct Written {
 impl Written {
     /// Makes sure what the file holds, and closes it.
     pub(crate) fn sync(self) -> Result<(), Error> {
-        self.file.sync_all()
+        self.file.sync_all()?;
+        close(self.file)
     }
 }
 
@@ -102,7 +104,7 @@ pub(crate) fn write_file<R: Files<File = File>>(
 
 /// Makes sure what a regular file holds, by the open file that was written, where that is the one at the path. An absent one has nothing
 /// to be made sure.
-pub(crate) fn sync_file<R: Files>(
+pub(crate) fn sync_file<R: Files<File = File>>(
     rt: &R,
     path: &str,
     written: &mut Option<Written>,
@@ -122,8 +124,10 @@ pub(crate) fn sync_file<R: Files>(
 }
 
 /// Makes sure what is open at the path: what a file holds, or which names a folder has.
-pub(crate) fn sync<R: Files>(rt: &R, path: &str) -> Result<(), Error> {
-    fs::open(rt, path)?.sync_all()
+pub(crate) fn sync<R: Files<File = File>>(rt: &R, path: &str) -> Result<(), Error> {
+    let file = fs::open(rt, path)?;
+    file.sync_all()?;
+    close(file)
 }
 
 /// Makes a folder where nothing stands, and says whether it did.
