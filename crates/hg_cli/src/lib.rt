@@ -19,7 +19,6 @@
 #![tactic(auto)]
 
 mod ancestors;
-mod closing;
 mod contents;
 mod disk;
 mod entries;

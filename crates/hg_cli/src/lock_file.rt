@@ -1,7 +1,6 @@
 //! The lock of a working copy: a lock of the system on the regular file `.hg/wlock`, which is given back at the process's end, however that
 //! comes. The file is taken away with the lock, so that Mercurial, whose own lock is a symbolic link of that name, isn't kept out by it.
 
-use crate::closing::close;
 use crate::failure::Reason;
 use crate::spot::spot_of;
 use crate::writing::{look, make, open_seen, remove_file};
@@ -84,6 +83,6 @@ pub(crate) fn give_back<R: Files<File = File>>(
     if stands(rt, path, &file)? {
         remove_file(rt, path)?;
     }
-    close(file)?;
+    drop(file);
     Ok(())
 }

@@ -4,7 +4,6 @@ ghost use Rattle.std.specs.Prelude.{◌≡◌, ◌≤◌, IfOk, Ok, length};
 ghost use Rattle.hg_base.specs.Fault.{HasCause};
 ghost use Rattle.hg_base.specs.Reads.{IsWithin};
 
-use crate::closing::close;
 use crate::disk::{counted, is_absence};
 use crate::failure::{FirstFailure, Reason};
 use crate::lock_file::{give_back, take};
@@ -180,7 +179,7 @@ fn put<R: Files<File = File> + AllocGlobal>(
 }
 
 // The file, and that its folder names it.
-fn make_sure<R: Files<File = File> + AllocGlobal>(
+fn make_sure<R: Files + AllocGlobal>(
     rt: &R,
     root: &Root,
     written: &mut Option<Written>,
@@ -191,7 +190,7 @@ fn make_sure<R: Files<File = File> + AllocGlobal>(
     sync_folder(rt, root, folder_of(name))
 }
 
-fn change_name<R: Files<File = File> + AllocGlobal>(
+fn change_name<R: Files + AllocGlobal>(
     rt: &R,
     root: &Root,
     from: &str,
@@ -235,11 +234,7 @@ fn give_lock_back<R: Files<File = File> + AllocGlobal>(
 }
 
 // Makes sure which names a folder below `.hg` has; that is `.hg` itself for the empty name.
-fn sync_folder<R: Files<File = File> + AllocGlobal>(
-    rt: &R,
-    root: &Root,
-    folder: &str,
-) -> Result<(), Reason> {
+fn sync_folder<R: Files + AllocGlobal>(rt: &R, root: &Root, folder: &str) -> Result<(), Reason> {
     let path = below_hg(rt, root, folder)?;
     match sync(rt, path.as_str()) {
         Err(error) if !is_absence(&error) => Err(Reason::System(error)),
@@ -256,11 +251,7 @@ fn folder_of(name: &str) -> &str {
 }
 
 // Makes the folders in which a file is to stand, where they are missing, `.hg` too; each is made sure in the folder above.
-fn make_folders<R: Files<File = File> + AllocGlobal>(
-    rt: &R,
-    root: &Root,
-    name: &str,
-) -> Result<(), Reason> {
+fn make_folders<R: Files + AllocGlobal>(rt: &R, root: &Root, name: &str) -> Result<(), Reason> {
     let hg = below_hg(rt, root, "")?;
     if make_folder(rt, hg.as_str())? {
         sync(rt, root_name(root))?;
@@ -317,7 +308,7 @@ fn file_size<R: Files>(rt: &R, path: &str) -> Result<Option<u64>, Reason> {
     }
 }
 
-fn read_file<R: Files<File = File> + AllocGlobal>(
+fn read_file<R: Files + AllocGlobal>(
     rt: &R,
     root: &Root,
     name: &str,
@@ -337,7 +328,6 @@ fn read_file<R: Files<File = File> + AllocGlobal>(
     match fs::open(rt, path.as_str()) {
         Ok(mut file) => {
             let n = read_past(&mut file, place, buf)?;
-            close(file)?;
             Ok(Got::Bytes(n))
         }
         Err(error) if is_absence(&error) => Ok(Got::Absent),

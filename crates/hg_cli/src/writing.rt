@@ -1,6 +1,5 @@
 //! Writing below `.hg` in the file system. Nothing is written through a link, nor to what is no regular file.
 
-use crate::closing::close;
 use crate::disk::is_absence;
 use crate::failure::Reason;
 use crate::spot::{Spot, spot_of};
@@ -26,8 +25,7 @@ pub(crate) struct Written {
 impl Written {
     /// Makes sure what the file holds, and closes it.
     pub(crate) fn sync(self) -> Result<(), Error> {
-        self.file.sync_all()?;
-        close(self.file)
+        self.file.sync_all()
     }
 }
 
@@ -104,7 +102,7 @@ pub(crate) fn write_file<R: Files<File = File>>(
 
 /// Makes sure what a regular file holds, by the open file that was written, where that is the one at the path. An absent one has nothing
 /// to be made sure.
-pub(crate) fn sync_file<R: Files<File = File>>(
+pub(crate) fn sync_file<R: Files>(
     rt: &R,
     path: &str,
     written: &mut Option<Written>,
@@ -124,10 +122,8 @@ pub(crate) fn sync_file<R: Files<File = File>>(
 }
 
 /// Makes sure what is open at the path: what a file holds, or which names a folder has.
-pub(crate) fn sync<R: Files<File = File>>(rt: &R, path: &str) -> Result<(), Error> {
-    let file = fs::open(rt, path)?;
-    file.sync_all()?;
-    close(file)
+pub(crate) fn sync<R: Files>(rt: &R, path: &str) -> Result<(), Error> {
+    fs::open(rt, path)?.sync_all()
 }
 
 /// Makes a folder where nothing stands, and says whether it did.
