@@ -183,13 +183,6 @@ fn expect_damaged<R: Abort + AllocGlobal>(
         )?;
         expect_file(rt, &mut shelf, "dirstate-new", None)?;
         expect_file(rt, &mut shelf, "dirstate.0000000000000001", None)?;
-        // The same is told where the lock can't be given back behind it.
-        let setting = Setting {
-            shelf_fails: Some(calls.saturating_sub(1)),
-            ..EMPTY
-        };
-        let mut shelf = shelf_of(rt.alloc(), files, setting)?;
-        expect_run(rt, &mut shelf, &words, "", line, 255)?;
     }
     Ok(())
 }
