@@ -56,7 +56,7 @@ pub(crate) fn swap<S: Shelf>(shelf: &mut S, from: &str, to: &str) -> Result<(), 
     ensures whole { Undisturbed (course (S.history shelf.old) (S.images shelf.old)) (course (S.history shelf.new) (S.images shelf.new))
         → IsSome ((last_scene (course (S.history shelf.old) (S.images shelf.old))).files from.now)
         → IsWhole (moved from.now to.now) (course (S.history shelf.old) (S.images shelf.old)) (course (S.history shelf.new) (S.images shelf.new)) }
-    // Of its steps one moves the file, and the other shows and leaves nothing new.
+    // Each of its steps moves the file, as the first of them, or shows and leaves nothing new.
     ensures steps { Undisturbed (course (S.history shelf.old) (S.images shelf.old)) (course (S.history shelf.new) (S.images shelf.new))
         → IsSome ((last_scene (course (S.history shelf.old) (S.images shelf.old))).files from.now)
         → OwnSteps
