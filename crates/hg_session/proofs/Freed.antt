@@ -1,15 +1,17 @@
 -- A change of the record with the lock round it, from what was done under the lock.
-use Rattle.std.proofs.Common.{ℕ, ◌≡◌, ◌≤◌, List, Some, None, Result, Ok, Err, Vec, Global, IfErr, IfOk, refl, arith, inl, inr}
+use Rattle.std.proofs.Common.{ℕ, ◌≡◌, ◌≤◌, Bool, false, true, IsTrue, List, Some, None, Result, Ok, Err, Vec, Global, IfErr, IfOk, refl, arith, inl, inr, sym, subst, ◌∙◌}
 use Rattle.std.specs.Result.{result_err}
 use Rattle.hg_base.specs.Fault.{HasCause, Rose}
 use Rattle.hg_base.specs.declared.fault.Failed.{Failed}
 use Rattle.hg_report.specs.declared.fault.Fault.{Fault}
+use Rattle.hg_report.specs.declared.fault.Fault.TheVariants as a_fault
 use Rattle.hg_session.proofs.Widening.{calm_within, done_wide, met_wide, safe_wide, unwritten_wide}
-use Rattle.hg_session.specs.Call.{Count, Saved, Watched}
-use Rattle.hg_session.specs.Change.{FailsOrUnwritten, IsDone, IsSafe, MetChanging, MetLocking, once_freed}
+use Rattle.hg_session.specs.Call.{Count, FailsOnce, Saved, Watched}
+use Rattle.hg_session.specs.Change.{FailsOrUnwritten, IsDone, IsFreed, IsSafe, MetChanging, MetLocking, once_freed}
 use Rattle.hg_session.specs.declared.acting.Changing.{Changing}
 use Rattle.hg_shelf.specs.History.{History, Waits}
 use Rattle.hg_shelf.specs.Images.{Course, Goes}
+use Rattle.hg_shelf.specs.Lock.{Locks, Unlocks}
 use Rattle.hg_shelf.specs.Polite.{Undisturbed}
 use Rattle.hg_tree.specs.History as tree
 
@@ -19,6 +21,11 @@ rose_last start before after end same later rose = omega (arith, same, later, ro
 
 rose_first : (start before after end : ℕ) → before ≡ start → after ≤ end → Rose before after → Rose start end
 rose_first start before after end same later rose = omega (arith, same, later, rose)
+
+-- who was refused a lock holds it only as before
+pub refused_holds : (was is : Bool) (before now : ℕ) (ok : Bool) → ok ≡ false → Locks {E = Failed} was is before now (Ok ok) → IsTrue is → IsTrue was
+refused_holds was is before now true same locks held = absurd (cc same)
+refused_holds was is before now false same locks held = sym locks.0 ∙ held
 
 module _ (a b c d : Course) (lock : Waits a.history b.history) (unlock : Waits c.history d.history) (p : Goes a b) (q : Goes b c) (r : Goes c d)
     (command : Changing) (words : List (List ℕ)) (copy : Watched tree.History) (start before after end : ℕ) where
@@ -60,6 +67,23 @@ module _ (a b c d : Course) (lock : Waits a.history b.history) (unlock : Waits c
     | inr is ↦ inr (inl refl, is.1)
   ]
   once_safe_in (Ok lines) (Ok unit) safe = safe_wide a b c d lock unlock p q r command words copy before after start end None safe
+
+  -- both failed: once alone is too few
+  two_rose : (fault : Fault) → MetChanging command words copy part fault → before ≡ start → Rose after end → FailsOnce whole → fault ≡ a_fault.ShelfFailed → ⊥
+  two_rose fault met same rose one is = let first : Rose before after = subst (MetChanging command words copy part) is met in omega (arith, same, rose, one.0, one.1, first)
+
+  pub once_released : (done : Result (Vec ℕ Global) Fault) (freed : Result Unit Failed) → before ≡ start → before ≤ after → IfOk done (λ lines. IsDone command words copy part inner lines.items)
+      → IfErr done (MetChanging command words copy part) → HasCause after end freed (λ e. Unit {0}) → Unlocks c.history.ours d.history.ours freed
+      → IsFreed command words copy whole outer (result_err (once_freed done freed))
+  once_released done (Ok unit) same later is met cause free = λ held. absurd (let never : false ≡ true = sym free ∙ held in cc never)
+  once_released (Err fault) (Err failed) same later is met cause free =
+      λ held. inr (record { failed = rose_last start before after end same later (cause.rose tt); alone = λ one told. absurd (two_rose fault met same (cause.rose tt) one (cc told)) })
+  once_released (Ok lines) (Err failed) same later is met cause free =
+      λ held.
+      inr (record {
+        failed = rose_last start before after end same later (cause.rose tt);
+        alone = λ one told. (lines.items, done_wide a b c d lock unlock p q r command words copy before after start end lines.items is);
+      })
 
   pub once_safe : (done : Result (Vec ℕ Global) Fault) (freed : Result Unit Failed) → (Undisturbed b c → IsSafe command words copy inner (result_err done))
       → Undisturbed a d → IsSafe command words copy outer (result_err (once_freed done freed))

@@ -1,10 +1,10 @@
 -- What a command that changes the record promises, from what was done under the lock and told behind it.
-use Rattle.std.proofs.Common.{ℕ, ◌≡◌, ◌<◌, ◌≤◌, Bool, cond, true, false, ◌||◌, List, [], ◌∷◌, map, Option, Some, None, Ok, IsTrue, IfSome, is_some, refl, sym, ap, ◌∙◌, subst, arith, inl, inr, ◌⊎◌}
+use Rattle.std.proofs.Common.{ℕ, ◌≡◌, ◌<◌, ◌≤◌, Bool, cond, true, false, ◌||◌, List, [], ◌∷◌, map, Option, Some, None, Ok, IfSome, is_some, refl, sym, ap, ◌∙◌, subst, arith, inl, inr, ◌⊎◌}
 use Rattle.std.specs.List.{AllByRecursion, list_any}
 use Rattle.std.specs.Prelude.{MatchBool}
 use Rattle.std.proofs.lemmas.Bool.{cases_lt}
 use Rattle.hg_base.proofs.Faults.{steady_not_rose}
-use Rattle.hg_base.specs.Fault.{IsSteady, Rose}
+use Rattle.hg_base.specs.Fault.{IsSteady}
 use Rattle.hg_docket.specs.Number.{next_name}
 use Rattle.hg_entry.specs.Table.{Table}
 use Rattle.hg_ops.specs.declared.refusal.Refusal.{Refusal}
@@ -20,7 +20,7 @@ use Rattle.hg_session.proofs.Crashes.{crash_safe, lasting}
 use Rattle.hg_session.proofs.Readings.{unstepped_refuses}
 use Rattle.hg_session.specs.Acts.{AllSteps, refusals_text}
 use Rattle.hg_session.specs.Call.{Call, Count, Fails, Saved, Serves, Watched}
-use Rattle.hg_session.specs.Change.{FailsOrUnwritten, Fits, FitsFirst, IsDone, IsMade, IsReadFirst, IsSafe, MayFollowWriting, MetChanging, MetLocking, NoneOurs, files_of, id_read, up_to}
+use Rattle.hg_session.specs.Change.{FailsOrUnwritten, Fits, FitsFirst, IsDone, IsFreed, IsMade, IsReadFirst, IsSafe, MayFollowWriting, MetChanging, MetLocking, NoneOurs, files_of, id_read, up_to}
 use Rattle.hg_session.specs.Changed.{IsExpectedChange, IsMadeOf, IsPartlyTold, IsUnlooked, IsUnwrittenUnless, OnlyLooks, RanChange, TellsFault, status_of}
 use Rattle.hg_session.specs.Command.{IsFaultOrMemory, IsSilent, TellsLine}
 use Rattle.hg_session.specs.Listed.{LoadMet}
@@ -204,7 +204,7 @@ line_of_told : (command : Changing) (call : Call) (fault : Fault) → has_line f
 line_of_told command call fault told line = subst (λ (h : Bool). MatchBool h (TellsLine call.err.old call.err.new call.err.before call.err.after fault) (IsPartlyTold command call)) (sym told) line
 
 module _ (command : Changing) (words : List (List ℕ)) (copy : Watched tree.History) (a b : Course) (before after : ℕ) (locks oversize : Count) (out err : Watched (Option (List ℕ)))
-    (silent : IsSilent out) (uncounted : oversize.after ≡ oversize.before) (looks : OnlyLooks copy) (unlooked : command ≡ a_change.Forget → IsUnlooked copy) (kept : Goes a b) (freed : IsTrue b.history.ours → IsTrue a.history.ours ⊎ Rose before after) where
+    (silent : IsSilent out) (uncounted : oversize.after ≡ oversize.before) (looks : OnlyLooks copy) (unlooked : command ≡ a_change.Forget → IsUnlooked copy) (kept : Goes a b) where
   abbrev call : Call
   call = record {
     words = words;
@@ -215,10 +215,21 @@ module _ (command : Changing) (words : List (List ℕ)) (copy : Watched tree.His
     err = err;
   }
 
-  pub ran_done : (status : ℕ) (lines : List ℕ) (done : IsDone command (files_of words) copy call.looked.shelf call.saved lines) → Grown err.old err.new lines → status ≡ status_of done.refused
+  -- the lock is given back, or that failed, where this is the fault
+  abbrev pub FreesFor : Option Fault → Type 0
+  FreesFor fault = IsFreed command (files_of words) copy call.looked.shelf call.saved fault
+
+  -- so it is where another fault is told, or none
+  frees_as : (first told : Option Fault) → (told ≡ Some a_fault.ShelfFailed → first ≡ Some a_fault.ShelfFailed) → FreesFor first → FreesFor told
+  frees_as first told only freed = λ held. elim (freed held) [
+    | inl was ↦ inl was
+    | inr is ↦ inr (record { failed = is.failed; alone = λ one same. is.alone one (only same) })
+  ]
+
+  pub ran_done : FreesFor None → (status : ℕ) (lines : List ℕ) (done : IsDone command (files_of words) copy call.looked.shelf call.saved lines) → Grown err.old err.new lines → status ≡ status_of done.refused
       → (Undisturbed a b → IsSafe command (files_of words) copy call.saved None) → copy.after ≡ copy.before → after ≡ before → err.after ≡ err.before → (locks.before < locks.after → ⊥) → (copy.before < copy.after → ⊥)
       → RanChange command call status None
-  ran_done status lines done grown is safe calm_tree calm_shelf calm_err unheld well = record {
+  ran_done freed status lines done grown is safe calm_tree calm_shelf calm_err unheld well = record {
     stepped = λ none. record { lines = lines; done = done; told = grown; ends = is; lasts = λ calm keep. lasting a b kept calm keep done.is.loaded done.made (done.kept calm) };
     safe = safe;
     crash = λ calm keep first. crash_safe a b kept calm keep command (files_of words) copy first None (safe calm);
@@ -228,7 +239,7 @@ module _ (command : Changing) (words : List (List ℕ)) (copy : Watched tree.His
     tree = λ rose. absurd (well rose);
     complete = λ own p q r steady. done_own command (files_of words) copy a b before after kept.past own.shelf lines done;
     calm_tree = λ none. calm_tree;
-    calm_shelf = λ none. calm_shelf;
+    calm_shelf = λ well. calm_shelf;
     calm_err = λ none. calm_err;
     told = tt;
     silent = silent;
@@ -244,9 +255,9 @@ module _ (command : Changing) (words : List (List ℕ)) (copy : Watched tree.His
   safe_untold (inr (may, is)) = inr (inr (inl refl), is)
 
   -- the error stream failed while the refused words were told
-  pub ran_untold : (lines : List ℕ) (done : IsDone command (files_of words) copy call.looked.shelf call.saved lines) → GrownByFront err.old err.new lines → Fails err
+  pub ran_untold : FreesFor None → (lines : List ℕ) (done : IsDone command (files_of words) copy call.looked.shelf call.saved lines) → GrownByFront err.old err.new lines → Fails err → after ≡ before
       → (Undisturbed a b → IsSafe command (files_of words) copy call.saved None) → (locks.before < locks.after → ⊥) → (copy.before < copy.after → ⊥) → (status : ℕ) → RanChange command call status (Some a_fault.ErrFailed)
-  ran_untold lines done grown failed safe unheld well status = record {
+  ran_untold freed lines done grown failed calm_shelf safe unheld well status = record {
     stepped = λ none. absurd (cc none);
     safe = λ calm. safe_untold (safe calm);
     crash = λ calm keep first. crash_safe a b kept calm keep command (files_of words) copy first (Some a_fault.ErrFailed) (safe_untold (safe calm));
@@ -256,7 +267,7 @@ module _ (command : Changing) (words : List (List ℕ)) (copy : Watched tree.His
     tree = λ rose. absurd (well rose);
     complete = λ own p q r steady. steady_not_rose err.before err.after r failed;
     calm_tree = λ none. absurd (cc none);
-    calm_shelf = λ none. absurd (cc none);
+    calm_shelf = λ behind. calm_shelf;
     calm_err = λ none. absurd (cc none);
     told = record { lines = lines; done = done; told = grown; failed = failed; lasts = λ calm keep. lasting a b kept calm keep done.is.loaded done.made (done.kept calm) };
     silent = silent;
@@ -264,7 +275,7 @@ module _ (command : Changing) (words : List (List ℕ)) (copy : Watched tree.His
     looks = looks;
     unlooked = unlooked;
     kept = kept;
-    freed = freed;
+    freed = frees_as None (Some a_fault.ErrFailed) (λ is. absurd (cc is)) freed;
   }
 
   safe_any : (fault : Fault) → IsSafe command (files_of words) copy call.saved (Some fault) → IsSafe command (files_of words) copy call.saved (Some a_fault.OutOfMemory)
@@ -283,6 +294,14 @@ module _ (command : Changing) (words : List (List ℕ)) (copy : Watched tree.His
   shelf_fails : (fault : Fault) → fault ≡ a_fault.ShelfFailed → MetLocking command (files_of words) copy call.looked.shelf locks fault → Fails call.looked.shelf
   shelf_fails fault is met = shelf_met (subst (MetLocking command (files_of words) copy call.looked.shelf locks) is met)
 
+  err_met : MetLocking command (files_of words) copy call.looked.shelf locks a_fault.ErrFailed → ⊥
+  err_met (inl met) = met
+  err_met (inr (held, rose)) = cc held
+
+  -- the error stream isn't told before the lines of the words
+  never_err : (fault : Fault) → MetLocking command (files_of words) copy call.looked.shelf locks fault → fault ≡ a_fault.ErrFailed → ⊥
+  never_err fault met is = err_met (subst (MetLocking command (files_of words) copy call.looked.shelf locks) is met)
+
   -- whether the fault is told, or want of memory for its line
   unless_same : (fault : Fault) → MetLocking command (files_of words) copy call.looked.shelf locks fault → FailsOrUnwritten a.history b.history fault → IsUnwrittenUnless call fault
   unless_same fault met (inl is) = inr (inl (shelf_fails fault is met, inl is))
@@ -292,10 +311,10 @@ module _ (command : Changing) (words : List (List ℕ)) (copy : Watched tree.His
   unless_memory fault met (inl is) = inr (inl (shelf_fails fault is met, inr refl))
   unless_memory fault met (inr none) = inr (inr none)
 
-  ran_fault : (status : ℕ) (fault answered : Fault) → (answered ≡ fault) ⊎ (answered ≡ a_fault.OutOfMemory) → MetLocking command (files_of words) copy call.looked.shelf locks fault
+  ran_fault : (status : ℕ) (fault answered : Fault) → FreesFor (Some fault) → (answered ≡ fault) ⊎ (answered ≡ a_fault.OutOfMemory) → MetLocking command (files_of words) copy call.looked.shelf locks fault
       → (Undisturbed a b → IsSafe command (files_of words) copy call.saved (Some fault)) → FailsOrUnwritten a.history b.history fault → (locks.before < locks.after → fault ≡ a_fault.Held) → (copy.before < copy.after → fault ≡ a_fault.TreeFailed)
       → TellsLine err.old err.new err.before err.after answered → RanChange command call status (Some answered)
-  ran_fault status fault answered (inl same) met safe written held failed line =
+  ran_fault status fault answered freed (inl same) met safe written held failed line =
       subst (λ (f : Fault). TellsLine err.old err.new err.before err.after f → RanChange command call status (Some f)) (sym same) (λ told. record {
         stepped = λ none. absurd (cc none);
         safe = safe;
@@ -306,7 +325,10 @@ module _ (command : Changing) (words : List (List ℕ)) (copy : Watched tree.His
         tree = λ rose. inl (ap Some (failed rose));
         complete = λ own p q r steady. locked_own fault (safe (calm_own a b own.shelf)) met own.shelf p q steady;
         calm_tree = λ none. absurd (cc none);
-        calm_shelf = λ none. absurd (cc none);
+        calm_shelf = λ behind. elim behind [
+          | inl none ↦ absurd (cc none)
+          | inr is ↦ absurd (never_err fault met (cc is))
+        ];
         calm_err = λ none. absurd (cc none);
         told = line_of_told command call fault (locking_told command (files_of words) copy call.looked.shelf locks fault met) told;
         silent = silent;
@@ -316,7 +338,7 @@ module _ (command : Changing) (words : List (List ℕ)) (copy : Watched tree.His
         kept = kept;
         freed = freed;
       }) line
-  ran_fault status fault answered (inr memory) met safe written held failed line =
+  ran_fault status fault answered freed (inr memory) met safe written held failed line =
       subst (λ (f : Fault). TellsLine err.old err.new err.before err.after f → RanChange command call status (Some f)) (sym memory) (λ told. record {
         stepped = λ none. absurd (cc none);
         safe = λ calm. safe_any fault (safe calm);
@@ -327,7 +349,10 @@ module _ (command : Changing) (words : List (List ℕ)) (copy : Watched tree.His
         tree = λ rose. inr refl;
         complete = λ own p q r steady. tt;
         calm_tree = λ none. absurd (cc none);
-        calm_shelf = λ none. absurd (cc none);
+        calm_shelf = λ behind. elim behind [
+          | inl none ↦ absurd (cc none)
+          | inr is ↦ absurd (cc is)
+        ];
         calm_err = λ none. absurd (cc none);
         told = line_of_told command call a_fault.OutOfMemory refl told;
         silent = silent;
@@ -335,15 +360,15 @@ module _ (command : Changing) (words : List (List ℕ)) (copy : Watched tree.His
         looks = looks;
         unlooked = unlooked;
         kept = kept;
-        freed = freed;
+        freed = frees_as (Some fault) (Some a_fault.OutOfMemory) (λ is. absurd (cc is)) freed;
       }) line
 
-  pub ran_failed : (status : ℕ) (fault : Fault) (answered : Option Fault) → IsFaultOrMemory answered fault → MetLocking command (files_of words) copy call.looked.shelf locks fault
+  pub ran_failed : (status : ℕ) (fault : Fault) (answered : Option Fault) → FreesFor (Some fault) → IsFaultOrMemory answered fault → MetLocking command (files_of words) copy call.looked.shelf locks fault
       → (Undisturbed a b → IsSafe command (files_of words) copy call.saved (Some fault)) → FailsOrUnwritten a.history b.history fault → (locks.before < locks.after → fault ≡ a_fault.Held) → (copy.before < copy.after → fault ≡ a_fault.TreeFailed)
       → IfSome answered (λ f. TellsLine err.old err.new err.before err.after f) → RanChange command call status answered
-  ran_failed status fault None is met safe written held failed line = not_without None fault is refl
-  ran_failed status fault (Some f) (inl same) met safe written held failed line = ran_fault status fault f (inl (cc same)) met safe written held failed line
-  ran_failed status fault (Some f) (inr memory) met safe written held failed line = ran_fault status fault f (inr (cc memory)) met safe written held failed line
+  ran_failed status fault None freed is met safe written held failed line = not_without None fault is refl
+  ran_failed status fault (Some f) freed (inl same) met safe written held failed line = ran_fault status fault f freed (inl (cc same)) met safe written held failed line
+  ran_failed status fault (Some f) freed (inr memory) met safe written held failed line = ran_fault status fault f freed (inr (cc memory)) met safe written held failed line
 
 status_none : (command : Changing) (before after : tree.History) (words : List (List ℕ)) (refused : List (Option Refusal)) (old new : Table) → AllSteps command before after words refused old new
     → refusals_text command words refused ≡ [] → 0 ≡ status_of refused

@@ -18,7 +18,7 @@ use Rattle.hg_save.specs.Others.{KeepsRecords}
 use Rattle.hg_save.specs.Record.{data_name, id_in, reading}
 use Rattle.hg_save.specs.Saved.{IsLatest, KeepsOthers, ReadsAsBeforeOr}
 use Rattle.hg_session.specs.Acts.{AllIdle, AllSteps, refusals_text}
-use Rattle.hg_session.specs.Call.{Call, Count, Fails, Saved, Watched}
+use Rattle.hg_session.specs.Call.{Call, Count, Fails, FailsOnce, Saved, Watched}
 use Rattle.hg_session.specs.Debug.{IsRead}
 use Rattle.hg_session.specs.Listed.{LoadMet}
 use Rattle.hg_session.specs.declared.acting.Changing.{Changing}
@@ -226,6 +226,15 @@ MayFollowWriting (Some fault) = (fault ≡ a_fault.ShelfFailed) ⊎ ((fault ≡ 
 -- nothing was written, or a record was published
 abbrev pub IsSafe : Changing → List (List ℕ) → Watched tree.History → Saved → Option Fault → Type 0
 IsSafe command words copy saved fault = IsUnwritten saved.old.history saved.new.history ⊎ (MayFollowWriting fault × IsPublished command words copy saved)
+
+-- the lock couldn't be given back: where no other call below `.hg` failed, and that is the fault, the words were done
+pub record IsStuck (command : Changing) (words : List (List ℕ)) (copy : Watched tree.History) (files : Watched shelf.History) (saved : Saved) (fault : Option Fault) : Type 0 where
+  pub failed : Fails files
+  pub alone : FailsOnce files → fault ≡ Some a_fault.ShelfFailed → (lines : List ℕ) × IsDone command words copy files saved lines
+
+-- the lock is held at the end only where it was at the start, or couldn't be given back
+abbrev pub IsFreed : Changing → List (List ℕ) → Watched tree.History → Watched shelf.History → Saved → Option Fault → Type 0
+IsFreed command words copy files saved fault = IsTrue saved.new.history.ours → IsTrue saved.old.history.ours ⊎ IsStuck command words copy files saved fault
 
 -- what is answered once the lock was given back, or couldn't be: the first fault
 abbrev pub once_freed : {A U E : Type 0} → Result A Fault → Result U E → Result A Fault

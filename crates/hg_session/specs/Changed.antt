@@ -17,7 +17,7 @@ use Rattle.hg_save.specs.Record.{id_in, reading}
 use Rattle.hg_save.specs.Saved.{IsLatest}
 use Rattle.hg_session.specs.Acts.{AllIdle, AllSteps}
 use Rattle.hg_session.specs.Call.{Call, Fails, Serves, Watched}
-use Rattle.hg_session.specs.Change.{ChangeCause, Fits, IsDone, IsSafe, IsUnwritten, files_of}
+use Rattle.hg_session.specs.Change.{ChangeCause, Fits, IsDone, IsFreed, IsSafe, IsUnwritten, files_of}
 use Rattle.hg_session.specs.Command.{IsFaultOrMemory, IsSilent, TellsLine}
 use Rattle.hg_session.specs.Crash.{IsCrashSafe, IsLasting}
 use Rattle.hg_session.specs.Listed.{IsOwn}
@@ -157,9 +157,9 @@ pub record RanChange (command : Changing) (call : Call) (status : ℕ) (fault : 
   -- where nobody else steps, no count rises and no lock is refused, the answer is the expected one, or there was no memory
   pub complete : IsOwn call.looked → Serves call.looked.tree → Serves call.looked.shelf → Serves call.err → IsSteady call.locks.before call.locks.after
       → IsExpectedChange command (files_of call.words) call.looked.tree (shelf.now call.looked.shelf.old).files fault
-  -- where a device failed there is a fault
+  -- where a device failed there is a fault, and another one than of the error stream where the shelf did
   pub calm_tree : fault ≡ None → call.looked.tree.after ≡ call.looked.tree.before
-  pub calm_shelf : fault ≡ None → call.looked.shelf.after ≡ call.looked.shelf.before
+  pub calm_shelf : (fault ≡ None) ⊎ (fault ≡ Some a_fault.ErrFailed) → call.looked.shelf.after ≡ call.looked.shelf.before
   pub calm_err : fault ≡ None → call.err.after ≡ call.err.before
   -- what stands on the error stream after a fault; nothing is printed, and no regexp compiled
   pub told : IfSome fault (TellsFault command call)
@@ -168,6 +168,6 @@ pub record RanChange (command : Changing) (call : Call) (status : ℕ) (fault : 
   pub looks : OnlyLooks call.looked.tree
   -- where files are forgotten the tree isn't asked
   pub unlooked : command ≡ a_change.Forget → IsUnlooked call.looked.tree
-  -- what was so far stays, and the lock is given back, unless the shelf failed
+  -- what was so far stays, and the lock is given back, unless that failed
   pub kept : Goes call.saved.old call.saved.new
-  pub freed : IsTrue call.saved.new.history.ours → IsTrue call.saved.old.history.ours ⊎ Fails call.looked.shelf
+  pub freed : IsFreed command (files_of call.words) call.looked.tree call.looked.shelf call.saved fault

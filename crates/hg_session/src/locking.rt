@@ -1,11 +1,10 @@
 //! The lock round a change of the record, and what is told of it.
 
-ghost use Rattle.std.specs.Prelude.{◌≡◌, ◌⊎◌, ◌<◌, List, Option, ℕ, IfErr, IfOk, IsTrue, MatchOption, None, OnOk, Err, []};
+ghost use Rattle.std.specs.Prelude.{◌≡◌, ◌⊎◌, ◌<◌, List, Option, ℕ, IfErr, IfOk, MatchOption, None, OnOk, Err, []};
 ghost use Rattle.std.specs.Result.{result_err};
-ghost use Rattle.hg_base.specs.Fault.{Rose};
 ghost use Rattle.hg_report.specs.declared.fault.Fault.TheVariants as a_fault;
 ghost use Rattle.hg_session.specs.Call.{Count, Watched};
-ghost use Rattle.hg_session.specs.Change.{FailsOrUnwritten, IsDone, IsSafe, MetLocking, files_of, once_freed};
+ghost use Rattle.hg_session.specs.Change.{FailsOrUnwritten, IsDone, IsFreed, IsSafe, MetLocking, files_of, once_freed};
 ghost use Rattle.hg_session.specs.Changed.{OnlyLooks, RanChange};
 ghost use Rattle.hg_session.specs.Command.{IsSilent};
 ghost use Rattle.hg_session.specs.declared.acting.Changing.TheVariants as a_command;
@@ -75,7 +74,13 @@ fn change<T: Tree, S: Shelf>(
     ensures calm_tree { OnOk result (T.faults tree.new ≡ T.faults tree.old) }
     ensures calm_shelf { OnOk result (S.faults shelf.new ≡ S.faults shelf.old) }
     ensures kept { Goes (course (S.history shelf.old) (S.images shelf.old)) (course (S.history shelf.new) (S.images shelf.new)) }
-    ensures freed { IsTrue (S.history shelf.new).ours → IsTrue (S.history shelf.old).ours ⊎ Rose (S.faults shelf.old) (S.faults shelf.new) }
+    ensures freed { IsFreed
+        command
+        (files_of words.now)
+        (record { old = T.history tree.old; new = T.history tree.new; before = T.faults tree.old; after = T.faults tree.new })
+        (record { old = S.history shelf.old; new = S.history shelf.new; before = S.faults shelf.old; after = S.faults shelf.new })
+        (record { old = course (S.history shelf.old) (S.images shelf.old); new = course (S.history shelf.new) (S.images shelf.new) })
+        (result_err result) }
 {
     match shelf.lock() {
         Err(_) => Err(Fault::ShelfFailed),

@@ -1,6 +1,6 @@
 -- The lock, the change and giving the lock back, as one call.
-use Rattle.std.proofs.Common.{inr}
-use Rattle.hg_session.proofs.Freed.{once_done, once_met, once_safe, once_unwritten}
+use Rattle.std.proofs.Common.{inl, inr, sym, ◌∙◌}
+use Rattle.hg_session.proofs.Freed.{once_done, once_met, once_released, once_safe, once_unwritten, refused_holds}
 use Rattle.hg_session.specs.Change.{files_of}
 use Rattle.hg_shelf.specs.Images.{course}
 use Rattle.hg_shelf.proofs.Scenes.{goes_trans}
@@ -49,6 +49,22 @@ returns-in-Ok-true-clause-unwritten g c =
       after = g.T.Tree.faults c.change_locked-done.new.tree;
     }) (g.S.Shelf.faults c.args.shelf.now) (g.S.Shelf.faults c.lock.new.self) (g.S.Shelf.faults c.change_locked-done.new.shelf) (g.S.Shelf.faults c.unlock-freed.new.self)
     c.change_locked-done.result c.unlock-freed.result c.change_locked-done.ensures.unwritten)
+
+pub returns-in-Err-clause-freed : goal.returns-in-Err-clause-freed
+returns-in-Err-clause-freed g c = λ held. inl (sym c.in-Err.ensures.locks.0 ∙ held)
+
+pub returns-in-Ok-false-clause-freed : goal.returns-in-Ok-false-clause-freed
+returns-in-Ok-false-clause-freed g c = λ held. inl (refused_holds _ _ _ _ c.in-Ok-false.field-0 c.in-Ok-false.field-0-test c.in-Ok-false.ensures.locks held)
+
+pub returns-in-Ok-true-clause-freed : goal.returns-in-Ok-true-clause-freed
+returns-in-Ok-true-clause-freed g c =
+    rw c.first_fault.ensures
+    (once_released (course (g.S.Shelf.history c.args.shelf.now) (g.S.Shelf.images c.args.shelf.now)) (course (g.S.Shelf.history c.lock.new.self) (g.S.Shelf.images c.lock.new.self))
+    (course (g.S.Shelf.history c.change_locked-done.new.shelf) (g.S.Shelf.images c.change_locked-done.new.shelf)) (course (g.S.Shelf.history c.unlock-freed.new.self) (g.S.Shelf.images c.unlock-freed.new.self))
+    c.lock.ensures.waits c.unlock-freed.ensures.waits c.lock.ensures.kept c.change_locked-done.ensures.kept c.unlock-freed.ensures.kept
+    c.args.command (files_of c.args.words.now) _ (g.S.Shelf.faults c.args.shelf.now) (g.S.Shelf.faults c.lock.new.self) (g.S.Shelf.faults c.change_locked-done.new.shelf) (g.S.Shelf.faults c.unlock-freed.new.self)
+    c.change_locked-done.result c.unlock-freed.result c.in-Ok-true.ensures.cause.quiet c.change_locked-done.ensures.later c.change_locked-done.ensures.done c.change_locked-done.ensures.met c.unlock-freed.ensures.cause
+    c.unlock-freed.ensures.unlocks)
 
 pub returns-in-Ok-true-clause-kept : goal.returns-in-Ok-true-clause-kept
 returns-in-Ok-true-clause-kept g c =
