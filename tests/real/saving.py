@@ -9,7 +9,7 @@ import tempfile
 
 from calls import ERRORS, Calls, has_gcc, watched
 from dirstate import NULL, P1_TRACKED, WDIR_TRACKED, docket, written
-from folder import NO_HG, aborted, because, lay_out, lines, put, put_record
+from folder import FILES, NO_HG, aborted, because, lay_out, limited, lines, put, put_record
 
 PARENT = b"\x11" * 20
 KILLED = -9
@@ -182,8 +182,8 @@ def run_failures(tests, calls, scene, template, names):
 # What each call of the record's device is to the system, by the names of its files below `.hg`, which is `.` itself: taking the lock, looking at
 # what isn't there, the size, reading, writing, making sure, renaming over a file or not, making names sure, removing, giving the lock back.
 LOCK = ["mkdir .", "statx wlock", "openat wlock", "flock wlock", "statx wlock", "statx wlock"]
-UNLOCK = ["statx wlock", "statx wlock", "unlink wlock", "close wlock (deleted)"]
-SYNC_NAMES = ["openat .", "fsync .", "close ."]
+UNLOCK = ["statx wlock", "statx wlock", "unlink wlock", "flock wlock (deleted)"]
+SYNC_NAMES = ["openat .", "fsync ."]
 
 
 def size(name):
@@ -191,7 +191,7 @@ def size(name):
 
 
 def read_at(name, reads):
-    return [f"{call} {name}" for call in ("statx", "openat", "lseek", *reads * ["read"], "close")]
+    return [f"{call} {name}" for call in ("statx", "openat", "lseek", *reads * ["read"])]
 
 
 def write_at(name):
@@ -200,7 +200,7 @@ def write_at(name):
 
 # (of a file that was written, which is still open)
 def sync(name):
-    return [f"{call} {name}" for call in ("statx", "fsync", "close")] + SYNC_NAMES
+    return [f"{call} {name}" for call in ("statx", "fsync")] + SYNC_NAMES
 
 
 def rename(old, new, is_there):
@@ -253,28 +253,36 @@ def run_below(tests, calls):
             tests.compare(f"from a folder below, the look {number} for .hg fails", (answer, made), ((255, b"", NO_WAY), False))
 
 
-def closed_early(names):
-    """The files that were closed, or never made sure, behind a write to them."""
-    unsure, wrong = set(), set()
+def run_few_open(tests):
+    """What stays open while the lock is held fits where few files may be open."""
+    with tests.working_copy() as root:
+        lay_out(root, ["a", "b"])
+        for words, wanted in (["add", "a"], added("a")), (["add", "b"], added("a", "b")), (["forget", "a"], added("b")):
+            status, out, err = tests.run(root, words, preexec_fn=limited)
+            tests.compare(f"{FILES} open files: {' '.join(words)}", (status, out, plain(err), shown(tests, root)), (0, b"", b"", (0, told(wanted))))
+
+
+def unsure(names):
+    """The files that were never made sure behind a write to them."""
+    files = set()
     for name in names:
         call, _, path = name.partition(" ")
         if call == "write":
-            unsure.add(path)
+            files.add(path)
         elif call == "fsync":
-            unsure.discard(path)
-        elif call == "close" and path in unsure:
-            wrong.add(path)
-    return wrong | unsure
+            files.discard(path)
+    return files
 
 
 def counted(tests, calls, watcher, scene, template):
-    """The calls of a scene: there are some, the watcher sees the same ones, and what is written stays open until it is made sure."""
+    """The calls of a scene: there are some, the watcher sees the same ones, what is written is made sure, and nothing is closed."""
     status, names, others = copied(tests, template, lambda root: calls.listed(root, scene.words, watcher))
     tests.compare(f"{scene.what}: not stopped", (status, bool(names)), (0, True))
     if watcher is not None:
         tests.compare(f"{scene.what}: {len(names)} calls are counted, and no other is seen", others, names)
     written = [it for it in names if it.startswith("write ")]
-    tests.compare(f"{scene.what}: {len(written)} writes, each made sure before its file is closed", (bool(written), closed_early(names)), (True, set()))
+    tests.compare(f"{scene.what}: {len(written)} writes, each made sure", (bool(written), unsure(names)), (True, set()))
+    tests.compare(f"{scene.what}: no close", [it for it in names if it.startswith("close ")], [])
     return names
 
 
@@ -291,9 +299,7 @@ def run(tests):
             passed |= run_failures(tests, calls, scene, template, names)
     run_below(tests, calls)
     run_in_order(tests, calls)
+    run_few_open(tests)
     tests.compare(f"{stops} stops", stops >= 300, True)
-    tests.compare("calls whose failure changes nothing", sorted(passed), PASSED)
-
-
-# The look at the root's own name, which serves no more then, and the end of a file that was read or made sure before.
-PASSED = sorted([f"close of {it}" for it in (".hg", "copy", "dirstate", "dirstate-new", "dirstate.ID", "wlock (deleted)")] + ["statx of copy"])
+    # (the look at the root's own name, which serves no more then: it isn't below `.hg`)
+    tests.compare("calls whose failure changes nothing", passed, {"statx of copy"})

@@ -73,7 +73,7 @@ def run_order(tests, what, things, tracked, words, wanted):
             print(f"  done     {done}")
         changes = [it for it in done if it[0] not in ("fsync", "fdatasync") and ".hg" in it[1]]
         tests.compare(f"{what}: nothing else is written", changes, [it for it in wanted if it[0] != "fsync"])
-        tests.compare(f"{what}: each file is made sure where it was written, and closed then", files, 2 * [["write", "fsync", "close"]])
+        tests.compare(f"{what}: each file is made sure where it was written, and stays open", files, 2 * [["write", "fsync"]])
         last = max(i for i, it in enumerate(done) if it[0] == "write" and it[1].startswith(".hg/dirstate."))
         tests.compare(f"{what}: the data file isn't written again", done[last + 1][0] in ("fsync", "fdatasync") and done[last + 1][1] == done[last][1], True)
 

@@ -25,6 +25,7 @@ mod entries;
 mod failure;
 mod lock_file;
 mod look;
+mod opened;
 mod place;
 mod real_shelf;
 mod real_tree;

@@ -2,6 +2,7 @@
 //! comes. The file is taken away with the lock, so that Mercurial, whose own lock is a symbolic link of that name, isn't kept out by it.
 
 use crate::failure::Reason;
+use crate::opened::Opened;
 use crate::spot::spot_of;
 use crate::writing::{look, make, open_seen, remove_file};
 use std::fs::{File, TryLockError};
@@ -77,12 +78,21 @@ fn stands<R: Files<File = File>>(rt: &R, path: &str, file: &File) -> Result<bool
 /// Gives the lock back: takes the file away, and then lets go of it. It is let go also where the file can't be taken away.
 pub(crate) fn give_back<R: Files<File = File>>(
     rt: &R,
+    opened: &mut Opened,
     path: &str,
     file: File,
 ) -> Result<(), Reason> {
-    if stands(rt, path, &file)? {
+    let taken_away = take_away(rt, path, &file);
+    // (where that fails the file is closed, which lets go of the lock too)
+    file.unlock()?;
+    opened.keep(file);
+    taken_away
+}
+
+// Takes the file away, where it is still the one at the path.
+fn take_away<R: Files<File = File>>(rt: &R, path: &str, file: &File) -> Result<(), Reason> {
+    if stands(rt, path, file)? {
         remove_file(rt, path)?;
     }
-    drop(file);
     Ok(())
 }

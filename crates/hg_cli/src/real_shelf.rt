@@ -7,10 +7,9 @@ ghost use Rattle.hg_base.specs.Reads.{IsWithin};
 use crate::disk::{counted, is_absence};
 use crate::failure::{FirstFailure, Reason};
 use crate::lock_file::{give_back, take};
+use crate::opened::Opened;
 use crate::root::Root;
-use crate::writing::{
-    Written, look, make_folder, remove_file, rename_seen, sync, sync_file, write_file,
-};
+use crate::writing::{look, make_folder, remove_file, rename_seen, sync, sync_file, write_file};
 use hg_base::{Failed, Got, risen};
 use hg_shelf::Shelf;
 use hg_stream::fill;
@@ -24,14 +23,17 @@ use std::rt::Files;
 /// It tells nothing of its history but whether it has the lock, and counts each call that the file system failed, and each lock that was
 /// refused. A file is absent where `.hg` or the file is missing, and where the system can't hold its name. What reads follows links;
 /// what is no regular file behind them is a failure. What writes follows none, and makes the folders that are missing. A file that was
-/// written stays open until it is made sure, by `sync` or before the next write. The lock is one of the system's on the file `wlock`, which
-/// it gives back at the end of the process.
+/// written is made sure by `sync`, or before the next write. The lock is one of the system's on the file `wlock`, which it gives back at the
+/// end of the process.
+///
+/// Files and folders that are made sure, or read under the lock, stay open until the shelf is dropped, up to 64: of a close that fails
+/// nothing is told.
 #[derive(Drop)]
 pub struct RealShelf<'a, R: Files> {
     rt: &'a R,
     root: &'a Root,
     lock: Option<File>,
-    written: Option<Written>,
+    opened: Opened,
     faults: u64,
     held: u64,
     failure: FirstFailure,
@@ -46,7 +48,7 @@ impl<'a, R: Files + AllocGlobal> RealShelf<'a, R> {
             rt,
             root,
             lock: None,
-            written: None,
+            opened: Opened::new(rt.alloc()),
             faults: 0,
             held: 0,
             failure: FirstFailure::new(),
@@ -97,29 +99,36 @@ impl<'a, R: Files<File = File> + AllocGlobal> Shelf for RealShelf<'a, R> {
     }
 
     fn read_at(&mut self, name: &str, place: u64, buf: &mut [u8]) -> Result<Got, Failed> {
-        let answer = read_file(self.rt, self.root, name, place, buf);
+        let stays = self.lock.is_some();
+        let answer = read_file(
+            self.rt,
+            self.root,
+            &mut self.opened,
+            stays,
+            name,
+            place,
+            buf,
+        );
         self.answered(name, answer)
     }
 
     fn write_at(&mut self, name: &str, place: u64, bytes: &[u8]) -> Result<(), Failed> {
-        let before = self.written.take();
-        let answer = put(self.rt, self.root, before, name, place, bytes);
-        self.written = Some(self.answered(name, answer)?);
-        Ok(())
+        let answer = put(self.rt, self.root, &mut self.opened, name, place, bytes);
+        self.answered(name, answer)
     }
 
     fn sync(&mut self, name: &str) -> Result<(), Failed> {
-        let answer = make_sure(self.rt, self.root, &mut self.written, name);
+        let answer = make_sure(self.rt, self.root, &mut self.opened, name);
         self.answered(name, answer)
     }
 
     fn rename(&mut self, from: &str, to: &str) -> Result<(), Failed> {
-        let answer = change_name(self.rt, self.root, from, to);
+        let answer = change_name(self.rt, self.root, &mut self.opened, from, to);
         self.answered(from, answer)
     }
 
     fn sync_names(&mut self) -> Result<(), Failed> {
-        let answer = sync_folder(self.rt, self.root, "");
+        let answer = sync_folder(self.rt, self.root, &mut self.opened, "");
         self.answered("", answer)
     }
 
@@ -132,7 +141,7 @@ impl<'a, R: Files<File = File> + AllocGlobal> Shelf for RealShelf<'a, R> {
         if self.lock.is_some() {
             return Ok(true);
         }
-        let answer = take_lock(self.rt, self.root);
+        let answer = take_lock(self.rt, self.root, &mut self.opened);
         match self.answered(WLOCK, answer)? {
             Some(file) => {
                 self.lock = Some(file);
@@ -149,7 +158,7 @@ impl<'a, R: Files<File = File> + AllocGlobal> Shelf for RealShelf<'a, R> {
         let Some(file) = self.lock.take() else {
             return Ok(());
         };
-        let answer = give_lock_back(self.rt, self.root, file);
+        let answer = give_lock_back(self.rt, self.root, &mut self.opened, file);
         self.answered(WLOCK, answer)
     }
 
@@ -165,34 +174,33 @@ const WLOCK: &str = "wlock";
 fn put<R: Files<File = File> + AllocGlobal>(
     rt: &R,
     root: &Root,
-    before: Option<Written>,
+    opened: &mut Opened,
     name: &str,
     place: u64,
     bytes: &[u8],
-) -> Result<Written, Reason> {
-    if let Some(before) = before {
-        before.sync()?;
-    }
-    make_folders(rt, root, name)?;
+) -> Result<(), Reason> {
+    opened.sync_written()?;
+    make_folders(rt, root, opened, name)?;
     let path = below_hg(rt, root, name)?;
-    write_file(rt, path.as_str(), place, bytes)
+    write_file(rt, opened, path.as_str(), place, bytes)
 }
 
 // The file, and that its folder names it.
-fn make_sure<R: Files + AllocGlobal>(
+fn make_sure<R: Files<File = File> + AllocGlobal>(
     rt: &R,
     root: &Root,
-    written: &mut Option<Written>,
+    opened: &mut Opened,
     name: &str,
 ) -> Result<(), Reason> {
     let path = below_hg(rt, root, name)?;
-    sync_file(rt, path.as_str(), written)?;
-    sync_folder(rt, root, folder_of(name))
+    sync_file(rt, opened, path.as_str())?;
+    sync_folder(rt, root, opened, folder_of(name))
 }
 
-fn change_name<R: Files + AllocGlobal>(
+fn change_name<R: Files<File = File> + AllocGlobal>(
     rt: &R,
     root: &Root,
+    opened: &mut Opened,
     from: &str,
     to: &str,
 ) -> Result<(), Reason> {
@@ -200,12 +208,12 @@ fn change_name<R: Files + AllocGlobal>(
     let Some(seen) = look(rt, from.as_str())? else {
         return Ok(());
     };
-    make_folders(rt, root, to)?;
+    make_folders(rt, root, opened, to)?;
     let to = below_hg(rt, root, to)?;
     let before = look(rt, to.as_str())?;
     // The first docket of a folder `.hg` that an earlier call may have made, and ended before it was sure.
     if before.is_none() {
-        sync(rt, root_name(root))?;
+        sync(rt, opened, root_name(root))?;
     }
     rename_seen(rt, from.as_str(), &seen, to.as_str(), before)
 }
@@ -218,8 +226,9 @@ fn take_away<R: Files + AllocGlobal>(rt: &R, root: &Root, name: &str) -> Result<
 fn take_lock<R: Files<File = File> + AllocGlobal>(
     rt: &R,
     root: &Root,
+    opened: &mut Opened,
 ) -> Result<Option<File>, Reason> {
-    make_folders(rt, root, WLOCK)?;
+    make_folders(rt, root, opened, WLOCK)?;
     let path = below_hg(rt, root, WLOCK)?;
     take(rt, path.as_str())
 }
@@ -227,16 +236,22 @@ fn take_lock<R: Files<File = File> + AllocGlobal>(
 fn give_lock_back<R: Files<File = File> + AllocGlobal>(
     rt: &R,
     root: &Root,
+    opened: &mut Opened,
     file: File,
 ) -> Result<(), Reason> {
     let path = below_hg(rt, root, WLOCK)?;
-    give_back(rt, path.as_str(), file)
+    give_back(rt, opened, path.as_str(), file)
 }
 
 // Makes sure which names a folder below `.hg` has; that is `.hg` itself for the empty name.
-fn sync_folder<R: Files + AllocGlobal>(rt: &R, root: &Root, folder: &str) -> Result<(), Reason> {
+fn sync_folder<R: Files<File = File> + AllocGlobal>(
+    rt: &R,
+    root: &Root,
+    opened: &mut Opened,
+    folder: &str,
+) -> Result<(), Reason> {
     let path = below_hg(rt, root, folder)?;
-    match sync(rt, path.as_str()) {
+    match sync(rt, opened, path.as_str()) {
         Err(error) if !is_absence(&error) => Err(Reason::System(error)),
         _ => Ok(()),
     }
@@ -251,16 +266,21 @@ fn folder_of(name: &str) -> &str {
 }
 
 // Makes the folders in which a file is to stand, where they are missing, `.hg` too; each is made sure in the folder above.
-fn make_folders<R: Files + AllocGlobal>(rt: &R, root: &Root, name: &str) -> Result<(), Reason> {
+fn make_folders<R: Files<File = File> + AllocGlobal>(
+    rt: &R,
+    root: &Root,
+    opened: &mut Opened,
+    name: &str,
+) -> Result<(), Reason> {
     let hg = below_hg(rt, root, "")?;
     if make_folder(rt, hg.as_str())? {
-        sync(rt, root_name(root))?;
+        sync(rt, opened, root_name(root))?;
     }
     let mut above = hg;
     for (at, _) in name.match_indices('/') {
         let folder = below_hg(rt, root, &name[..at])?;
         if make_folder(rt, folder.as_str())? {
-            sync(rt, above.as_str())?;
+            sync(rt, opened, above.as_str())?;
         }
         above = folder;
     }
@@ -308,9 +328,12 @@ fn file_size<R: Files>(rt: &R, path: &str) -> Result<Option<u64>, Reason> {
     }
 }
 
-fn read_file<R: Files + AllocGlobal>(
+// Where it is to stay open, the file that was read is kept.
+fn read_file<R: Files<File = File> + AllocGlobal>(
     rt: &R,
     root: &Root,
+    opened: &mut Opened,
+    stays: bool,
     name: &str,
     place: u64,
     buf: &mut [u8],
@@ -328,6 +351,9 @@ fn read_file<R: Files + AllocGlobal>(
     match fs::open(rt, path.as_str()) {
         Ok(mut file) => {
             let n = read_past(&mut file, place, buf)?;
+            if stays {
+                opened.keep(file);
+            }
             Ok(Got::Bytes(n))
         }
         Err(error) if is_absence(&error) => Ok(Got::Absent),

@@ -2,7 +2,8 @@
 
 use crate::disk::is_absence;
 use crate::failure::Reason;
-use crate::spot::{Spot, spot_of};
+use crate::opened::{Opened, Written};
+use crate::spot::spot_of;
 use std::fs::{self, File, Metadata, OpenFile};
 use std::io::{Error, ErrorKind, Seek, SeekFrom, Write};
 use std::os::unix::fs::OpenOptionsExt;
@@ -13,21 +14,6 @@ const MODE: u32 = 0o644;
 
 // What keeps a name from being written.
 const OTHER: Reason = Reason::Words("not a regular file");
-
-/// A file that was written, and stays open until it is made sure: some systems tell only at the close that there was no room for what
-/// was written, and std tells nothing of a close.
-#[derive(Drop)]
-pub(crate) struct Written {
-    spot: Spot,
-    file: File,
-}
-
-impl Written {
-    /// Makes sure what the file holds, and closes it.
-    pub(crate) fn sync(self) -> Result<(), Error> {
-        self.file.sync_all()
-    }
-}
 
 /// What stands at the path, without following a link, where anything does.
 pub(crate) fn look<R: Files>(rt: &R, path: &str) -> Result<Option<Metadata>, Error> {
@@ -80,13 +66,15 @@ fn open_or_make<R: Files>(rt: &R, path: &str) -> Result<R::File, Reason> {
     }
 }
 
-/// Writes bytes at a place of a file, which is made where it is absent. A place past the end has zeros before it.
+/// Writes bytes at a place of a file, which is made where it is absent. A place past the end has zeros before it. It is the file to be made
+/// sure next.
 pub(crate) fn write_file<R: Files<File = File>>(
     rt: &R,
+    opened: &mut Opened,
     path: &str,
     place: u64,
     bytes: &[u8],
-) -> Result<Written, Reason> {
+) -> Result<(), Reason> {
     let mut file = open_or_make(rt, path)?;
     let metadata = file.metadata()?;
     if metadata.len() < place {
@@ -94,18 +82,19 @@ pub(crate) fn write_file<R: Files<File = File>>(
     }
     file.seek(SeekFrom::Start(place))?;
     file.write_all(bytes)?;
-    Ok(Written {
+    opened.write(Written {
         spot: spot_of(&metadata),
         file,
-    })
+    });
+    Ok(())
 }
 
 /// Makes sure what a regular file holds, by the open file that was written, where that is the one at the path. An absent one has nothing
 /// to be made sure.
-pub(crate) fn sync_file<R: Files>(
+pub(crate) fn sync_file<R: Files<File = File>>(
     rt: &R,
+    opened: &mut Opened,
     path: &str,
-    written: &mut Option<Written>,
 ) -> Result<(), Reason> {
     let Some(seen) = look(rt, path)? else {
         return Ok(());
@@ -113,17 +102,19 @@ pub(crate) fn sync_file<R: Files>(
     if !seen.is_file() {
         return Err(OTHER);
     }
-    let spot = spot_of(&seen);
-    match written.take_if(|it| it.spot == spot) {
-        Some(it) => it.sync()?,
-        None => sync(rt, path)?,
+    if !opened.sync_seen(spot_of(&seen))? {
+        sync(rt, opened, path)?;
     }
     Ok(())
 }
 
 /// Makes sure what is open at the path: what a file holds, or which names a folder has.
-pub(crate) fn sync<R: Files>(rt: &R, path: &str) -> Result<(), Error> {
-    fs::open(rt, path)?.sync_all()
+pub(crate) fn sync<R: Files<File = File>>(
+    rt: &R,
+    opened: &mut Opened,
+    path: &str,
+) -> Result<(), Error> {
+    opened.sync(fs::open(rt, path)?)
 }
 
 /// Makes a folder where nothing stands, and says whether it did.

@@ -227,12 +227,12 @@ MayFollowWriting (Some fault) = (fault ≡ a_fault.ShelfFailed) ⊎ ((fault ≡ 
 abbrev pub IsSafe : Changing → List (List ℕ) → Watched tree.History → Saved → Option Fault → Type 0
 IsSafe command words copy saved fault = IsUnwritten saved.old.history saved.new.history ⊎ (MayFollowWriting fault × IsPublished command words copy saved)
 
--- the lock couldn't be given back: where no other call below `.hg` failed, and that is the fault, the words were done
+-- a call below `.hg` failed; where no other one did, and that is the fault, the words were done: it was giving the lock back that failed
 pub record IsStuck (command : Changing) (words : List (List ℕ)) (copy : Watched tree.History) (files : Watched shelf.History) (saved : Saved) (fault : Option Fault) : Type 0 where
   pub failed : Fails files
   pub alone : FailsOnce files → fault ≡ Some a_fault.ShelfFailed → (lines : List ℕ) × IsDone command words copy files saved lines
 
--- the lock is held at the end only where it was at the start, or couldn't be given back
+-- the lock is held at the end only where it was at the start, or a call below `.hg` failed; where one alone did, as `IsStuck` says
 abbrev pub IsFreed : Changing → List (List ℕ) → Watched tree.History → Watched shelf.History → Saved → Option Fault → Type 0
 IsFreed command words copy files saved fault = IsTrue saved.new.history.ours → IsTrue saved.old.history.ours ⊎ IsStuck command words copy files saved fault
 

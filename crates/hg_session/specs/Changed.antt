@@ -168,6 +168,6 @@ pub record RanChange (command : Changing) (call : Call) (status : ℕ) (fault : 
   pub looks : OnlyLooks call.looked.tree
   -- where files are forgotten the tree isn't asked
   pub unlooked : command ≡ a_change.Forget → IsUnlooked call.looked.tree
-  -- what was so far stays, and the lock is given back, unless that failed
+  -- what was so far stays, and the lock is held behind it only as `IsFreed` says
   pub kept : Goes call.saved.old call.saved.new
   pub freed : IsFreed command (files_of call.words) call.looked.tree call.looked.shelf call.saved fault

@@ -29,9 +29,9 @@ use hg_session::failed;
 use hg_stream::{ReaderSource, Sink, WriterSink, put_all};
 use hg_words::{has_file_words, located};
 use std::alloc::{AllocError, Global};
-use std::env;
 use std::io::ErrorKind;
 use std::process::ExitCode;
+use std::{env, mem};
 
 const HELP: &str =
     "hgtrack: the record of a Mercurial working copy (its dirstate-v2), and the status from it
@@ -225,5 +225,7 @@ fn command<'a, O: Sink, E: Sink>(
         Some(Fault::ShelfFailed) => explain(alloc, err, shelf.failure()),
         _ => {}
     }
+    // The system closes its files at the end of the process: of a close that fails nothing would be told.
+    mem::forget(shelf);
     outcome.status
 }
