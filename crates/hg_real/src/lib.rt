@@ -6,3 +6,5 @@
 
 #[cfg(test)]
 mod devices;
+#[cfg(test)]
+mod open_files;
