@@ -83,10 +83,12 @@ pub(crate) fn give_back<R: Files<File = File>>(
     file: File,
 ) -> Result<(), Reason> {
     let taken_away = take_away(rt, path, &file);
-    // (where that fails the file is closed, which lets go of the lock too)
-    file.unlock()?;
+    let let_go = file.unlock();
+    // (a file that isn't kept is closed, which lets go of the lock too)
+    taken_away?;
+    let_go?;
     opened.keep(file);
-    taken_away
+    Ok(())
 }
 
 // Takes the file away, where it is still the one at the path.

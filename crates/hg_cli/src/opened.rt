@@ -30,8 +30,8 @@ impl Opened {
         }
     }
 
-    /// The file to be made sure next.
-    pub(crate) fn write(&mut self, written: Written) {
+    /// Has this be the file that was written last.
+    pub(crate) fn set_written(&mut self, written: Written) {
         self.written = Some(written);
     }
 
@@ -61,7 +61,7 @@ impl Opened {
         Ok(())
     }
 
-    /// Keeps a file open that has served, unless so many are that it is closed instead, or there is no memory.
+    /// Keeps a file open that has served. It is closed where as many are kept as may be, or there is no memory.
     pub(crate) fn keep(&mut self, file: File) {
         if self.served.len() < MOST {
             match self.served.push(file) {

@@ -66,8 +66,8 @@ fn open_or_make<R: Files>(rt: &R, path: &str) -> Result<R::File, Reason> {
     }
 }
 
-/// Writes bytes at a place of a file, which is made where it is absent. A place past the end has zeros before it. It is the file to be made
-/// sure next.
+/// Writes bytes at a place of a file, which is made where it is absent. A place past the end has zeros before it. It is then the
+/// one that was written last.
 pub(crate) fn write_file<R: Files<File = File>>(
     rt: &R,
     opened: &mut Opened,
@@ -82,7 +82,7 @@ pub(crate) fn write_file<R: Files<File = File>>(
     }
     file.seek(SeekFrom::Start(place))?;
     file.write_all(bytes)?;
-    opened.write(Written {
+    opened.set_written(Written {
         spot: spot_of(&metadata),
         file,
     });
