@@ -1,6 +1,6 @@
 // What no clause says of the adapters over real files: that they look at the files.
 use hg_base::{Failed, Got, Kind, PathRef};
-use hg_cli::{RealShelf, RealTree, Root};
+use hg_disk::{RealShelf, RealTree, Root};
 use hg_shelf::Shelf;
 use hg_tree::Tree;
 use std::fs::Permissions;

@@ -1,6 +1,6 @@
 // How many files stay open: no clause says it.
 use hg_base::Got;
-use hg_cli::{RealShelf, Root};
+use hg_disk::{RealShelf, Root};
 use hg_shelf::Shelf;
 use std::test::Fail;
 use std::{fs, io};

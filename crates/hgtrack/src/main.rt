@@ -22,7 +22,8 @@ ghost use Rattle.hg_report.specs.declared.fault.Fault.TheVariants as a_fault;
 ghost use Rattle.hgtrack.specs.Words.{asks_of_program};
 
 use hg_base::{Text, Words};
-use hg_cli::{RealShelf, RealTree, Root, Start, enter_root, run};
+use hg_cli::run;
+use hg_disk::{RealShelf, RealTree, Root, Start, enter_root};
 use hg_ignore::Builds;
 use hg_report::Fault;
 use hg_session::failed;

@@ -1,7 +1,7 @@
 //! The way from the root of a working copy down to a folder: what a process remembers that stands there.
 
 ghost use Rattle.std.specs.Prelude.{◌≡◌, ◌&&◌, ◌++◌, ◌∷◌, ℕ, List, [], IsTrue, OnOk, IfSome, not};
-ghost use Rattle.hg_cli.specs.Way.{GoesBack, IsBelow, IsLeft, IsSeen, Kept, spot_of};
+ghost use Rattle.hg_disk.specs.Way.{GoesBack, IsBelow, IsLeft, IsSeen, Kept, spot_of};
 ghost use Rattle.std.specs.Str.{bytes_eq};
 
 use crate::spot::{Spot, Step};

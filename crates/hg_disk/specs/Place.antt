@@ -1,9 +1,9 @@
 -- Where a process stands that goes from folder to folder.
 use Rattle.std.specs.Prelude.{ℕ, IsTrue, not, ◌&&◌, List}
 use Rattle.std.specs.Str.{bytes_eq}
-use Rattle.hg_cli.specs.declared.way.Way.{Way}
-use Rattle.hg_cli.specs.declared.place.Gone.{Gone}
-use Rattle.hg_cli.specs.declared.place.Gone.TheVariants.{There, Absent, Shut}
+use Rattle.hg_disk.specs.declared.way.Way.{Way}
+use Rattle.hg_disk.specs.declared.place.Gone.{Gone}
+use Rattle.hg_disk.specs.declared.place.Gone.TheVariants.{There, Absent, Shut}
 
 -- where one came to the folder the way ends in it, and isn't lost
 abbrev pub StandsAt : Way → List ℕ → Gone → Type 0

@@ -6,8 +6,8 @@
 
 ghost use Rattle.std.specs.Prelude.{IfOk, IfSome, OnErr, IsTrue, length};
 ghost use Rattle.hg_base.specs.Reads.{IsWithin};
-ghost use Rattle.hg_cli.specs.Way.{Kept};
-ghost use Rattle.hg_cli.specs.Place.{StandsAt};
+ghost use Rattle.hg_disk.specs.Way.{Kept};
+ghost use Rattle.hg_disk.specs.Place.{StandsAt};
 ghost use Rattle.hg_tree.specs.Moment.{IsPlain};
 
 use crate::contents::read_name;

@@ -1,5 +1,5 @@
-use Rattle.hg_cli.proofs.entries.add_name.Goals as goal
-use Rattle.hg_cli.proofs.Listed.{one_more}
+use Rattle.hg_disk.proofs.entries.add_name.Goals as goal
+use Rattle.hg_disk.proofs.Listed.{one_more}
 
 pub returns-in_ok-push-in-Some : goal.returns-in_ok-push-in-Some
 returns-in_ok-push-in-Some c =

@@ -1,8 +1,8 @@
 -- The way from the root of a working copy down to a folder, as a stack of steps.
 use Rattle.std.specs.Prelude.{◌≡◌, ◌++◌, ◌↔◌, ◌⊎◌, ℕ, false, List, [], ◌∷◌, length}
-use Rattle.hg_cli.specs.declared.spot.Spot.{Spot}
-use Rattle.hg_cli.specs.declared.spot.Step.{Step}
-use Rattle.hg_cli.specs.declared.way.Way.{Way}
+use Rattle.hg_disk.specs.declared.spot.Spot.{Spot}
+use Rattle.hg_disk.specs.declared.spot.Step.{Step}
+use Rattle.hg_disk.specs.declared.way.Way.{Way}
 
 -- the path of a name in a folder, where the empty path is the root
 abbrev pub below : List ℕ → List ℕ → List ℕ

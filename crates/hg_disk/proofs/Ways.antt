@@ -2,9 +2,9 @@
 use Rattle.std.proofs.Common.{ℕ, ◌≡◌, ◌-◌, ◌<◌, List, [], ◌∷◌, ◌++◌, length, Some, refl, sym, ap, ◌∙◌, arith, true, inl, inr}
 use Rattle.std.specs.Prelude.{slice_get, ◌==◌}
 use Rattle.std.proofs.lemmas.List.{append-nil}
-use Rattle.hg_cli.specs.declared.spot.Spot.{Spot}
-use Rattle.hg_cli.specs.declared.spot.Step.{Step}
-use Rattle.hg_cli.specs.Way.{below, last_spot, IsLeft}
+use Rattle.hg_disk.specs.declared.spot.Spot.{Spot}
+use Rattle.hg_disk.specs.declared.spot.Step.{Step}
+use Rattle.hg_disk.specs.Way.{below, last_spot, IsLeft}
 
 -- the folder that the last step leads to
 pub last_spot_of : (root : Spot) (steps : List Step) (step : Step) → slice_get steps (length steps - 1) ≡ Some step → step.spot ≡ last_spot root steps
