@@ -6,9 +6,9 @@ use Rattle.std.specs.Cmp.{IsTotalOrder, nat_cmp_total, on_total, tied_itself, th
 use Rattle.std.specs.Cmp.Lexicographic.{nat_list_cmp_total}
 use Rattle.std.specs.declared.cmp.Ordering.TheVariants.{Less}
 use Rattle.std.proofs.lemmas.List.Elements.{Contains-append_cases, Contains-append_left, Contains-append_right, Contains-push, Contains-push_cases}
-use Rattle.hg_flat.specs.Full.{OneListing}
-use Rattle.hg_flat.specs.Order.{group_of, row_order}
-use Rattle.hg_flat.specs.declared.row.Row.{Row}
+use Rattle.hg_listing.specs.Full.{OneListing}
+use Rattle.hg_listing.specs.Order.{group_of, row_order}
+use Rattle.hg_listing.specs.declared.row.Row.{Row}
 
 row_order_total : IsTotalOrder row_order
 row_order_total = then_total (on_total (λ (row : Row). group_of row.letter) nat_cmp_total) (on_total (λ (row : Row). row.path) nat_list_cmp_total)

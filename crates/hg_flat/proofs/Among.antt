@@ -13,7 +13,7 @@ use Rattle.hg_base.proofs.Cuts.{cut_pieces}
 use Rattle.hg_base.proofs.Paths.{path_parts}
 use Rattle.hg_tree.specs.Moment.{Moment, AreFit, AreNames, IsFit, is_among, is_dir}
 use Rattle.hg_tree.specs.declared.thing.Placed.{Placed}
-use Rattle.hg_flat.specs.Full.{is_repository}
+use Rattle.hg_listing.specs.Full.{is_repository}
 use Rattle.hg_flat.specs.Listing.{holds_repository, is_from, is_inside}
 
 -- a name among those that fit fits

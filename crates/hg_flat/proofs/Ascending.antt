@@ -17,8 +17,8 @@ use Rattle.std.proofs.lemmas.List.Sorted.{Contains-permutation, IsPermutation-sy
 use Rattle.std.proofs.lemmas.Map.Lookups.{exact_bytes, exact_unsigned}
 use Rattle.hg_compare.specs.declared.letter.Letter.{Letter}
 use Rattle.hg_compare.specs.declared.letter.Letter.TheVariants as a_letter
-use Rattle.hg_flat.specs.Order.{group_of, row_order, whole_order, whole_order_total}
-use Rattle.hg_flat.specs.declared.row.Row.{Row}
+use Rattle.hg_listing.specs.Order.{group_of, row_order, whole_order, whole_order_total}
+use Rattle.hg_listing.specs.declared.row.Row.{Row}
 use Rattle.hg_flat.proofs.Alone.{never_itself}
 
 -- ---- rows that are alike are the same

@@ -12,7 +12,7 @@ use Rattle.hg_flat.specs.Asked.{AsksAll, AsksBehind, AsksFor, AsksReads, IsDirBe
 use Rattle.hg_flat.specs.Course.{AsksPatterns}
 use Rattle.hg_flat.specs.Listing.{IsEntered}
 use Rattle.hg_flat.specs.Patterns.{needs_patterns}
-use Rattle.hg_flat.specs.declared.row.Wanted.{Wanted}
+use Rattle.hg_listing.specs.declared.row.Wanted.{Wanted}
 use Rattle.hg_flat.proofs.Asks.{asks_none, below_later, reads_none}
 
 -- ---- the patterns

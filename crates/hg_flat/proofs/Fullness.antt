@@ -14,15 +14,15 @@ use Rattle.hg_tree.specs.Moment.{Moment}
 use Rattle.hg_ignore.specs.State.{Ignore, Piece}
 use Rattle.hg_compare.specs.Tracked.{ParentRow, is_file_or_link, tracked_letter}
 use Rattle.hg_compare.specs.declared.letter.Letter.{Letter}
-use Rattle.hg_flat.specs.Full.{HasLetter, HasLetterBy, IsFull, IsFullFor, IsTold, wants}
+use Rattle.hg_listing.specs.Full.{HasLetter, HasLetterBy, IsFull, IsFullFor, IsTold, wants}
 use Rattle.hg_flat.specs.Kept.{AreNamed, HaveOwnPaths, Kept, flat_from, source_of}
 use Rattle.hg_flat.specs.Listing.{AddsTracked, ArePutFor, Gives, GivesLetter, IsPutFor, IsUnknownIn, IsUntrackedRow, Lists, letter_at, row_under, rows_under, untracked_row}
-use Rattle.hg_flat.specs.Order.{row_order, whole_order}
+use Rattle.hg_listing.specs.Order.{row_order, whole_order}
 use Rattle.hg_flat.specs.Parent.{IsAsked, IsServed, is_plain_entry, parent_rows}
 use Rattle.hg_flat.specs.Patterns.{ignored_at, needs_patterns}
 use Rattle.hg_flat.specs.declared.kept.FlatRow.{FlatRow}
-use Rattle.hg_flat.specs.declared.row.Row.{Row}
-use Rattle.hg_flat.specs.declared.row.Wanted.{Wanted}
+use Rattle.hg_listing.specs.declared.row.Row.{Row}
+use Rattle.hg_listing.specs.declared.row.Wanted.{Wanted}
 use Rattle.hg_flat.proofs.Ascending.{ascending, distinct_paths, kept_by, kept_of, same_row}
 use Rattle.hg_flat.proofs.Ignoring.{gives_needs, one_letter}
 use Rattle.hg_flat.proofs.Tracking.{from_put, in_put, under_has, under_one}

@@ -10,12 +10,12 @@ use Rattle.hg_ignore.specs.State.{Ignored, Matches, Piece}
 use Rattle.hg_ignore.proofs.Asking.{law_of_ignored}
 use Rattle.hg_compare.specs.declared.letter.Letter.{Letter}
 use Rattle.hg_compare.specs.declared.letter.Letter.TheVariants as a_letter
-use Rattle.hg_flat.specs.Full.{wants}
+use Rattle.hg_listing.specs.Full.{wants}
 use Rattle.hg_flat.specs.Kept.{Kept}
 use Rattle.hg_flat.specs.Listing.{Gives, GivesLetter, IsEntered, Lists, PutsUntracked, is_from, rows_if, untracked_row}
 use Rattle.hg_flat.specs.Patterns.{needs_patterns}
-use Rattle.hg_flat.specs.declared.row.Row.{Row}
-use Rattle.hg_flat.specs.declared.row.Wanted.{Wanted}
+use Rattle.hg_listing.specs.declared.row.Row.{Row}
+use Rattle.hg_listing.specs.declared.row.Wanted.{Wanted}
 use Rattle.hg_flat.proofs.Unknowns.{from_cases, lists_none}
 
 -- ---- letters

@@ -20,7 +20,7 @@ use Rattle.hg_flat.specs.Parent.{IsLeft, is_compared, is_plain_entry, manifest_a
 use Rattle.hg_flat.specs.Shown.{flat_in}
 use Rattle.hg_flat.specs.declared.flat.Flat.{Flat}
 use Rattle.hg_flat.specs.declared.kept.FlatRow.{FlatRow}
-use Rattle.hg_flat.specs.declared.row.Wanted.{Wanted}
+use Rattle.hg_listing.specs.declared.row.Wanted.{Wanted}
 use Rattle.hg_flat.proofs.Holding.{found_at}
 
 -- the path of an entry is compared where the entry is

@@ -15,11 +15,11 @@ use Rattle.hg_compare.specs.Tracked.{is_file_or_link, is_file_or_link_thing, is_
 use Rattle.hg_compare.specs.declared.letter.Letter.{Letter}
 use Rattle.hg_compare.specs.declared.letter.Letter.TheVariants as a_letter
 use Rattle.hg_flat.specs.Course.{IsFound, compared_letter}
-use Rattle.hg_flat.specs.Full.{wants}
+use Rattle.hg_listing.specs.Full.{wants}
 use Rattle.hg_flat.specs.Listing.{IsLetterFor, is_compared_row, is_file_or_link_kind, letter_at, marked_letter, row_under, rows_if, rows_under, wants_bytes, wants_tracked}
 use Rattle.hg_flat.specs.Parent.{is_plain_entry, parent_rows}
 use Rattle.hg_flat.specs.declared.kept.FlatRow.{FlatRow}
-use Rattle.hg_flat.specs.declared.row.Wanted.{Wanted}
+use Rattle.hg_listing.specs.declared.row.Wanted.{Wanted}
 
 -- ---- what a look shows
 

@@ -21,8 +21,8 @@ use Rattle.hg_compare.specs.declared.letter.Letter.{Letter}
 use Rattle.hg_flat.specs.Course.{Goes, IsFound, IsJudged, IsKeptManifest, IsManifest, LacksIn, LacksManifest, LoadsParent, MetBy, compared_letter, upto}
 use Rattle.hg_flat.specs.Met.{Status, WasRead}
 use Rattle.hg_flat.specs.Parent.{KeepsRow, manifest_at, row_among, row_of}
-use Rattle.hg_flat.specs.declared.fault.StatusFault.{StatusFault}
-use Rattle.hg_flat.specs.declared.fault.StatusFault.TheVariants as a_fault
+use Rattle.hg_listing.specs.declared.fault.StatusFault.{StatusFault}
+use Rattle.hg_listing.specs.declared.fault.StatusFault.TheVariants as a_fault
 use Rattle.hg_flat.specs.declared.parent.Loaded.{Loaded}
 use Rattle.hg_flat.specs.declared.parent.Parent.{Parent}
 

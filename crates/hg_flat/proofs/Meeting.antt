@@ -11,8 +11,8 @@ use Rattle.hg_flat.specs.Course.{MetBy, MetParent, upto}
 use Rattle.hg_flat.specs.Listing.{is_file_or_link_kind}
 use Rattle.hg_flat.specs.Met.{NeedsManifest, Shows, Status}
 use Rattle.hg_flat.specs.Parent.{IsAsked, is_compared}
-use Rattle.hg_flat.specs.declared.fault.StatusFault.{StatusFault}
-use Rattle.hg_flat.specs.declared.fault.StatusFault.TheVariants as a_fault
+use Rattle.hg_listing.specs.declared.fault.StatusFault.{StatusFault}
+use Rattle.hg_listing.specs.declared.fault.StatusFault.TheVariants as a_fault
 use Rattle.hg_flat.proofs.Letters.{there_is}
 
 module _ (s : Status) (copy later : trees.History) (new : shelves.History) (path : List ℕ) (there : Stat) (first : trees.Passes s.tree_old copy) (second : trees.Passes copy later)

@@ -14,9 +14,9 @@ use Rattle.hg_tree.proofs.Stillness.{same_kind}
 use Rattle.hg_compare.specs.Tracked.{ParentRow, equal_bools, equal_bytes, equals_row, is_file_or_link, is_unchanged, tracked_letter}
 use Rattle.hg_compare.specs.declared.letter.Letter.{Letter}
 use Rattle.hg_compare.specs.declared.letter.Letter.TheVariants as a_letter
-use Rattle.hg_flat.specs.Full.{HasLetterBy, IsFullFor, IsTold, IsVisible}
-use Rattle.hg_flat.specs.declared.row.Row.{Row}
-use Rattle.hg_flat.specs.declared.row.Wanted.{Wanted}
+use Rattle.hg_listing.specs.Full.{HasLetterBy, IsFullFor, IsTold, IsVisible}
+use Rattle.hg_listing.specs.declared.row.Row.{Row}
+use Rattle.hg_listing.specs.declared.row.Wanted.{Wanted}
 use Rattle.hg_flat.proofs.Alike.{alike_back, dir_alike, file_alike}
 
 -- ---- a comparison with a row of the parent looks at the face and the executable bit

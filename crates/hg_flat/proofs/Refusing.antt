@@ -15,10 +15,10 @@ use Rattle.hg_tree.specs.declared.thing.Placed.{Placed}
 use Rattle.hg_tree.specs.declared.thing.Thing.{Thing}
 use Rattle.hg_tree.specs.declared.thing.Thing.TheVariants as a_thing
 use Rattle.hg_tree.proofs.Stillness.{same_kind}
-use Rattle.hg_flat.specs.Cause.{of_ignore}
+use Rattle.hg_listing.specs.Cause.{of_ignore}
 use Rattle.hg_flat.specs.Course.{IsKeptState, IsState, LacksPatterns, pieces_of, warned_of}
 use Rattle.hg_flat.specs.Patterns.{HadPatterns, Warns, needs_patterns}
-use Rattle.hg_flat.specs.declared.row.Wanted.{Wanted}
+use Rattle.hg_listing.specs.declared.row.Wanted.{Wanted}
 use Rattle.hg_flat.proofs.Faces.{bytes_seen}
 
 -- ---- the state is that of the file's face

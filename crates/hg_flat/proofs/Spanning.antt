@@ -14,9 +14,9 @@ use Rattle.hg_flat.specs.Course.{LacksPatterns, MetParent}
 use Rattle.hg_flat.specs.Met.{LacksContents, Met, NeedsManifest, Shows, Status, WasRead}
 use Rattle.hg_flat.specs.Parent.{IsAsked}
 use Rattle.hg_flat.specs.Patterns.{CountsOversize, is_of_parent, needs_patterns}
-use Rattle.hg_flat.specs.declared.fault.StatusFault.{StatusFault}
-use Rattle.hg_flat.specs.declared.fault.StatusFault.TheVariants as a_fault
-use Rattle.hg_flat.specs.declared.row.Wanted.{Wanted}
+use Rattle.hg_listing.specs.declared.fault.StatusFault.{StatusFault}
+use Rattle.hg_listing.specs.declared.fault.StatusFault.TheVariants as a_fault
+use Rattle.hg_listing.specs.declared.row.Wanted.{Wanted}
 
 module _ (wanted : Wanted) (flat : Flat) (id : Id20) (start old new : trees.History) (first : trees.Passes start old) (files later : shelves.History) where
   abbrev part : Status

@@ -18,11 +18,11 @@ use Rattle.hg_tree.proofs.Stillness.{alike_between, untouched_first, untouched_s
 use Rattle.hg_ignore.specs.State.{Ignored, Piece}
 use Rattle.hg_compare.specs.Tracked.{is_file_or_link, is_file_or_link_thing}
 use Rattle.hg_compare.specs.declared.letter.Letter.{Letter}
-use Rattle.hg_flat.specs.Full.{wants}
+use Rattle.hg_listing.specs.Full.{wants}
 use Rattle.hg_flat.specs.Kept.{Kept}
 use Rattle.hg_flat.specs.Listing.{Gives, GivesLetter, HoldsFor, IsUnknownAmong, IsUnknownFrom, IsUnknownIn, Lists, PutsUntracked, rows_if, untracked_row}
-use Rattle.hg_flat.specs.declared.row.Row.{Row}
-use Rattle.hg_flat.specs.declared.row.Wanted.{Wanted}
+use Rattle.hg_listing.specs.declared.row.Row.{Row}
+use Rattle.hg_listing.specs.declared.row.Wanted.{Wanted}
 use Rattle.hg_flat.specs.declared.kept.FlatRow.{FlatRow}
 use Rattle.hg_flat.proofs.Alike.{alike_back, among_moved, from_moved, in_moved}
 use Rattle.hg_flat.proofs.Ignoring.{none_left, one_letter}

@@ -18,12 +18,12 @@ use Rattle.hg_manifest.specs.Plain.{plain_name}
 use Rattle.hg_manifest.specs.declared.row.FileRow.{FileRow}
 use Rattle.hg_compare.specs.Alike.{contents_name, is_alike}
 use Rattle.hg_compare.specs.declared.letter.Letter.{Letter}
-use Rattle.hg_flat.specs.Full.{wants}
+use Rattle.hg_listing.specs.Full.{wants}
 use Rattle.hg_flat.specs.Listing.{AddsTracked, ArePutFor, IsLeftRow, IsLetterFor, IsPutFor, row_under, rows_if, rows_under}
 use Rattle.hg_flat.specs.Parent.{HasContents, IsServed, KeepsRow, manifest_at, parent_rows, row_among, row_of}
 use Rattle.hg_flat.specs.declared.kept.FlatRow.{FlatRow}
-use Rattle.hg_flat.specs.declared.row.Row.{Row}
-use Rattle.hg_flat.specs.declared.row.Wanted.{Wanted}
+use Rattle.hg_listing.specs.declared.row.Row.{Row}
+use Rattle.hg_listing.specs.declared.row.Wanted.{Wanted}
 use Rattle.hg_flat.proofs.Alike.{file_alike}
 use Rattle.hg_flat.proofs.Faces.{stat_alike}
 use Rattle.hg_flat.proofs.Moved.{letter_moved}

@@ -16,10 +16,10 @@ use Rattle.hg_tree.specs.declared.thing.Thing.{Thing}
 use Rattle.hg_compare.specs.Tracked.{is_file_or_link, is_file_or_link_thing}
 use Rattle.hg_compare.specs.declared.letter.Letter.{Letter}
 use Rattle.hg_tree.specs.Moment.{is_dir_thing}
-use Rattle.hg_flat.specs.Full.{is_repository}
+use Rattle.hg_listing.specs.Full.{is_repository}
 use Rattle.hg_flat.specs.Kept.{Kept}
 use Rattle.hg_flat.specs.Listing.{AreUnknown, IsUnknownAmong, IsUnknownFrom, IsUnknownIn, IsVisibleFrom, IsUntrackedRow, Lists, holds_repository, is_from, is_inside, untracked_row}
-use Rattle.hg_flat.specs.declared.row.Row.{Row}
+use Rattle.hg_listing.specs.declared.row.Row.{Row}
 use Rattle.hg_flat.proofs.Among.{reached, Reached}
 
 -- ---- listings

@@ -17,8 +17,8 @@ use Rattle.hg_flat.specs.Patterns.{needs_patterns}
 use Rattle.hg_flat.specs.Shown.{flat_in, kept_of}
 use Rattle.hg_flat.specs.declared.flat.Flat.{Flat}
 use Rattle.hg_flat.specs.declared.kept.FlatRow.{FlatRow}
-use Rattle.hg_flat.specs.declared.row.Row.{Row}
-use Rattle.hg_flat.specs.declared.row.Wanted.{Wanted}
+use Rattle.hg_listing.specs.declared.row.Row.{Row}
+use Rattle.hg_listing.specs.declared.row.Wanted.{Wanted}
 use Rattle.hg_flat.proofs.Leaving.{left_row}
 use Rattle.hg_flat.proofs.Refusing.{state_kept}
 use Rattle.hg_flat.proofs.Steps.{lists_later}

@@ -7,10 +7,10 @@ use Rattle.hg_tree.specs.Moment.{Moment, is_among, is_dir}
 use Rattle.hg_tree.specs.History.{History, IsOurs, now}
 use Rattle.hg_tree.specs.declared.asked.Asked.{Asked}
 use Rattle.hg_tree.specs.declared.asked.Asked.TheVariants as an_ask
-use Rattle.hg_flat.specs.Full.{IsVisible}
+use Rattle.hg_listing.specs.Full.{IsVisible}
 use Rattle.hg_flat.specs.Listing.{IsVisibleFrom, is_from, is_inside}
 use Rattle.hg_flat.specs.Patterns.{ignored_at, needs_patterns}
-use Rattle.hg_flat.specs.declared.row.Wanted.{Wanted}
+use Rattle.hg_listing.specs.declared.row.Wanted.{Wanted}
 
 -- the tree was asked for these directories besides, for each once, and nothing was read; no directory is the root
 pub record AsksFor (Within : Option (List ℕ) → Type 0) (old new : History) : Type 0 where

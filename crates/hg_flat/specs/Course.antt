@@ -28,11 +28,11 @@ use Rattle.hg_flat.specs.Asked.{IsPatternsRead}
 use Rattle.hg_flat.specs.Met.{Holds, Met, Status, WasRead}
 use Rattle.hg_flat.specs.Parent.{HasContents, IsServed, parent_rows, row_of}
 use Rattle.hg_flat.specs.Patterns.{needs_patterns}
-use Rattle.hg_flat.specs.declared.fault.StatusFault.{StatusFault}
-use Rattle.hg_flat.specs.declared.fault.StatusFault.TheVariants as a_fault
+use Rattle.hg_listing.specs.declared.fault.StatusFault.{StatusFault}
+use Rattle.hg_listing.specs.declared.fault.StatusFault.TheVariants as a_fault
 use Rattle.hg_flat.specs.declared.parent.Loaded.{Loaded}
 use Rattle.hg_flat.specs.declared.parent.Parent.{Parent}
-use Rattle.hg_flat.specs.declared.row.Wanted.{Wanted}
+use Rattle.hg_listing.specs.declared.row.Wanted.{Wanted}
 
 -- ---- the ignore patterns
 

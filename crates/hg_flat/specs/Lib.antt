@@ -1,11 +1,8 @@
 pub mod Asked
-pub mod Cause
 pub mod Course
-pub mod Full
 pub mod Kept
 pub mod Listing
 pub mod Met
-pub mod Order
 pub mod Parent
 pub mod Patterns
 pub mod Recorded

@@ -17,11 +17,11 @@ use Rattle.hg_ignore.specs.State.{Ignored, Piece}
 use Rattle.hg_compare.specs.Tracked.{is_file_or_link, tracked_letter}
 use Rattle.hg_compare.specs.declared.letter.Letter.{Letter}
 use Rattle.hg_compare.specs.declared.letter.Letter.TheVariants as a_letter
-use Rattle.hg_flat.specs.Full.{is_repository, wants}
+use Rattle.hg_listing.specs.Full.{is_repository, wants}
 use Rattle.hg_flat.specs.Kept.{Kept}
 use Rattle.hg_flat.specs.Parent.{IsServed, KeepsRow, is_plain_entry, parent_rows}
-use Rattle.hg_flat.specs.declared.row.Row.{Row}
-use Rattle.hg_flat.specs.declared.row.Wanted.{Wanted}
+use Rattle.hg_listing.specs.declared.row.Row.{Row}
+use Rattle.hg_listing.specs.declared.row.Wanted.{Wanted}
 use Rattle.hg_flat.specs.declared.kept.FlatRow.{FlatRow}
 
 abbrev pub is_file_or_link_kind : Kind → Bool

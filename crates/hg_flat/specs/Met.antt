@@ -18,9 +18,9 @@ use Rattle.hg_manifest.specs.declared.row.FileRow.{FileRow}
 use Rattle.hg_compare.specs.Alike.{contents_name, is_alike}
 use Rattle.hg_flat.specs.Parent.{IsAsked, is_compared, row_of}
 use Rattle.hg_flat.specs.Patterns.{needs_patterns}
-use Rattle.hg_flat.specs.declared.fault.StatusFault.{StatusFault}
-use Rattle.hg_flat.specs.declared.fault.StatusFault.TheVariants as a_fault
-use Rattle.hg_flat.specs.declared.row.Wanted.{Wanted}
+use Rattle.hg_listing.specs.declared.fault.StatusFault.{StatusFault}
+use Rattle.hg_listing.specs.declared.fault.StatusFault.TheVariants as a_fault
+use Rattle.hg_listing.specs.declared.row.Wanted.{Wanted}
 
 -- what a status is asked for, and what both devices tell before and after it
 pub record Status : Type 0 where

@@ -19,7 +19,7 @@ use Rattle.hg_compare.specs.Alike.{contents_name, is_alike}
 use Rattle.hg_compare.specs.Same.{parent_row}
 use Rattle.hg_compare.specs.Tracked.{ParentRow, is_file_or_link}
 use Rattle.hg_flat.specs.Patterns.{needs_patterns}
-use Rattle.hg_flat.specs.declared.row.Wanted.{Wanted}
+use Rattle.hg_listing.specs.declared.row.Wanted.{Wanted}
 
 -- the manifest of a parent, or its fault
 abbrev pub manifest_at : shelf.Files → Id20 → Result Rows ManifestFault

@@ -6,9 +6,9 @@ use Rattle.hg_ignore.specs.State.{Ignore, Ignored}
 use Rattle.hg_ignore.specs.declared.warnings.Warning.{Warning}
 use Rattle.hg_tree.specs.History.{History}
 use Rattle.hg_tree.specs.Moment.{Moment}
-use Rattle.hg_flat.specs.declared.fault.StatusFault.{StatusFault}
-use Rattle.hg_flat.specs.declared.fault.StatusFault.TheVariants as a_fault
-use Rattle.hg_flat.specs.declared.row.Wanted.{Wanted}
+use Rattle.hg_listing.specs.declared.fault.StatusFault.{StatusFault}
+use Rattle.hg_listing.specs.declared.fault.StatusFault.TheVariants as a_fault
+use Rattle.hg_listing.specs.declared.row.Wanted.{Wanted}
 
 -- the letters that patterns decide between are wanted
 abbrev pub needs_patterns : Wanted → Bool

@@ -2,7 +2,7 @@
 
 ghost use Rattle.std.specs.Prelude.{ℕ, Bool, List, IsTrue};
 ghost use Rattle.hg_tree.specs.Moment.{Moment};
-ghost use Rattle.hg_flat.specs.Full.{OneListing, nothing_ignored};
+ghost use Rattle.hg_listing.specs.Full.{OneListing, nothing_ignored};
 ghost use Rattle.hg_flat.specs.Patterns.{ignored_at};
 
 /// Two full listings of the same record and the same moment, for the same letters, are equal: where nothing is ignored, by the ignore

@@ -17,26 +17,22 @@
 #![tactic(auto)]
 
 mod comparing;
-mod fault;
 mod flat;
 mod full;
 mod kept;
 mod letter;
 mod listed;
 mod listing;
-mod order;
 mod parent;
 mod patterns;
 mod reading;
-mod row;
 mod status;
 mod untracked;
 
-pub use fault::StatusFault;
 pub use flat::Flat;
 pub use full::one_listing;
 pub use hg_compare::Letter;
+pub use hg_listing::{Row, Rows, StatusFault, Wanted};
 pub use kept::FlatRow;
 pub use listed::Listed;
-pub use row::{Row, Rows, Wanted};
 pub use status::plain_status;

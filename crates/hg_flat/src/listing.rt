@@ -7,16 +7,16 @@ ghost use Rattle.hg_ignore.specs.Kept.{DirIgnored};
 ghost use Rattle.hg_tree.specs.History.{Passes, now};
 ghost use Rattle.hg_tree.specs.Still.{Untouched};
 ghost use Rattle.hg_tree.specs.Moment.{AreFit, AreNames, has_dir, is_among, is_dir, stat_at};
-ghost use Rattle.hg_flat.specs.Cause.{HasListingCause};
+ghost use Rattle.hg_listing.specs.Cause.{HasListingCause};
 ghost use Rattle.hg_flat.specs.Asked.{AsksFor, AsksNothing, IsDirAmong, IsDirFrom, IsDirIn};
 ghost use Rattle.hg_flat.specs.Listing.{Gives, HoldsFor, IsEntered, IsUnknownAmong, IsUnknownFrom, IsUnknownIn, Lists, holds_repository, shows_dir};
 ghost use Rattle.hg_flat.specs.Shown.{kept_of};
 
 use crate::flat::Flat;
-use crate::row::{Row, Wanted};
 use crate::untracked::{add_untracked, is_ignored, leaves_out};
 use hg_base::{Kind, Path, PathRef, Stat};
 use hg_ignore::Matcher;
+use hg_listing::{Row, Wanted};
 use hg_tree::{Name, Tree, TreeFault};
 use std::alloc::Global;
 

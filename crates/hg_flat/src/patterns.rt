@@ -3,13 +3,12 @@
 ghost use Rattle.std.specs.Prelude.{◌≡◌, ◌||◌, ◌++◌, false, IsTrue, IfErr, IfOk, OnOk};
 ghost use Rattle.hg_tree.specs.History.{IsOurs, Passes, now};
 ghost use Rattle.hg_flat.specs.Asked.{pattern_reads};
-ghost use Rattle.hg_flat.specs.Cause.{HasStatusCause};
+ghost use Rattle.hg_listing.specs.Cause.{HasStatusCause};
 ghost use Rattle.hg_flat.specs.Course.{AsksPatterns, IsKeptState, LacksPatterns, warned_of};
 ghost use Rattle.hg_flat.specs.Patterns.{CountsOversize, needs_patterns};
 
-use crate::fault::StatusFault;
-use crate::row::Wanted;
 use hg_ignore::{Ignore, Regexps, Warnings};
+use hg_listing::{StatusFault, Wanted};
 use hg_tree::Tree;
 use std::alloc::Global;
 

@@ -11,10 +11,10 @@ ghost use Rattle.hg_flat.specs.Shown.{kept_of};
 
 use crate::flat::Flat;
 use crate::letter::wants;
-use crate::row::{Row, Wanted};
 use hg_base::{Path, PathRef};
 use hg_compare::Letter;
 use hg_ignore::Matcher;
+use hg_listing::{Row, Wanted};
 use hg_tree::TreeFault;
 
 /// Whether a path is ignored: all is in a directory that is, and elsewhere what a line matches.

@@ -1,8 +1,8 @@
 -- The faults of the crates below, under the names of a command's faults.
 use Rattle.hg_append.specs.declared.fault.EncodeFault.{EncodeFault}
 use Rattle.hg_append.specs.declared.fault.EncodeFault.TheVariants as an_encode_fault
-use Rattle.hg_flat.specs.declared.fault.StatusFault.{StatusFault}
-use Rattle.hg_flat.specs.declared.fault.StatusFault.TheVariants as a_status_fault
+use Rattle.hg_listing.specs.declared.fault.StatusFault.{StatusFault}
+use Rattle.hg_listing.specs.declared.fault.StatusFault.TheVariants as a_status_fault
 use Rattle.hg_ops.specs.declared.refusal.OpFault.{OpFault}
 use Rattle.hg_ops.specs.declared.refusal.OpFault.TheVariants as an_op_fault
 use Rattle.hg_report.specs.declared.fault.Fault.{Fault}

@@ -3,7 +3,7 @@ use Rattle.std.specs.Prelude.{ℕ, Bool, true, false, not, ◌&&◌, if◌then�
 use Rattle.std.specs.List.{flat_map}
 use Rattle.hg_compare.specs.declared.letter.Letter.{Letter}
 use Rattle.hg_compare.specs.declared.letter.Letter.TheVariants as a_letter
-use Rattle.hg_flat.specs.declared.row.Row.{Row}
+use Rattle.hg_listing.specs.declared.row.Row.{Row}
 use Rattle.hg_report.specs.declared.status.Style.{Style}
 
 -- the sign of a letter: M A R ! ? I C

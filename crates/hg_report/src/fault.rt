@@ -3,8 +3,8 @@
 use hg_append::EncodeFault;
 use hg_base::{Id20, OutOfMemory};
 use hg_docket::{DocketFault, Idents};
-use hg_flat::StatusFault;
 use hg_image::NodeFault;
+use hg_listing::StatusFault;
 use hg_ops::OpFault;
 use std::alloc::{AllocError, AllocFailed};
 

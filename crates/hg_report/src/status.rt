@@ -5,7 +5,7 @@ ghost use Rattle.hg_report.specs.Status.{end_of, name_line, row_text, shows_sour
 
 use hg_base::{OutOfMemory, Path};
 use hg_compare::Letter;
-use hg_flat::{Row, Rows};
+use hg_listing::{Row, Rows};
 use std::alloc::Global;
 
 /// How the rows of a status are printed.

@@ -10,9 +10,9 @@ use Rattle.hg_compare.specs.Tracked.{is_file_or_link}
 use Rattle.hg_entry.specs.Table.{Flat}
 use Rattle.hg_flat.specs.Met.{LacksContents, Met, NeedsManifest, Shows, Status, WasRead}
 use Rattle.hg_flat.specs.Parent.{IsAsked, manifest_at}
-use Rattle.hg_flat.specs.declared.fault.StatusFault.{StatusFault}
-use Rattle.hg_flat.specs.declared.fault.StatusFault.TheVariants as a_fault
-use Rattle.hg_flat.specs.declared.row.Wanted.{Wanted}
+use Rattle.hg_listing.specs.declared.fault.StatusFault.{StatusFault}
+use Rattle.hg_listing.specs.declared.fault.StatusFault.TheVariants as a_fault
+use Rattle.hg_listing.specs.declared.row.Wanted.{Wanted}
 use Rattle.hg_manifest.specs.Load.{IsFrontOf, Was, file_manifest, manifest_in}
 use Rattle.hg_manifest.specs.Plain.{is_null, most, plain_name}
 use Rattle.hg_manifest.specs.Rows.{Rows, manifest_of}

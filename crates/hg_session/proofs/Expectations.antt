@@ -8,13 +8,13 @@ use Rattle.hg_base.specs.declared.stat.Stat.{Stat}
 use Rattle.hg_compare.specs.Alike.{contents_name, is_alike}
 use Rattle.hg_entry.specs.Table.{Table, flat_of}
 use Rattle.hg_entry.specs.Table as plain
-use Rattle.hg_flat.specs.Full.{IsFull}
+use Rattle.hg_listing.specs.Full.{IsFull}
 use Rattle.hg_flat.specs.Met as flat_met
 use Rattle.hg_flat.specs.Parent.{IsAsked, IsServed, manifest_at, parent_rows}
 use Rattle.hg_flat.specs.Patterns.{HadPatterns, ignored_at, needs_patterns}
-use Rattle.hg_flat.specs.declared.fault.StatusFault.TheVariants as a_status
-use Rattle.hg_flat.specs.declared.row.Row.{Row}
-use Rattle.hg_flat.specs.declared.row.Wanted.{Wanted}
+use Rattle.hg_listing.specs.declared.fault.StatusFault.TheVariants as a_status
+use Rattle.hg_listing.specs.declared.row.Row.{Row}
+use Rattle.hg_listing.specs.declared.row.Wanted.{Wanted}
 use Rattle.hg_flat.proofs.Fullness.{full_of}
 use Rattle.hg_ignore.specs.Line.{lines_of}
 use Rattle.hg_ignore.specs.Patterns.{HasBadLine, HasBytes, HasFile, ReadSo, RefusesLines, RefusesPatterns, most_text}

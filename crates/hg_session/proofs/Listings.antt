@@ -3,17 +3,17 @@ use Rattle.std.proofs.Common.{ℕ, ◌≡◌, Bool, true, List, [], ◌∷◌, O
 use Rattle.std.specs.Prelude.{MatchBool}
 use Rattle.hg_base.specs.declared.id.Id20.{Id20}
 use Rattle.hg_entry.specs.Table as plain
-use Rattle.hg_flat.specs.Full.{IsFullFor}
+use Rattle.hg_listing.specs.Full.{IsFullFor}
 use Rattle.hg_flat.specs.Met as flat_met
 use Rattle.hg_flat.specs.Parent.{IsAsked, IsLeft, IsServed, parent_rows}
 use Rattle.hg_flat.specs.Patterns.{CountsOversize, HadPatterns, Warns, ignored_at, is_of_parent}
 use Rattle.hg_flat.specs.Shown.{flat_in}
 use Rattle.hg_flat.specs.declared.listed.Listed.{Listed}
-use Rattle.hg_flat.specs.declared.fault.StatusFault.{StatusFault}
-use Rattle.hg_flat.specs.declared.fault.StatusFault.TheVariants as a_status
+use Rattle.hg_listing.specs.declared.fault.StatusFault.{StatusFault}
+use Rattle.hg_listing.specs.declared.fault.StatusFault.TheVariants as a_status
 use Rattle.hg_flat.specs.declared.flat.Flat.{Flat}
-use Rattle.hg_flat.specs.declared.row.Row.{Row}
-use Rattle.hg_flat.specs.declared.row.Wanted.{Wanted}
+use Rattle.hg_listing.specs.declared.row.Row.{Row}
+use Rattle.hg_listing.specs.declared.row.Wanted.{Wanted}
 use Rattle.hg_ignore.specs.Patterns.{WereRead}
 use Rattle.hg_ignore.specs.declared.warnings.Warning.{Warning}
 use Rattle.hg_shelf.specs.History as shelf

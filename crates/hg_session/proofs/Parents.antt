@@ -8,11 +8,11 @@ use Rattle.hg_compare.specs.Tracked.{ParentRow, is_file_or_link, is_unchanged, t
 use Rattle.hg_compare.specs.declared.letter.Letter.{Letter}
 use Rattle.hg_compare.specs.declared.letter.Letter.TheVariants as a_letter
 use Rattle.hg_entry.specs.Table.{Flat, Marks}
-use Rattle.hg_flat.specs.Full.{HasLetterBy, IsFullFor, IsTold, wants}
+use Rattle.hg_listing.specs.Full.{HasLetterBy, IsFullFor, IsTold, wants}
 use Rattle.hg_flat.specs.Parent.{HasContents, IsAsked, IsLeft, IsServed, KeepsRow, is_compared, is_plain_entry, manifest_at, parent_rows, row_among, row_of}
 use Rattle.hg_flat.specs.Patterns.{ignored_at}
-use Rattle.hg_flat.specs.declared.row.Row.{Row}
-use Rattle.hg_flat.specs.declared.row.Wanted.{Wanted}
+use Rattle.hg_listing.specs.declared.row.Row.{Row}
+use Rattle.hg_listing.specs.declared.row.Wanted.{Wanted}
 use Rattle.hg_manifest.specs.Load.{file_manifest, manifest_in}
 use Rattle.hg_manifest.specs.Plain.{is_null, plain_name}
 use Rattle.hg_manifest.specs.Rows.{Rows}

@@ -2,7 +2,7 @@
 use Rattle.std.proofs.Common.{ℕ, ◌≡◌, ◌≤◌, ◌<◌, true, List, length, Option, Some, None, ap, ◌∙◌, subst, inl, inr, arith}
 use Rattle.std.specs.Option.{IsSomeAnd}
 use Rattle.hg_flat.specs.Patterns.{HadPatterns, needs_patterns}
-use Rattle.hg_flat.specs.declared.row.Wanted.{Wanted}
+use Rattle.hg_listing.specs.declared.row.Wanted.{Wanted}
 use Rattle.hg_ignore.specs.Patterns.{AreFine, HasBytes, IsOver, KeepsPatterns, ReadSo, RefusesPatterns, Saw, most_text}
 use Rattle.hg_ignore.specs.Source.{text_at}
 use Rattle.hg_ignore.specs.State.{Ignore, ignore_file}

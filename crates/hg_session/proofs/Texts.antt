@@ -1,10 +1,10 @@
 -- What a status prints is one text: the reading is a function, there is one full listing, and its lines are put behind what stood there.
 use Rattle.std.proofs.Common.{◌≡◌, List, ◌++◌, Option, Some, None, option_map, Result, Ok, Err, sym, ap, ◌∙◌, subst}
 use Rattle.hg_entry.specs.Table.{Table, flat_of}
-use Rattle.hg_flat.specs.Full.{IsFull}
+use Rattle.hg_listing.specs.Full.{IsFull}
 use Rattle.hg_flat.specs.Parent.{parent_rows}
 use Rattle.hg_flat.specs.Patterns.{ignored_at}
-use Rattle.hg_flat.specs.declared.row.Row.{Row}
+use Rattle.hg_listing.specs.declared.row.Row.{Row}
 use Rattle.hg_flat.proofs.Alone.{alone}
 use Rattle.hg_image.specs.Reading.{RecordFault}
 use Rattle.hg_report.specs.Status.{text_of}

@@ -1,8 +1,8 @@
 -- Why a command met a fault: one table, a line a fault, for every command.
 use Rattle.std.specs.Prelude.{◌≡◌, false, List, None, Some, ℕ, IsTrue}
 use Rattle.hg_base.specs.Fault.{Rose}
-use Rattle.hg_flat.specs.declared.fault.StatusFault.{StatusFault}
-use Rattle.hg_flat.specs.declared.fault.StatusFault.TheVariants as a_status
+use Rattle.hg_listing.specs.declared.fault.StatusFault.{StatusFault}
+use Rattle.hg_listing.specs.declared.fault.StatusFault.TheVariants as a_status
 use Rattle.hg_report.specs.declared.fault.Fault.{Fault}
 use Rattle.hg_report.specs.declared.fault.Fault.TheVariants as a_fault
 use Rattle.hg_session.specs.Call.{Call, Fails}

@@ -2,8 +2,8 @@
 use Rattle.std.specs.Prelude.{ℕ, Bool, true, false, ◌&&◌, ◌||◌, if◌then◌else◌, List, [], ◌∷◌, codes}
 use Rattle.std.specs.List.{list_all, list_any}
 use Rattle.std.specs.Str.{bytes_eq}
-use Rattle.hg_flat.specs.Full.{default_wanted}
-use Rattle.hg_flat.specs.declared.row.Wanted.{Wanted}
+use Rattle.hg_listing.specs.Full.{default_wanted}
+use Rattle.hg_listing.specs.declared.row.Wanted.{Wanted}
 use Rattle.hg_report.specs.declared.status.Style.{Style}
 use Rattle.hg_session.specs.declared.flags.Flag.{Flag}
 use Rattle.hg_session.specs.declared.flags.Flag.TheVariants as a_flag

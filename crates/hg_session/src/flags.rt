@@ -6,7 +6,7 @@ ghost use Rattle.hg_session.specs.Flags as words_are;
 ghost use Rattle.hg_session.specs.Flags.{groups_of, style_of, wanted_of, wants_any};
 
 use hg_base::Words;
-use hg_flat::Wanted;
+use hg_listing::Wanted;
 use hg_report::Style;
 
 /// A flag of a status.

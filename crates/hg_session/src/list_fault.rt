@@ -1,7 +1,7 @@
 //! Why the working copy could not be listed.
 
 use crate::read_fault::ReadFault;
-use hg_flat::StatusFault;
+use hg_listing::StatusFault;
 use hg_report::Fault;
 
 /// Why the working copy could not be listed.

@@ -4,8 +4,9 @@ ghost use Rattle.hg_session.specs.Listed.{Lists};
 
 use crate::list_fault::ListFault;
 use crate::reading::read_flat;
-use hg_flat::{Listed, Wanted, plain_status};
+use hg_flat::{Listed, plain_status};
 use hg_ignore::Regexps;
+use hg_listing::Wanted;
 use hg_shelf::Shelf;
 use hg_tree::Tree;
 use std::alloc::Global;

@@ -1,6 +1,6 @@
 use Rattle.std.specs.Prelude.{IsTrue}
 use Rattle.hg_flat.proofs.Alone.{alone}
-use Rattle.hg_flat.specs.Full.{nothing_ignored}
+use Rattle.hg_listing.specs.Full.{nothing_ignored}
 use Rattle.hg_flat.specs.Patterns.{ignored_at}
 use Rattle.hg_flat.proofs.full.one_listing.Goals as goal
 

@@ -11,7 +11,7 @@ use Rattle.hg_tree.proofs.Spans.{ours_first, passes_trans}
 use Rattle.hg_flat.specs.Asked.{AsksFor, IsDirIn}
 use Rattle.hg_flat.specs.Course.{pieces_of}
 use Rattle.hg_flat.specs.Listing.{Gives, IsEntered, IsUnknownIn, Lists}
-use Rattle.hg_flat.specs.Order.{whole_order}
+use Rattle.hg_listing.specs.Order.{whole_order}
 use Rattle.hg_flat.specs.Parent.{is_compared, parent_rows}
 use Rattle.hg_flat.specs.Patterns.{ignored_at, needs_patterns}
 use Rattle.hg_flat.specs.Shown.{flat_in, kept_of}

@@ -1,7 +1,7 @@
 //! The order of the rows of a listing: by group, by path, and then by source.
 
 ghost use Rattle.std.specs.Prelude.{◌≡◌};
-ghost use Rattle.hg_flat.specs.Order.{group_of};
+ghost use Rattle.hg_listing.specs.Order.{group_of};
 
 use crate::row::Row;
 use hg_compare::Letter;
@@ -25,7 +25,7 @@ fn group(letter: Letter) -> u8
 impl PartialEq for Row {
     ghost use Rattle.std.specs.Cmp.{eq_by_cmp_equiv, partial_equiv_from_equiv};
     ghost use Rattle.std.specs.Ordering.{eq_by_cmp};
-    ghost use Rattle.hg_flat.specs.Order.{whole_order, whole_order_total};
+    ghost use Rattle.hg_listing.specs.Order.{whole_order, whole_order_total};
 
     ghost eq = { eq_by_cmp whole_order };
 
@@ -38,7 +38,7 @@ impl PartialEq for Row {
 
 impl Eq for Row {
     ghost use Rattle.std.specs.Cmp.{eq_by_cmp_equiv};
-    ghost use Rattle.hg_flat.specs.Order.{whole_order_total};
+    ghost use Rattle.hg_listing.specs.Order.{whole_order_total};
 
     ghost laws = { eq_by_cmp_equiv whole_order_total };
 }
@@ -47,7 +47,7 @@ impl PartialOrd for Row {
     ghost use Rattle.std.specs.Prelude.{refl};
     ghost use Rattle.std.specs.Cmp.{partial_order_from_total};
     ghost use Rattle.std.specs.Ordering.{as_partial_cmp};
-    ghost use Rattle.hg_flat.specs.Order.{whole_order, whole_order_total};
+    ghost use Rattle.hg_listing.specs.Order.{whole_order, whole_order_total};
 
     ghost partial_cmp = { as_partial_cmp whole_order };
 
@@ -60,7 +60,7 @@ impl PartialOrd for Row {
 
 impl Ord for Row {
     ghost use Rattle.std.specs.Prelude.{refl};
-    ghost use Rattle.hg_flat.specs.Order.{whole_order, whole_order_total};
+    ghost use Rattle.hg_listing.specs.Order.{whole_order, whole_order_total};
 
     ghost cmp = { whole_order };
 

@@ -9,8 +9,8 @@ use Rattle.hg_manifest.specs.declared.fault.ManifestFault.{ManifestFault}
 use Rattle.hg_manifest.specs.declared.fault.ManifestFault.TheVariants as a_manifest_fault
 use Rattle.hg_compare.specs.declared.fault.CompareFault.{CompareFault}
 use Rattle.hg_compare.specs.declared.fault.CompareFault.TheVariants as a_compare_fault
-use Rattle.hg_flat.specs.declared.fault.StatusFault.{StatusFault}
-use Rattle.hg_flat.specs.declared.fault.StatusFault.TheVariants as a_fault
+use Rattle.hg_listing.specs.declared.fault.StatusFault.{StatusFault}
+use Rattle.hg_listing.specs.declared.fault.StatusFault.TheVariants as a_fault
 
 -- a fault of the tree, under the same name
 abbrev pub of_tree : TreeFault → StatusFault

@@ -7,7 +7,7 @@ use Rattle.std.specs.Cmp.Lexicographic.{nat_list_cmp_total, options_total, slice
 use Rattle.std.specs.declared.cmp.Ordering.{Ordering}
 use Rattle.hg_compare.specs.declared.letter.Letter.{Letter}
 use Rattle.hg_compare.specs.declared.letter.Letter.TheVariants as a_letter
-use Rattle.hg_flat.specs.declared.row.Row.{Row}
+use Rattle.hg_listing.specs.declared.row.Row.{Row}
 
 -- the place of a letter's group in a listing: M A R ! ? I C
 abbrev pub group_of : Letter → ℕ

@@ -11,9 +11,9 @@ use Rattle.hg_tree.specs.Still.{hg_in}
 use Rattle.hg_compare.specs.Tracked.{ParentRow, tracked_letter, is_file_or_link}
 use Rattle.hg_compare.specs.declared.letter.Letter.{Letter}
 use Rattle.hg_compare.specs.declared.letter.Letter.TheVariants as a_letter
-use Rattle.hg_flat.specs.Order.{row_order}
-use Rattle.hg_flat.specs.declared.row.Row.{Row}
-use Rattle.hg_flat.specs.declared.row.Wanted.{Wanted}
+use Rattle.hg_listing.specs.Order.{row_order}
+use Rattle.hg_listing.specs.declared.row.Row.{Row}
+use Rattle.hg_listing.specs.declared.row.Wanted.{Wanted}
 
 -- the directory is a repository of its own: a directory `.hg` stands in it
 abbrev pub is_repository : Moment → List ℕ → Bool

@@ -24,7 +24,7 @@ pub struct Rows {
 
 impl Model for Rows {
     ghost use Rattle.std.specs.Prelude.{List};
-    ghost use Rattle.hg_flat.specs.declared.row.Row.{Row};
+    ghost use Rattle.hg_listing.specs.declared.row.Row.{Row};
 
     ghost Value = { List Row };
 
@@ -41,8 +41,8 @@ impl Rows {
         }
     }
 
-    // These rows.
-    pub(crate) fn of(rows: Vec<Row>) -> Rows
+    /// These rows.
+    pub fn of(rows: Vec<Row>) -> Rows
         ensures { result ≡ rows.items }
     {
         Rows { rows }

@@ -42,7 +42,7 @@ pub enum StatusFault {
 
 impl From<OutOfMemory> for StatusFault {
     ghost use Rattle.std.specs.Prelude.{◌≡◌};
-    ghost use Rattle.hg_flat.specs.declared.fault.StatusFault.TheVariants as a_fault;
+    ghost use Rattle.hg_listing.specs.declared.fault.StatusFault.TheVariants as a_fault;
 
     ghost from_gives = { λ _ e. e ≡ a_fault.OutOfMemory };
 
@@ -53,7 +53,7 @@ impl From<OutOfMemory> for StatusFault {
 
 impl From<AllocError> for StatusFault {
     ghost use Rattle.std.specs.Prelude.{◌≡◌};
-    ghost use Rattle.hg_flat.specs.declared.fault.StatusFault.TheVariants as a_fault;
+    ghost use Rattle.hg_listing.specs.declared.fault.StatusFault.TheVariants as a_fault;
 
     ghost from_gives = { λ _ e. e ≡ a_fault.OutOfMemory };
 
@@ -64,7 +64,7 @@ impl From<AllocError> for StatusFault {
 
 impl<T: Drop> From<AllocFailed<T>> for StatusFault {
     ghost use Rattle.std.specs.Prelude.{◌≡◌};
-    ghost use Rattle.hg_flat.specs.declared.fault.StatusFault.TheVariants as a_fault;
+    ghost use Rattle.hg_listing.specs.declared.fault.StatusFault.TheVariants as a_fault;
 
     ghost from_gives = { λ _ e. e ≡ a_fault.OutOfMemory };
 
@@ -75,7 +75,7 @@ impl<T: Drop> From<AllocFailed<T>> for StatusFault {
 
 impl From<Failed> for StatusFault {
     ghost use Rattle.std.specs.Prelude.{◌≡◌};
-    ghost use Rattle.hg_flat.specs.declared.fault.StatusFault.TheVariants as a_fault;
+    ghost use Rattle.hg_listing.specs.declared.fault.StatusFault.TheVariants as a_fault;
 
     ghost from_gives = { λ _ e. e ≡ a_fault.TreeFailed };
 
@@ -86,7 +86,7 @@ impl From<Failed> for StatusFault {
 
 impl From<TreeFault> for StatusFault {
     ghost use Rattle.std.specs.Prelude.{◌≡◌};
-    ghost use Rattle.hg_flat.specs.Cause.{of_tree};
+    ghost use Rattle.hg_listing.specs.Cause.{of_tree};
 
     ghost from_gives = { λ f e. e ≡ of_tree f };
 
@@ -100,7 +100,7 @@ impl From<TreeFault> for StatusFault {
 
 impl From<IgnoreFault> for StatusFault {
     ghost use Rattle.std.specs.Prelude.{◌≡◌};
-    ghost use Rattle.hg_flat.specs.Cause.{of_ignore};
+    ghost use Rattle.hg_listing.specs.Cause.{of_ignore};
 
     ghost from_gives = { λ f e. e ≡ of_ignore f };
 
@@ -120,7 +120,7 @@ impl From<IgnoreFault> for StatusFault {
 
 impl From<ManifestFault> for StatusFault {
     ghost use Rattle.std.specs.Prelude.{◌≡◌};
-    ghost use Rattle.hg_flat.specs.Cause.{of_manifest};
+    ghost use Rattle.hg_listing.specs.Cause.{of_manifest};
 
     ghost from_gives = { λ f e. e ≡ of_manifest f };
 
@@ -138,7 +138,7 @@ impl From<ManifestFault> for StatusFault {
 
 impl From<CompareFault> for StatusFault {
     ghost use Rattle.std.specs.Prelude.{◌≡◌};
-    ghost use Rattle.hg_flat.specs.Cause.{of_compare};
+    ghost use Rattle.hg_listing.specs.Cause.{of_compare};
 
     ghost from_gives = { λ f e. e ≡ of_compare f };
 

@@ -1,0 +1,3 @@
+pub mod Cause
+pub mod Full
+pub mod Order
