@@ -1,11 +1,14 @@
 """Working copies of a commit: `contrib/hgtrack-parents` brings the parents into the plain store, and `hgtrack status` then prints what `hg status` prints,
 for each flag and for unions of them."""
 
+import fcntl
+import glob
 import os
 import re
 import shutil
 import subprocess
 import sys
+import time
 
 from folder import lay_out, lines, put, seen
 from mercurial import hg
@@ -22,6 +25,7 @@ FLAGS = [
 # What happens, and its steps, after each of which the parents are brought over and the listings compared. In a step `hg ..` runs the command, `+name` makes what
 # folder.lay_out reads, `*name TEXT` puts a text into a file, `#name PLACE` exchanges one byte of it, `!name` and `~name` make it executable and not, and `-name` takes it away.
 TREE = ["+a", "+b.c", "+b/c", "+b/d/e", "+b/d/f", "+src/k0.c", "+src/k1.c", "+src/s 0.c", "+z/\u00e4/\u00f6.txt", "+x", "!x", "+d/y", "!d/y", "+l -> a", "+d/m -> gone", "+empty", "*empty "]
+ODD = ["set:all()", "path:y", "glob:*", "re:.*", "relglob:x", "listfile:x", "listfile0:x", "include:x", "rootfilesin:", "%p", "%%", "\\", "[a]", "#x", "-x", "d:/set:x", "a,b", " a ", "$HOME"]
 CASES = [
     ("no parent", [["+a", "hg add a", "+b"]]),
     ("nothing but a commit", [[*TREE, "hg add", "hg commit -m one"]]),
@@ -48,6 +52,11 @@ CASES = [
         ["*d/n other", "+u", "-m"],
         ["+m", "hg commit -m four", "hg copy d/n d/o"],
     ]),
+    ("names that read as patterns", [
+        [*(f"+{name}" for name in ODD), "hg add", "hg commit -m one", "*set:all() other"],
+        [f"*{ODD[1]} other", "hg commit -m two", f"*{ODD[2]} other"],
+    ]),
+    ("no file is left", [["+a", "hg add", "hg commit -m one", "hg remove a", "hg commit -m two"]]),
     ("updated back and forth", [
         [*TREE, "hg add", "hg commit -m one", "*a two", "hg remove b/c", "hg commit -m two"],
         ["hg update 0"], ["hg update 1", "*a three"], ["hg update null"],
@@ -88,20 +97,29 @@ def act(tests, root, what, action):
             os.remove(path)
 
 
-def init(root):
+def init(root, *words):
     """A new repository, whose own configuration lets Mercurial without its Rust extensions read the record."""
-    hg(root, "init")
+    hg(root, "init", *words)
     with open(f"{root}/.hg/hgrc", "a", encoding="utf-8") as file:
         file.write("[storage]\ndirstate-v2.slow-path = allow\n")
 
 
-def export(root, *words, **how):
-    env = {**os.environ, "HGRCPATH": "", "PYTHONDONTWRITEBYTECODE": "1"}
-    return subprocess.run([sys.executable, EXPORT, *words], cwd=root, env=env, stdin=subprocess.DEVNULL, capture_output=True, timeout=300, **how)
+def export(root, *words, env=None):
+    env = {**os.environ, "HGRCPATH": "", "PYTHONDONTWRITEBYTECODE": "1", **(env or {})}
+    return subprocess.run([sys.executable, EXPORT, *words], cwd=root, env=env, stdin=subprocess.DEVNULL, capture_output=True, timeout=300)
 
 
 def store(root):
-    return sorted(os.listdir(f"{root}/.hg/plain"))
+    return sorted(name for name in os.listdir(f"{root}/.hg/plain") if name != "lock")
+
+
+def node_of(root):
+    return hg(root, "log", "-r", ".", "-T", "{node}").stdout.decode()
+
+
+def content_of(path):
+    with open(path, "rb") as file:
+        return file.read()
 
 
 def run_case(tests, what, steps):
@@ -125,7 +143,7 @@ def run_store(tests):
         lay_out(root, ["a", "d/b"])
         hg(root, "add")
         hg(root, "commit", "-m", "one")
-        first = hg(root, "log", "-r", ".", "-T", "{node}").stdout.decode()
+        first = node_of(root)
         told = export(f"{root}/d")
         tests.compare("parents: the first time", (told.returncode, told.stdout, told.stderr), (0, lines(f"{first}: 2 files, 2 contents written"), b""))
         before = seen(f"{root}/.hg/plain")
@@ -133,7 +151,7 @@ def run_store(tests):
         tests.compare("parents: nothing was touched", seen(f"{root}/.hg/plain"), before)
         put(f"{root}/a", b"another\n")
         hg(root, "commit", "-m", "two")
-        second = hg(root, "log", "-r", ".", "-T", "{node}").stdout.decode()
+        second = node_of(root)
         tests.compare("parents: one content more", export(root).stdout, lines(f"{second}: 2 files, 1 contents written"))
         kept = store(root)
         tests.compare("parents: both commits are there", [it for it in kept if it.startswith("m-")], sorted([f"m-{first}", f"m-{second}"]))
@@ -144,41 +162,143 @@ def run_store(tests):
         tests.compare("parents: a content that was lost comes back", (export(root).stdout, len(store(root))), (lines(f"{second}: 2 files, 1 contents written"), 3))
 
 
+def lay_out_commit(root):
+    """A commit of three files, of which one has a parent and one a copy source, and a text that begins as what is recorded of a copy does."""
+    init(root)
+    lay_out(root, ["a", "d/b"])
+    put(f"{root}/meta", b"\x01\nmeta\n\x01\n")
+    hg(root, "add")
+    hg(root, "commit", "-m", "one")
+    put(f"{root}/a", b"second\n")
+    hg(root, "copy", "d/b", "d/c")
+    hg(root, "commit", "-m", "two")
+
+
+def run_damage(tests):
+    """A manifest that isn't the commit's is written anew, by hand wherever it differs and by a hook where it is absent, empty or not sound; so are contents that are gone, and with --verify those that differ."""
+    with tests.working_copy() as root:
+        lay_out_commit(root)
+        export(root)
+        node = node_of(root)
+        path = f"{root}/.hg/plain/m-{node}"
+        whole = content_of(path)
+        rows = whole.split(b"\n")
+        anew, nothing = lines(f"m-{node}: not what Mercurial has, written anew"), lines("nothing new")
+        for what, text, by_hook in [
+            ("empty", b"", True), ("a row less", b"\n".join(rows[1:]), False), ("cut", whole[:-9], True), ("no last line feed", whole[:-1], True), ("out of order", b"\n".join([rows[1], rows[0], *rows[2:]]), True),
+            ("twice", whole + whole, True), ("no row", b"a\n" + whole, False), ("no rows", b"a\n", True), ("another flag", whole[:-1] + b"x\n", False), ("other bytes behind it", whole + b"\n", True),
+        ]:
+            put(path, text)
+            told = export(root, "--hook")
+            tests.compare(f"parents: {what}: a hook", (told.returncode, told.stdout, told.stderr, content_of(path) == whole), (0, b"", b"", by_hook))
+            put(path, text)
+            told = export(root)
+            tests.compare(f"parents: {what}: by hand", (told.returncode, told.stdout, told.stderr, content_of(path)), (0, anew, b"", whole))
+            tests.compare(f"parents: {what}: the status stands", tests.run(root, ("status", "-A")), (0, lines("C a", "C d/b", "C d/c", "C meta"), b""))
+        names = [it for it in store(root) if it.startswith("f-")]
+        compared = f"{node}: 4 files compared"
+        tests.compare("parents: verified", (export(root, "--verify").stdout, len(names)), (lines(compared), 4))
+        for name in [it for it in names if it[2:].encode() in whole]:
+            path = f"{root}/.hg/plain/{name}"
+            whole_contents = content_of(path)
+            for text in (b"", whole_contents + b"x", b"other\n"):
+                put(path, text)
+                tests.compare("parents: contents that differ, not compared", export(root).stdout, nothing)
+                told = export(root, "--verify")
+                tests.compare("parents: contents that differ", (told.returncode, told.stdout, told.stderr, content_of(path)), (0, lines(f"{name}: not what Mercurial has, written anew", compared), b"", whole_contents))
+            os.remove(path)
+            told = export(root, "--hook")
+            tests.compare("parents: contents that are gone", (told.returncode, told.stdout, told.stderr, content_of(path)), (0, b"", b"", whole_contents))
+
+
+def run_hook(tests):
+    """As a hook it says nothing, and asks `hg` only where the store lacks something; as the hook `update` it says why not."""
+    with tests.working_copy() as root:
+        lay_out_commit(root)
+        tests.compare("parents: a hook, the first time", (export(root, "--hook").stdout, len(store(root))), (b"", 5))
+        for words in ([], ["--hook"]):
+            env = {"HG": "/bin/false"}
+            told = export(root, *words, env=env)
+            tests.compare(f"parents: nothing is missing, and no hg {words}", (told.returncode, told.stdout, told.stderr), (0, b"", b"") if words else (1, b"", lines("hgtrack-parents: hg: ended")))
+        told = export(root, env={"HG_HOOKTYPE": "update"})
+        tests.compare("parents: as the hook of update", (told.returncode, told.stderr), (1, lines("hgtrack-parents: a hook `update` makes `hg shelve` break the repository: take it out, and include hgtrack.hgrc")))
+    with tests.working_copy() as root:
+        lay_out(root, ["a"])
+        for words in (["init"], ["add", "a"], ["commit", "-m", "one", "-u", "test"]):
+            subprocess.run(["hg", *words], cwd=root, env={**os.environ, "HGRCPATH": ""}, stdin=subprocess.DEVNULL, check=True)
+        told = export(root, "--hook")
+        tests.compare("parents: a hook beside a dirstate of the first version", (told.returncode, told.stdout, told.stderr, os.path.exists(f"{root}/.hg/plain")), (0, b"", b"", False))
+
+
+def run_killed(tests):
+    """What a killed run left behind goes with the next one, and one run waits for another."""
+    with tests.working_copy() as root:
+        init(root)
+        lay_out(root, [f"d{number % 9}/{number}" for number in range(400)])
+        hg(root, "add")
+        hg(root, "commit", "-m", "one")
+        running = subprocess.Popen([sys.executable, EXPORT], cwd=root, env={**os.environ, "HGRCPATH": ""}, stdin=subprocess.DEVNULL, stdout=subprocess.DEVNULL)
+        end = time.monotonic() + 60
+        while not glob.glob(f"{root}/.hg/plain/new-*/files") and running.poll() is None and time.monotonic() < end:
+            time.sleep(0.001)
+        running.kill()
+        running.wait()
+        tests.compare("parents: killed", (running.returncode, len(glob.glob(f"{root}/.hg/plain/new-*")), glob.glob(f"{root}/.hg/plain/m-*")), (-9, 1, []))
+        told = export(root)
+        tests.compare("parents: after a run that was killed", (told.returncode, told.stderr, len(store(root)), glob.glob(f"{root}/.hg/plain/new-*")), (0, b"", 401, []))
+        with open(f"{root}/.hg/plain/lock", "rb") as file:
+            fcntl.flock(file, fcntl.LOCK_EX)
+            waiting = subprocess.Popen([sys.executable, EXPORT], cwd=root, env={**os.environ, "HGRCPATH": ""}, stdin=subprocess.DEVNULL, stdout=subprocess.PIPE)
+            try:
+                ended = waiting.wait(2)
+            except subprocess.TimeoutExpired:
+                ended = None
+        tests.compare("parents: one waits for another", (ended, waiting.communicate(timeout=60)[0], waiting.returncode), (None, lines("nothing new"), 0))
+
+
 def run_refused(tests):
-    """A name that isn't text is named, and nothing is written; outside of a repository and without `hg` the reason is told."""
+    """A name that isn't text and a large file are named, and nothing is written; outside of a repository and without `hg` the reason is told."""
     with tests.working_copy() as root:
         tests.compare("parents: no repository", (export(root).returncode, export(root).stderr), (1, lines("hgtrack-parents: no .hg here or above")))
         init(root)
-        name = os.path.join(os.fsencode(root), b"caf\xe9")
-        put(name, b"x\n")
+        put(os.path.join(os.fsencode(root), b"caf\xe9"), b"x\n")
         put(f"{root}/a", b"x\n")
         hg(root, "add")
         hg(root, "commit", "-m", "one")
         told = export(root)
         tests.compare("parents: a name that isn't text", (told.returncode, told.stderr), (1, lines("hgtrack-parents: the name b'caf\\xe9' isn't UTF-8: nothing was written")))
-        tests.compare("parents: nothing was written", store(root), [])
+        tests.compare("parents: nothing was written", os.path.exists(f"{root}/.hg/plain"), False)
+    with tests.working_copy() as root:
+        init(root)
+        with open(f"{root}/.hg/hgrc", "a", encoding="utf-8") as file:
+            file.write(f"[extensions]\nlargefiles =\n[largefiles]\nusercache = {root}/.hg/cached\n")
+        lay_out(root, ["a", "d/big"])
+        hg(root, "add", "a")
+        hg(root, "add", "--large", "d/big")
+        hg(root, "commit", "-m", "one")
+        told = export(root)
+        tests.compare("parents: a large file", (told.returncode, told.stderr, os.path.exists(f"{root}/.hg/plain")), (1, lines("hgtrack-parents: b'd/big' is a large file: nothing was written"), False))
     with tests.working_copy() as root:
         lay_out(root, [".hg/"])
         put(f"{root}/.hg/requires", b"another\n")
         told = export(root)
-        tests.compare("parents: no repository of Mercurial's", (told.returncode, told.stderr.startswith(b"hgtrack-parents: hg log: abort: ")), (1, True))
+        tests.compare("parents: no repository of Mercurial's", (told.returncode, told.stderr.startswith(b"hgtrack-parents: hg: abort: ")), (1, True))
+        told = export(root, env={"HG": f"{root}/absent"})
+        tests.compare("parents: no hg", (told.returncode, told.stderr), (1, lines("hgtrack-parents: hg: No such file or directory")))
 
 
-def run_hooks(tests):
-    """As hooks of `update` and `commit` the store follows by itself."""
+def run_trees(tests):
+    """A repository that keeps a manifest for each directory."""
     with tests.working_copy() as root:
-        init(root)
-        with open(f"{root}/.hg/hgrc", "a", encoding="utf-8") as file:
-            file.write(f"[hooks]\nupdate.hgtrack = {sys.executable} {EXPORT}\ncommit.hgtrack = {sys.executable} {EXPORT}\n")
-        lay_out(root, ["a", "d/b"])
+        init(root, "--config", "experimental.treemanifest=yes")
+        lay_out(root, ["a", "d/b", "d/e/c", "d.c", "e -> a"])
+        os.chmod(f"{root}/d/b", 0o755)
         hg(root, "add")
         hg(root, "commit", "-m", "one")
-        tests.compare("parents: after a commit", tests.run(root, ("status", "-c")), (0, lines("C a", "C d/b"), b""))
-        put(f"{root}/a", b"another\n")
-        hg(root, "commit", "-m", "two")
-        shutil.rmtree(f"{root}/.hg/plain")
-        hg(root, "update", "0")
-        tests.compare("parents: after an update", tests.run(root, ("status", "-c")), (0, lines("C a", "C d/b"), b""))
+        told = export(root)
+        tests.compare("parents: a manifest for each directory", (told.returncode, told.stdout, told.stderr), (0, lines(f"{node_of(root)}: 5 files, 5 contents written"), b""))
+        tests.compare("parents: a manifest for each directory, the store", content_of(f"{root}/.hg/plain/m-{node_of(root)}").count(b"\n"), 5)
+        tests.compare("parents: a manifest for each directory, once more", export(root).stdout, lines("nothing new"))
 
 
 def run(tests):
@@ -188,5 +308,8 @@ def run(tests):
     for what, steps in CASES:
         run_case(tests, what, steps)
     run_store(tests)
+    run_damage(tests)
+    run_hook(tests)
+    run_killed(tests)
     run_refused(tests)
-    run_hooks(tests)
+    run_trees(tests)
