@@ -2,7 +2,7 @@
 # make demo     runs `hgtrack status` on a sample working copy, which it lays out in a temporary folder
 # make test     proves every crate from nothing, and tests the program: what .ci/run runs
 # make bench    times the program against C loops (gcc)
-# make install PREFIX=..    puts the program into PREFIX/bin
+# make install PREFIX=..    puts the program and hgtrack-parents into PREFIX/bin, and the hooks that run it into PREFIX/share/hgtrack
 # make clean    takes away what the others made
 
 PREFIX ?= /usr/local
@@ -26,8 +26,10 @@ bench: build/hgtrack
 	python3 bench/bench.py build/hgtrack
 
 install: build/hgtrack
-	install -d $(DESTDIR)$(PREFIX)/bin
-	install -m 755 build/hgtrack $(DESTDIR)$(PREFIX)/bin/hgtrack
+	install -d $(DESTDIR)$(PREFIX)/bin $(DESTDIR)$(PREFIX)/share/hgtrack
+	install -m 755 build/hgtrack contrib/hgtrack-parents $(DESTDIR)$(PREFIX)/bin
+	install -m 644 contrib/hgtrack.hgrc $(DESTDIR)$(PREFIX)/share/hgtrack
+	sed -i 's|= hgtrack-parents|= "$(PREFIX)/bin/hgtrack-parents"|; s|/usr/local/|$(PREFIX)/|' $(DESTDIR)$(PREFIX)/share/hgtrack/hgtrack.hgrc
 
 clean:
 	rm -rf build crates/*/out

@@ -9,9 +9,10 @@ from concurrent.futures import ThreadPoolExecutor
 
 from folder import SECONDS, lay_out, lines, put
 from mercurial import OPTIONS
-from parents import EXPORT, act, init, store
+from parents import EXPORT, act, init
 
 CONTRIB = os.path.dirname(EXPORT)
+TOP = os.path.dirname(CONTRIB)
 
 # What each case starts from: three commits in a row, one beside the last two, and the working copy of the third.
 BASE = [
@@ -96,9 +97,9 @@ ALIASES = {"up": "update", "checkout": "update", "co": "update", "strip": "debug
 AT_ONCE = 4
 
 
-def hg(root, *words, rc="", given=b""):
+def hg(root, *words, rc="", given=b"", path=f"{CONTRIB}:{os.environ['PATH']}"):
     """A command of a user who has these settings."""
-    env = {**os.environ, "HGRCPATH": rc, "HGPLAIN": "", "HGENCODING": "UTF-8", "LANG": "C.UTF-8", "PATH": f"{CONTRIB}:{os.environ['PATH']}"}
+    env = {**os.environ, "HGRCPATH": rc, "HGPLAIN": "", "HGENCODING": "UTF-8", "LANG": "C.UTF-8", "PATH": path}
     return subprocess.run(["hg", *words, *OPTIONS], cwd=root, env=env, input=given, capture_output=True, timeout=120)
 
 
@@ -178,17 +179,43 @@ def run_commands(tests, room):
     tests.compare("hooks: each of the file was tried", named, sorted(tried | set(UNTRIED)))
 
 
-def run_quiet(tests, room):
-    """A hook says nothing, touches nothing where the store has the parents, and does nothing in a repository of the first version."""
+def run_quiet(tests):
+    """A hook says nothing where all is well, and what is wrong in a line, and the command's status stays."""
     with tests.working_copy() as root:
         init(root)
         with open(f"{root}/.hg/hgrc", "a", encoding="utf-8") as file:
             file.write(f"%include {CONTRIB}/hgtrack.hgrc\n")
         lay_out(root, ["a"])
-        hg(root, "add")
+        hg(root, "add", "-q")
         told = hg(root, "commit", "-m", "one")
         tests.compare("hooks: a commit says nothing of them", (told.returncode, told.stdout, told.stderr), (0, b"", b""))
         tests.compare("hooks: and they ran", tests.run(root, ("status", "-A")), (0, lines("C a"), b""))
+        os.rename(f"{root}/a", os.path.join(os.fsencode(root), b"\xe9"))
+        told = hg(root, "commit", "-q", "-A", "-m", "two")
+        tests.compare("hooks: a name that isn't text", (told.returncode, told.stderr), (0, lines("hgtrack-parents: the name b'\\xe9' isn't UTF-8: nothing was written", "warning: post-commit.hgtrack hook exited with status 1")))
+
+
+def run_installed(tests):
+    """As `make install` puts them in place: the hooks find the script where it stands, in the PATH or not."""
+    if shutil.which("make") is None or not os.path.isfile(f"{TOP}/build/hgtrack"):
+        tests.skip("no make, or no build/hgtrack, so nothing was installed")
+        return
+    with tests.working_copy() as room:
+        made = subprocess.run(["make", "-o", "build/hgtrack", "install", f"DESTDIR={room}", "PREFIX=/usr"], cwd=TOP, stdin=subprocess.DEVNULL, capture_output=True, timeout=SECONDS)
+        there = [f"{room}/usr/{name}" for name in ("bin/hgtrack", "bin/hgtrack-parents", "share/hgtrack/hgtrack.hgrc")]
+        tests.compare("hooks: installed", (made.returncode, [os.stat(name).st_mode & 0o777 for name in there]), (0, [0o755, 0o755, 0o644]))
+        with open(there[2], encoding="utf-8") as file:
+            tests.compare("hooks: they name the script", set(re.findall(r"\.hgtrack = (.*)", file.read())), {'"/usr/bin/hgtrack-parents" --hook'})
+        subprocess.run(["make", "-o", "build/hgtrack", "install", f"PREFIX={room}/local"], cwd=TOP, stdin=subprocess.DEVNULL, capture_output=True, timeout=SECONDS, check=True)
+        put(f"{room}/hooks", f"%include {room}/local/share/hgtrack/hgtrack.hgrc\n".encode())
+        root = f"{room}/root"
+        os.mkdir(root)
+        init(root)
+        lay_out(root, ["a"])
+        hg(root, "add", "-q")
+        told = hg(root, "commit", "-m", "one", rc=f"{room}/hooks", path=os.environ["PATH"])
+        tests.compare("hooks: installed, a commit", (told.returncode, told.stdout, told.stderr), (0, b"", b""))
+        tests.compare("hooks: installed, they ran", tests.run(root, ("status", "-A")), (0, lines("C a"), b""))
 
 
 def run(tests):
@@ -197,4 +224,5 @@ def run(tests):
         return
     with tests.working_copy() as room:
         run_commands(tests, room)
-    run_quiet(tests, None)
+    run_quiet(tests)
+    run_installed(tests)
