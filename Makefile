@@ -1,4 +1,4 @@
-# make          builds the program: proves what it needs, a line for each crate, and leaves build/hgtrack
+# make          builds the program: proves the crates that it uses, many side by side, a line as each ends, and leaves build/hgtrack
 # make demo     runs `hgtrack status` on a sample working copy, which it lays out in a temporary folder
 # make test     proves every crate from nothing, and tests the program: what .ci/run runs
 # make bench    times the program against C loops (gcc)
@@ -12,7 +12,7 @@ SOURCES := crates.txt HANDLES $(shell find crates -name out -prune -o -name must
 
 all: build/hgtrack
 
-# (a line for each crate that is proved; what the toolchain says is in build/log)
+# (what the toolchain says is in build/log; where no file that the program is built from has changed in truth, nothing is proved again)
 build/hgtrack: $(SOURCES)
 	@python3 .ci/build.py build/hgtrack
 
