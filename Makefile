@@ -1,6 +1,7 @@
 # make          builds the program: proves the crates that it uses, many side by side, a line as each ends, and leaves build/hgtrack
 # make demo     runs `hgtrack status` on a sample working copy, which it lays out in a temporary folder
 # make test     proves every crate from nothing, and tests the program: what .ci/run runs
+# make documents    writes docs/DEFINITIONS.md from the comments of the definitions
 # make bench    times the program against C loops (gcc)
 # make install PREFIX=..    puts the program and hgtrack-parents into PREFIX/bin, and the hooks that run it into PREFIX/share/hgtrack
 # make clean    takes away what the others made
@@ -8,7 +9,7 @@
 PREFIX ?= /usr/local
 SOURCES := crates.txt HANDLES $(shell find crates -name out -prune -o -name must-fail -prune -o -type f -print)
 
-.PHONY: all demo test bench install clean
+.PHONY: all demo test documents bench install clean
 
 all: build/hgtrack
 
@@ -21,6 +22,9 @@ demo: build/hgtrack
 
 test:
 	bash .ci/run
+
+documents:
+	python3 .ci/documents.py
 
 bench: build/hgtrack
 	python3 bench/bench.py build/hgtrack
