@@ -258,7 +258,7 @@ def build(to):
         os.utime(to)
         print("nothing has changed that the program is built from")
         return 0
-    print(f"{len(crates)} crates are proved and the program is built; what the toolchain says is in build/log", flush=True)
+    print(f"proving {len(crates)} crates and building the program; what the toolchain says goes into build/log", flush=True)
     begun = time.monotonic()
     if not built(crates, files, to):
         print("\nnot built; the end of build/log, without what was proved:\n")
