@@ -3,6 +3,8 @@ for each flag and for unions of them."""
 
 import fcntl
 import glob
+import importlib.machinery
+import importlib.util
 import os
 import re
 import shutil
@@ -64,6 +66,14 @@ CASES = [
 ]
 
 
+def script():
+    """The script as a module: its `Mercurial` answers many commands with one start of `hg`."""
+    loader = importlib.machinery.SourceFileLoader("hgtrack_parents", EXPORT)
+    module = importlib.util.module_from_spec(importlib.util.spec_from_loader("hgtrack_parents", loader))
+    loader.exec_module(module)
+    return module
+
+
 def act(tests, root, what, action):
     """Does one action of a step; where `hg` refuses it, that is a failure of the case."""
     name, _, text = action[1:].partition(" ")
@@ -118,11 +128,14 @@ def node_of(root):
 
 
 def content_of(path):
+    """A file's bytes, or None where it is absent."""
+    if not os.path.exists(path):
+        return None
     with open(path, "rb") as file:
         return file.read()
 
 
-def run_case(tests, what, steps):
+def run_case(tests, mercurial, what, steps):
     with tests.working_copy() as root:
         init(root)
         for number, step in enumerate(steps, 1):
@@ -130,10 +143,10 @@ def run_case(tests, what, steps):
                 act(tests, root, what, action)
             brought = export(root)
             tests.compare(f"parents: {what}: step {number}: brought over", (brought.returncode, brought.stderr), (0, b""))
-            for flags in FLAGS:
-                words = ("status", *flags.split())
-                wanted = hg(root, *words)
-                tests.compare(f"parents: {what}: step {number}: {' '.join(words)}", tests.run(root, words), (0, wanted.stdout, b""))
+            with mercurial(root) as asked:
+                for flags in FLAGS:
+                    words = ("status", *flags.split())
+                    tests.compare(f"parents: {what}: step {number}: {' '.join(words)}", tests.run(root, words), (0, asked.ask(*words), b""))
 
 
 def run_store(tests):
@@ -305,8 +318,10 @@ def run(tests):
     if shutil.which("hg") is None:
         tests.skip("the command hg is not installed, so no parents were brought over")
         return
+    os.environ["HGRCPATH"] = ""
+    mercurial = script().Mercurial
     for what, steps in CASES:
-        run_case(tests, what, steps)
+        run_case(tests, mercurial, what, steps)
     run_store(tests)
     run_damage(tests)
     run_hook(tests)

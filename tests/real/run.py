@@ -1,7 +1,7 @@
 #!/usr/bin/env python3
 """Black-box tests of the built program over real folders: python3 tests/real/run.py [PROGRAM] [PART ..].
 
-PROGRAM is build/hgtrack where it isn't named. The parts are listings, commits, damage, outside, standing, meanwhile, mercurial, records, parents, hooks,
+PROGRAM is build/hgtrack where it isn't named. The parts are listings, commits, damage, outside, standing, meanwhile, mercurial, records, parents, hooks, mixed,
 ignoring, refusing, saving, syncs and turns; all where none is named. The last line is
 'N passed, M failed', and the status 0 exactly where M is 0.
 """
@@ -21,6 +21,7 @@ import ignoring
 import listings
 import meanwhile
 import mercurial
+import mixed
 import outside
 import parents
 import records
@@ -31,7 +32,7 @@ import syncs
 import turns
 from folder import Tests
 
-PARTS = {"listings": listings, "commits": commits, "damage": damage, "outside": outside, "standing": standing, "meanwhile": meanwhile, "mercurial": mercurial, "records": records, "parents": parents, "hooks": hooks, "ignoring": ignoring,
+PARTS = {"listings": listings, "commits": commits, "damage": damage, "outside": outside, "standing": standing, "meanwhile": meanwhile, "mercurial": mercurial, "records": records, "parents": parents, "hooks": hooks, "mixed": mixed, "ignoring": ignoring,
          "refusing": refusing, "saving": saving, "syncs": syncs, "turns": turns}
 
 
