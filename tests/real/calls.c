@@ -5,7 +5,8 @@
 //                                              end of the standard input
 //
 // A call counts where a path that it is given has a component `.hg`, or is the folder ROOT, or where the file that it is given is such a
-// one. It ends as the program does; with 99 where the system doesn't let a program be watched.
+// one. A path that is told from the program's current folder has that in front. Where the environment's HGTRACK_WHERE is `tree`, a call counts that
+// touches ROOT or what is below it, but nothing below `.hg`. It ends as the program does; with 99 where the system doesn't let a program be watched.
 #define _GNU_SOURCE
 #include <errno.h>
 #include <fcntl.h>
@@ -44,23 +45,46 @@ static const struct known { long number; const char *name; int path, other_path,
 
 static pid_t child;
 static const char *root;
+static int in_tree;
 
 static unsigned long long argument(const struct user_regs_struct *regs, int at) {
     unsigned long long all[] = {regs->rdi, regs->rsi, regs->rdx, regs->r10, regs->r8, regs->r9};
     return all[at];
 }
 
-// Whether a path is the root's or has a component `.hg`.
-static int is_below(const char *path) {
-    if (!strcmp(path, root)) return 1;
+static int has_hg(const char *path) {
     for (const char *at = path; (at = strstr(at, ".hg")); at += 3)
         if ((at == path || at[-1] == '/') && (at[3] == '/' || !at[3])) return 1;
     return 0;
 }
 
-// Reads the text at an address of the program, page by page.
-static void read_text(unsigned long long from, char *to, size_t room) {
+// Whether what touches a path counts.
+static int is_below(const char *path) {
+    size_t n = strlen(root);
+    int is_root = !strcmp(path, root);
+    if (!in_tree) return is_root || has_hg(path);
+    return is_root || (!strncmp(path, root, n) && path[n] == '/' && !has_hg(path));
+}
+
+// The character at an address of the program.
+static char peek(unsigned long long from) {
+    char byte = '/';
+    struct iovec mine = {&byte, 1}, theirs = {(void *)from, 1};
+    process_vm_readv(child, &mine, 1, &theirs, 1, 0);
+    return byte;
+}
+
+// Reads the path at an address of the program, page by page. One that is told from its current folder gets that in front.
+static void read_path(unsigned long long from, char *to, size_t room) {
+    char link[64];
     size_t n = 0;
+    if (from && peek(from) != '/') {
+        snprintf(link, sizeof link, "/proc/%d/cwd", child);
+        ssize_t cwd = readlink(link, to, room - 2);
+        n = cwd < 0 ? 0 : cwd;
+        to[n++] = '/';
+        to += n, room -= n, n = 0;
+    }
     while (n + 1 < room) {
         size_t more = 4096 - (from + n) % 4096;
         if (more > room - 1 - n) more = room - 1 - n;
@@ -81,7 +105,7 @@ static int touches(const struct user_regs_struct *regs, const struct known **cal
         int paths[] = {KNOWN[i].path, KNOWN[i].other_path};
         for (int j = 0; j < 2; j++) {
             if (paths[j] < 0) continue;
-            read_text(argument(regs, paths[j]), text, room);
+            read_path(argument(regs, paths[j]), text, room);
             if (is_below(text)) return 1;
         }
         if (KNOWN[i].file >= 0 && (int)argument(regs, KNOWN[i].file) >= 0) {
@@ -139,6 +163,7 @@ int main(int count, char **words) {
     int told = atoi(words[1]), status, is_list = !strcmp(words[2], "list"), at = is_list ? 3 : 4;
     long wanted = is_list ? 0 : atol(words[3]), seen = 0;
     root = words[at];
+    in_tree = getenv("HGTRACK_WHERE") && !strcmp(getenv("HGTRACK_WHERE"), "tree");
     start(words + at + 1, told);
     if (waitpid(child, &status, 0) < 0) return 98;
     if (!WIFSTOPPED(status)) return 99;

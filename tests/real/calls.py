@@ -29,14 +29,14 @@ def compiled(tests, name, *flags):
 
 
 class Calls:
-    """The library, and runs of the program that has it loaded."""
+    """The library, and runs of the program that has it loaded. It counts the calls below `.hg`, or, where that is said, in the working copy."""
 
-    def __init__(self, tests):
-        self.tests, self.library = tests, compiled(tests, "preloaded.c", "-shared", "-fPIC")
+    def __init__(self, tests, where="record"):
+        self.tests, self.where, self.library = tests, where, compiled(tests, "preloaded.c", "-shared", "-fPIC")
 
     def env(self, root, how, number, error=0):
         """The environment in which the library does something with the calls of a program."""
-        return {**os.environ, "LD_PRELOAD": self.library, "HGTRACK_CALLS": f"{how} {number} {error} {os.path.realpath(root)}"}
+        return {**os.environ, "LD_PRELOAD": self.library, "HGTRACK_WHERE": self.where, "HGTRACK_CALLS": f"{how} {number} {error} {os.path.realpath(root)}"}
 
     def run(self, root, words, *how):
         """Runs the program, and stops it at a call or has that fail. Answers its status, its standard output and its error stream."""
@@ -59,10 +59,10 @@ def rows_of(path):
 
 
 class Watcher:
-    """The compiled watcher, and runs under it."""
+    """The compiled watcher, and runs under it. It counts the calls below `.hg`, or, where that is said, in the working copy."""
 
-    def __init__(self, tests):
-        self.tests, self.watcher = tests, compiled(tests, "calls.c")
+    def __init__(self, tests, where="record"):
+        self.tests, self.where, self.watcher = tests, {"HGTRACK_WHERE": where}, compiled(tests, "calls.c")
 
     def command(self, told, how, root, words):
         return [self.watcher, str(told), *how, os.path.realpath(root), self.tests.program, *words]
@@ -72,13 +72,14 @@ class Watcher:
         path = f"{self.tests.room}/watched"
         with open(path, "wb") as told:
             command = self.command(told.fileno(), ["list"], root, words)
-            ran = subprocess.run(command, cwd=root, env=env, stdin=subprocess.DEVNULL, capture_output=True, timeout=SECONDS, pass_fds=[told.fileno(), *passed])
+            ran = subprocess.run(command, cwd=root, env={**(env or os.environ), **self.where}, stdin=subprocess.DEVNULL, capture_output=True, timeout=SECONDS, pass_fds=[told.fileno(), *passed])
         return ran.returncode, rows_of(path)
 
     def held(self, root, words, number):
         """Starts the program, and answers when it is stopped before a call of it; at `let_go` it goes on."""
         reader, writer = os.pipe()
-        at = subprocess.Popen(self.command(writer, ["hold", str(number)], root, words), cwd=root, stdin=subprocess.PIPE, stdout=subprocess.PIPE, stderr=subprocess.PIPE, pass_fds=[writer])
+        command, env = self.command(writer, ["hold", str(number)], root, words), {**os.environ, **self.where}
+        at = subprocess.Popen(command, cwd=root, env=env, stdin=subprocess.PIPE, stdout=subprocess.PIPE, stderr=subprocess.PIPE, pass_fds=[writer])
         os.close(writer)
         with os.fdopen(reader, "rb") as told:
             assert told.readline() == b"held\n", f"no call {number} of {words}"
@@ -91,11 +92,11 @@ def let_go(at):
     return at.returncode, out, err
 
 
-def watched(tests, what):
+def watched(tests, what, where="record"):
     """A watcher; none, and what it is for is skipped, where there is no gcc or the system lets no program be watched."""
     if not has_gcc(tests, what):
         return None
-    watcher = Watcher(tests)
+    watcher = Watcher(tests, where)
     if watcher.listed(tests.room, ["--version"])[0] == UNWATCHED:
         tests.skip(f"the system lets no program be watched: {what}")
         return None

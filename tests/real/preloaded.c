@@ -7,7 +7,8 @@
 //     fail N ERROR ROOT     does the Nth not, and answers that error
 //
 // A call counts where a path that it is given has a component `.hg`, or is the folder ROOT, or where the file that it is given is such a
-// one. What the library does itself goes past the C library's names, and isn't counted.
+// one. A path that is told from the current folder has that in front. Where the environment's HGTRACK_WHERE is `tree`, a call counts that touches
+// ROOT or what is below it, but nothing below `.hg`. What the library does itself goes past the C library's names, and isn't counted.
 #define _GNU_SOURCE
 #include <dirent.h>
 #include <dlfcn.h>
@@ -29,16 +30,17 @@ enum what { NOTHING, LIST, BEFORE, AFTER, FAIL };
 
 static enum what wanted;
 static long number, seen;
-static int error;
+static int error, in_tree;
 static const char *root = "";
 
 __attribute__((constructor)) static void start(void) {
     static const char *const NAMES[] = {"", "list", "before", "after", "fail"};
-    const char *told = getenv("HGTRACK_CALLS");
+    const char *told = getenv("HGTRACK_CALLS"), *where = getenv("HGTRACK_WHERE");
     char name[8];
     int end = 0;
     if (!told || sscanf(told, "%7s %ld %d %n", name, &number, &error, &end) != 3 || !end) return;
     root = told + end;
+    in_tree = where && !strcmp(where, "tree");
     for (enum what it = LIST; it <= FAIL; it++)
         if (!strcmp(name, NAMES[it])) wanted = it;
 }
@@ -47,18 +49,35 @@ static void stop(void) {
     syscall(SYS_kill, syscall(SYS_getpid), SIGKILL);
 }
 
-// Whether a path is the root's or has a component `.hg`.
-static int is_below(const char *path) {
-    if (!strcmp(path, root)) return 1;
+static int has_hg(const char *path) {
     for (const char *at = path; (at = strstr(at, ".hg")); at += 3)
         if ((at == path || at[-1] == '/') && (at[3] == '/' || !at[3])) return 1;
     return 0;
 }
 
+// Whether what touches a path counts.
+static int is_below(const char *path) {
+    size_t n = strlen(root);
+    int is_root = !strcmp(path, root);
+    if (!in_tree) return is_root || has_hg(path);
+    return is_root || (!strncmp(path, root, n) && path[n] == '/' && !has_hg(path));
+}
+
+// A path from the top.
+static const char *absolute(const char *path, char *room) {
+    if (path[0] == '/') return path;
+    ssize_t n = syscall(SYS_readlink, "/proc/self/cwd", room, PATH_MAX - 1);
+    if (n < 0) return path;
+    snprintf(room + n, PATH_MAX - n, "/%s", path);
+    return room;
+}
+
 // What a call touches below `.hg`: a path that it was given, or else that of the open file; none where it touches nothing there.
 static const char *touched(const char *path, const char *other_path, int file) {
-    static char text[PATH_MAX];
+    static char text[PATH_MAX], from_top[PATH_MAX], other_from_top[PATH_MAX];
     char link[64];
+    if (path) path = absolute(path, from_top);
+    if (other_path) other_path = absolute(other_path, other_from_top);
     if (path && is_below(path)) return path;
     if (other_path && is_below(other_path)) return other_path;
     if (file < 0) return 0;
@@ -143,6 +162,7 @@ CALL(int, chmod, "chmod", (const char *path, mode_t mode), (path, mode), path, 0
 CALL(int, fchmod, "fchmod", (int file, mode_t mode), (file, mode), 0, 0, file)
 CALL(int, ftruncate, "ftruncate", (int file, off_t size), (file, size), 0, 0, file)
 CALL(int, ftruncate64, "ftruncate", (int file, off64_t size), (file, size), 0, 0, file)
+CALL(int, futimens, "utimensat", (int file, const struct timespec times[2]), (file, times), 0, 0, file)
 CALL(int, chdir, "chdir", (const char *path), (path), path, 0, -1)
 CALL(ssize_t, getdents64, "getdents64", (int file, void *to, size_t room), (file, to, room), 0, 0, file)
 CALL(ssize_t, read, "read", (int file, void *to, size_t room), (file, to, room), 0, 0, file)

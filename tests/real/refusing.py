@@ -94,6 +94,14 @@ def run_locked(tests):
         tests.compare("and then it is free", tests.run(root, ("add", "new")), (0, b"", b""))
     with tests.working_copy() as root:
         lay_some(root)
+        with open(f"{root}/.hg/wlock", "wb") as lock:
+            lock.write(b"somewhere/1:1234567")
+        os.symlink("somewhere/1:2", f"{root}/.hg/wlock.break")
+        tests.compare("Mercurial is about to take away the lock of a dead process", tests.run(root, ("add", "new")), (255, b"", LOCKED))
+        os.remove(f"{root}/.hg/wlock.break")
+        tests.compare("and then it is free", (tests.run(root, ("add", "new")), os.path.lexists(f"{root}/.hg/wlock")), ((0, b"", b""), False))
+    with tests.working_copy() as root:
+        lay_some(root)
         lay_out(root, [".hg/wlock/"])
         refused(tests, "a folder as the lock", root, ["add", "new"], (255, b"", aborted(".hg failed") + because(".hg/wlock", "not a regular file")))
 
@@ -120,10 +128,9 @@ def files_of(most):
 
 # the command, how many bytes a file may have, the file of which that isn't enough, and how many it then has
 NO_ROOM = [
-    (["add", "new"], 0, DATA_NEXT, 0),
-    (["forget", "a"], 0, DATA_NEXT, 0),
-    (["add", "new"], 20, DATA_NEXT, 20),
-    (["forget", "a"], 20, DATA_NEXT, 20),
+    (["add", "new"], 0, "wlock", 0),
+    (["forget", "a"], 0, "wlock", 0),
+    (["add", "new"], 100, DATA_NEXT, 100),
     (["add", "new", "l"], 100, DATA_NEXT, 100),
     # (the data where `a` alone is tracked have 45 bytes, and the docket 141)
     (["forget", "d/b"], 100, "dirstate-new", 100),

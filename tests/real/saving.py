@@ -6,6 +6,7 @@ import os
 import re
 import shutil
 import tempfile
+import time
 
 from calls import ERRORS, Calls, has_gcc, watched
 from dirstate import NULL, P1_TRACKED, WDIR_TRACKED, docket, written
@@ -15,10 +16,10 @@ PARENT = b"\x11" * 20
 KILLED = -9
 NEXT = "next"
 NO_WAY = aborted("working copy failed") + because(".", "no way to the root or back")
-# The first two data files that a record names.
-DATA = [f"dirstate.{it:016x}" for it in (0, 1)]
+# The first data files that a record names.
+DATA = [f"dirstate.{it:016x}" for it in range(3)]
 # What no save leaves behind, and the next one takes away where an earlier one was stopped.
-LEFT = {"wlock", "dirstate-new"}
+LEFT = {"wlock", "wlock-new", "dirstate-new"}
 
 
 def told(entries, p1=NULL):
@@ -59,6 +60,17 @@ def leftovers(root):
     put(f"{root}/.hg/wlock", b"")
 
 
+def before_lock(root):
+    """What an earlier command may have left when it was stopped before it had the lock."""
+    put(f"{root}/.hg/wlock-new", b"")
+
+
+def behind_lock(root):
+    """And when it was stopped just behind that."""
+    put(f"{root}/.hg/wlock-new", b"somewhere/1:1")
+    os.link(f"{root}/.hg/wlock-new", f"{root}/.hg/wlock")
+
+
 def other_identifier(root):
     """The record as Mercurial names its data file."""
     docket, data = written([b"a", b"d/b"], identifier=b"89abcdef")
@@ -75,6 +87,8 @@ SCENES = [
     Scene("files to a record of some", ["add", "d/new", "z"], SOME, {**SOME, **added("d/new", "z")}),
     Scene("files to a record of many", ["add", "d3/new", "z"], MANY, {**MANY, **added("d3/new", "z")}),
     Scene("a file behind an earlier stop", ["add", "z"], SOME, {**SOME, "z": "a"}, lay=leftovers),
+    Scene("a file behind a stop before the lock", ["add", "z"], added("a"), added("a", "z"), lay=before_lock),
+    Scene("a file behind a stop at the lock", ["add", "z"], added("a"), added("a", "z"), lay=behind_lock),
     Scene("a file to a record of Mercurial's", ["add", "z"], added("a", "d/b"), added("a", "d/b", "z"), lay=other_identifier),
     Scene("forget some", ["forget", "a", "d/e/f"], SOME, added("b.c", "d/b", "x y")),
     Scene("forget the last", ["forget", "a"], added("a"), {}),
@@ -179,10 +193,14 @@ def run_failures(tests, calls, scene, template, names):
     return passed
 
 
-# What each call of the record's device is to the system, by the names of its files below `.hg`, which is `.` itself: taking the lock, looking at
-# what isn't there, the size, reading, writing, making sure, renaming over a file or not, making names sure, removing, giving the lock back.
-LOCK = ["mkdir .", "statx wlock", "openat wlock", "flock wlock", "statx wlock", "statx wlock"]
-UNLOCK = ["statx wlock", "statx wlock", "unlink wlock", "flock wlock (deleted)"]
+# What each call of the record's device is to the system, by the names of its files below `.hg`, which is `.` itself: going there, taking the lock,
+# looking at what isn't there, the size, reading, writing, making sure, renaming over a file or not, making names sure, removing, giving the lock back.
+# (An open file is told by the name that it was opened under.)
+FOUND = ["statx .", "statx ."]
+STAND = ["chdir .", "statx ."]
+NEW = ["openat", "flock", "statx", "statx", "write", "link", "unlink"]
+LOCK = STAND + ["statx wlock"] + [f"{it} wlock-new" for it in NEW]
+UNLOCK = ["statx wlock", "statx wlock-new (deleted)", "unlink wlock", "flock wlock-new (deleted)"]
 SYNC_NAMES = ["openat .", "fsync ."]
 
 
@@ -195,7 +213,7 @@ def read_at(name, reads):
 
 
 def write_at(name):
-    return ["mkdir ."] + [f"{call} {name}" for call in ("statx", "openat", "statx", "lseek", "write")]
+    return [f"{call} {name}" for call in ("statx", "openat", "statx", "lseek", "write")]
 
 
 # (of a file that was written, which is still open)
@@ -203,26 +221,43 @@ def sync(name):
     return [f"{call} {name}" for call in ("statx", "fsync")] + SYNC_NAMES
 
 
-def rename(old, new, is_there):
-    return [f"statx {old}", "mkdir .", f"statx {new}"] + is_there * [f"chmod {old}"] + [f"rename {old}"]
+# Over a file that has changed in this very second the new one gets a time.
+def rename(old, new, is_there=False, is_recent=False):
+    timed = [f"{call} {old}" for call in ("openat", "statx", "utimensat")]
+    return [f"statx {old}", f"statx {new}"] + is_recent * timed + is_there * [f"chmod {old}"] + [f"rename {old}"]
 
 
 def remove(name):
     return [f"unlink {name}"]
 
 
-# The shelf's calls of two commands, one after another, by name and in order. (The docket is read into more room than it takes, so up to a read of
-# nothing, and of the data as many bytes as there are.)
+def saved(old, new, is_recent):
+    """The calls of an add to a record."""
+    return [
+        LOCK, read_at("dirstate", 2), size(old), read_at(old, 1), STAND, write_at(new), sync(new), write_at("dirstate-new"), sync("dirstate-new"),
+        rename("dirstate-new", "dirstate", True, is_recent), SYNC_NAMES, remove(old), UNLOCK,
+    ]
+
+
+# The shelf's calls of three commands, one after another, by name and in order, and whether the docket has changed in the very second of the command. (The
+# docket is read into more room than it takes, so up to a read of nothing, and of the data as many bytes as there are. The working copy is looked at
+# in between.)
 IN_ORDER = [
-    (["add", "a"], [
-        LOCK, size("dirstate"), write_at(DATA[0]), sync(DATA[0]), write_at("dirstate-new"), sync("dirstate-new"),
-        rename("dirstate-new", "dirstate", False), SYNC_NAMES, UNLOCK,
+    (["add", "a"], None, [
+        LOCK, size("dirstate"), STAND, write_at(DATA[0]), sync(DATA[0]), write_at("dirstate-new"), sync("dirstate-new"),
+        rename("dirstate-new", "dirstate"), SYNC_NAMES, UNLOCK,
     ]),
-    (["add", "b"], [
-        LOCK, read_at("dirstate", 2), size(DATA[0]), read_at(DATA[0], 1), write_at(DATA[1]), sync(DATA[1]), write_at("dirstate-new"), sync("dirstate-new"),
-        rename("dirstate-new", "dirstate", True), SYNC_NAMES, remove(DATA[0]), UNLOCK,
-    ]),
+    (["add", "b"], False, saved(DATA[0], DATA[1], False)),
+    (["add", "c"], True, saved(DATA[1], DATA[2], True)),
 ]
+
+
+def wait_for(docket, is_recent):
+    """Waits until a second of the docket's has gone, and has it change then, where it is to have changed in this very second."""
+    while time.time() < os.stat(docket).st_ctime + 1.1 or time.time() % 1 > 0.3:
+        time.sleep(0.01)
+    if is_recent:
+        os.chmod(docket, 0o644)
 
 
 def named(root, row):
@@ -235,12 +270,14 @@ def named(root, row):
 def run_in_order(tests, calls):
     """What two commands do below `.hg`, call by call: nothing else, and in this order. Before it there is the look for `.hg`."""
     with tests.working_copy() as root:
-        lay_out(root, [".hg/", "a", "b"])
+        lay_out(root, [".hg/", "a", "b", "c"])
         root = os.path.realpath(root)
-        for words, wanted in IN_ORDER:
+        for words, is_recent, wanted in IN_ORDER:
+            if is_recent is not None:
+                wait_for(f"{root}/.hg/dirstate", is_recent)
             status, rows, _ = calls.listed(root, words)
             names = [it for row in rows for it in named(root, row)]
-            tests.compare(f"in order: {' '.join(words)}: {len(wanted)} calls of the shelf", (status, names), (0, ["statx ."] + sum(wanted, [])))
+            tests.compare(f"in order: {' '.join(words)}: {len(wanted)} calls of the shelf", (status, names), (0, FOUND + sum(wanted, [])))
 
 
 def run_below(tests, calls):
@@ -253,6 +290,18 @@ def run_below(tests, calls):
             tests.compare(f"from a folder below, the look {number} for .hg fails", (answer, made), ((255, b"", NO_WAY), False))
 
 
+def run_one_name(tests, calls):
+    """Where the file system has no second names for a file, the lock's file is made at its own."""
+    with tests.working_copy() as root:
+        lay_out(root, [".hg/", "a", "b", "c"])
+        names = calls.listed(root, ["add", "a"])[1]
+        number = 1 + next(i for i, it in enumerate(names) if it.startswith("link "))
+        for name, error in ("b", errno.EPERM), ("c", errno.EOPNOTSUPP):
+            ran = calls.run(root, ["add", name], "fail", number, error)
+            tests.compare(f"no second name for the lock: {errno.errorcode[error]}", (ran, LEFT & set(os.listdir(f"{root}/.hg"))), ((0, b"", b""), set()))
+        tests.compare("no second name for the lock: what is tracked", shown(tests, root), (0, told(added("a", "b", "c"))))
+
+
 def run_few_open(tests):
     """What stays open while the lock is held fits where few files may be open."""
     with tests.working_copy() as root:
@@ -263,11 +312,11 @@ def run_few_open(tests):
 
 
 def unsure(names):
-    """The files that were never made sure behind a write to them."""
+    """The files that were never made sure behind a write to them. The lock's is none that has to be sure."""
     files = set()
     for name in names:
         call, _, path = name.partition(" ")
-        if call == "write":
+        if call == "write" and "wlock" not in path:
             files.add(path)
         elif call == "fsync":
             files.discard(path)
@@ -280,7 +329,7 @@ def counted(tests, calls, watcher, scene, template):
     tests.compare(f"{scene.what}: not stopped", (status, bool(names)), (0, True))
     if watcher is not None:
         tests.compare(f"{scene.what}: {len(names)} calls are counted, and no other is seen", others, names)
-    written = [it for it in names if it.startswith("write ")]
+    written = [it for it in names if it.startswith("write ") and "wlock" not in it]
     tests.compare(f"{scene.what}: {len(written)} writes, each made sure", (bool(written), unsure(names)), (True, set()))
     tests.compare(f"{scene.what}: no close", [it for it in names if it.startswith("close ")], [])
     return names
@@ -298,8 +347,9 @@ def run(tests):
             stops += run_stops(tests, calls, scene, template, names)
             passed |= run_failures(tests, calls, scene, template, names)
     run_below(tests, calls)
+    run_one_name(tests, calls)
     run_in_order(tests, calls)
     run_few_open(tests)
     tests.compare(f"{stops} stops", stops >= 300, True)
-    # (the look at the root's own name, which serves no more then: it isn't below `.hg`)
-    tests.compare("calls whose failure changes nothing", passed, {"statx of copy"})
+    # (the look at the root's own name, which serves no more then, and the look which folder `.hg` is, which is then the one of the root)
+    tests.compare("calls whose failure changes nothing", passed, {"statx of copy", "statx of .hg"})

@@ -20,19 +20,22 @@ def events(tests, root, words):
     """What the program did below the root, in order: (call, name), with the root's own folder `.` and that of the record `.hg`; and what became
     of the open files that were written."""
     path = f"{tests.room}/strace"
-    command = ["strace", "-f", "-y", "-s", "0", "-e", f"trace={CALLS},close", "-o", path, tests.program, *words]
+    command = ["strace", "-f", "-y", "-s", "0", "-e", f"trace={CALLS},close,chdir", "-o", path, tests.program, *words]
     ran = subprocess.run(command, cwd=root, stdin=subprocess.DEVNULL, capture_output=True, timeout=SECONDS)
     with open(path, encoding="utf-8", errors="replace") as file:
         rows = file.read().splitlines()
-    done = []
+    done, root = [], os.path.realpath(root)
+    at = root
     for it in filter(None, map(ROW.match, rows)):
         call, rest = (it[1], it[2]) if it[1] else (it[3], it[4])
-        names = [os.path.relpath(name, os.path.realpath(root)) for name in re.findall(r'[<"](/[^>"]*)[>"]', rest)]
         # (the current folder is named where a path is told from it)
-        names = [name for name in names if name != "." or call == "fsync"]
-        if call != "close":
+        paths = [os.path.join(at, name) for name in re.findall(r'[<"]([^>"]+)[>"]', re.sub("AT_FDCWD<[^>]*>", "", rest))]
+        if call == "chdir":
+            at = paths[0]
+        elif call != "close":
+            names = [os.path.relpath(path, root) for path in paths]
             done.append((call.rstrip("v46").removeprefix("p") if "write" in call else call.removesuffix("at2").removesuffix("at"), " ".join(names)))
-    return ran, [(call, name) for call, name in done if name], behind_writes(rows)
+    return ran, [(call, name) for call, name in done if name and not name.startswith("..")], behind_writes(rows)
 
 
 def behind_writes(rows):
@@ -53,8 +56,9 @@ def in_order(done, wanted):
 
 
 def saves(new, old=None):
-    """The events of a save in the order in which they have to be. Before the first docket the folder that names `.hg` is made sure."""
+    """The events of a save in the order in which they have to be: the lock first. Before the first docket the folder that names `.hg` is made sure."""
     rows = [
+        ("write", ".hg/wlock-new"), ("link", ".hg/wlock-new .hg/wlock"), ("unlink", ".hg/wlock-new"),
         ("write", f".hg/{new}"), ("fsync", f".hg/{new}"), ("fsync", ".hg"),
         ("write", ".hg/dirstate-new"), ("fsync", ".hg/dirstate-new"), *([] if old else [("fsync", ".")]),
         ("rename", ".hg/dirstate-new .hg/dirstate"), ("fsync", ".hg"),
@@ -73,7 +77,8 @@ def run_order(tests, what, things, tracked, words, wanted):
             print(f"  done     {done}")
         changes = [it for it in done if it[0] not in ("fsync", "fdatasync") and ".hg" in it[1]]
         tests.compare(f"{what}: nothing else is written", changes, [it for it in wanted if it[0] != "fsync"])
-        tests.compare(f"{what}: each file is made sure where it was written, and stays open", files, 2 * [["write", "fsync"]])
+        # (the lock needs not be sure)
+        tests.compare(f"{what}: each file is made sure where it was written, and stays open", files, [["write"], *2 * [["write", "fsync"]]])
         last = max(i for i, it in enumerate(done) if it[0] == "write" and it[1].startswith(".hg/dirstate."))
         tests.compare(f"{what}: the data file isn't written again", done[last + 1][0] in ("fsync", "fdatasync") and done[last + 1][1] == done[last][1], True)
 

@@ -152,14 +152,15 @@ def run_our_lock(tests, calls):
 
 
 def under(tests, calls, root):
-    """Calls of an add under the lock: the number of the first write, of the rename and of the first file that is taken away."""
+    """Calls of an add under the lock, on the record: the number of the first write, of the rename and of the first file that is taken away."""
     with tests.working_copy() as room:
         copy = f"{room}/copy"
         shutil.copytree(root, copy, symlinks=True)
         names = calls.listed(copy, ["add", "a"])[1]
     found = {}
     for number, name in enumerate(names, 1):
-        found.setdefault(name.split(" ")[0], number)
+        if "/dirstate" in name:
+            found.setdefault(name.split(" ")[0], number)
     return {it: found[it] for it in ("write", "rename", "unlink") if it in found}
 
 

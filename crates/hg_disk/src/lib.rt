@@ -13,10 +13,12 @@
 #![tactic(auto)]
 
 mod ancestors;
+mod below;
 mod contents;
 mod disk;
 mod entries;
 mod failure;
+mod holder;
 mod lock_file;
 mod look;
 mod opened;
@@ -28,6 +30,7 @@ mod spot;
 mod way;
 mod writing;
 
+pub use holder::ProcessId;
 pub use real_shelf::RealShelf;
 pub use real_tree::RealTree;
 pub use root::{Root, Start, enter_root};

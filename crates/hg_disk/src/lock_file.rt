@@ -1,16 +1,41 @@
 //! The lock of a working copy: a lock of the system on the regular file `.hg/wlock`, which is given back at the process's end, however that
 //! comes. The file is taken away with the lock, so that Mercurial, whose own lock is a symbolic link of that name, isn't kept out by it.
+//!
+//! The file tells its holder in the words of Mercurial's lock, from the moment at which it has its name: it is written and locked as
+//! `wlock-new`, and then linked. So Mercurial names a holder that lives, and takes away the file of a dead one without waiting. A file
+//! that stayed behind is taken over where it stands.
 
+use crate::disk::is_absence;
 use crate::failure::Reason;
 use crate::opened::Opened;
 use crate::spot::spot_of;
 use crate::writing::{look, make, open_seen, remove_file};
-use std::fs::{File, TryLockError};
-use std::io::{Error, ErrorKind};
+use std::alloc::Global;
+use std::fs::{self, File, Metadata, TryLockError};
+use std::io::{Error, ErrorKind, Write};
+use std::os::unix::fs::MetadataExt;
 use std::rt::Files;
 
 // How often another file may stand at the name by the time that the lock is there.
 const TRIES: u32 = 100;
+
+// How the lock's file can be used, less what the user's mask takes away: who shares a working copy takes over what another left.
+const MODE: u32 = 0o666;
+
+// How many bytes of a file that stayed behind are covered at most, more than any holder has.
+const LONGEST: u64 = 255;
+
+/// The names of the lock, as paths, and what it says of its holder.
+#[derive(Drop)]
+pub(crate) struct Names {
+    /// The lock's file.
+    pub(crate) lock: String,
+    /// The file before it has that name.
+    pub(crate) new: String,
+    /// The lock under which Mercurial takes away the lock of a dead process.
+    pub(crate) breaking: String,
+    pub(crate) holder: Vec<u8>,
+}
 
 // What one try came to.
 enum Tried {
@@ -21,9 +46,13 @@ enum Tried {
 }
 
 /// Takes the lock, where nobody has it. A symbolic link is Mercurial's lock.
-pub(crate) fn take<R: Files<File = File>>(rt: &R, path: &str) -> Result<Option<File>, Reason> {
+pub(crate) fn take<R: Files<File = File> + AllocGlobal>(
+    rt: &R,
+    opened: &mut Opened,
+    names: &Names,
+) -> Result<Option<File>, Reason> {
     for _ in 0..TRIES {
-        match try_once(rt, path)? {
+        match try_once(rt, opened, names)? {
             Tried::Taken(file) => return Ok(Some(file)),
             Tried::Held => return Ok(None),
             Tried::Gone => {}
@@ -32,25 +61,162 @@ pub(crate) fn take<R: Files<File = File>>(rt: &R, path: &str) -> Result<Option<F
     Ok(None)
 }
 
-fn try_once<R: Files<File = File>>(rt: &R, path: &str) -> Result<Tried, Reason> {
-    let opened = match look(rt, path)? {
-        Some(seen) if seen.is_symlink() => return Ok(Tried::Held),
-        Some(seen) => open_seen(rt, path, &seen, false)?,
-        None => make_new(rt, path)?,
-    };
-    match opened {
-        Some(file) => lock(rt, path, file),
-        None => Ok(Tried::Gone),
+fn try_once<R: Files<File = File> + AllocGlobal>(
+    rt: &R,
+    opened: &mut Opened,
+    names: &Names,
+) -> Result<Tried, Reason> {
+    match look(rt, names.lock.as_str())? {
+        Some(seen) if seen.is_symlink() => Ok(Tried::Held),
+        Some(seen) => take_over(rt, names, &seen),
+        None => make_new(rt, opened, names),
     }
 }
 
-// Makes the file, unless another did meanwhile.
-fn make_new<R: Files<File = File>>(rt: &R, path: &str) -> Result<Option<File>, Error> {
-    match make(rt, path) {
-        Ok(file) => Ok(Some(file)),
-        Err(error) if error.kind() == ErrorKind::AlreadyExists => Ok(None),
+// Makes the file under its first name, and gives it the lock's where nothing stands there.
+fn make_new<R: Files<File = File>>(
+    rt: &R,
+    opened: &mut Opened,
+    names: &Names,
+) -> Result<Tried, Reason> {
+    let new = names.new.as_str();
+    let mut file = match make_held(rt, new)? {
+        Made::Held(file) => file,
+        Made::Gone => return Ok(Tried::Gone),
+        Made::Behind => return clear(rt, opened, new),
+    };
+    let told = file.write_all(names.holder.as_slice());
+    let linked = match told {
+        Ok(()) => fs::hard_link(rt, new, names.lock.as_str()),
         Err(error) => Err(error),
+    };
+    remove_file(rt, new)?;
+    match linked {
+        Ok(()) => Ok(Tried::Taken(file)),
+        Err(error) if error.kind() == ErrorKind::AlreadyExists || is_absence(&error) => {
+            Ok(Tried::Gone)
+        }
+        Err(error) if has_no_links(&error) => make_there(rt, names),
+        Err(error) => Err(Reason::System(error)),
     }
+}
+
+// What became of a file that is made and locked.
+enum Made {
+    Held(File),
+    // Another process has it, or took it away.
+    Gone,
+    // One stood there before.
+    Behind,
+}
+
+fn make_held<R: Files<File = File>>(rt: &R, path: &str) -> Result<Made, Reason> {
+    let file = match make(rt, path, MODE) {
+        Ok(file) => file,
+        Err(error) if error.kind() == ErrorKind::AlreadyExists => return Ok(Made::Behind),
+        Err(error) => return Err(Reason::System(error)),
+    };
+    match lock(rt, path, file)? {
+        Tried::Taken(file) => Ok(Made::Held(file)),
+        Tried::Held | Tried::Gone => Ok(Made::Gone),
+    }
+}
+
+// Whether the system says that a file can't have two names there.
+fn has_no_links(error: &Error) -> bool {
+    matches!(
+        error.kind(),
+        ErrorKind::PermissionDenied | ErrorKind::Unsupported
+    )
+}
+
+// Makes the file at the lock's name, where a file can't have two. It tells no holder for a moment.
+fn make_there<R: Files<File = File>>(rt: &R, names: &Names) -> Result<Tried, Reason> {
+    match make_held(rt, names.lock.as_str())? {
+        Made::Held(mut file) => {
+            file.write_all(names.holder.as_slice())?;
+            Ok(Tried::Taken(file))
+        }
+        Made::Gone | Made::Behind => Ok(Tried::Gone),
+    }
+}
+
+// Takes away the file of a process that was stopped before it had the lock. One that is locked is of a process that is about to have it.
+fn clear<R: Files<File = File>>(rt: &R, opened: &mut Opened, path: &str) -> Result<Tried, Reason> {
+    let Some(seen) = look(rt, path)? else {
+        return Ok(Tried::Gone);
+    };
+    let Some(file) = open_seen(rt, path, &seen, false)? else {
+        return Ok(Tried::Gone);
+    };
+    match lock(rt, path, file)? {
+        Tried::Taken(file) => {
+            remove_file(rt, path)?;
+            file.unlock()?;
+            opened.keep(file);
+            Ok(Tried::Gone)
+        }
+        other => Ok(other),
+    }
+}
+
+// Takes the lock by a file that a process left behind. Until it tells its new holder Mercurial may be about to take it away, which it does under
+// a lock of its own, behind another look at the holder: so where that lock isn't there behind the write, the file stays.
+fn take_over<R: Files<File = File> + AllocGlobal>(
+    rt: &R,
+    names: &Names,
+    seen: &Metadata,
+) -> Result<Tried, Reason> {
+    let path = names.lock.as_str();
+    let opened = match open_seen(rt, path, seen, true) {
+        Err(Reason::System(error)) if error.kind() == ErrorKind::PermissionDenied => {
+            return is_held(rt, path, seen, error);
+        }
+        opened => opened?,
+    };
+    let Some(file) = opened else {
+        return Ok(Tried::Gone);
+    };
+    let mut file = match lock(rt, path, file)? {
+        Tried::Taken(file) => file,
+        other => return Ok(other),
+    };
+    tell(rt.alloc(), &mut file, seen.len(), names.holder.as_slice())?;
+    if look(rt, names.breaking.as_str())?.is_some() || !stands(rt, path, &file)? {
+        return Ok(Tried::Gone);
+    }
+    // (that process was stopped before it took its file's first name away)
+    if seen.nlink() > 1 {
+        take_away(rt, names.new.as_str(), &file)?;
+    }
+    Ok(Tried::Taken(file))
+}
+
+// Whether the file of another user, which may not be written, is locked. Where it isn't it can't be taken over.
+fn is_held<R: Files<File = File>>(
+    rt: &R,
+    path: &str,
+    seen: &Metadata,
+    error: Error,
+) -> Result<Tried, Reason> {
+    let Some(file) = open_seen(rt, path, seen, false)? else {
+        return Ok(Tried::Gone);
+    };
+    match lock(rt, path, file)? {
+        Tried::Taken(_) => Err(Reason::System(error)),
+        other => Ok(other),
+    }
+}
+
+// Has the file tell its holder, in place of so many bytes. That is one write, with spaces up to the end of what was there, which count for nothing
+// behind a process's number: who reads meanwhile reads the one holder or the other.
+fn tell(alloc: Global, file: &mut File, len: u64, holder: &[u8]) -> Result<(), Error> {
+    let mut text = Vec::from_slice(alloc, holder)?;
+    for _ in holder.len() as u64..len.min(LONGEST) {
+        text.push(b' ')?;
+    }
+    file.write_all(text.as_slice())?;
+    file.set_len(holder.len() as u64)
 }
 
 // Locks the file, and looks whether it is still the one of that name.

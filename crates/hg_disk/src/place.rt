@@ -105,6 +105,7 @@ impl<'a, R: Files + Env + AllocGlobal> Place<'a, R> {
     pub(crate) fn go(&mut self, dir: &str) -> Result<Gone, Failed>
         ensures { IfOk result (λ gone. StandsAt self.new.way dir.now gone) }
     {
+        self.take_notice();
         if self.way.is_at(dir) {
             return Ok(Gone::There);
         }
@@ -118,6 +119,15 @@ impl<'a, R: Files + Env + AllocGlobal> Place<'a, R> {
             }
         }
         Err(self.unreached(dir))
+    }
+
+    // Where the shelf has moved the process meanwhile, the way is lost.
+    fn take_notice(&mut self) {
+        if self.home.moved.replace(false) {
+            self.way.lose();
+            self.seen.spot = None;
+        }
+        self.home.within.set(false);
     }
 
     // Each way was lost.

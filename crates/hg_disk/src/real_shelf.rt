@@ -4,19 +4,20 @@ ghost use Rattle.std.specs.Prelude.{◌≡◌, ◌≤◌, IfOk, Ok, length};
 ghost use Rattle.hg_base.specs.Fault.{HasCause};
 ghost use Rattle.hg_base.specs.Reads.{IsWithin};
 
+use crate::below::{below_hg, is_within, root_path, set_locked, was_found};
 use crate::disk::{counted, is_absence};
 use crate::failure::{FirstFailure, Reason};
-use crate::lock_file::{give_back, take};
+use crate::holder::{ProcessId, holder};
+use crate::lock_file::{Names, give_back, take};
 use crate::opened::Opened;
 use crate::root::Root;
 use crate::writing::{look, make_folder, remove_file, rename_seen, sync, sync_file, write_file};
 use hg_base::{Failed, Got, risen};
 use hg_shelf::Shelf;
 use hg_stream::fill;
-use std::alloc::{AllocError, Global};
 use std::fs::{self, File};
 use std::io::{Error, ErrorKind, Read, Seek, SeekFrom};
-use std::rt::Files;
+use std::rt::{Env, Files};
 
 /// The files below `.hg` in a root folder, which is reached by its absolute name where it has one that serves, and else is the current one.
 ///
@@ -39,7 +40,7 @@ pub struct RealShelf<'a, R: Files> {
     failure: FirstFailure,
 }
 
-impl<'a, R: Files + AllocGlobal> RealShelf<'a, R> {
+impl<'a, R: Files + Env + AllocGlobal> RealShelf<'a, R> {
     /// The files below `.hg` in this root. No call has failed yet, and the lock isn't taken.
     pub fn new(rt: &'a R, root: &'a Root) -> RealShelf<'a, R>
         ensures { result.faults ≡ 0 }
@@ -80,7 +81,7 @@ impl<'a, R: Files + AllocGlobal> RealShelf<'a, R> {
     }
 }
 
-impl<'a, R: Files<File = File> + AllocGlobal> Shelf for RealShelf<'a, R> {
+impl<'a, R: Files<File = File> + Env + AllocGlobal + ProcessId> Shelf for RealShelf<'a, R> {
     ghost use Rattle.std.specs.Prelude.{is_some};
     ghost use Rattle.hg_shelf.specs.History.{untold};
     ghost use Rattle.hg_shelf.specs.Images.{unknown};
@@ -142,6 +143,7 @@ impl<'a, R: Files<File = File> + AllocGlobal> Shelf for RealShelf<'a, R> {
             return Ok(true);
         }
         let answer = take_lock(self.rt, self.root, &mut self.opened);
+        set_locked(self.root, matches!(answer, Ok(Some(_))));
         match self.answered(WLOCK, answer)? {
             Some(file) => {
                 self.lock = Some(file);
@@ -159,6 +161,7 @@ impl<'a, R: Files<File = File> + AllocGlobal> Shelf for RealShelf<'a, R> {
             return Ok(());
         };
         let answer = give_lock_back(self.rt, self.root, &mut self.opened, file);
+        set_locked(self.root, false);
         self.answered(WLOCK, answer)
     }
 
@@ -167,11 +170,15 @@ impl<'a, R: Files<File = File> + AllocGlobal> Shelf for RealShelf<'a, R> {
     ghost shown_named = { λ s k told below. tt };
 }
 
-// The file of the lock.
+// The file of the lock, its name before it has that one, and the lock under which Mercurial takes away the lock of a dead process.
 const WLOCK: &str = "wlock";
 
+const WLOCK_NEW: &str = "wlock-new";
+
+const WLOCK_BREAK: &str = "wlock.break";
+
 // What was written before is made sure first, so that nothing is closed without that.
-fn put<R: Files<File = File> + AllocGlobal>(
+fn put<R: Files<File = File> + Env + AllocGlobal>(
     rt: &R,
     root: &Root,
     opened: &mut Opened,
@@ -186,7 +193,7 @@ fn put<R: Files<File = File> + AllocGlobal>(
 }
 
 // The file, and that its folder names it.
-fn make_sure<R: Files<File = File> + AllocGlobal>(
+fn make_sure<R: Files<File = File> + Env + AllocGlobal>(
     rt: &R,
     root: &Root,
     opened: &mut Opened,
@@ -197,7 +204,7 @@ fn make_sure<R: Files<File = File> + AllocGlobal>(
     sync_folder(rt, root, opened, folder_of(name))
 }
 
-fn change_name<R: Files<File = File> + AllocGlobal>(
+fn change_name<R: Files<File = File> + Env + AllocGlobal>(
     rt: &R,
     root: &Root,
     opened: &mut Opened,
@@ -213,27 +220,35 @@ fn change_name<R: Files<File = File> + AllocGlobal>(
     let before = look(rt, to.as_str())?;
     // The first docket of a folder `.hg` that an earlier call may have made, and ended before it was sure.
     if before.is_none() {
-        sync(rt, opened, root_name(root))?;
+        sync(rt, opened, root_path(root))?;
     }
-    rename_seen(rt, from.as_str(), &seen, to.as_str(), before)
+    rename_seen(rt, opened, from.as_str(), &seen, to.as_str(), before)
 }
 
-fn take_away<R: Files + AllocGlobal>(rt: &R, root: &Root, name: &str) -> Result<(), Reason> {
+fn take_away<R: Files + Env + AllocGlobal>(rt: &R, root: &Root, name: &str) -> Result<(), Reason> {
     let path = below_hg(rt, root, name)?;
     remove_file(rt, path.as_str())
 }
 
-fn take_lock<R: Files<File = File> + AllocGlobal>(
+fn take_lock<R: Files<File = File> + Env + AllocGlobal + ProcessId>(
     rt: &R,
     root: &Root,
     opened: &mut Opened,
 ) -> Result<Option<File>, Reason> {
-    make_folders(rt, root, opened, WLOCK)?;
-    let path = below_hg(rt, root, WLOCK)?;
-    take(rt, path.as_str())
+    if !was_found(root) {
+        make_hg(rt, root, opened)?;
+    }
+    set_locked(root, true);
+    let names = Names {
+        lock: below_hg(rt, root, WLOCK)?,
+        new: below_hg(rt, root, WLOCK_NEW)?,
+        breaking: below_hg(rt, root, WLOCK_BREAK)?,
+        holder: holder(rt)?,
+    };
+    take(rt, opened, &names)
 }
 
-fn give_lock_back<R: Files<File = File> + AllocGlobal>(
+fn give_lock_back<R: Files<File = File> + Env + AllocGlobal>(
     rt: &R,
     root: &Root,
     opened: &mut Opened,
@@ -244,7 +259,7 @@ fn give_lock_back<R: Files<File = File> + AllocGlobal>(
 }
 
 // Makes sure which names a folder below `.hg` has; that is `.hg` itself for the empty name.
-fn sync_folder<R: Files<File = File> + AllocGlobal>(
+fn sync_folder<R: Files<File = File> + Env + AllocGlobal>(
     rt: &R,
     root: &Root,
     opened: &mut Opened,
@@ -265,18 +280,27 @@ fn folder_of(name: &str) -> &str {
     }
 }
 
+// The path of `.hg`, which is made where it is missing.
+fn make_hg<R: Files<File = File> + Env + AllocGlobal>(
+    rt: &R,
+    root: &Root,
+    opened: &mut Opened,
+) -> Result<String, Reason> {
+    let hg = below_hg(rt, root, "")?;
+    if !is_within(root) && make_folder(rt, hg.as_str())? {
+        sync(rt, opened, root_path(root))?;
+    }
+    Ok(hg)
+}
+
 // Makes the folders in which a file is to stand, where they are missing, `.hg` too; each is made sure in the folder above.
-fn make_folders<R: Files<File = File> + AllocGlobal>(
+fn make_folders<R: Files<File = File> + Env + AllocGlobal>(
     rt: &R,
     root: &Root,
     opened: &mut Opened,
     name: &str,
 ) -> Result<(), Reason> {
-    let hg = below_hg(rt, root, "")?;
-    if make_folder(rt, hg.as_str())? {
-        sync(rt, opened, root_name(root))?;
-    }
-    let mut above = hg;
+    let mut above = make_hg(rt, root, opened)?;
     for (at, _) in name.match_indices('/') {
         let folder = below_hg(rt, root, &name[..at])?;
         if make_folder(rt, folder.as_str())? {
@@ -287,35 +311,13 @@ fn make_folders<R: Files<File = File> + AllocGlobal>(
     Ok(())
 }
 
-fn root_name(root: &Root) -> &str {
-    match &root.named {
-        Some(named) => named.name.as_str(),
-        None => ".",
-    }
-}
-
-fn size_of<R: Files + AllocGlobal>(rt: &R, root: &Root, name: &str) -> Result<Option<u64>, Reason> {
+fn size_of<R: Files + Env + AllocGlobal>(
+    rt: &R,
+    root: &Root,
+    name: &str,
+) -> Result<Option<u64>, Reason> {
     let path = below_hg(rt, root, name)?;
     file_size(rt, path.as_str())
-}
-
-// Want of memory for the path is a failure of the shelf, whose calls have no other.
-fn below_hg<R: AllocGlobal>(rt: &R, root: &Root, name: &str) -> Result<String, Reason> {
-    let joined = match &root.named {
-        Some(named) => joined(rt.alloc(), named.name.as_str(), "/.hg/", name),
-        None => joined(rt.alloc(), "", ".hg/", name),
-    };
-    match joined {
-        Ok(path) => Ok(path),
-        Err(_) => Err(Reason::Words("out of memory")),
-    }
-}
-
-fn joined(alloc: Global, root: &str, hg: &str, name: &str) -> Result<String, AllocError> {
-    let mut path = String::from_str(alloc, root)?;
-    path.push_str(hg)?;
-    path.push_str(name)?;
-    Ok(path)
 }
 
 // The size in bytes of the regular file at the path, links followed.
@@ -329,7 +331,7 @@ fn file_size<R: Files>(rt: &R, path: &str) -> Result<Option<u64>, Reason> {
 }
 
 // Where it is to stay open, the file that was read is kept.
-fn read_file<R: Files<File = File> + AllocGlobal>(
+fn read_file<R: Files<File = File> + Env + AllocGlobal>(
     rt: &R,
     root: &Root,
     opened: &mut Opened,

@@ -2,6 +2,7 @@
 
 use crate::disk::is_absence;
 use crate::spot::{Spot, spot_of};
+use std::cell::Cell;
 use std::rt::{Env, Files};
 use std::{env, fs, io};
 
@@ -14,11 +15,19 @@ pub struct Root {
     pub(crate) named: Option<Named>,
 }
 
-/// A folder's absolute name, and which folder that is.
+/// A folder's absolute name, which folder that is, and where the process stands that looks at it.
 #[derive(Drop)]
 pub(crate) struct Named {
     pub(crate) name: String,
     pub(crate) spot: Spot,
+    /// Which folder its `.hg` is, where it has one.
+    pub(crate) hg: Cell<Option<Spot>>,
+    /// Whether the shelf has the lock, or is about to have it.
+    pub(crate) locked: Cell<bool>,
+    /// Whether the process stands in `.hg`.
+    pub(crate) within: Cell<bool>,
+    /// Whether the shelf has moved the process since the tree last went anywhere.
+    pub(crate) moved: Cell<bool>,
 }
 
 impl Root {
@@ -45,10 +54,18 @@ fn find_name<R: Files + Env + AllocGlobal>(rt: &R) -> io::Result<Option<Named>> 
     if spot_at(rt, name.as_str())? != spot {
         return Ok(None);
     }
-    Ok(Some(Named { name, spot }))
+    Ok(Some(Named {
+        name,
+        spot,
+        hg: Cell::new(spot_at(rt, ".hg").ok()),
+        locked: Cell::new(false),
+        within: Cell::new(false),
+        moved: Cell::new(false),
+    }))
 }
 
-fn spot_at<R: Files>(rt: &R, path: &str) -> io::Result<Spot> {
+/// Which folder or file stands at a path, links followed.
+pub(crate) fn spot_at<R: Files>(rt: &R, path: &str) -> io::Result<Spot> {
     let metadata = fs::metadata(rt, path)?;
     Ok(spot_of(&metadata))
 }

@@ -144,6 +144,14 @@ impl Way {
         self.steps.clear();
     }
 
+    /// Others moved the process: it isn't known where it stands.
+    pub(crate) fn lose(&mut self)
+        ensures kept { Kept self.old self.new }
+        ensures lost { IsTrue self.new.lost }
+    {
+        self.lost = true;
+    }
+
     /// The process stands here now: the way isn't lost exactly where that is the folder that it ends in.
     pub(crate) fn arrive(&mut self, here: Spot)
         ensures kept { Kept self.old self.new }

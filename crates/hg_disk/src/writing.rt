@@ -6,11 +6,15 @@ use crate::opened::{Opened, Written};
 use crate::spot::spot_of;
 use std::fs::{self, File, Metadata, OpenFile};
 use std::io::{Error, ErrorKind, Seek, SeekFrom, Write};
-use std::os::unix::fs::OpenOptionsExt;
+use std::os::unix::fs::{MetadataExt, OpenOptionsExt};
 use std::rt::Files;
+use std::time::{Duration, SystemTime, UNIX_EPOCH};
 
 // How new files can be used, less what the user's mask takes away: as Mercurial makes them.
 const MODE: u32 = 0o644;
+
+// What a name stands for whose file went away while it was opened.
+const EXCHANGED: Reason = Reason::Words("another file took its place");
 
 // What keeps a name from being written.
 const OTHER: Reason = Reason::Words("not a regular file");
@@ -25,11 +29,11 @@ pub(crate) fn look<R: Files>(rt: &R, path: &str) -> Result<Option<Metadata>, Err
 }
 
 /// Makes a regular file that isn't there yet, for writing.
-pub(crate) fn make<R: Files>(rt: &R, path: &str) -> Result<R::File, Error> {
+pub(crate) fn make<R: Files>(rt: &R, path: &str, mode: u32) -> Result<R::File, Error> {
     File::options()
         .write(true)
         .create_new(true)
-        .mode(MODE)
+        .mode(mode)
         .open(rt, path)
 }
 
@@ -58,11 +62,11 @@ pub(crate) fn open_seen<R: Files>(
 // Opens a file for writing, which is made where it is absent.
 fn open_or_make<R: Files>(rt: &R, path: &str) -> Result<R::File, Reason> {
     let Some(seen) = look(rt, path)? else {
-        return Ok(make(rt, path)?);
+        return Ok(make(rt, path, MODE)?);
     };
     match open_seen(rt, path, &seen, true)? {
         Some(file) => Ok(file),
-        None => Err(Reason::Words("another file took its place")),
+        None => Err(EXCHANGED),
     }
 }
 
@@ -126,9 +130,11 @@ pub(crate) fn make_folder<R: Files>(rt: &R, path: &str) -> Result<bool, Error> {
     }
 }
 
-/// Gives what was seen at a path another name, where this was seen before. A file that takes the place of a regular one gets its rights first.
-pub(crate) fn rename_seen<R: Files>(
+/// Gives what was seen at a path another name, where this was seen before. A file that takes the place of a regular one gets its rights first,
+/// and a time of its own.
+pub(crate) fn rename_seen<R: Files<File = File>>(
     rt: &R,
+    opened: &mut Opened,
     from: &str,
     seen: &Metadata,
     to: &str,
@@ -136,6 +142,7 @@ pub(crate) fn rename_seen<R: Files>(
 ) -> Result<(), Reason> {
     match before {
         Some(before) if before.is_file() && seen.is_file() => {
+            tell_apart(rt, opened, from, seen, &before)?;
             fs::set_permissions(rt, from, before.permissions())?;
         }
         Some(before) if before.is_dir() => return Err(OTHER),
@@ -143,6 +150,35 @@ pub(crate) fn rename_seen<R: Files>(
     }
     fs::rename(rt, from, to)?;
     Ok(())
+}
+
+// Programs that keep running, as Mercurial's command server, take two files of one name for the same where their inodes, their sizes and the whole
+// seconds of their times are equal. Two that were changed in one second are told apart by the time of modification, which is set then.
+fn tell_apart<R: Files<File = File>>(
+    rt: &R,
+    opened: &mut Opened,
+    path: &str,
+    seen: &Metadata,
+    before: &Metadata,
+) -> Result<(), Reason> {
+    if seen.ctime() > before.ctime() {
+        return Ok(());
+    }
+    let Some(time) = second_past(before.mtime()) else {
+        return Ok(());
+    };
+    let Some(file) = open_seen(rt, path, seen, false)? else {
+        return Err(EXCHANGED);
+    };
+    file.set_modified(time)?;
+    opened.keep(file);
+    Ok(())
+}
+
+// The time a second past one that is told in seconds since 1970; none where that has no such time.
+fn second_past(seconds: i64) -> Option<SystemTime> {
+    let past = u64::try_from(seconds).ok()?.checked_add(1)?;
+    UNIX_EPOCH.checked_add(Duration::from_secs(past))
 }
 
 /// Takes a file away, where there is one.

@@ -402,7 +402,7 @@ fn writes_no_other_file(rt: HostRuntime) -> Result<(), Fail> {
 #[test]
 fn locks_below_hg(rt: HostRuntime) -> Result<(), Fail> {
     let _ = fs::remove_dir_all(&rt, ".hg");
-    let root = Root::current(&rt);
+    let root = Root::nameless();
     let mut one = RealShelf::new(&rt, &root);
     let mut other = RealShelf::new(&rt, &root);
     let taken = [one.lock(), other.lock(), one.lock()];

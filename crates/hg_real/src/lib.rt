@@ -8,3 +8,5 @@
 mod devices;
 #[cfg(test)]
 mod open_files;
+#[cfg(test)]
+mod standing;

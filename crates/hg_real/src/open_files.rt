@@ -18,7 +18,7 @@ fn opened_since(rt: &HostRuntime, before: usize) -> io::Result<usize> {
 #[test]
 fn keeps_few_files_open(rt: HostRuntime) -> Result<(), Fail> {
     let _ = fs::remove_dir_all(&rt, ".hg");
-    let root = Root::current(&rt);
+    let root = Root::nameless();
     let before = open_files(&rt)?;
     let mut shelf = RealShelf::new(&rt, &root);
     let locked = shelf.lock();

@@ -1,0 +1,161 @@
+"""Beside a Mercurial that runs: its command server takes notice of each record that ours saved, its commands name ours as the holder of the lock,
+and take the lock of one that was killed at once."""
+
+import os
+import shutil
+import signal
+import struct
+import subprocess
+import time
+
+from calls import Calls, has_gcc, let_go, watched
+from folder import SECONDS, lay_out
+from mercurial import OPTIONS, hg
+from turns import letters
+
+ROUNDS = 100
+# How long a command of Mercurial's takes at most that doesn't wait for a lock: it looks once a second.
+AT_ONCE = 0.9
+SIGNALS = {"SIGKILL": signal.SIGKILL, "SIGINT": signal.SIGINT, "SIGTERM": signal.SIGTERM}
+
+
+class Server:
+    """Mercurial's command server, over pipes."""
+
+    def __init__(self, root):
+        env = {**os.environ, "HGRCPATH": "", "HGPLAIN": "1", "HGENCODING": "UTF-8"}
+        command = ["hg", "serve", "--cmdserver", "pipe", *OPTIONS]
+        self.at = subprocess.Popen(command, cwd=root, env=env, stdin=subprocess.PIPE, stdout=subprocess.PIPE, stderr=subprocess.DEVNULL)
+        self.answer()
+
+    def answer(self):
+        """The next message: its channel, and what it says."""
+        channel, length = struct.unpack(">cI", self.at.stdout.read(5))
+        return channel, self.at.stdout.read(length)
+
+    def run(self, *words):
+        """Runs a command. Answers its status and its standard output."""
+        said = b"\0".join(os.fsencode(it) for it in (*words, *OPTIONS))
+        self.at.stdin.write(b"runcommand\n" + struct.pack(">I", len(said)) + said)
+        self.at.stdin.flush()
+        out = b""
+        while True:
+            channel, text = self.answer()
+            if channel == b"r":
+                return struct.unpack(">i", text)[0], out
+            out += text if channel == b"o" else b""
+
+    def end(self):
+        self.at.stdin.close()
+        self.at.stdout.close()
+        self.at.wait(SECONDS)
+
+
+def run_server(tests):
+    """In each round ours adds a file, the server looks at all, ours adds two more, and the server another one: none is lost."""
+    with tests.working_copy() as root:
+        hg(root, "init")
+        lay_out(root, [f"{i:03}{it}" for i in range(ROUNDS) for it in "abcd"])
+        server, lost, wrong = Server(root), 0, []
+        try:
+            for i in range(ROUNDS):
+                a, b, c, d = names = [f"{i:03}{it}" for it in "abcd"]
+                ran = [tests.run(root, ("add", a)), server.run("status")[0], *(tests.run(root, ("add", it)) for it in (b, c)), server.run("add", d)[0]]
+                wrong += [] if ran == [(0, b"", b""), 0, (0, b"", b""), (0, b"", b""), 0] else [ran]
+                told = letters(tests.run(root)[1])
+                lost += any(told[it] != "A" for it in names)
+        finally:
+            server.end()
+        tests.compare(f"beside a command server: {ROUNDS} rounds, of which so many lost something", (lost, wrong[:2]), (0, []))
+        told = letters(hg(root, "status").stdout)
+        tests.compare("and Mercurial says so in the end", (len(told), set(told.values())), (4 * ROUNDS, {"A"}))
+
+
+def at_once(root, *words):
+    """What a command of Mercurial's answers that is to wait for no lock: its status, and what it says beside its own lines."""
+    begun = time.monotonic()
+    ran = hg(root, *words, "--config", "ui.timeout=20")
+    took = time.monotonic() - begun
+    return ran.returncode, ran.stderr, "at once" if took < AT_ONCE else f"{took:.1f} s"
+
+
+DONE = (0, b"", "at once")
+
+
+def run_killed(tests, calls):
+    """Killed before and after each call below `.hg`, and at any moment: Mercurial goes on without waiting, and ours does."""
+    with tests.working_copy() as root:
+        hg(root, "init")
+        lay_out(root, ["a", "b", "c", "d"])
+        tests.run(root, ("add", "d"))
+        names = calls.listed(root, ["add", "c"])[1]
+        hg(root, "forget", "c")
+        wrong = []
+        for number, name in enumerate(names, 1):
+            for how in ("before", "after"):
+                killed = calls.run(root, ["add", "a"], how, number)[0]
+                ran = killed, at_once(root, "add", "b"), tests.run(root, ("add", "c")), left(root)
+                wrong += [] if ran == (-signal.SIGKILL, DONE, (0, b"", b""), []) else [(how, name, ran)]
+                hg(root, "forget", "a", "b", "c")
+        tests.compare(f"killed at {len(names)} calls, then hg", wrong[:2], [])
+
+
+def left(root):
+    """What stands below `.hg` that a lock may leave behind."""
+    return [it for it in os.listdir(f"{root}/.hg") if it.startswith("wlock")]
+
+
+def run_signals(tests):
+    """A signal at many moments of an add."""
+    with tests.working_copy() as root:
+        hg(root, "init")
+        lay_out(root, ["a", "b", "c"])
+        for name, number in SIGNALS.items():
+            wrong, ended = [], set()
+            for i in range(40):
+                at = subprocess.Popen([tests.program, "add", "a"], cwd=root, stdin=subprocess.DEVNULL, stdout=subprocess.PIPE, stderr=subprocess.PIPE)
+                time.sleep(i * 0.0002)
+                at.send_signal(number)
+                ended.add(at.wait(SECONDS))
+                at.communicate()
+                stays = left(root)
+                ran = at_once(root, "add", "b") if stays or i % 10 == 0 else DONE
+                wrong += [] if ran == DONE else [(i, stays, ran)]
+                hg(root, "forget", "a", "b") if stays or i % 10 == 0 else tests.run(root, ("forget", "a"))
+            tests.compare(f"{name} at many moments of an add: it ended by {sorted(ended)}; then hg add", wrong[:2], [])
+
+
+def run_named(tests, calls):
+    """Mercurial names the process that holds the lock, its host and its namespace: as it names itself."""
+    with tests.working_copy() as root:
+        hg(root, "init")
+        lay_out(root, ["a", "b"])
+        number = 1 + next(i for i, it in enumerate(calls.listed(root, ["add", "a"])[1], 1) if it.startswith("flock"))
+        tests.run(root, ("forget", "a"))
+        at = calls.held(root, ["add", "b"], number + 6)
+        said = read(f"{root}/.hg/wlock")
+        ran = hg(root, "add", "a", "--config", "ui.timeout=1", "--config", "ui.timeout.warn=0")
+        ours = let_go(at)
+    host, _, process = said.rpartition(b":")
+    wanted = os.fsencode(f"{os.uname().nodename}/{os.stat('/proc/self/ns/pid').st_ino:x}")
+    tests.compare("the lock's file tells host and namespace", (host, process.isdigit()), (wanted, True))
+    tests.compare("and hg names its holder", b"held by process '%b' on host '%b'" % (process, host) in ran.stderr, True)
+    tests.compare("which then goes on", ours, (0, b"", b""))
+
+
+def read(path):
+    with open(path, "rb") as file:
+        return file.read()
+
+
+def run(tests):
+    if shutil.which("hg") is None:
+        tests.skip("the command hg is not installed, so nothing was done beside it")
+        return
+    run_server(tests)
+    run_signals(tests)
+    if has_gcc(tests, "so nothing was killed before hg went on"):
+        run_killed(tests, Calls(tests))
+    watcher = watched(tests, "so hg was not asked who holds the lock")
+    if watcher is not None:
+        run_named(tests, watcher)
