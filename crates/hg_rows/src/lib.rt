@@ -28,10 +28,6 @@ mod devices;
 #[cfg(test)]
 mod docket_faults;
 #[cfg(test)]
-mod edits;
-#[cfg(test)]
-mod encodings;
-#[cfg(test)]
 mod flat;
 #[cfg(test)]
 mod great_count;
