@@ -10,15 +10,12 @@ use hg_tree::Asked;
 use std::alloc::{AllocError, Global};
 
 /// The answer of a line.
-pub(crate) fn answer(scene: Scene<'_>, tokens: &[Vec<u8>]) -> Result<String, Wrong> {
+pub(crate) fn answer(scene: Scene<'_>, world: &World, tokens: &[Vec<u8>]) -> Result<String, Wrong> {
     match word_at(tokens, 1)? {
         "fails" => fails(scene, tokens),
         "crashes" => crashes(scene, tokens),
         "cut" | "spoilt" => damaged(scene, tokens),
-        _ => {
-            let world = scene.world()?;
-            look(&world, tokens)
-        }
+        _ => look(world, tokens),
     }
 }
 

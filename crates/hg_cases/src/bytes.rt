@@ -72,7 +72,7 @@ impl Data {
         }
     }
 
-    /// Begins anew where a docket or a run came since.
+    /// Begins anew where a docket, a run or a question came since.
     pub fn begin(&mut self) {
         if self.ended {
             self.bytes.clear();

@@ -17,6 +17,10 @@ pub(crate) fn lay(world: &mut World, tokens: &[Vec<u8>]) -> Result<(), Wrong> {
             world.run(&words)?;
             Ok(())
         }
+        "?" => {
+            world.data.ended = true;
+            Ok(())
+        }
         "data" | "node" | "tower" => lay_data(world, tokens),
         "docket" => lay_docket(world, tokens),
         "file" | "files" | "exec" | "link" | "dir" | "other" | "take" => lay_thing(world, tokens),

@@ -4,7 +4,7 @@ use crate::answers::answer;
 use crate::commands::lay;
 use crate::printed::on_one_line;
 use crate::tokens::{tokens, word_at, words_from};
-use crate::world::World;
+use crate::world::{Told, World};
 use crate::wrong::Wrong;
 use std::alloc::{AllocError, Global};
 
@@ -29,8 +29,7 @@ impl Scene<'_> {
     }
 
     fn lay_line(self, world: &mut World, place: usize) -> Result<(), Wrong> {
-        let line = self.lines.get(place).copied().unwrap_or("");
-        let tokens = tokens(self.alloc, line)?;
+        let tokens = tokens(self.alloc, line_at(self.lines, place))?;
         lay(world, tokens.as_slice())
     }
 }
@@ -59,37 +58,64 @@ impl Played {
         }
     }
 
-    // Plays the line at that place.
-    fn play(&mut self, lines: &[&str], place: usize) -> Result<(), Wrong> {
-        let line = lines.get(place).copied().unwrap_or("");
+    fn scene<'a>(&'a self, lines: &'a [&'a str]) -> Scene<'a> {
+        Scene {
+            alloc: self.alloc,
+            lines,
+            laid: self.laid.as_slice(),
+        }
+    }
+
+    // Plays lines from a place on, up to one at which what stands there is laid out anew. It answers the place behind that.
+    fn play_from(&mut self, lines: &[&str], from: usize) -> Result<usize, Wrong> {
+        let mut world = self.scene(lines).world()?;
+        for place in from..lines.len() {
+            match self.play(&mut world, lines, place) {
+                Ok(true) => {}
+                Ok(false) => return Ok(place.saturating_add(1)),
+                Err(wrong) => return Err(wrong.at(place)),
+            }
+        }
+        Ok(lines.len())
+    }
+
+    // Plays the line at a place, and answers whether what stands there stays.
+    fn play(&mut self, world: &mut World, lines: &[&str], place: usize) -> Result<bool, Wrong> {
+        let line = line_at(lines, place);
         if line.is_empty() || line.starts_with(' ') || line.starts_with('#') {
-            return Ok(());
+            return Ok(true);
         }
         let tokens = tokens(self.alloc, line)?;
         match word_at(tokens.as_slice(), 0)? {
             "new" => {
                 self.laid.clear();
                 self.kept = 0;
+                return Ok(false);
+            }
+            "again" => {
+                self.laid.truncate(self.kept);
+                return Ok(false);
             }
             "start" => self.kept = self.laid.len(),
-            "again" => self.laid.truncate(self.kept),
-            "?" => self.ask(lines, place, tokens.as_slice())?,
-            "$" => {
-                self.ask(lines, place, tokens.as_slice())?;
+            "$" | "?" => self.ask(world, lines, place, tokens.as_slice())?,
+            _ => {
+                lay(world, tokens.as_slice())?;
                 self.laid.push(place)?;
             }
-            _ => self.laid.push(place)?,
         }
-        Ok(())
+        Ok(true)
     }
 
-    fn ask(&mut self, lines: &[&str], place: usize, tokens: &[Vec<u8>]) -> Result<(), Wrong> {
-        let scene = Scene {
-            alloc: self.alloc,
-            lines,
-            laid: self.laid.as_slice(),
-        };
-        let got = got(scene, tokens)?;
+    // Compares what comes of a line with what stands below it.
+    fn ask(
+        &mut self,
+        world: &mut World,
+        lines: &[&str],
+        place: usize,
+        tokens: &[Vec<u8>],
+    ) -> Result<(), Wrong> {
+        let got = got(self.scene(lines), world, tokens)?;
+        self.laid.push(place)?;
         self.answers = self.answers.saturating_add(1);
         if is_expected(lines, place, got.as_str()) {
             self.right = self.right.saturating_add(1);
@@ -109,14 +135,14 @@ impl Played {
 }
 
 // What comes of a line that is to be compared.
-fn got(scene: Scene<'_>, tokens: &[Vec<u8>]) -> Result<String, Wrong> {
+fn got(scene: Scene<'_>, world: &mut World, tokens: &[Vec<u8>]) -> Result<String, Wrong> {
     if word_at(tokens, 0)? == "?" {
-        return answer(scene, tokens);
+        world.data.ended = true;
+        return answer(scene, world, tokens);
     }
     let words = words_from(scene.alloc, tokens, 1)?;
-    let mut world = scene.world()?;
-    let told = world.run(&words)?;
-    Ok(told.text)
+    let Told { text, .. } = world.run(&words)?;
+    Ok(text)
 }
 
 // Whether these lines, and no other, stand behind two spaces each below a line.
@@ -133,8 +159,12 @@ fn is_expected(lines: &[&str], place: usize, got: &str) -> bool {
 
 // What stands behind the two spaces of a line.
 fn expected<'a>(lines: &[&'a str], place: usize) -> Option<&'a str> {
-    let line = lines.get(place).copied().unwrap_or("");
-    line.strip_prefix("  ")
+    line_at(lines, place).strip_prefix("  ")
+}
+
+// The line at a place, an empty one behind the last.
+fn line_at<'a>(lines: &[&'a str], place: usize) -> &'a str {
+    lines.get(place).copied().unwrap_or("")
 }
 
 /// Plays a file, and tells how many answers were as expected, and what each other was.
@@ -143,10 +173,19 @@ pub(crate) fn play(alloc: Global, name: &str, text: &str) -> Result<String, Wron
     for line in text.lines() {
         lines.push(line)?;
     }
+    play_lines(alloc, name, lines.as_slice())
+}
+
+fn play_lines(alloc: Global, name: &str, lines: &[&str]) -> Result<String, Wrong> {
     let mut played = Played::new(alloc);
-    for place in 0..lines.len() {
-        if let Err(wrong) = played.play(lines.as_slice(), place) {
-            return unplayed(alloc, name, wrong.at(place));
+    let mut next = 0;
+    for _ in 0..lines.len() {
+        if next >= lines.len() {
+            break;
+        }
+        match played.play_from(lines, next) {
+            Ok(place) => next = place,
+            Err(wrong) => return unplayed(alloc, name, wrong),
         }
     }
     Ok(played.told(name)?)
