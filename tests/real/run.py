@@ -1,7 +1,7 @@
 #!/usr/bin/env python3
 """Black-box tests of the built program over real folders: python3 tests/real/run.py [PROGRAM] [PART ..].
 
-PROGRAM is build/hgtrack where it isn't named. The parts are listings, commits, damage, outside, standing, meanwhile, mercurial, records, parents, hooks, mixed,
+PROGRAM is build/hgtrack where it isn't named. The parts are cases, listings, commits, damage, outside, standing, meanwhile, mercurial, records, parents, hooks, mixed,
 ignoring, refusing, saving, syncs and turns; all where none is named. The last line is
 'N passed, M failed', and the status 0 exactly where M is 0.
 """
@@ -14,6 +14,7 @@ sys.dont_write_bytecode = True
 # (a path of 2,049 components is laid out by recursion)
 sys.setrecursionlimit(20_000)
 
+import cases
 import commits
 import damage
 import hooks
@@ -32,7 +33,8 @@ import syncs
 import turns
 from folder import Tests
 
-PARTS = {"listings": listings, "commits": commits, "damage": damage, "outside": outside, "standing": standing, "meanwhile": meanwhile, "mercurial": mercurial, "records": records, "parents": parents, "hooks": hooks, "mixed": mixed, "ignoring": ignoring,
+PARTS = {"cases": cases, "listings": listings, "commits": commits, "damage": damage, "outside": outside, "standing": standing, "meanwhile": meanwhile,
+         "mercurial": mercurial, "records": records, "parents": parents, "hooks": hooks, "mixed": mixed, "ignoring": ignoring,
          "refusing": refusing, "saving": saving, "syncs": syncs, "turns": turns}
 
 
