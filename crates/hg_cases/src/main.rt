@@ -1,7 +1,7 @@
 //! The program `hg_cases`: it plays the case files of its folder, and tells how many answers of each were as expected.
 //!
 //! A case file lays out what stands in a working copy and below `.hg`, runs commands by `hg_cli::run` over devices in memory, and has what is
-//! printed below each. The expected texts come from docs/TEXTS.md, and the bytes of docket and data file from
+//! printed below each; docs/CASES.md tells the language. The expected texts come from docs/TEXTS.md, and the bytes of docket and data file from
 //! docs/FORMAT_DOCKET.md and docs/FORMAT_DATA.md alone: nothing there is taken from the program under test.
 //!
 //! ```text
