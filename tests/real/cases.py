@@ -1,5 +1,5 @@
-"""The worked cases of crates/hg_cases/data over real folders, but for those that have a device fail, another write or hold the lock meanwhile, or ask which calls
-were made or what a crash leaves; it prints how many ran and how many were left out."""
+"""The worked cases of crates/hg_cases/data over real folders, but for those that have a device fail, another write or hold the lock meanwhile, that ask which calls
+were made or what a crash leaves, and that name a file by `./`, which the program leaves out before; it prints how many ran and how many were left out."""
 
 import os
 import shutil
@@ -10,9 +10,12 @@ from worked import Data, lines_of, manifest, printed
 FOLDER = os.path.join(os.path.dirname(os.path.dirname(os.path.dirname(os.path.abspath(__file__)))), "crates", "hg_cases", "data")
 # Each answer of this file is wrong on purpose.
 WRONG = "differs.txt"
-# What changes the record, so that it is unknown where such a run was left out.
-CHANGING = (b"add", b"forget")
 LAID = {"file", "files", "exec", "link", "dir", "other"}
+
+
+def is_changing(words):
+    """Whether words may change the record, so that it is unknown where they were left out."""
+    return words[:1] in ([b"add"], [b"forget"])
 
 
 class World:
@@ -133,15 +136,15 @@ class World:
         is_met = any(it.startswith("[fault]") or it.startswith("2>") and it.endswith(" failed") for it in wanted)
         is_met |= "[255]" in wanted and not any(it.startswith("2>") for it in wanted)
         is_met |= b"regexps" in self.failing
-        is_changing = words[:1] and words[0] in CHANGING
-        return self.is_known and not self.is_due and not (self.failing and is_met) and not (self.is_held and is_changing)
+        is_told = is_changing(words) and any(it.startswith(b"./") for it in words)
+        return self.is_known and not self.is_due and not is_told and not (self.failing and is_met) and not (self.is_held and is_changing(words))
 
     def ran(self, words, wanted):
         """Runs words where that can be. Answers what they print, and nothing where they are left out."""
         self.data.end()
         can = self.is_runnable(words, wanted)
         answer = self.run(words) if can else None
-        self.is_known &= can or words[0] not in CHANGING
+        self.is_known &= can or not is_changing(words)
         self.failing -= {b"out", b"err", b"regexps"}
         self.is_due = False
         return answer
