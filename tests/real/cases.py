@@ -127,9 +127,10 @@ class World:
             raise ValueError(f"line {line.number}: {word}")
 
     def run(self, words):
-        """A run's lines as a case tells them."""
+        """A run's lines as a case tells them: without the further lines, which are `main`'s."""
         status, out, err = self.tests.run(self.root, [os.fsdecode(it) for it in words])
-        return printed(out) + [f"2> {it}" for it in printed(err)] + [f"[{status}]"] * bool(status)
+        told = [f"2> {it}" for it in printed(err) if not it.startswith("hgtrack: ")]
+        return printed(out) + told + [f"[{status}]"] * bool(status)
 
     def is_runnable(self, words, wanted):
         """Whether a run needs nothing that a real folder doesn't do. A failure that nobody tells of wasn't met."""

@@ -66,9 +66,24 @@ def lines(*texts):
     return b"".join(os.fsencode(it) + b"\n" for it in texts)
 
 
+# What is said behind the line of a fault that begins or ends so: what to do about it.
+CONVERT = ("to convert the dirstate: hg debugupgraderepo --run --config format.use-dirstate-v2=yes --config storage.dirstate-v2.slow-path=allow"
+           "; and back: hg debugupgraderepo --run --config format.use-dirstate-v2=no --config storage.dirstate-v2.slow-path=allow")
+PARENTS = "hgtrack-parents brings the parents of the working copy to .hg/plain"
+OUTSIDE = "a path outside the working copy can't be tracked"
+REGEXPS = "a regexp is read without look-ahead, look-behind and back references"
+ADVICE = [("dirstate: marker differs at byte ", "", CONVERT), ("no manifest ", "", PARENTS), ("manifest line ", "", PARENTS), ("manifest order at line ", "", PARENTS),
+          ("no contents ", "", PARENTS), (".hgignore line ", ": regexp", REGEXPS)]
+
+
+def further(text):
+    """A line behind those of a command."""
+    return lines(f"hgtrack: {text}")
+
+
 def aborted(text):
-    """The line of a fault."""
-    return lines(f"abort: {text}")
+    """The line of a fault, and the one that says what to do about it, where there is one."""
+    return lines(f"abort: {text}") + b"".join(further(what) for begin, end, what in ADVICE if text.startswith(begin) and text.endswith(end))
 
 
 def because(name, reason):

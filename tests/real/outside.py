@@ -34,7 +34,7 @@ WORDS = [
 RIGHTS = [
     ("a dirstate that may not be read", ".hg/dirstate", 0o000, b"", shelf(".hg/dirstate")),
     ("a data file that may not be read", DATA_FILE, 0o000, b"", shelf(DATA_FILE)),
-    ("a .hg that may not be searched", ".hg", 0o000, b"", shelf(".hg/dirstate")),
+    ("a .hg that may not be searched", ".hg", 0o000, b"", shelf(".hg/requires")),
     ("a .hg that may only be read", ".hg", 0o555, lines("A a", "? d/x"), b""),
     ("a dirstate that may only be read", ".hg/dirstate", 0o444, lines("A a", "? d/x"), b""),
     ("a root that may not be listed", ".", 0o311, b"", tree(".")),

@@ -10,7 +10,7 @@ import time
 
 from calls import ERRORS, Calls, has_gcc, watched
 from dirstate import NULL, P1_TRACKED, WDIR_TRACKED, docket, written
-from folder import FILES, NO_HG, aborted, because, lay_out, limited, lines, put, put_record
+from folder import FILES, aborted, because, lay_out, limited, lines, put, put_record
 
 PARENT = b"\x11" * 20
 KILLED = -9
@@ -82,7 +82,6 @@ SOME = added("a", "b.c", "d/b", "d/e/f", "x y")
 MANY = added(*(f"d{i}/e{j}/file" for i in range(5) for j in range(8)))
 
 SCENES = [
-    Scene("the first files, no .hg", ["add", "a", "d/b"], {}, added("a", "d/b")),
     Scene("the first files", ["add", "a", "d/b"], {}, added("a", "d/b"), things=[".hg/"]),
     Scene("files to a record of some", ["add", "d/new", "z"], SOME, {**SOME, **added("d/new", "z")}),
     Scene("files to a record of many", ["add", "d3/new", "z"], MANY, {**MANY, **added("d3/new", "z")}),
@@ -113,17 +112,12 @@ def shown(tests, root):
     return tests.run(root, ("debugdirstate",))[:2]
 
 
-def plain(err):
-    """The error stream without the line that there is no `.hg` yet."""
-    return err.replace(NO_HG, b"")
-
-
 def succeeds_then(tests, root, scene, which):
     """What differs, where something does, when the next file is added to the record that is there, the one before (0) or after (1)."""
     status, out, err = tests.run(root, ("add", NEXT))
     now = shown(tests, root)
     left = LEFT & set(os.listdir(f"{root}/.hg"))
-    answer = (status, out, plain(err), now, left)
+    answer = (status, out, err, now, left)
     return None if answer == (0, b"", b"", (0, scene.texts()[2 + which]), set()) else answer
 
 
@@ -166,8 +160,8 @@ def failed(tests, calls, scene, root, reason, number, name):
     which = [it for it in (0, 1) if now == (0, scene.texts()[it])]
     if not which:
         return status, now
-    is_told = status == 255 and is_line(plain(err), reason)
-    is_passed = status == 0 and which == [1] and not plain(err)
+    is_told = status == 255 and is_line(err, reason)
+    is_passed = status == 0 and which == [1] and not err
     if out or not (is_told or is_passed):
         return status, (status, out, err, which)
     return status, succeeds_then(tests, root, scene, which[0])
@@ -193,10 +187,10 @@ def run_failures(tests, calls, scene, template, names):
     return passed
 
 
-# What each call of the record's device is to the system, by the names of its files below `.hg`, which is `.` itself: going there, taking the lock,
+# What each call of the record's device is to the system, by the names of its files below `.hg`, which is `.` itself: finding it, what is required, going there, taking the lock,
 # looking at what isn't there, the size, reading, writing, making sure, renaming over a file or not, making names sure, removing, giving the lock back.
 # (An open file is told by the name that it was opened under.)
-FOUND = ["statx .", "statx ."]
+FOUND = ["statx .", "statx requires", "statx ."]
 STAND = ["chdir .", "statx ."]
 NEW = ["openat", "flock", "statx", "statx", "write", "link", "unlink"]
 LOCK = STAND + ["statx wlock"] + [f"{it} wlock-new" for it in NEW]
@@ -268,7 +262,8 @@ def named(root, row):
 
 
 def run_in_order(tests, calls):
-    """What two commands do below `.hg`, call by call: nothing else, and in this order. Before it there is the look for `.hg`."""
+    """What two commands do below `.hg`, call by call: nothing else, and in this order. Before it there is the look for `.hg`, and the one for what is
+    required."""
     with tests.working_copy() as root:
         lay_out(root, [".hg/", "a", "b", "c"])
         root = os.path.realpath(root)
@@ -305,10 +300,10 @@ def run_one_name(tests, calls):
 def run_few_open(tests):
     """What stays open while the lock is held fits where few files may be open."""
     with tests.working_copy() as root:
-        lay_out(root, ["a", "b"])
+        lay_out(root, [".hg/", "a", "b"])
         for words, wanted in (["add", "a"], added("a")), (["add", "b"], added("a", "b")), (["forget", "a"], added("b")):
             status, out, err = tests.run(root, words, preexec_fn=limited)
-            tests.compare(f"{FILES} open files: {' '.join(words)}", (status, out, plain(err), shown(tests, root)), (0, b"", b"", (0, told(wanted))))
+            tests.compare(f"{FILES} open files: {' '.join(words)}", (status, out, err, shown(tests, root)), (0, b"", b"", (0, told(wanted))))
 
 
 def unsure(names):

@@ -1,4 +1,4 @@
--- The lines that the program puts to the error stream by itself.
+-- The line of a fault that the program meets by itself.
 use Rattle.std.specs.Prelude.{ℕ, ◌⊎◌, List, Option}
 use Rattle.hg_report.specs.declared.fault.Fault.{Fault}
 use Rattle.hg_session.specs.Command.{TellsLine}

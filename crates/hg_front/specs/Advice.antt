@@ -1,0 +1,49 @@
+-- What a further line says behind those of a command.
+use Rattle.std.specs.Prelude.{ℕ, List, drop, Option, Some, None, codes}
+use Rattle.std.specs.List.{find}
+use Rattle.std.specs.Option.{option_and_then}
+use Rattle.hg_docket.specs.declared.fault.DocketFault.TheVariants as a_docket
+use Rattle.hg_report.specs.declared.fault.Fault.{Fault}
+use Rattle.hg_report.specs.declared.fault.Fault.TheVariants as a_fault
+use Rattle.hg_front.specs.Marks.{has}
+use Rattle.hg_front.specs.declared.marks.Mark.{Mark}
+use Rattle.hg_front.specs.declared.marks.Mark.TheVariants as a_mark
+
+-- the two commands that convert a dirstate of the older kind, and back
+abbrev pub convert : List ℕ
+convert = codes "to convert the dirstate: hg debugupgraderepo --run --config format.use-dirstate-v2=yes --config storage.dirstate-v2.slow-path=allow; and back: hg debugupgraderepo --run --config format.use-dirstate-v2=no --config storage.dirstate-v2.slow-path=allow"
+
+abbrev pub parents : List ℕ
+parents = codes "hgtrack-parents brings the parents of the working copy to .hg/plain"
+
+abbrev pub regexps : List ℕ
+regexps = codes "a regexp is read without look-ahead, look-behind and back references"
+
+-- what to do about a fault: these have an answer, the others none
+abbrev pub advice : Fault → Option (List ℕ)
+advice (a_fault.Docket (a_docket.Marker at)) = Some convert
+advice (a_fault.NoManifest id) = Some parents
+advice (a_fault.ManifestLine line) = Some parents
+advice (a_fault.ManifestOrder line) = Some parents
+advice (a_fault.NoContents id) = Some parents
+advice (a_fault.BadRegexp line) = Some regexps
+advice fault = None
+
+-- behind the line of a fault: the name and the reason of a device's first failure, and else what to do
+abbrev pub behind_fault : Fault → Option (List ℕ) → Option (List ℕ) → Option (List ℕ)
+behind_fault a_fault.TreeFailed tree shelf = tree
+behind_fault a_fault.ShelfFailed tree shelf = shelf
+behind_fault fault tree shelf = advice fault
+
+-- by which marks a word is no path, and what is said of that
+abbrev pub path_advice : Mark → Option (List ℕ)
+path_advice a_mark.Nothing = Some (codes "an empty word is no path")
+path_advice a_mark.Absolute = Some (codes "a path is told from the current folder, without a slash in front")
+path_advice a_mark.Outside = Some (codes "a path outside the working copy can't be tracked")
+path_advice a_mark.Directory = Some (codes "a directory isn't tracked, its files are: without a slash at the end")
+path_advice a_mark.Dash = None
+path_advice a_mark.LineBreak = None
+
+-- behind the lines of refused words, where some word has the mark
+abbrev pub behind_words : List (List ℕ) → Mark → Option (List ℕ)
+behind_words words mark = option_and_then (λ word. path_advice mark) (find (has mark) (drop 1 words))

@@ -1,0 +1,9 @@
+pub mod Advice
+pub mod Further
+pub mod Guard
+pub mod Marks
+pub mod Printing
+pub mod Reading
+pub mod Refusing
+pub mod Requirement
+pub mod Words

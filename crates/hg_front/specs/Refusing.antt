@@ -1,0 +1,51 @@
+-- The two lines of a command that is refused before it begins: why, and what to do.
+use Rattle.std.specs.Prelude.{ℕ, ◌⊎◌, if◌then◌else◌, List, [], ◌∷◌, ◌++◌, Option, codes, ◌==◌}
+use Rattle.std.specs.List.{flat_map}
+use Rattle.hg_report.specs.declared.fault.Fault.TheVariants as a_fault
+use Rattle.hg_session.specs.Command.{IsTold, TellsLine}
+use Rattle.hg_front.specs.Advice.{convert}
+use Rattle.hg_front.specs.Guard.{Reason}
+use Rattle.hg_front.specs.Further.{further_line}
+use Rattle.hg_front.specs.declared.guarding.Why.{Why}
+use Rattle.hg_front.specs.declared.guarding.Why.TheVariants as why
+
+-- a byte of a name: what would end the line is written by its two hexadecimal digits
+abbrev pub shown_byte : ℕ → List ℕ
+shown_byte b = if b == 10 then codes "\\x0a" else (if b == 13 then codes "\\x0d" else b ∷ [])
+
+abbrev pub shown : List ℕ → List ℕ
+shown what = flat_map shown_byte what
+
+-- the words before and behind the name
+abbrev pub front : Why → List ℕ
+front why.NoRepository = codes "no repository here or above"
+front why.Unsupported = codes "repository requires "
+front why.Unknown = codes "repository requires "
+front why.Writers = codes "repository requires "
+front why.OldDirstate = codes ".hg/requires doesn't name "
+front why.LineBreak = codes "line feed or carriage return in "
+
+abbrev pub behind : Why → List ℕ
+behind why.NoRepository = []
+behind why.Unsupported = codes ", which is not supported"
+behind why.Unknown = codes ", which is not known"
+behind why.Writers = codes ", which is not supported in commands that change something"
+behind why.OldDirstate = []
+behind why.LineBreak = []
+
+-- what to do
+abbrev pub next : Why → List ℕ
+next why.NoRepository = codes "hg init makes one, or make a folder .hg"
+next why.Unsupported = codes "hg itself answers here"
+next why.Unknown = codes "hg itself answers here, where it knows it"
+next why.Writers = codes "hg itself does that here; status and debugdirstate are answered"
+next why.OldDirstate = convert
+next why.LineBreak = codes "the manifests of Mercurial can't hold such a name: rename the file"
+
+-- the line of the refusal, and the one that says what to do
+abbrev pub refusal_lines : Reason → List ℕ
+refusal_lines reason = (codes "abort: " ++ front reason.0 ++ shown reason.1 ++ behind reason.0 ++ 10 ∷ []) ++ further_line (next reason.0)
+
+-- they were put to the error stream, or a front of them where the stream failed; or it was told that there is no memory for them
+abbrev pub TellsRefusal : Option (List ℕ) → Option (List ℕ) → ℕ → ℕ → Reason → Type 0
+TellsRefusal old new before after reason = IsTold old new before after (refusal_lines reason) ⊎ TellsLine old new before after a_fault.OutOfMemory

@@ -1,0 +1,50 @@
+//! Further lines on the error stream, beside those of a command: why it failed, or what to do.
+
+ghost use Rattle.std.specs.Prelude.{◌≡◌, IfOk, string_bytes};
+ghost use Rattle.std.specs.Option.{option_map};
+ghost use Rattle.hg_front.specs.Further.{Says, SaysAny, further_line};
+ghost use Rattle.hg_stream.specs.Stream.{GrownByFront};
+
+use hg_stream::{Sink, put_all};
+use std::alloc::{AllocError, Global};
+
+fn line_of(alloc: Global, text: &str) -> Result<String, AllocError>
+    ensures { IfOk result (λ line. string_bytes line ≡ further_line text.now) }
+{
+    let mut line = String::from_str(alloc, "hgtrack: ")?;
+    line.push_str(text)?;
+    line.push('\n')?;
+    Ok(line)
+}
+
+// Puts a piece, or a front of it where the stream fails, which isn't told anywhere.
+#[tactic(auto, using(crate::proofs::Fronts::whole_is_front))]
+fn put<E: Sink>(err: &mut E, piece: &[u8])
+    ensures { GrownByFront (E.bytes err.old) (E.bytes err.new) piece.now }
+{
+    match put_all(err, piece) {
+        Ok(()) => {}
+        Err(_) => {}
+    }
+}
+
+/// Prints a further line. That it can't be printed isn't told anywhere.
+#[tactic(auto, using(crate::proofs::Fronts::nothing_is_front))]
+pub(crate) fn say<E: Sink>(alloc: Global, err: &mut E, text: &str)
+    ensures { Says (E.bytes err.old) (E.bytes err.new) text.now }
+{
+    match line_of(alloc, text) {
+        Ok(line) => put(err, line.as_bytes()),
+        Err(_) => {}
+    }
+}
+
+/// Prints a further line, where there is a text for it.
+pub(crate) fn explain<E: Sink>(alloc: Global, err: &mut E, text: Option<&str>)
+    ensures { SaysAny (E.bytes err.old) (E.bytes err.new) (option_map (λ t. t.now) text.entry) }
+{
+    match text {
+        Some(text) => say(alloc, err, text),
+        None => {}
+    }
+}

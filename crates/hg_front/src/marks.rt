@@ -1,0 +1,70 @@
+//! What is looked for in the words of a command.
+
+ghost use Rattle.std.specs.Prelude.{◌≡◌, drop};
+ghost use Rattle.std.specs.List.{find};
+ghost use Rattle.std.specs.Option.{option_map};
+ghost use Rattle.hg_front.specs.Marks as marks;
+
+use hg_base::Words;
+
+/// What a word may have.
+#[derive(Clone, Copy)]
+pub(crate) enum Mark {
+    /// A dash in front, so that it is no file word.
+    Dash,
+    /// A line feed or a carriage return.
+    LineBreak,
+    /// Nothing at all.
+    Nothing,
+    /// A slash in front: it isn't told from the current folder.
+    Absolute,
+    /// A way out of the working copy: only such a word still begins with a way up, or with `./`, once it is told from the root.
+    Outside,
+    /// A slash at the end, as the name of a directory.
+    Directory,
+}
+
+/// Whether a word, as it is told from the root, has a mark.
+pub(crate) fn has(mark: Mark, word: &str) -> bool
+    ensures { result ≡ marks.has mark word.now }
+{
+    match mark {
+        Mark::Dash => word.starts_with('-'),
+        Mark::LineBreak => has_break(word),
+        Mark::Nothing => word.is_empty(),
+        Mark::Absolute => word.starts_with('/'),
+        Mark::Outside => leads_out(word),
+        Mark::Directory => ends_in_slash(word),
+    }
+}
+
+fn has_break(word: &str) -> bool
+    ensures { result ≡ marks.has_break word.now }
+{
+    word.as_bytes().contains(&b'\n') || word.as_bytes().contains(&b'\r')
+}
+
+fn leads_out(word: &str) -> bool
+    ensures { result ≡ marks.leads_out word.now }
+{
+    word == ".." || word.starts_with("../") || word.starts_with("./")
+}
+
+fn ends_in_slash(word: &str) -> bool
+    ensures { result ≡ marks.ends_in_slash word.now }
+{
+    word.ends_with("/")
+}
+
+/// The first word behind a command that has the mark.
+pub(crate) fn first_with(words: &Words, mark: Mark) -> Option<&str>
+    ensures { option_map (λ word. word.now) result ≡ find (marks.has mark) (drop 1 words.now) }
+{
+    for i in 1..words.len() {
+        let word = words.at(i).as_str();
+        if has(mark, word) {
+            return Some(word);
+        }
+    }
+    None
+}

@@ -1,0 +1,87 @@
+//! Whether a command may begin where it is started.
+
+ghost use Rattle.std.specs.Prelude.{◌≡◌, Some, None, IfSome, string_bytes, if◌then◌else◌, is_some};
+ghost use Rattle.std.specs.Option.{option_map};
+ghost use Rattle.hg_front.specs.Guard.{refusal};
+ghost use Rattle.hg_session.specs.Change.{changing_of};
+
+use crate::further::say;
+use crate::guarding::{Refused, Why, guard};
+use crate::marks::{Mark, first_with};
+use crate::reading::{Requires, Unreadable, read_requires};
+use crate::refusing::refuse;
+use hg_base::Words;
+use hg_report::Fault;
+use hg_session::failed;
+use hg_stream::Sink;
+use hg_words::has_file_words;
+use std::alloc::Global;
+use std::rt::Files;
+
+// Whether the words are a command that changes the dirstate.
+fn changes(words: &Words) -> bool
+    ensures { result ≡ is_some (changing_of words.now) }
+{
+    match first_with(words, Mark::Dash) {
+        Some(_) => false,
+        None => has_file_words(words),
+    }
+}
+
+/// Where no repository is here or above: a command that changes something is refused, and is answered the status that it ends with; of any
+/// other it is said that the current folder is its root.
+pub fn stopped_outside<E: Sink>(alloc: Global, words: &Words, err: &mut E) -> Option<u8>
+    ensures { result ≡ (if is_some (changing_of words.now) then Some 255 else None) }
+{
+    if changes(words) {
+        let refused = Refused {
+            why: Why::NoRepository,
+            what: "",
+        };
+        return Some(refuse(alloc, err, refused));
+    }
+    say(alloc, err, "no .hg here or above");
+    None
+}
+
+/// In a repository, whose root is the current folder: a command is refused for what the repository requires, and is answered the status that
+/// it ends with.
+pub fn stopped_inside<R: Files + AllocGlobal, E: Sink>(
+    rt: &R,
+    words: &Words,
+    err: &mut E,
+) -> Option<u8>
+    ensures { IfSome result (λ status. status ≡ 255) }
+{
+    match read_requires(rt) {
+        Ok(texts) => stopped_by(rt.alloc(), &texts, words, err),
+        Err(unread) => Some(unanswered(rt.alloc(), &unread, err)),
+    }
+}
+
+// The same by what its files say: exactly where the guard refuses it.
+fn stopped_by<E: Sink>(alloc: Global, texts: &Requires, words: &Words, err: &mut E) -> Option<u8>
+    ensures stopped { is_some result ≡ is_some (refusal (option_map string_bytes texts.now.own) (option_map string_bytes texts.now.store) (is_some (changing_of words.now)) words.now) }
+    ensures status { IfSome result (λ status. status ≡ 255) }
+{
+    let own = texts.own.as_deref();
+    let store = texts.store.as_deref();
+    match guard(own, store, changes(words), words) {
+        Ok(()) => None,
+        Err(refused) => Some(refuse(alloc, err, refused)),
+    }
+}
+
+// What the repository requires can't be told.
+fn unanswered<E: Sink>(alloc: Global, unread: &Unreadable, err: &mut E) -> u8
+    ensures { result ≡ 255 }
+{
+    match unread {
+        Unreadable::OutOfMemory => failed(alloc, Fault::OutOfMemory, err).status,
+        Unreadable::Named(text) => {
+            let outcome = failed(alloc, Fault::ShelfFailed, err);
+            say(alloc, err, text.as_str());
+            outcome.status
+        }
+    }
+}
