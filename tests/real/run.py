@@ -2,7 +2,7 @@
 """Black-box tests of the built program over real folders: python3 tests/real/run.py [PROGRAM] [PART ..].
 
 PROGRAM is build/hgtrack where it isn't named. The parts are cases, listings, commits, damage, outside, standing, meanwhile, mercurial, records, parents, hooks, mixed,
-ignoring, refusing, saving, syncs and turns; all where none is named. The last line is
+ignoring, refusing, repository, saving, syncs and turns; all where none is named. The last line is
 'N passed, M failed', and the status 0 exactly where M is 0.
 """
 
@@ -27,6 +27,7 @@ import outside
 import parents
 import records
 import refusing
+import repository
 import saving
 import standing
 import syncs
@@ -35,7 +36,7 @@ from folder import Tests
 
 PARTS = {"cases": cases, "listings": listings, "commits": commits, "damage": damage, "outside": outside, "standing": standing, "meanwhile": meanwhile,
          "mercurial": mercurial, "records": records, "parents": parents, "hooks": hooks, "mixed": mixed, "ignoring": ignoring,
-         "refusing": refusing, "saving": saving, "syncs": syncs, "turns": turns}
+         "refusing": refusing, "repository": repository, "saving": saving, "syncs": syncs, "turns": turns}
 
 
 def main(words):
