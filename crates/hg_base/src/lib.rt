@@ -44,6 +44,3 @@ pub use rules::{child_name, is_below, is_component};
 pub use stat::{Got, Kind, Stat};
 pub use time::{Stamp, Time};
 pub use words::Words;
-
-#[cfg(test)]
-mod tests;

@@ -36,6 +36,3 @@ pub use docket::Docket;
 pub use fault::DocketFault;
 pub use ident::Ident;
 pub use idents::Idents;
-
-#[cfg(test)]
-mod tests;

@@ -24,6 +24,3 @@ mod writing;
 pub use entry::{Entry, Fields, Item, State};
 pub use reading::dir_stamp;
 pub use writing::dir_fields;
-
-#[cfg(test)]
-mod tests;

@@ -24,6 +24,3 @@
 mod record;
 
 pub use record::{Rec, within};
-
-#[cfg(test)]
-mod tests;

@@ -32,8 +32,3 @@ mod steps;
 pub use memory::MemShelf;
 pub use outside::{Change, Due, Outside, Step};
 pub use shelf::Shelf;
-
-#[cfg(test)]
-mod crash_tests;
-#[cfg(test)]
-mod tests;

@@ -22,6 +22,3 @@ pub use memory::{MemSink, MemSource};
 pub use outside::{ReaderSource, WriterSink};
 pub use sink::{Sink, put_all};
 pub use source::Source;
-
-#[cfg(test)]
-mod tests;

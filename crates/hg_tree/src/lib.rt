@@ -36,6 +36,3 @@ pub use honest::{faces_stay, honest_past};
 pub use memory::MemTree;
 pub use name::Name;
 pub use thing::{Placed, Thing};
-
-#[cfg(test)]
-mod tests;

@@ -31,6 +31,3 @@ mod laws;
 pub use command::{has_file_words, located};
 pub use folder::from_folder;
 pub use laws::{located_without_files, path_at_root, path_below, path_in_folder, path_leads};
-
-#[cfg(test)]
-mod tests;

@@ -1,0 +1,23 @@
+//! Tests of the lower crates by their public calls: paths and words, a working copy and files below `.hg` in memory, streams, and the records of a
+//! dirstate.
+//!
+//! This crate has tests alone: each of those crates is proved once where its tests stand here. What is tested is what no clause says: that memory is
+//! found, and that the clauses say what was meant, on cases that were worked by hand.
+#![tactic(auto)]
+
+#[cfg(test)]
+mod crashes;
+#[cfg(test)]
+mod dockets;
+#[cfg(test)]
+mod entries;
+#[cfg(test)]
+mod folders;
+#[cfg(test)]
+mod paths;
+#[cfg(test)]
+mod shelves;
+#[cfg(test)]
+mod streams;
+#[cfg(test)]
+mod trees;
