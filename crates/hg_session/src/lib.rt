@@ -29,6 +29,3 @@ mod reading;
 pub use choosing::command;
 pub use ending::{Outcome, failed};
 pub use printed::{one_record, one_text};
-
-#[cfg(test)]
-mod tests;
