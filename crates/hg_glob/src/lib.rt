@@ -68,6 +68,4 @@ pub use globs::{GlobLine, Globs};
 pub use subject::Subject;
 
 #[cfg(test)]
-mod tests;
-#[cfg(test)]
 mod tests_many;

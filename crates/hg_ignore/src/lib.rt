@@ -47,6 +47,3 @@ pub use ignore::{Ignore, ignored_with_directory};
 pub use matcher::Matcher;
 pub use regexps::{Builds, RegexpFault, Regexps};
 pub use warnings::{Warning, Warnings};
-
-#[cfg(test)]
-mod tests;
