@@ -67,8 +67,9 @@ def lines(*texts):
 
 
 # What is said behind the line of a fault that begins or ends so: what to do about it.
-CONVERT = ("to convert the dirstate: hg debugupgraderepo --run --config format.use-dirstate-v2=yes --config storage.dirstate-v2.slow-path=allow"
-           "; and back: hg debugupgraderepo --run --config format.use-dirstate-v2=no --config storage.dirstate-v2.slow-path=allow")
+CONVERT = ("to convert the dirstate: hg debugupgraderepo --run --config format.use-dirstate-v2=yes"
+           "; and back: hg debugupgraderepo --run --config format.use-dirstate-v2=no"
+           "; an hg without Rust wants dirstate-v2.slow-path=allow below [storage] in its configuration, now and later")
 PARENTS = "hgtrack-parents brings the parents of the working copy to .hg/plain"
 OUTSIDE = "a path outside the working copy can't be tracked"
 REGEXPS = "a regexp is read without look-ahead, look-behind and back references"

@@ -38,7 +38,7 @@ def writers(name):
 
 
 OLD = refused(".hg/requires doesn't name dirstate-v2", CONVERT)
-NO_REPOSITORY = refused("no repository here or above", "hg init makes one, or make a folder .hg")
+NO_REPOSITORY = refused("no repository here or above", "hg init --config format.use-dirstate-v2=yes makes one; a folder .hg alone serves hgtrack, and not hg")
 TRACKED_KEY = "dirstate-tracked-key-v1"
 
 # what is required, and in the store where that stands apart; which commands are refused, and how
@@ -264,9 +264,9 @@ NEW = ("--config", "format.use-dirstate-v2=yes")
 LARGE, SPARSE, SHARE = (("--config", f"extensions.{it}=") for it in ("largefiles", "sparse", "share"))
 
 
-def hg(root, *words):
+def hg(root, *words, more=SLOW):
     env = {**os.environ, "HGRCPATH": "", "HGPLAIN": "1", "HGENCODING": "UTF-8", "LANG": "C.UTF-8"}
-    return subprocess.run(["hg", *words, *SLOW], cwd=root, env=env, stdin=subprocess.DEVNULL, capture_output=True, timeout=120)
+    return subprocess.run(["hg", *words, *more], cwd=root, env=env, stdin=subprocess.DEVNULL, capture_output=True, timeout=120)
 
 
 def make(tests, root, *steps):
@@ -359,11 +359,14 @@ def run_served(tests):
         follows(tests, "a repository of the new kind, in one file", root)
     with tests.working_copy() as root:
         committed(tests, root)
-        commands = CONVERT.removeprefix("to convert the dirstate: ").split("; and back: ")
+        there, back, _ = CONVERT.removeprefix("to convert the dirstate: ").split("; ")
+        commands = there, back.removeprefix("and back: ")
         tests.compare("the two commands", [it.split()[0] for it in commands], ["hg", "hg"])
         tests.compare("hg: before it is converted", tests.run(root), OLD)
         make(tests, root, commands[0].split()[1:])
         follows(tests, "a repository that was converted", root)
+        put(f"{root}/.hg/hgrc", b"[storage]\ndirstate-v2.slow-path = allow\n")
+        tests.compare("hg: converted, with that line in its configuration alone", hg(root, "status", "-q", more=()).returncode, 0)
         make(tests, root, commands[1].split()[1:])
         tests.compare("hg: converted back", tests.run(root), OLD)
     for what, kind in (("shared", ()), ("shared by a relative path", ("--relative",))):

@@ -11,7 +11,7 @@ use Rattle.hg_front.specs.declared.marks.Mark.TheVariants as a_mark
 
 -- the two commands that convert a dirstate of the older kind, and back
 abbrev pub convert : List ℕ
-convert = codes "to convert the dirstate: hg debugupgraderepo --run --config format.use-dirstate-v2=yes --config storage.dirstate-v2.slow-path=allow; and back: hg debugupgraderepo --run --config format.use-dirstate-v2=no --config storage.dirstate-v2.slow-path=allow"
+convert = codes "to convert the dirstate: hg debugupgraderepo --run --config format.use-dirstate-v2=yes; and back: hg debugupgraderepo --run --config format.use-dirstate-v2=no; an hg without Rust wants dirstate-v2.slow-path=allow below [storage] in its configuration, now and later"
 
 abbrev pub parents : List ℕ
 parents = codes "hgtrack-parents brings the parents of the working copy to .hg/plain"

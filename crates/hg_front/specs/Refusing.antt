@@ -35,7 +35,7 @@ behind why.LineBreak = []
 
 -- what to do
 abbrev pub next : Why → List ℕ
-next why.NoRepository = codes "hg init makes one, or make a folder .hg"
+next why.NoRepository = codes "hg init --config format.use-dirstate-v2=yes makes one; a folder .hg alone serves hgtrack, and not hg"
 next why.Unsupported = codes "hg itself answers here"
 next why.Unknown = codes "hg itself answers here, where it knows it"
 next why.Writers = codes "hg itself does that here; status and debugdirstate are answered"

@@ -15,7 +15,7 @@ use std::alloc::Global;
 
 /// How a dirstate of the older kind is converted, and back.
 pub(crate) const CONVERT: &str =
-    "to convert the dirstate: hg debugupgraderepo --run --config format.use-dirstate-v2=yes --config storage.dirstate-v2.slow-path=allow; and back: hg debugupgraderepo --run --config format.use-dirstate-v2=no --config storage.dirstate-v2.slow-path=allow";
+    "to convert the dirstate: hg debugupgraderepo --run --config format.use-dirstate-v2=yes; and back: hg debugupgraderepo --run --config format.use-dirstate-v2=no; an hg without Rust wants dirstate-v2.slow-path=allow below [storage] in its configuration, now and later";
 
 const PARENTS: &str = "hgtrack-parents brings the parents of the working copy to .hg/plain";
 

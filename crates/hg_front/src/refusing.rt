@@ -40,7 +40,8 @@ fn next(why: Why) -> &'static str
     ensures { result.now ≡ refusals.next why }
 {
     match why {
-        Why::NoRepository => "hg init makes one, or make a folder .hg",
+        Why::NoRepository =>
+            "hg init --config format.use-dirstate-v2=yes makes one; a folder .hg alone serves hgtrack, and not hg",
         Why::Unsupported => "hg itself answers here",
         Why::Unknown => "hg itself answers here, where it knows it",
         Why::Writers => "hg itself does that here; status and debugdirstate are answered",
