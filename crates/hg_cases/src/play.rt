@@ -66,9 +66,14 @@ impl Played {
         }
     }
 
+    fn world(&self, lines: &[&str]) -> Result<World, Wrong> {
+        let scene = self.scene(lines);
+        scene.world()
+    }
+
     // Plays lines from a place on, up to one at which what stands there is laid out anew. It answers the place behind that.
     fn play_from(&mut self, lines: &[&str], from: usize) -> Result<usize, Wrong> {
-        let mut world = self.scene(lines).world()?;
+        let mut world = self.world(lines)?;
         for place in from..lines.len() {
             match self.play(&mut world, lines, place) {
                 Ok(true) => {}

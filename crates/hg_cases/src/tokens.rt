@@ -38,11 +38,11 @@ impl Reader {
             State::Text => self.quoted(byte),
             State::Escape => self.escaped(byte),
             State::FirstDigit => {
-                self.state = State::SecondDigit(digit(byte, 16)?);
+                self.state = State::SecondDigit(digit(byte)?);
                 Ok(())
             }
             State::SecondDigit(first) => {
-                let second = digit(byte, 16)?;
+                let second = digit(byte)?;
                 self.put(first.saturating_mul(16).saturating_add(second))
             }
             State::Closed => self.closed(byte),
@@ -110,7 +110,7 @@ impl Reader {
 
     fn repeated(&mut self, byte: u8, times: usize) -> Result<(), Wrong> {
         if byte.is_ascii_digit() {
-            let digit = digit(byte, 10)?;
+            let digit = digit(byte)?;
             self.state = State::Times(times.saturating_mul(10).saturating_add(usize::from(digit)));
             return Ok(());
         }
@@ -137,8 +137,9 @@ impl Reader {
     }
 }
 
-fn digit(byte: u8, radix: u32) -> Result<u8, Wrong> {
-    match char::from(byte).to_digit(radix) {
+// A hexadecimal digit.
+fn digit(byte: u8) -> Result<u8, Wrong> {
+    match char::from(byte).to_digit(16) {
         Some(digit) => Ok(u8::try_from(digit).unwrap_or(0)),
         None => Err("no digit".into()),
     }
