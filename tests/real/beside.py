@@ -138,9 +138,23 @@ def run_named(tests, calls):
         ours = let_go(at)
     host, _, process = said.rpartition(b":")
     wanted = os.fsencode(f"{os.uname().nodename}/{os.stat('/proc/self/ns/pid').st_ino:x}")
-    tests.compare("the lock's file tells host and namespace", (host, process.isdigit()), (wanted, True))
+    tests.compare("the lock's file tells host and namespace", (host, process[:-1].isdigit(), process[-1:]), (wanted, True, b" "))
     tests.compare("and hg names its holder", b"held by process '%b' on host '%b'" % (process, host) in ran.stderr, True)
     tests.compare("which then goes on", ours, (0, b"", b""))
+
+
+def run_without_links(tests):
+    """Where a file system has no symbolic links Mercurial's own lock is a regular file, with its holder and nothing behind: it is never taken over."""
+    with tests.working_copy() as root:
+        hg(root, "init")
+        lay_out(root, ["a", "b"])
+        for name, holder in {"of a process that lives": os.getpid(), "of one that is dead": 2**22 + 1}.items():
+            text = b"%b/%x:%d" % (os.fsencode(os.uname().nodename), os.stat("/proc/self/ns/pid").st_ino, holder)
+            with open(f"{root}/.hg/wlock", "wb") as file:
+                file.write(text)
+            ran = tests.run(root, ("add", "a"))
+            tests.compare(f"a lock of Mercurial's that is a file, {name}", (ran[0], ran[2].split(b"\n")[0], read(f"{root}/.hg/wlock")), (255, b"abort: working copy is locked", text))
+        tests.compare("hg takes away that of a dead process, and ours goes on", (at_once(root, "add", "b"), tests.run(root, ("add", "a"))), (DONE, (0, b"", b"")))
 
 
 def read(path):
@@ -154,6 +168,7 @@ def run(tests):
         return
     run_server(tests)
     run_signals(tests)
+    run_without_links(tests)
     if has_gcc(tests, "so nothing was killed before hg went on"):
         run_killed(tests, Calls(tests))
     watcher = watched(tests, "so hg was not asked who holds the lock")

@@ -24,7 +24,8 @@ impl ProcessId for HostRuntime {
 }
 
 /// This process as `HOST/NAMESPACE:PROCESS`, where the namespace is the hexadecimal number of its inode and is left out where the system
-/// has none. It is empty where the host's name can't be read.
+/// has none. A space behind it, which counts for nothing behind a number, tells our lock from a regular file of Mercurial's. It is
+/// empty where the host's name can't be read.
 pub(crate) fn holder<R: Files + AllocGlobal + ProcessId>(rt: &R) -> Result<Vec<u8>, Reason> {
     let Ok(mut text) = fs::read(rt, HOST) else {
         return Ok(Vec::new(rt.alloc()));
@@ -33,8 +34,8 @@ pub(crate) fn holder<R: Files + AllocGlobal + ProcessId>(rt: &R) -> Result<Vec<u
         text.pop();
     }
     let behind = match fs::metadata(rt, NAMESPACE) {
-        Ok(namespace) => { format!(in rt.alloc(); "/{:x}:{}", namespace.ino(), rt.process_id()) }
-        Err(_) => format!(in rt.alloc(); ":{}", rt.process_id()),
+        Ok(namespace) => { format!(in rt.alloc(); "/{:x}:{} ", namespace.ino(), rt.process_id()) }
+        Err(_) => format!(in rt.alloc(); ":{} ", rt.process_id()),
     };
     match behind {
         Ok(behind) if text.extend_from_slice(behind.as_bytes()).is_ok() => Ok(text),

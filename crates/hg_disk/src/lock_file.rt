@@ -2,8 +2,8 @@
 //! comes. The file is taken away with the lock, so that Mercurial, whose own lock is a symbolic link of that name, isn't kept out by it.
 //!
 //! The file tells its holder in the words of Mercurial's lock, from the moment at which it has its name: it is written and locked as
-//! `wlock-new`, and then linked. So Mercurial names a holder that lives, and takes away the file of a dead one without waiting. A file
-//! that stayed behind is taken over where it stands.
+//! `wlock-new`, and then linked. So Mercurial names a holder that lives, and takes away the file of a dead one without waiting. A file of
+//! ours that stayed behind is taken over where it stands.
 
 use crate::disk::is_absence;
 use crate::failure::Reason;
@@ -181,6 +181,9 @@ fn take_over<R: Files<File = File> + AllocGlobal>(
         Tried::Taken(file) => file,
         other => return Ok(other),
     };
+    if is_foreign(rt, path)? {
+        return Ok(Tried::Held);
+    }
     tell(rt.alloc(), &mut file, seen.len(), names.holder.as_slice())?;
     if look(rt, names.breaking.as_str())?.is_some() || !stands(rt, path, &file)? {
         return Ok(Tried::Gone);
@@ -190,6 +193,16 @@ fn take_over<R: Files<File = File> + AllocGlobal>(
         take_away(rt, names.new.as_str(), &file)?;
     }
     Ok(Tried::Taken(file))
+}
+
+// Whether the file is no lock of ours: where a file system has no symbolic links Mercurial's own lock is a regular file, with a holder and no
+// space behind it. It is Mercurial's to say whether that holder lives.
+fn is_foreign<R: Files + AllocGlobal>(rt: &R, path: &str) -> Result<bool, Error> {
+    match fs::read(rt, path) {
+        Ok(text) => Ok(text.last().is_some_and(|last| *last != b' ')),
+        Err(error) if is_absence(&error) => Ok(false),
+        Err(error) => Err(error),
+    }
 }
 
 // Whether the file of another user, which may not be written, is locked. Where it isn't it can't be taken over.
