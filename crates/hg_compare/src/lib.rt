@@ -26,6 +26,3 @@ pub use fault::CompareFault;
 pub use letter::Letter;
 pub use looked::Looked;
 pub use room::Room;
-
-#[cfg(test)]
-mod tests;

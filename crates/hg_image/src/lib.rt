@@ -44,6 +44,3 @@ mod parts;
 
 pub use fault::NodeFault;
 pub use opened::{Image, List, NodeRef};
-
-#[cfg(test)]
-mod tests;

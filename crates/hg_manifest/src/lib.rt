@@ -24,6 +24,3 @@ mod row;
 pub use fault::ManifestFault;
 pub use manifest::Manifest;
 pub use row::FileRow;
-
-#[cfg(test)]
-mod tests;

@@ -64,6 +64,3 @@ pub use fault::SetFault;
 pub use laws::one_drop;
 pub use mixed::Mixed;
 pub use walk::Walk;
-
-#[cfg(test)]
-mod tests;

@@ -31,6 +31,3 @@ pub use adding::add;
 pub use forgetting::forget;
 pub use laws::{one_add, one_forget};
 pub use refusal::{OpFault, Refusal};
-
-#[cfg(test)]
-mod tests;

@@ -26,6 +26,3 @@ pub use fault_line::fault_text;
 pub use refusal_line::refusal_text;
 pub use status::{Style, status_text};
 pub use warnings::warnings_text;
-
-#[cfg(test)]
-mod tests;

@@ -24,6 +24,3 @@ pub use load_fault::LoadFault;
 pub use loaded::Loaded;
 pub use loading::load;
 pub use saving::publish;
-
-#[cfg(test)]
-mod tests;

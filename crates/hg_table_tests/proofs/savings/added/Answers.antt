@@ -1,6 +1,6 @@
 use Rattle.std.proofs.Common.{ap, sym, ◌∙◌}
 use Rattle.hg_docket.specs.Docket.{Contents}
-use Rattle.hg_save.proofs.tests.added.Goals as goal
+use Rattle.hg_table_tests.proofs.savings.added.Goals as goal
 
 pub encoded-requires : goal.encoded-requires
 encoded-requires c =
