@@ -2,6 +2,7 @@
 
 ghost use Rattle.std.specs.Prelude.{IfOk, OnOk, IfSome, All, option_map};
 ghost use Rattle.hg_tree.specs.Moment.{AreFit, IsFit};
+ghost use Rattle.std.specs.Io.KnownBytes.{IsAtEnd};
 
 use crate::ancestors::Staying;
 use crate::disk::is_absence;
@@ -110,27 +111,44 @@ fn unread(
     TreeFault::Failed
 }
 
-// The names that a directory has, each once. It reads as names, each ended by a NUL; no read ends inside one.
+// The names that a directory has, each once. Where there is an answer, the directory was read to its end.
 fn read_names<D: Read>(
     alloc: Global,
     dir: Option<PathRef<'_>>,
     entries: &mut D,
     failure: &mut FirstFailure,
 ) -> Result<Vec<Name>, TreeFault>
-    ensures { IfOk result (λ names. AreFit (option_map (λ d. d.text.now) dir.entry) names.items) }
+    ensures fit { IfOk result (λ names. AreFit (option_map (λ d. d.text.now) dir.entry) names.items) }
+    ensures end { OnOk result (IsAtEnd (D.remaining entries.new)) }
 {
     let mut names = Vec::new(alloc);
-    let mut room = [0; 4096];
-    for _ in 0..u64::MAX {
-        match entries.read(&mut room) {
-            Ok(0) => break,
-            Ok(length) => add_names(alloc, dir, &mut names, &room[..length], failure)?,
-            Err(error) => return Err(unread(alloc, dir, error, failure)),
-        }
-    }
+    read_each(alloc, dir, &mut names, entries, failure)?;
     names.sort_unstable();
     names.dedup();
     Ok(names)
+}
+
+// Puts the names that a directory has behind those so far. It reads as names, each ended by a NUL; no read ends inside one.
+fn read_each<D: Read>(
+    alloc: Global,
+    dir: Option<PathRef<'_>>,
+    names: &mut Vec<Name>,
+    entries: &mut D,
+    failure: &mut FirstFailure,
+) -> Result<(), TreeFault>
+    requires { All (IsFit (option_map (λ d. d.text.now) dir)) names.old.items }
+    ensures fit { OnOk result (All (IsFit (option_map (λ d. d.text.now) dir.entry)) names.new.items) }
+    ensures end { OnOk result (IsAtEnd (D.remaining entries.new)) }
+{
+    let mut room = [0; 4096];
+    for _ in 0..u64::MAX {
+        match entries.read(&mut room) {
+            Ok(0) => return Ok(()),
+            Ok(length) => add_names(alloc, dir, names, &room[..length], failure)?,
+            Err(error) => return Err(unread(alloc, dir, error, failure)),
+        }
+    }
+    Err(unfit(alloc, dir, b"", "changed again and again", failure))
 }
 
 // Puts names behind those so far.

@@ -1,6 +1,6 @@
 use Rattle.std.proofs.Common.{option_map, All}
 use Rattle.hg_tree.specs.Moment.{IsFit}
-use Rattle.hg_disk.proofs.entries.read_names.Given as goal
+use Rattle.hg_disk.proofs.entries.read_each.Given as goal
 
 -- each name so far makes a path in the directory
 abbrev pub invariant-loop : goal.invariant-loop
