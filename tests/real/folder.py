@@ -102,6 +102,16 @@ def limited():
     resource.setrlimit(resource.RLIMIT_NOFILE, (FILES, FILES))
 
 
+def stray(folder):
+    """A folder `.hg` at a folder or above it, of which all that is below is taken for a working copy; mostly there is none."""
+    at = os.path.realpath(folder)
+    while not os.path.isdir(f"{at}/.hg"):
+        if os.path.dirname(at) == at:
+            return None
+        at = os.path.dirname(at)
+    return os.path.join(at, ".hg")
+
+
 class Tests:
     """Counts the cases, and prints those that fail."""
 

@@ -166,6 +166,16 @@ def run_names(tests):
         tests.check("and not listed where nothing unknown is wanted", root, lines("! a"), b"", ["status", "-d"])
 
 
+def run_stray(tests):
+    """These tests name a folder `.hg` that stands above their own folders, in place of failing."""
+    with tests.working_copy() as root:
+        lay_out(root, [".hg/", "below/"])
+        command = [sys.executable, os.path.join(os.path.dirname(os.path.abspath(__file__)), "run.py"), tests.program, "damage"]
+        ran = subprocess.run(command, env={**os.environ, "TMPDIR": f"{root}/below"}, capture_output=True, timeout=60)
+        at = os.fsencode(os.path.realpath(root))
+        tests.compare("a folder .hg above the tests", (ran.returncode, ran.stdout.startswith(at + b"/.hg stands above " + at), ran.stdout.endswith(b"\n0 passed, 1 failed\n")), (1, True, True))
+
+
 def run(tests):
-    for part in (run_words, run_streams, run_large, run_rights, run_strange, run_names):
+    for part in (run_words, run_streams, run_large, run_rights, run_strange, run_names, run_stray):
         part(tests)

@@ -2,7 +2,7 @@
 """Black-box tests of the built program over real folders: python3 tests/real/run.py [PROGRAM] [PART ..].
 
 PROGRAM is build/hgtrack where it isn't named. The parts are cases, listings, commits, damage, outside, standing, meanwhile, mercurial, records, parents, hooks, mixed,
-ignoring, refusing, repository, saving, syncs and turns; all where none is named. The last line is
+ignoring, refusing, repository, saving, syncs, turns, beside, exchanged and failing; all where none is named. The last line is
 'N passed, M failed', and the status 0 exactly where M is 0.
 """
 
@@ -14,9 +14,12 @@ sys.dont_write_bytecode = True
 # (a path of 2,049 components is laid out by recursion)
 sys.setrecursionlimit(20_000)
 
+import beside
 import cases
 import commits
 import damage
+import exchanged
+import failing
 import hooks
 import ignoring
 import listings
@@ -32,11 +35,11 @@ import saving
 import standing
 import syncs
 import turns
-from folder import Tests
+from folder import Tests, stray
 
 PARTS = {"cases": cases, "listings": listings, "commits": commits, "damage": damage, "outside": outside, "standing": standing, "meanwhile": meanwhile,
          "mercurial": mercurial, "records": records, "parents": parents, "hooks": hooks, "mixed": mixed, "ignoring": ignoring,
-         "refusing": refusing, "repository": repository, "saving": saving, "syncs": syncs, "turns": turns}
+         "refusing": refusing, "repository": repository, "saving": saving, "syncs": syncs, "turns": turns, "beside": beside, "exchanged": exchanged, "failing": failing}
 
 
 def main(words):
@@ -48,6 +51,10 @@ def main(words):
         return 1
     with tempfile.TemporaryDirectory(prefix="hgtrack-real-") as room:
         os.chmod(room, 0o755)
+        for folder in (room, saving.MEMORY):
+            if stray(folder):
+                print(f"{stray(folder)} stands above {folder}, where the tests make their working copies: take it away, or set TMPDIR\n0 passed, 1 failed")
+                return 1
         tests = Tests(program, room)
         for name in [it for it in words if it in PARTS] or PARTS:
             PARTS[name].run(tests)
