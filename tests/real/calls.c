@@ -78,7 +78,7 @@ static char peek(unsigned long long from) {
 static void read_path(unsigned long long from, char *to, size_t room) {
     char link[64];
     size_t n = 0;
-    if (from && peek(from) != '/') {
+    if (from && peek(from) && peek(from) != '/') {
         snprintf(link, sizeof link, "/proc/%d/cwd", child);
         ssize_t cwd = readlink(link, to, room - 2);
         n = cwd < 0 ? 0 : cwd;

@@ -76,7 +76,7 @@ static const char *absolute(const char *path, char *room) {
 static const char *touched(const char *path, const char *other_path, int file) {
     static char text[PATH_MAX], from_top[PATH_MAX], other_from_top[PATH_MAX];
     char link[64];
-    if (path) path = absolute(path, from_top);
+    if (path) path = *path ? absolute(path, from_top) : 0;
     if (other_path) other_path = absolute(other_path, other_from_top);
     if (path && is_below(path)) return path;
     if (other_path && is_below(other_path)) return other_path;

@@ -100,10 +100,17 @@ MEMORY = "/dev/shm"
 
 
 def copied(tests, template, action):
-    """Does something in a copy of a working copy, which goes away."""
+    """Does something in a copy of a working copy, which goes away. It is made at the beginning of a second, so that the record in it has changed in the very
+    second in which it is saved anew."""
     with tempfile.TemporaryDirectory(prefix="hgtrack-real-", dir=MEMORY if os.access(MEMORY, os.W_OK) else None) as room:
         root = f"{room}/copy"
+        while time.time() % 1 > 0.5:
+            time.sleep(0.01)
         shutil.copytree(template, root, symlinks=True)
+        one, other = (f".hg/{it}" for it in ("wlock", "wlock-new"))
+        if os.path.exists(f"{template}/{one}") and os.path.exists(f"{template}/{other}") and os.path.samefile(f"{template}/{one}", f"{template}/{other}"):
+            os.remove(f"{root}/{one}")
+            os.link(f"{root}/{other}", f"{root}/{one}")
         return action(root)
 
 
