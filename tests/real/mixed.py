@@ -6,17 +6,18 @@ HGTRACK_SEED what they are made from; both are printed where a listing differs.
 
 import os
 import random
+import re
 import shutil
 import subprocess
 import time
 
-from folder import SECONDS
+from folder import SECONDS, put
 from mercurial import hg
 from parents import export, init
 
 STEPS, SEED = int(os.environ.get("HGTRACK_STEPS", "60")), int(os.environ.get("HGTRACK_SEED", "26"))
-# Files and folders at each other's names, ignored ones, and names whose order isn't that of a walk.
-NAMES = ["a", "a.c", "a/b", "a/c/d", "b", "b/x", "b-x", "c", "c/y.o", "d.o", "d/e/f", "d/e/g", "d/h", "\u00e9", "z 0"]
+# Names whose order isn't that of a walk, and ignored ones. None is that of another's folder: see run_doubled.
+NAMES = ["a", "a.c", "a-b/c", "b.c", "b/x", "b/y/z", "b-x", "c/y.o", "d.o", "d/e/f", "d/e/g", "d/h", "\u00e9", "z 0"]
 IGNORED = b"syntax: glob\n*.o\n"
 # Few texts of few lengths, so that a file that is written anew often has the size that it had, and sometimes the bytes.
 TEXTS = [b"one\n", b"two\n", b"three\n", b"", b"x" * 70_000, b"y" * 70_000]
@@ -74,7 +75,31 @@ def step(tests, root, chance):
 
 
 def answer(ran):
-    return ran.returncode, ran.stdout, ran.stderr
+    """What a program of Mercurial's answered, without the copy sources that it tells behind a `!`."""
+    return ran.returncode, re.sub(rb"(?m)^(! .*\n)  .*\n", rb"\1", ran.stdout), ran.stderr
+
+
+def run_doubled(tests):
+    """A file that is added in place of a directory which has removed files: Mercurial without its Rust extensions then writes two nodes of one name, and the record is refused as
+    it stands. With the file forgotten, or the commit made, Mercurial writes a sound one."""
+    for words in (["forget", "a"], ["commit", "-m", "two"]):
+        with tests.working_copy() as root:
+            init(root)
+            put(f"{root}/z", b"z\n")
+            os.makedirs(f"{root}/a/c")
+            put(f"{root}/a/c/d", b"d\n")
+            hg(root, "add")
+            hg(root, "commit", "-m", "one")
+            export(root)
+            hg(root, "remove", "a/c/d")
+            put(f"{root}/a", b"a\n")
+            hg(root, "add", "a")
+            status, out, err = tests.run(root, ("status",))
+            wanted = [(0, b"A a\nR a/c/d\n", b""), (255, b"", b"abort: dirstate data: node N: order\n")]
+            tests.compare("mixed: a name twice: refused or listed", (status, out, re.sub(rb"node \d+", b"node N", err)) in wanted, True)
+            hg(root, *words)
+            export(root)
+            tests.compare(f"mixed: a name twice: behind {words[0]}", tests.run(root, ("status", "-A")), (0, hg(root, "status", "-A").stdout, b""))
 
 
 def run(tests):
@@ -84,6 +109,7 @@ def run(tests):
     rhg = os.environ.get("HGTRACK_RHG") or shutil.which("rhg")
     if rhg is None:
         tests.skip("the command rhg is not installed, so the mixed steps are made without it")
+    run_doubled(tests)
     chance = random.Random(SEED)
     with tests.working_copy() as root:
         init(root)
