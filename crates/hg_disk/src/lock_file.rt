@@ -12,7 +12,7 @@ use crate::spot::spot_of;
 use crate::writing::{look, make, open_seen, remove_file};
 use std::alloc::Global;
 use std::fs::{self, File, Metadata, TryLockError};
-use std::io::{Error, ErrorKind, Write};
+use std::io::{Error, ErrorKind, Read, Write};
 use std::os::unix::fs::MetadataExt;
 use std::rt::Files;
 
@@ -68,7 +68,7 @@ fn try_once<R: Files<File = File> + AllocGlobal>(
 ) -> Result<Tried, Reason> {
     match look(rt, names.lock.as_str())? {
         Some(seen) if seen.is_symlink() => Ok(Tried::Held),
-        Some(seen) => take_over(rt, names, &seen),
+        Some(seen) => take_over(rt, opened, names, &seen),
         None => make_new(rt, opened, names),
     }
 }
@@ -164,24 +164,25 @@ fn clear<R: Files<File = File>>(rt: &R, opened: &mut Opened, path: &str) -> Resu
 // a lock of its own, behind another look at the holder: so where that lock isn't there behind the write, the file stays.
 fn take_over<R: Files<File = File> + AllocGlobal>(
     rt: &R,
+    opened: &mut Opened,
     names: &Names,
     seen: &Metadata,
 ) -> Result<Tried, Reason> {
     let path = names.lock.as_str();
-    let opened = match open_seen(rt, path, seen, true) {
+    let there = match open_seen(rt, path, seen, true) {
         Err(Reason::System(error)) if error.kind() == ErrorKind::PermissionDenied => {
             return is_held(rt, path, seen, error);
         }
-        opened => opened?,
+        there => there?,
     };
-    let Some(file) = opened else {
+    let Some(file) = there else {
         return Ok(Tried::Gone);
     };
     let mut file = match lock(rt, path, file)? {
         Tried::Taken(file) => file,
         other => return Ok(other),
     };
-    if is_foreign(rt, path)? {
+    if is_foreign(rt, opened, path)? {
         return Ok(Tried::Held);
     }
     tell(rt.alloc(), &mut file, seen.len(), names.holder.as_slice())?;
@@ -197,12 +198,20 @@ fn take_over<R: Files<File = File> + AllocGlobal>(
 
 // Whether the file is no lock of ours: where a file system has no symbolic links Mercurial's own lock is a regular file, with a holder and no
 // space behind it. It is Mercurial's to say whether that holder lives.
-fn is_foreign<R: Files + AllocGlobal>(rt: &R, path: &str) -> Result<bool, Error> {
-    match fs::read(rt, path) {
-        Ok(text) => Ok(text.last().is_some_and(|last| *last != b' ')),
-        Err(error) if is_absence(&error) => Ok(false),
-        Err(error) => Err(error),
-    }
+fn is_foreign<R: Files<File = File> + AllocGlobal>(
+    rt: &R,
+    opened: &mut Opened,
+    path: &str,
+) -> Result<bool, Error> {
+    let mut file = match fs::open(rt, path) {
+        Ok(file) => file,
+        Err(error) if is_absence(&error) => return Ok(false),
+        Err(error) => return Err(error),
+    };
+    let mut text = Vec::new(rt.alloc());
+    file.read_to_end(&mut text)?;
+    opened.keep(file);
+    Ok(text.last().is_some_and(|last| *last != b' '))
 }
 
 // Whether the file of another user, which may not be written, is locked. Where it isn't it can't be taken over.
