@@ -10,3 +10,5 @@ mod devices;
 mod open_files;
 #[cfg(test)]
 mod standing;
+#[cfg(test)]
+mod steps;

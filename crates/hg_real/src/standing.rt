@@ -47,7 +47,7 @@ fn held(rt: &HostRuntime, name: &str) -> io::Result<usize> {
         let entry = entry?;
         if let Ok(target) = fs::read_link(rt, entry.path()) {
             if target.as_str().ends_with(name) {
-                count += 1;
+                count = count.saturating_add(1);
             }
         }
     }
