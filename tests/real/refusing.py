@@ -95,7 +95,7 @@ def run_locked(tests):
     with tests.working_copy() as root:
         lay_some(root)
         with open(f"{root}/.hg/wlock", "wb") as lock:
-            lock.write(b"somewhere/1:1234567")
+            lock.write(b"somewhere/1:1234567 ")
         os.symlink("somewhere/1:2", f"{root}/.hg/wlock.break")
         tests.compare("Mercurial is about to take away the lock of a dead process", tests.run(root, ("add", "new")), (255, b"", LOCKED))
         os.remove(f"{root}/.hg/wlock.break")

@@ -67,7 +67,7 @@ def before_lock(root):
 
 def behind_lock(root):
     """And when it was stopped just behind that."""
-    put(f"{root}/.hg/wlock-new", b"somewhere/1:1")
+    put(f"{root}/.hg/wlock-new", b"somewhere/1:1 ")
     os.link(f"{root}/.hg/wlock-new", f"{root}/.hg/wlock")
 
 
