@@ -1,3 +1,4 @@
 pub mod Changing
 pub mod Found
 pub mod Fronts
+pub mod Stopping

@@ -1,5 +1,5 @@
 -- The two lines of a command that is refused before it begins: why, and what to do.
-use Rattle.std.specs.Prelude.{ℕ, ◌⊎◌, if◌then◌else◌, List, [], ◌∷◌, ◌++◌, Option, codes, ◌==◌}
+use Rattle.std.specs.Prelude.{ℕ, ◌≡◌, ◌⊎◌, if◌then◌else◌, List, [], ◌∷◌, ◌++◌, Option, Some, None, codes, ◌==◌}
 use Rattle.std.specs.List.{flat_map}
 use Rattle.hg_report.specs.declared.fault.Fault.TheVariants as a_fault
 use Rattle.hg_session.specs.Command.{IsTold, TellsLine}
@@ -49,3 +49,8 @@ refusal_lines reason = (codes "abort: " ++ front reason.0 ++ shown reason.1 ++ b
 -- they were put to the error stream, or a front of them where the stream failed; or it was told that there is no memory for them
 abbrev pub TellsRefusal : Option (List ℕ) → Option (List ℕ) → ℕ → ℕ → Reason → Type 0
 TellsRefusal old new before after reason = IsTold old new before after (refusal_lines reason) ⊎ TellsLine old new before after a_fault.OutOfMemory
+
+-- a command ends with 255, once its refusal was told, exactly where it is refused; else nothing is said
+abbrev pub Stops : Option Reason → Option ℕ → Option (List ℕ) → Option (List ℕ) → ℕ → ℕ → Type 0
+Stops None answer old new before after = (answer ≡ None) × (new ≡ old)
+Stops (Some reason) answer old new before after = (answer ≡ Some 255) × TellsRefusal old new before after reason

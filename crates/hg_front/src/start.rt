@@ -1,8 +1,11 @@
 //! Whether a command may begin where it is started.
 
-ghost use Rattle.std.specs.Prelude.{◌≡◌, Some, None, IfSome, string_bytes, if◌then◌else◌, is_some};
+ghost use Rattle.std.specs.Prelude.{◌≡◌, [], Some, None, IfSome, MatchBool, codes, string_bytes, if◌then◌else◌, is_some};
 ghost use Rattle.std.specs.Option.{option_map};
+ghost use Rattle.hg_front.specs.Further.{Says};
 ghost use Rattle.hg_front.specs.Guard.{refusal};
+ghost use Rattle.hg_front.specs.Refusing.{Stops, TellsRefusal};
+ghost use Rattle.hg_front.specs.declared.guarding.Why.TheVariants as why;
 ghost use Rattle.hg_session.specs.Change.{changing_of};
 
 use crate::further::say;
@@ -31,7 +34,10 @@ fn changes(words: &Words) -> bool
 /// Where no repository is here or above: a command that changes something is refused, and is answered the status that it ends with; of any
 /// other it is said that the current folder is its root.
 pub fn stopped_outside<E: Sink>(alloc: Global, words: &Words, err: &mut E) -> Option<u8>
-    ensures { result ≡ (if is_some (changing_of words.now) then Some 255 else None) }
+    ensures answer { result ≡ (if is_some (changing_of words.now) then Some 255 else None) }
+    ensures told { MatchBool (is_some (changing_of words.now))
+        (TellsRefusal (E.bytes err.old) (E.bytes err.new) (E.faults err.old) (E.faults err.new) (why.NoRepository, []))
+        (Says (E.bytes err.old) (E.bytes err.new) (codes "no .hg here or above")) }
 {
     if changes(words) {
         let refused = Refused {
@@ -61,8 +67,8 @@ pub fn stopped_inside<R: Files + AllocGlobal, E: Sink>(
 
 // The same by what its files say: exactly where the guard refuses it.
 fn stopped_by<E: Sink>(alloc: Global, texts: &Requires, words: &Words, err: &mut E) -> Option<u8>
-    ensures stopped { is_some result ≡ is_some (refusal (option_map string_bytes texts.now.own) (option_map string_bytes texts.now.store) (is_some (changing_of words.now)) words.now) }
-    ensures status { IfSome result (λ status. status ≡ 255) }
+    ensures { Stops (refusal (option_map string_bytes texts.now.own) (option_map string_bytes texts.now.store) (is_some (changing_of words.now)) words.now)
+        result (E.bytes err.old) (E.bytes err.new) (E.faults err.old) (E.faults err.new) }
 {
     let own = texts.own.as_deref();
     let store = texts.store.as_deref();
