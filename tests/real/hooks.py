@@ -118,7 +118,7 @@ def lay_out_room(tests, room):
     shutil.copytree(f"{room}/base", f"{room}/other")
     for action in OTHER:
         act(tests, f"{room}/other", "hooks: other", action.replace("ROOM", room))
-    named = subprocess.run(["hg", "log", "-r", "1:2", "-T", "{node} "], cwd=f"{room}/base", env={**os.environ, "HGRCPATH": ""}, capture_output=True, check=True).stdout.decode().split()
+    named = hg(f"{room}/base", "log", "-r", "1:2", "-T", "{node} ").stdout.decode().split()
     for name, plan in (("drop", DROP), ("edit", EDIT)):
         put(f"{room}/{name}", re.sub("[12]", lambda found: named[int(found[0]) - 1], plan).encode())
     put(f"{room}/rejected", REJECTED)
@@ -192,7 +192,8 @@ def run_quiet(tests):
         tests.compare("hooks: and they ran", tests.run(root, ("status", "-A")), (0, lines("C a"), b""))
         os.rename(f"{root}/a", os.path.join(os.fsencode(root), b"\xe9"))
         told = hg(root, "commit", "-q", "-A", "-m", "two")
-        tests.compare("hooks: a name that isn't text", (told.returncode, told.stderr), (0, lines("hgtrack-parents: the name b'\\xe9' isn't UTF-8: nothing was written", "warning: post-commit.hgtrack hook exited with status 1")))
+        tests.compare("hooks: a name that isn't text", (told.returncode, told.stderr), (0, lines(
+            "hgtrack-parents: the name b'\\xe9' isn't UTF-8: nothing was written", "warning: post-commit.hgtrack hook exited with status 1")))
 
 
 def run_installed(tests):

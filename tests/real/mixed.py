@@ -68,8 +68,11 @@ def step(tests, root, chance):
         words = (chance.choice(["add", "add", "forget"]), name, other)
         tests.run(root, words)
         return f"hgtrack {' '.join(words)}"
-    words = chance.choice([["add", name, other], ["add"], ["forget", name], ["remove", "--force", name], ["move", "--force", name, other], ["copy", "--force", name, other], ["addremove"], ["revert", "--no-backup", name],
-                           ["commit", "-m", "more"], ["commit", "-A", "-m", "more"], ["commit", "--amend", "-m", "amended"], ["update", "--clean", str(chance.randrange(4))], ["update", "--clean", "tip"], ["merge", "--tool", ":local", str(chance.randrange(6))]])
+    words = chance.choice([
+        ["add", name, other], ["add"], ["forget", name], ["remove", "--force", name], ["move", "--force", name, other], ["copy", "--force", name, other],
+        ["addremove"], ["revert", "--no-backup", name], ["commit", "-m", "more"], ["commit", "-A", "-m", "more"], ["commit", "--amend", "-m", "amended"],
+        ["update", "--clean", str(chance.randrange(4))], ["update", "--clean", "tip"], ["merge", "--tool", ":local", str(chance.randrange(6))],
+    ])
     hg(root, *words)
     return f"hg {' '.join(words)}"
 
@@ -80,8 +83,8 @@ def answer(ran):
 
 
 def run_doubled(tests):
-    """A file that is added in place of a directory which has removed files: Mercurial without its Rust extensions then writes two nodes of one name, and the record is refused as
-    it stands. With the file forgotten, or the commit made, Mercurial writes a sound one."""
+    """A file that is added in place of a directory which has removed files: Mercurial without its Rust extensions then writes two nodes of one name, and the
+    record is refused as it stands. With the file forgotten, or the commit made, Mercurial writes a sound one."""
     for words in (["forget", "a"], ["commit", "-m", "two"]):
         with tests.working_copy() as root:
             init(root)
@@ -117,7 +120,8 @@ def run(tests):
             file.write(IGNORED)
         listings = [lambda: tests.run(root, ("status", "-A")), lambda: answer(hg(root, "status", "-A"))]
         if rhg:
-            listings.append(lambda: answer(subprocess.run([rhg, "status", "-A", "--config", "rhg.on-unsupported=abort"], cwd=root, env={**os.environ, "HGRCPATH": ""}, capture_output=True, timeout=SECONDS)))
+            words, env = [rhg, "status", "-A", "--config", "rhg.on-unsupported=abort"], {**os.environ, "HGRCPATH": ""}
+            listings.append(lambda: answer(subprocess.run(words, cwd=root, env=env, capture_output=True, timeout=SECONDS)))
         done = []
         for number in range(STEPS):
             done.append(step(tests, root, chance))

@@ -27,7 +27,8 @@ FLAGS = [
 # What happens, and its steps, after each of which the parents are brought over and the listings compared. In a step `hg ..` runs the command, `+name` makes what
 # folder.lay_out reads, `*name TEXT` puts a text into a file, `#name PLACE` exchanges one byte of it, `!name` and `~name` make it executable and not, and `-name` takes it away.
 TREE = ["+a", "+b.c", "+b/c", "+b/d/e", "+b/d/f", "+src/k0.c", "+src/k1.c", "+src/s 0.c", "+z/\u00e4/\u00f6.txt", "+x", "!x", "+d/y", "!d/y", "+l -> a", "+d/m -> gone", "+empty", "*empty "]
-ODD = ["set:all()", "path:y", "glob:*", "re:.*", "relglob:x", "listfile:x", "listfile0:x", "include:x", "rootfilesin:", "%p", "%%", "\\", "[a]", "#x", "-x", "d:/set:x", "a,b", " a ", "$HOME"]
+ODD = ["set:all()", "path:y", "glob:*", "re:.*", "relglob:x", "listfile:x", "listfile0:x", "include:x",
+       "rootfilesin:", "%p", "%%", "\\", "[a]", "#x", "-x", "d:/set:x", "a,b", " a ", "$HOME"]
 CASES = [
     ("no parent", [["+a", "hg add a", "+b"]]),
     ("nothing but a commit", [[*TREE, "hg add", "hg commit -m one"]]),
@@ -188,7 +189,8 @@ def lay_out_commit(root):
 
 
 def run_damage(tests):
-    """A manifest that isn't the commit's is written anew, by hand wherever it differs and by a hook where it is absent, empty or not sound; so are contents that are gone, and with --verify those that differ."""
+    """A manifest that isn't the commit's is written anew, by hand wherever it differs and by a hook where it is absent, empty or not sound; so are contents
+    that are gone, and with --verify those that differ."""
     with tests.working_copy() as root:
         lay_out_commit(root)
         export(root)
@@ -198,8 +200,9 @@ def run_damage(tests):
         rows = whole.split(b"\n")
         anew, nothing = lines(f"m-{node}: not what Mercurial has, written anew"), lines("nothing new")
         for what, text, by_hook in [
-            ("empty", b"", True), ("a row less", b"\n".join(rows[1:]), False), ("cut", whole[:-9], True), ("no last line feed", whole[:-1], True), ("out of order", b"\n".join([rows[1], rows[0], *rows[2:]]), True),
-            ("twice", whole + whole, True), ("no row", b"a\n" + whole, False), ("no rows", b"a\n", True), ("another flag", whole[:-1] + b"x\n", False), ("other bytes behind it", whole + b"\n", True),
+            ("empty", b"", True), ("a row less", b"\n".join(rows[1:]), False), ("cut", whole[:-9], True), ("no last line feed", whole[:-1], True),
+            ("out of order", b"\n".join([rows[1], rows[0], *rows[2:]]), True), ("twice", whole + whole, True), ("another name", b"a\n" + whole, False),
+            ("no rows", b"a\n", True), ("another flag", whole[:-1] + b"x\n", False), ("other bytes behind it", whole + b"\n", True),
         ]:
             put(path, text)
             told = export(root, "--hook")
@@ -218,7 +221,8 @@ def run_damage(tests):
                 put(path, text)
                 tests.compare("parents: contents that differ, not compared", export(root).stdout, nothing)
                 told = export(root, "--verify")
-                tests.compare("parents: contents that differ", (told.returncode, told.stdout, told.stderr, content_of(path)), (0, lines(f"{name}: not what Mercurial has, written anew", compared), b"", whole_contents))
+                answered = (told.returncode, told.stdout, told.stderr, content_of(path))
+                tests.compare("parents: contents that differ", answered, (0, lines(f"{name}: not what Mercurial has, written anew", compared), b"", whole_contents))
             os.remove(path)
             told = export(root, "--hook")
             tests.compare("parents: contents that are gone", (told.returncode, told.stdout, told.stderr, content_of(path)), (0, b"", b"", whole_contents))
@@ -232,9 +236,11 @@ def run_hook(tests):
         for words in ([], ["--hook"]):
             env = {"HG": "/bin/false"}
             told = export(root, *words, env=env)
-            tests.compare(f"parents: nothing is missing, and no hg {words}", (told.returncode, told.stdout, told.stderr), (0, b"", b"") if words else (1, b"", lines("hgtrack-parents: hg: ended")))
+            wanted = (0, b"", b"") if words else (1, b"", lines("hgtrack-parents: hg: ended"))
+            tests.compare(f"parents: nothing is missing, and no hg {words}", (told.returncode, told.stdout, told.stderr), wanted)
         told = export(root, env={"HG_HOOKTYPE": "update"})
-        tests.compare("parents: as the hook of update", (told.returncode, told.stderr), (1, lines("hgtrack-parents: a hook `update` makes `hg shelve` break the repository: take it out, and include hgtrack.hgrc")))
+        tests.compare("parents: as the hook of update", (told.returncode, told.stderr), (1, lines(
+            "hgtrack-parents: a hook `update` makes `hg shelve` break the repository: take it out, and include hgtrack.hgrc")))
     with tests.working_copy() as root:
         lay_out(root, ["a"])
         for words in (["init"], ["add", "a"], ["commit", "-m", "one", "-u", "test"]):
@@ -290,7 +296,8 @@ def run_refused(tests):
         hg(root, "add", "--large", "d/big")
         hg(root, "commit", "-m", "one")
         told = export(root)
-        tests.compare("parents: a large file", (told.returncode, told.stderr, os.path.exists(f"{root}/.hg/plain")), (1, lines("hgtrack-parents: b'd/big' is a large file: nothing was written"), False))
+        line = lines("hgtrack-parents: b'd/big' is a large file: nothing was written")
+        tests.compare("parents: a large file", (told.returncode, told.stderr, os.path.exists(f"{root}/.hg/plain")), (1, line, False))
     with tests.working_copy() as root:
         lay_out(root, [".hg/"])
         put(f"{root}/.hg/requires", b"another\n")
