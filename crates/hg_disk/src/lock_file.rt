@@ -12,7 +12,7 @@ use crate::spot::spot_of;
 use crate::writing::{look, make, open_seen, remove_file};
 use std::alloc::Global;
 use std::fs::{self, File, Metadata, TryLockError};
-use std::io::{Error, ErrorKind, Read, Write};
+use std::io::{Error, ErrorKind, Read, Seek, SeekFrom, Write};
 use std::os::unix::fs::MetadataExt;
 use std::rt::Files;
 
@@ -68,7 +68,7 @@ fn try_once<R: Files<File = File> + AllocGlobal>(
 ) -> Result<Tried, Reason> {
     match look(rt, names.lock.as_str())? {
         Some(seen) if seen.is_symlink() => Ok(Tried::Held),
-        Some(seen) => take_over(rt, opened, names, &seen),
+        Some(seen) => take_over(rt, names, &seen),
         None => make_new(rt, opened, names),
     }
 }
@@ -164,7 +164,6 @@ fn clear<R: Files<File = File>>(rt: &R, opened: &mut Opened, path: &str) -> Resu
 // a lock of its own, behind another look at the holder: so where that lock isn't there behind the write, the file stays.
 fn take_over<R: Files<File = File> + AllocGlobal>(
     rt: &R,
-    opened: &mut Opened,
     names: &Names,
     seen: &Metadata,
 ) -> Result<Tried, Reason> {
@@ -182,7 +181,7 @@ fn take_over<R: Files<File = File> + AllocGlobal>(
         Tried::Taken(file) => file,
         other => return Ok(other),
     };
-    if is_foreign(rt, opened, path)? {
+    if is_foreign(rt.alloc(), &mut file, seen.len())? {
         return Ok(Tried::Held);
     }
     tell(rt.alloc(), &mut file, seen.len(), names.holder.as_slice())?;
@@ -198,19 +197,13 @@ fn take_over<R: Files<File = File> + AllocGlobal>(
 
 // Whether the file is no lock of ours: where a file system has no symbolic links Mercurial's own lock is a regular file, with a holder and no
 // space behind it. It is Mercurial's to say whether that holder lives.
-fn is_foreign<R: Files<File = File> + AllocGlobal>(
-    rt: &R,
-    opened: &mut Opened,
-    path: &str,
-) -> Result<bool, Error> {
-    let mut file = match fs::open(rt, path) {
-        Ok(file) => file,
-        Err(error) if is_absence(&error) => return Ok(false),
-        Err(error) => return Err(error),
-    };
-    let mut text = Vec::new(rt.alloc());
+fn is_foreign(alloc: Global, file: &mut File, len: u64) -> Result<bool, Error> {
+    if len > LONGEST {
+        return Ok(true);
+    }
+    let mut text = Vec::new(alloc);
     file.read_to_end(&mut text)?;
-    opened.keep(file);
+    file.seek(SeekFrom::Start(0))?;
     Ok(text.last().is_some_and(|last| *last != b' '))
 }
 

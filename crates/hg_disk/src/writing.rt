@@ -37,8 +37,8 @@ pub(crate) fn make<R: Files>(rt: &R, path: &str, mode: u32) -> Result<R::File, E
         .open(rt, path)
 }
 
-/// Opens the regular file that was seen at the path, to be written or only to be had; there is none where it went away, or another one
-/// stands there by now.
+/// Opens the regular file that was seen at the path, to be read, and to be written where that is asked for; there is none where it went away, or
+/// another one stands there by now.
 pub(crate) fn open_seen<R: Files>(
     rt: &R,
     path: &str,
@@ -48,7 +48,7 @@ pub(crate) fn open_seen<R: Files>(
     if !seen.is_file() {
         return Err(OTHER);
     }
-    let file = match File::options().read(!writes).write(writes).open(rt, path) {
+    let file = match File::options().read(true).write(writes).open(rt, path) {
         Ok(file) => file,
         Err(error) if is_absence(&error) => return Ok(None),
         Err(error) => return Err(Reason::System(error)),
