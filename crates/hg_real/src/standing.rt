@@ -42,7 +42,7 @@ fn go_each_their_way(rt: HostRuntime) -> Result<(), Fail> {
 
 // How many open files lead to a name.
 fn held(rt: &HostRuntime, name: &str) -> io::Result<usize> {
-    let mut count = 0;
+    let mut count: usize = 0;
     for entry in fs::read_dir(rt, "/proc/self/fd")? {
         let entry = entry?;
         if let Ok(target) = fs::read_link(rt, entry.path()) {
