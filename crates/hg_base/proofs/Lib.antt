@@ -6,4 +6,5 @@ pub mod Cuts
 pub mod Faults
 pub mod Joined
 pub mod Paths
+pub mod Runs
 pub mod Within

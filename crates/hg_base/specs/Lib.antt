@@ -4,5 +4,6 @@ pub mod Fault
 pub mod PathRefusal
 pub mod PathText
 pub mod Reads
+pub mod Runs
 pub mod Times
 pub mod Within
