@@ -36,6 +36,10 @@ Compares c row before (Err (a_fault.NoContents id)) = (is_alike row before ≡ t
 Compares c row before (Err a_fault.TreeFailed) = is_alike row before ≡ true
 Compares c row before (Err a_fault.ShelfFailed) = is_alike row before ≡ true
 
+-- the bytes have to be looked at: kind and executable bit are the row's, and the contents had the size of the first look
+abbrev pub IsNeeded : Compared → FileRow → Stat → Type 0
+IsNeeded c row before = (is_alike row before ≡ true) × HasSize c before.size
+
 -- the path was read piece by piece, and in no more pieces than so many bytes have
 pub record Reads (size : ℕ) (path : List ℕ) (old new : History) : Type 0 where
   pub pieces : ℕ
