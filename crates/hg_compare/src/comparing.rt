@@ -2,8 +2,8 @@
 
 ghost use Rattle.std.specs.Prelude.{◌≡◌, ◌⊎◌, true, false, IsTrue, IfErr, Ok, Option, Some, length, ℕ, List};
 ghost use Rattle.hg_compare.specs.Alike.{contents_name, is_alike};
-ghost use Rattle.hg_compare.specs.Pieces.{ComparesBytes, CountsShelf, CountsTree, LooksAgain, Sizes};
-ghost use Rattle.hg_compare.specs.Same.{Compares, Decides, IsNeeded, Reads, StaysShown, parent_row};
+ghost use Rattle.hg_compare.specs.Pieces.{AsksSize, ComparesBytes, CountsShelf, CountsTree, LooksAgain, ReadsTheirs, Sizes};
+ghost use Rattle.hg_compare.specs.Same.{AsksOrFails, AsksShelf, Compares, Decides, IsNeeded, Reads, StaysShown, parent_row};
 ghost use Rattle.hg_compare.specs.Seen.{HasSize};
 ghost use Rattle.hg_compare.specs.Tracked.{is_unchanged};
 ghost use Rattle.hg_compare.specs.declared.fault.CompareFault.TheVariants as a_fault;
@@ -42,6 +42,7 @@ fn has_size<S: Shelf>(shelf: &mut S, name: &str, id: Id20, size: u64) -> Result<
         id
         size
         result }
+    ensures asked { IsTrue (S.history shelf.old).told → AsksSize name.now (S.history shelf.old) (S.history shelf.new) result }
     ensures kind { IfErr result (λ fault. fault ≡ a_fault.TreeFailed → ⊥) }
     ensures count { CountsShelf (S.faults shelf.old) (S.faults shelf.new) result }
 {
@@ -81,6 +82,7 @@ fn same_bytes<T: Tree, S: Shelf>(
         id
         size
         result }
+    ensures shelf_asked { IsTrue (S.history shelf.old).told → ReadsTheirs size name.now (S.history shelf.old) (S.history shelf.new) }
     ensures asked { IsTrue (T.history tree.old).told → Reads size path.entry.text.now (T.history tree.old) (T.history tree.new) }
     ensures tree_count { CountsTree (T.faults tree.old) (T.faults tree.new) result }
     ensures shelf_count { CountsShelf (S.faults shelf.old) (S.faults shelf.new) result }
@@ -168,6 +170,18 @@ fn compare<T: Tree, S: Shelf>(
         })
         before.now.size }
     ensures asked { IsTrue (T.history tree.old).told → Reads before.now.size path.entry.text.now (T.history tree.old) (T.history tree.new) }
+    ensures shelf_asked { IsTrue (S.history shelf.old).told
+        → AsksOrFails
+        (record {
+          path = path.entry.text.now;
+          name = name.now;
+          tree_old = T.history tree.old;
+          tree_new = T.history tree.new;
+          shelf_old = S.history shelf.old;
+          shelf_new = S.history shelf.new;
+        })
+        before.now.size
+        result }
     ensures tree_count { CountsTree (T.faults tree.old) (T.faults tree.new) result }
     ensures shelf_count { CountsShelf (S.faults shelf.old) (S.faults shelf.new) result }
 {
@@ -213,7 +227,7 @@ pub fn same<T: Tree, S: Shelf>(
         before.now
         result }
     ensures unlike { is_alike row.now before.now ≡ false → (result ≡ Ok a_look.Differs) × (tree.new ≡ tree.old) × (shelf.new ≡ shelf.old) }
-    // The working copy isn't asked, not even looked at, but where kind and executable bit are the row's and the contents had the size of the first look.
+    // The working copy isn't asked, nor looked at again, but where kind and executable bit are the row's and the contents had the size of the first look.
     ensures needed { (tree.new ≡ tree.old)
         ⊎ IsNeeded
         (record {
@@ -227,6 +241,19 @@ pub fn same<T: Tree, S: Shelf>(
         row.now
         before.now }
     ensures asked { IsTrue (T.history tree.old).told → Reads before.now.size path.entry.text.now (T.history tree.old) (T.history tree.new) }
+    ensures shelf_asked { IsTrue (S.history shelf.old).told
+        → AsksShelf
+        (record {
+          path = path.entry.text.now;
+          name = contents_name row.now.id.0;
+          tree_old = T.history tree.old;
+          tree_new = T.history tree.new;
+          shelf_old = S.history shelf.old;
+          shelf_new = S.history shelf.new;
+        })
+        row.now
+        before.now
+        result }
     // Where nothing changes meanwhile, whether the thing equals the row.
     ensures decided { (file : Option (List ℕ)) → IsTrue (T.history tree.old).told
         → IsTrue (S.history shelf.old).told

@@ -1,8 +1,8 @@
 -- What was asked over spans of a history: nothing, one thing, and one span behind another.
-use Rattle.std.proofs.Common.{◌≡◌, Bool, true, ℕ, zero, suc, List, [], ◌∷◌, ◌++◌, take, length, refl, ap, sym, ◌∙◌, inl, inr, arith}
+use Rattle.std.proofs.Common.{◌≡◌, Bool, true, ℕ, zero, suc, List, [], ◌∷◌, ◌++◌, take, length, refl, ap, sym, ◌∙◌, inl, inr, arith, Result, Ok, Err}
 use Rattle.std.specs.List.{AllByRecursion}
 use Rattle.std.proofs.lemmas.List.{append-nil, append_assoc, take_all}
-use Rattle.hg_shelf.specs.Asks.{Asks, AsksFrontOf, AsksNothing, AsksOnly}
+use Rattle.hg_shelf.specs.Asks.{Asks, AsksFrontOf, AsksInOrder, AsksNothing, AsksOnly}
 use Rattle.hg_shelf.specs.History.{History}
 use Rattle.hg_shelf.specs.declared.asked.Asked.{Asked}
 
@@ -38,6 +38,36 @@ front_next ask more a b c first rest = record {
   some = suc rest.some;
   made = rest.made ∙ ap (λ (l : List Asked). l ++ take rest.some more) first ∙ append_assoc a.asked (ask ∷ []) (take rest.some more);
 }
+
+longer_front : (n : ℕ) (asks more : List Asked) → (m : ℕ) × (take n asks ≡ take m (asks ++ more))
+longer_front zero asks more = (0, refl)
+longer_front (suc n) [] more = (0, refl)
+longer_front (suc n) (ask ∷ asks) more = let rest = longer_front n asks more in (suc rest.0, ap (λ (l : List Asked). ask ∷ l) rest.1)
+
+-- the first so many of some asks are the first so many of those with more behind them
+pub front_longer : (asks more : List Asked) (old new : History) → AsksFrontOf asks old new → AsksFrontOf (asks ++ more) old new
+front_longer asks more old new front =
+    let longer = longer_front front.some asks more in
+    record { some = longer.0; made = front.made ∙ ap (λ (l : List Asked). old.asked ++ l) longer.1 }
+
+-- ---- asks of a call that may fail
+
+-- all of them were made, whatever came of them
+pub order_made : {T E : Type 0} (asks : List Asked) (old new : History) (r : Result T E) → new.asked ≡ old.asked ++ asks → AsksInOrder asks old new r
+order_made asks old new (Ok x) made = made
+order_made asks old new (Err e) made = front_all asks old new made
+
+pub order_front : {T E : Type 0} (asks : List Asked) (old new : History) (r : Result T E) → AsksInOrder asks old new r → AsksFrontOf asks old new
+order_front asks old new (Ok x) made = front_all asks old new made
+order_front asks old new (Err e) front = front
+
+-- behind a first ask that was answered
+pub made_next : (ask : Asked) (more : List Asked) (a b c : History) → b.asked ≡ a.asked ++ ask ∷ [] → c.asked ≡ b.asked ++ more → c.asked ≡ a.asked ++ ask ∷ more
+made_next ask more a b c first made = made ∙ ap (λ (l : List Asked). l ++ more) first ∙ append_assoc a.asked (ask ∷ []) more
+
+pub order_next : {T E : Type 0} (ask : Asked) (more : List Asked) (a b c : History) (r : Result T E) → b.asked ≡ a.asked ++ ask ∷ [] → AsksInOrder more b c r → AsksInOrder (ask ∷ more) a c r
+order_next ask more a b c (Ok x) first made = made_next ask more a b c first made
+order_next ask more a b c (Err e) first front = front_next ask more a b c first front
 
 -- ---- asks of a kind
 

@@ -1,5 +1,5 @@
 -- What a shelf was asked in a span of its history.
-use Rattle.std.specs.Prelude.{ℕ, ◌≡◌, ◌⊎◌, Bool, false, List, ◌++◌, take}
+use Rattle.std.specs.Prelude.{ℕ, ◌≡◌, ◌⊎◌, Bool, false, List, ◌++◌, take, Result, Ok, Err}
 use Rattle.std.specs.List.{AllByRecursion}
 use Rattle.hg_shelf.specs.History.{History}
 use Rattle.hg_shelf.specs.declared.asked.Asked.{Asked}
@@ -23,3 +23,8 @@ pub record AsksOnly (Kind : Asked → Type 0) (old new : History) : Type 0 where
   pub more : List Asked
   pub made : new.asked ≡ old.asked ++ more
   pub each : AllByRecursion Kind more
+
+-- a call that succeeds makes all of some asks, in their order, and one that fails the first so many; neither asks anything else
+abbrev pub AsksInOrder : {T E : Type 0} → List Asked → History → History → Result T E → Type 0
+AsksInOrder asks old new (Ok answer) = new.asked ≡ old.asked ++ asks
+AsksInOrder asks old new (Err fault) = AsksFrontOf asks old new
