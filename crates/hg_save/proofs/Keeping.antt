@@ -1,13 +1,14 @@
 -- Each step of a publication keeps the data that dockets name, and where all steps do, it is kept throughout.
 use Rattle.std.proofs.Common.{◌≡◌, ℕ, zero, suc, ◌+◌, ◌-◌, ◌<◌, ◌≤◌, Bool, true, false, cond, List, ◌++◌, length, codes, refl, sym, ap, ◌∙◌, subst, arith, IsSome, IsTrue, is_some, Option, Some, None, inl, inr}
 use Rattle.std.specs.Str.{bytes_eq}
+use Rattle.std.proofs.lemmas.Bool.{cases_lt}
 use Rattle.std.proofs.lemmas.List.{length-append}
 use Rattle.hg_append.specs.declared.encoding.Encoded.{Encoded}
 use Rattle.hg_docket.specs.Docket.{docket_of}
 use Rattle.hg_docket.specs.Number.{next_name}
-use Rattle.hg_shelf.specs.History.{Files, History, Who, us}
+use Rattle.hg_shelf.specs.History.{Extends, Files, History, Who, others, readers, us}
 use Rattle.hg_shelf.specs.Images.{Course, Goes, Remains, Scene, last_scene, scene}
-use Rattle.hg_shelf.specs.Polite.{Undisturbed}
+use Rattle.hg_shelf.specs.Polite.{OthersOnlyRead, Undisturbed}
 use Rattle.hg_shelf.specs.Rules.{Perhaps, Surely, moved, without}
 use Rattle.hg_shelf.proofs.Scenes.{first_part, goes_trans, second_part}
 use Rattle.hg_save.specs.Leads.{ButFor, Clears, IsDone, Leads, OnceBy, OwnSteps, StepBy}
@@ -94,10 +95,45 @@ keep_data h from told start keeps = record {
   kept = λ k m after later within uses. (kept_from h from start keeps k after uses m later within).front;
 }
 
+-- who keeps it from a moment on does from a later one on
+pub files_later : (by : Who) (h : History) (from start : ℕ) → from ≤ start → KeepsFiles by h from → KeepsFiles by h start
+files_later by h from start order keep = record { each = λ k after before who. keep.each k (omega (arith, order, after)) before who }
+
+-- steps that aren't there keep anything
+pub files_front : (by : Who) (h : History) (from start : ℕ) → ((k : ℕ) → from ≤ k → k < start → h.who k ≡ by → ⊥) → KeepsFiles by h start → KeepsFiles by h from
+files_front by h from start none keep = record {
+  each = λ k after before who. elim (cases_lt k start) [
+    | inl early ↦ absurd (none k after early who)
+    | inr late ↦ keep.each k late before who
+  ];
+}
+
+-- a longer history whose further steps are by none keeps it as the shorter one does
+pub files_longer : (by : Who) (h g : History) (from : ℕ) → Extends h g → ((k : ℕ) → h.last ≤ k → k < g.last → g.who k ≡ by → ⊥) → KeepsFiles by h from → KeepsFiles by g from
+files_longer by h g from past none keep = record {
+  each = λ k after before who. elim (cases_lt k h.last) [
+    | inl early ↦
+        subst (λ (f : Files). IsKeeping f (files_at g (k + 1))) (sym (past.stay k (omega (arith, early))).shown)
+        (subst (IsKeeping (files_at h k)) (sym (past.stay (k + 1) (omega (arith, early))).shown) (keep.each k after early (sym (past.who k early) ∙ who)))
+    | inr late ↦ absurd (none k late before who)
+  ];
+}
+
 -- ---- one step
 
 keeping_itself : (x : Files) → IsKeeping x x
 keeping_itself x = record { kept = λ docket uses ahead. stays_itself (docket_of docket).used (named_file docket x); there = λ has. has; ahead = λ id is. is }
+
+-- others that only read keep it
+pub keep_beside : (c : Course) (from : ℕ) → IsTrue c.history.told → OthersOnlyRead c from → HasData (files_at c.history from) → KeepsFiles us c.history from → KeepsFiles others c.history from → KeepData c.history from
+keep_beside c from told only start own theirs = keep_data c.history from told start by_each
+  where
+    by_each : (by : Who) → KeepsFiles by c.history from
+    by_each us = own
+    by_each others = theirs
+    by_each readers = record {
+      each = λ k after before who. subst (IsKeeping (files_at c.history k)) (sym (only.same k after before who).shown) (keeping_itself (files_at c.history k));
+    }
 
 -- a step between scenes
 abbrev Keeping : Scene → Scene → Type 0
