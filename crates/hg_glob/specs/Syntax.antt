@@ -69,10 +69,9 @@ IsItself inside c text rest = IsEscaped c text rest ⊎ (IsLastEscape c text res
 
 -- ---- globs
 
--- inside braces or outside, the text spells the glob up to what is left of it, by the glob's first part: a character by what stands for it, `?`, a class,
--- `*` without another behind it, `**` without a slash behind it, `**/`, and `{` with choices behind it. Choices are parted by commas, each a glob
--- that may be empty and have braces of its own, and end with `}`
 abbrev mutual
+  -- inside braces or outside, the text spells the glob up to what is left of it, by the glob's first part: a character by what stands for it, `?`,
+  -- a class, `*` without another behind it, `**` without a slash behind it, `**/`, and `{` with choices behind it
   pub Spells : Bool → List ℕ → Pattern → List ℕ → Type 0
   Spells inside text empty left = text ≡ left
   Spells inside text (literal c g) left = (rest : List ℕ) × IsItself inside c text rest × Spells inside rest g left
@@ -83,6 +82,7 @@ abbrev mutual
   Spells inside text (slashes g) left = (rest : List ℕ) × (text ≡ 42 ∷ 42 ∷ 47 ∷ rest) × Spells inside rest g left
   Spells inside text (braces choices g) left = (within : List ℕ) × (rest : List ℕ) × (text ≡ 123 ∷ within) × SpellsChoices within choices rest × Spells inside rest g left
 
+  -- choices are parted by commas, each a glob that may be empty and have braces of its own, and `}` ends them
   pub SpellsChoices : List ℕ → Choices → List ℕ → Type 0
   SpellsChoices text (last g) rest = Spells true text g (125 ∷ rest)
   SpellsChoices text (choice g choices) rest = (more : List ℕ) × Spells true text g (44 ∷ more) × SpellsChoices more choices rest

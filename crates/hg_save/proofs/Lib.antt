@@ -1,3 +1,4 @@
+pub mod Asking
 pub mod Encodings
 pub mod Exact
 pub mod Exits
