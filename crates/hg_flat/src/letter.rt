@@ -8,9 +8,9 @@ ghost use Rattle.hg_flat.specs.Asked.{AsksReads};
 ghost use Rattle.hg_listing.specs.Cause.{HasShelfCause, HasStatusCause};
 ghost use Rattle.hg_flat.specs.Course.{Goes, MetParent, upto};
 ghost use Rattle.hg_listing.specs.Full.{wants};
-ghost use Rattle.hg_flat.specs.Listing.{AddsTracked, IsComparedAs, IsLeftRow, IsLetterFor, is_compared_row, is_file_or_link_kind, marked_letter, row_under, rows_under, wants_bytes, wants_tracked};
+ghost use Rattle.hg_flat.specs.Listing.{AddsTracked, AsksRow, IsLeftRow, IsLetterFor, is_file_or_link_kind, marked_letter, row_under, rows_under, wants_bytes, wants_tracked};
 ghost use Rattle.hg_flat.specs.Met.{Status};
-ghost use Rattle.hg_flat.specs.Parent.{is_compared};
+ghost use Rattle.hg_flat.specs.Parent.{Asking, WasAsked};
 
 use crate::comparing::compared_letter;
 use crate::kept::FlatRow;
@@ -108,11 +108,17 @@ fn letter_there<T: Tree, S: Shelf>(
     ensures met { IfErr
         result
         (λ fault. (s : Status) → Goes (upto s (T.history tree.old) (S.history shelf.old)) parent.old
-        → is_compared s.wanted s.flat kept.now.path ≡ is_compared_row wanted kept.now
+        → AsksRow wanted kept.now s.asks
         → (IsTrue (T.history tree.old).told → stat_at (trees.now (T.history tree.old)) kept.now.path ≡ Some there.now)
         → MetParent (upto s (T.history tree.new) (S.history shelf.new)) fault) }
-    ensures asked { IsTrue (T.history tree.old).told → AsksReads (IsComparedAs wanted kept.now) (T.history tree.old) (T.history tree.new) }
-    ensures unasked { is_compared_row wanted kept.now ≡ false → shelf.new ≡ shelf.old }
+    ensures asked { (asks : Asking) → AsksRow wanted kept.now asks
+        → IsTrue (T.history tree.old).told
+        → stat_at (trees.now (T.history tree.old)) kept.now.path ≡ Some there.now
+        → AsksReads (WasAsked asks (T.history tree.old) (T.history tree.new)) (T.history tree.old) (T.history tree.new) }
+    ensures unasked { (asks : Asking) → AsksRow wanted kept.now asks
+        → (IsTrue (T.history tree.old).told → stat_at (trees.now (T.history tree.old)) kept.now.path ≡ Some there.now)
+        → (WasAsked asks (T.history tree.old) (T.history tree.new) kept.now.path → ⊥)
+        → shelf.new ≡ shelf.old }
     ensures cause { HasStatusCause (T.faults tree.old) (T.faults tree.new) result }
     ensures cause_shelf { HasShelfCause (S.faults shelf.old) (S.faults shelf.new) result }
 {
@@ -161,10 +167,14 @@ fn find_letter<T: Tree, S: Shelf>(
     ensures met { IfErr
         result
         (λ fault. (s : Status) → Goes (upto s (T.history tree.old) (S.history shelf.old)) parent.old
-        → is_compared s.wanted s.flat kept.now.path ≡ is_compared_row wanted kept.now
+        → AsksRow wanted kept.now s.asks
         → MetParent (upto s (T.history tree.new) (S.history shelf.new)) fault) }
-    ensures asked { IsTrue (T.history tree.old).told → AsksReads (IsComparedAs wanted kept.now) (T.history tree.old) (T.history tree.new) }
-    ensures unasked { is_compared_row wanted kept.now ≡ false → shelf.new ≡ shelf.old }
+    ensures asked { (asks : Asking) → AsksRow wanted kept.now asks
+        → IsTrue (T.history tree.old).told
+        → AsksReads (WasAsked asks (T.history tree.old) (T.history tree.new)) (T.history tree.old) (T.history tree.new) }
+    ensures unasked { (asks : Asking) → AsksRow wanted kept.now asks
+        → (WasAsked asks (T.history tree.old) (T.history tree.new) kept.now.path → ⊥)
+        → shelf.new ≡ shelf.old }
     ensures cause { HasStatusCause (T.faults tree.old) (T.faults tree.new) result }
     ensures cause_shelf { HasShelfCause (S.faults shelf.old) (S.faults shelf.new) result }
 {
@@ -265,10 +275,14 @@ pub(crate) fn add_tracked<T: Tree, S: Shelf>(
     ensures met { IfErr
         result
         (λ fault. (s : Status) → Goes (upto s (T.history tree.old) (S.history shelf.old)) parent.old
-        → is_compared s.wanted s.flat kept.now.path ≡ is_compared_row wanted kept.now
+        → AsksRow wanted kept.now s.asks
         → MetParent (upto s (T.history tree.new) (S.history shelf.new)) fault) }
-    ensures asked { IsTrue (T.history tree.old).told → AsksReads (IsComparedAs wanted kept.now) (T.history tree.old) (T.history tree.new) }
-    ensures unasked { is_compared_row wanted kept.now ≡ false → shelf.new ≡ shelf.old }
+    ensures asked { (asks : Asking) → AsksRow wanted kept.now asks
+        → IsTrue (T.history tree.old).told
+        → AsksReads (WasAsked asks (T.history tree.old) (T.history tree.new)) (T.history tree.old) (T.history tree.new) }
+    ensures unasked { (asks : Asking) → AsksRow wanted kept.now asks
+        → (WasAsked asks (T.history tree.old) (T.history tree.new) kept.now.path → ⊥)
+        → shelf.new ≡ shelf.old }
     ensures cause { HasStatusCause (T.faults tree.old) (T.faults tree.new) result }
     ensures cause_shelf { HasShelfCause (S.faults shelf.old) (S.faults shelf.new) result }
 {

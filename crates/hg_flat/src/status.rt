@@ -10,7 +10,7 @@ ghost use Rattle.hg_listing.specs.Cause.{HasListingCause, HasShelfCause, HasStat
 ghost use Rattle.hg_flat.specs.Course.{MetParent, pieces_of};
 ghost use Rattle.hg_listing.specs.Full.{IsFull, IsFullFor};
 ghost use Rattle.hg_flat.specs.Met.{Met};
-ghost use Rattle.hg_flat.specs.Parent.{IsAsked, IsLeft, IsServed, is_compared, parent_rows};
+ghost use Rattle.hg_flat.specs.Parent.{IsAsked, IsLeft, IsServed, WasAsked, asked_by, parent_rows};
 ghost use Rattle.hg_flat.specs.Patterns.{CountsOversize, HadPatterns, Warns, ignored_at, is_of_parent, needs_patterns};
 ghost use Rattle.hg_flat.specs.Listing.{AddsTracked, Gives, IsEntered, IsLeftRow, IsUnknownIn, Lists};
 ghost use Rattle.hg_flat.specs.Shown.{flat_in, kept_of};
@@ -62,7 +62,7 @@ fn add_each<T: Tree, S: Shelf>(
         (MetParent
         (record {
           wanted = wanted;
-          flat = flat_in flat.now;
+          asks = asked_by wanted (flat_in flat.now);
           id = p1.now;
           tree_old = T.history tree.old;
           tree_new = T.history tree.new;
@@ -70,8 +70,12 @@ fn add_each<T: Tree, S: Shelf>(
           shelf_new = S.history shelf.new;
         })) }
     ensures asked { IsTrue (T.history tree.old).told
-        → AsksReads (λ path. IsTrue (is_compared wanted (flat_in flat.now) path)) (T.history tree.old) (T.history tree.new) }
-    ensures unasked { ((path : List ℕ) → is_compared wanted (flat_in flat.now) path ≡ false) → shelf.new ≡ shelf.old }
+        → AsksReads
+        (WasAsked (asked_by wanted (flat_in flat.now)) (T.history tree.old) (T.history tree.new))
+        (T.history tree.old)
+        (T.history tree.new) }
+    ensures unasked { ((path : List ℕ) → WasAsked (asked_by wanted (flat_in flat.now)) (T.history tree.old) (T.history tree.new) path → ⊥)
+        → shelf.new ≡ shelf.old }
     ensures cause { HasStatusCause (T.faults tree.old) (T.faults tree.new) result }
     ensures cause_shelf { HasShelfCause (S.faults shelf.old) (S.faults shelf.new) result }
 {
@@ -163,6 +167,7 @@ pub fn plain_status<T: Tree, S: Shelf, G: Regexps>(
         (IsLeft
         wanted
         (flat_in flat.now)
+        (asked_by wanted (flat_in flat.now))
         p1.now
         (T.history tree.new)
         (T.history tree.old).last
@@ -193,20 +198,21 @@ pub fn plain_status<T: Tree, S: Shelf, G: Regexps>(
         ((path : List ℕ) → IsLeft
         wanted
         (flat_in flat.now)
+        (asked_by wanted (flat_in flat.now))
         p1.now
         (T.history tree.new)
         (T.history tree.old).last
         (S.history shelf.new)
         (S.history shelf.old).last
         path
-        → IsAsked wanted (flat_in flat.now) (trees.now (T.history tree.old)) path
+        → IsAsked (asked_by wanted (flat_in flat.now)) (trees.now (T.history tree.old)) path
         → IsServed (shelves.now (S.history shelf.old)).files p1.now (trees.now (T.history tree.old)) path) }
     ensures met { IfErr
         result
         (Met
         (record {
           wanted = wanted;
-          flat = flat_in flat.now;
+          asks = asked_by wanted (flat_in flat.now);
           id = p1.now;
           tree_old = T.history tree.old;
           tree_new = T.history tree.new;
@@ -218,7 +224,7 @@ pub fn plain_status<T: Tree, S: Shelf, G: Regexps>(
     ensures asked { IsTrue (T.history tree.old).told
         → AsksAll
         wanted
-        (λ path. IsTrue (is_compared wanted (flat_in flat.now) path))
+        (asked_by wanted (flat_in flat.now))
         (IsListedDir wanted (T.history tree.old) (T.history tree.new))
         (T.history tree.old)
         (T.history tree.new) }
@@ -228,12 +234,13 @@ pub fn plain_status<T: Tree, S: Shelf, G: Regexps>(
         result
         (AsksBehind
         (pattern_reads wanted (trees.now (T.history tree.old)))
-        (λ path. IsTrue (is_compared wanted (flat_in flat.now) path))
+        (asked_by wanted (flat_in flat.now))
         (IsListedDir wanted (T.history tree.old) (T.history tree.new))
         (T.history tree.old)
         (T.history tree.new)) }
-    // Where no bytes are compared, the files below `.hg` aren't asked, and where no patterns are needed, no regexp is compiled.
-    ensures unasked { ((path : List ℕ) → is_compared wanted (flat_in flat.now) path ≡ false) → shelf.new ≡ shelf.old }
+    // Where no path is compared, the files below `.hg` aren't asked, and where no patterns are needed, no regexp is compiled.
+    ensures unasked { ((path : List ℕ) → WasAsked (asked_by wanted (flat_in flat.now)) (T.history tree.old) (T.history tree.new) path → ⊥)
+        → shelf.new ≡ shelf.old }
     ensures uncompiled { needs_patterns wanted ≡ false → regexps.new ≡ regexps.old }
     ensures cause { HasStatusCause (T.faults tree.old) (T.faults tree.new) result }
     ensures cause_shelf { HasShelfCause (S.faults shelf.old) (S.faults shelf.new) result }
