@@ -2,6 +2,7 @@
 
 ghost use Rattle.std.specs.Prelude.{◌≡◌, ◌++◌, ◌∷◌, [], Some, None, false, true, OnOk, IfErr, IfOk, IsTrue, if◌then◌else◌, is_some, ◌||◌};
 ghost use Rattle.hg_shelf.specs.History as shelves;
+ghost use Rattle.hg_shelf.specs.Images as images;
 ghost use Rattle.hg_tree.specs.History as trees;
 ghost use Rattle.hg_tree.specs.Moment.{stat_at};
 ghost use Rattle.hg_flat.specs.Asked.{AsksReads};
@@ -83,6 +84,8 @@ fn letter_there<T: Tree, S: Shelf>(
     requires { kept.now.entry.w ≡ true }
     ensures tree_passes { trees.Passes (T.history tree.old) (T.history tree.new) }
     ensures shelf_passes { shelves.Passes (S.history shelf.old) (S.history shelf.new) }
+    ensures kept { images.Goes (images.course (S.history shelf.old) (S.images shelf.old)) (images.course (S.history shelf.new) (S.images shelf.new)) }
+    ensures held { S.held shelf.new ≡ S.held shelf.old }
     ensures goes { OnOk
         result
         ((s : Status) → Goes (upto s (T.history tree.old) (S.history shelf.old)) parent.old
@@ -143,6 +146,8 @@ fn find_letter<T: Tree, S: Shelf>(
 ) -> Result<Option<Letter>, StatusFault>
     ensures tree_passes { trees.Passes (T.history tree.old) (T.history tree.new) }
     ensures shelf_passes { shelves.Passes (S.history shelf.old) (S.history shelf.new) }
+    ensures kept { images.Goes (images.course (S.history shelf.old) (S.images shelf.old)) (images.course (S.history shelf.new) (S.images shelf.new)) }
+    ensures held { S.held shelf.new ≡ S.held shelf.old }
     ensures goes { OnOk
         result
         ((s : Status) → Goes (upto s (T.history tree.old) (S.history shelf.old)) parent.old
@@ -250,6 +255,8 @@ pub(crate) fn add_tracked<T: Tree, S: Shelf>(
 ) -> Result<(), StatusFault>
     ensures tree_passes { trees.Passes (T.history tree.old) (T.history tree.new) }
     ensures shelf_passes { shelves.Passes (S.history shelf.old) (S.history shelf.new) }
+    ensures kept { images.Goes (images.course (S.history shelf.old) (S.images shelf.old)) (images.course (S.history shelf.new) (S.images shelf.new)) }
+    ensures held { S.held shelf.new ≡ S.held shelf.old }
     ensures goes { OnOk
         result
         ((s : Status) → Goes (upto s (T.history tree.old) (S.history shelf.old)) parent.old

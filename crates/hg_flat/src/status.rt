@@ -2,6 +2,7 @@
 
 ghost use Rattle.std.specs.Prelude.{◌≡◌, true, false, ℕ, List, None, IsTrue, IfErr, IfOk, OnOk, is_some, option_map};
 ghost use Rattle.hg_shelf.specs.History as shelves;
+ghost use Rattle.hg_shelf.specs.Images as images;
 ghost use Rattle.hg_shelf.specs.Polite.{KeepsPlain};
 ghost use Rattle.hg_tree.specs.History as trees;
 ghost use Rattle.hg_tree.specs.Still.{Untouched};
@@ -40,6 +41,8 @@ fn add_each<T: Tree, S: Shelf>(
 ) -> Result<(), StatusFault>
     ensures passes { trees.Passes (T.history tree.old) (T.history tree.new) }
     ensures passes_shelf { shelves.Passes (S.history shelf.old) (S.history shelf.new) }
+    ensures kept { images.Goes (images.course (S.history shelf.old) (S.images shelf.old)) (images.course (S.history shelf.new) (S.images shelf.new)) }
+    ensures held { S.held shelf.new ≡ S.held shelf.old }
     ensures added { OnOk
         result
         (AddsTracked
@@ -161,6 +164,8 @@ pub fn plain_status<T: Tree, S: Shelf, G: Regexps>(
 ) -> Result<Listed, StatusFault>
     ensures passes { trees.Passes (T.history tree.old) (T.history tree.new) }
     ensures passes_shelf { shelves.Passes (S.history shelf.old) (S.history shelf.new) }
+    ensures kept { images.Goes (images.course (S.history shelf.old) (S.images shelf.old)) (images.course (S.history shelf.new) (S.images shelf.new)) }
+    ensures held { S.held shelf.new ≡ S.held shelf.old }
     ensures still { IfOk
         result
         (λ listed. IsFullFor

@@ -2,6 +2,7 @@ use Rattle.std.proofs.Common.{◌<◌, length, sym, ◌∙◌}
 use Rattle.std.specs.List.{Contains}
 use Rattle.std.proofs.lemmas.Result.{err_from_is_err_and}
 use Rattle.hg_shelf.specs.History as shelves
+use Rattle.hg_shelf.proofs.Scenes.{goes_trans}
 use Rattle.hg_flat.specs.Parent.{asked_by}
 use Rattle.hg_flat.specs.Shown.{flat_in}
 use Rattle.hg_flat.proofs.Asking.{asked_later, asked_longer, reads_on}
@@ -61,6 +62,8 @@ loop-kept-preserved g c =
             shelf_new = g.S.Shelf.history c.loop-kept.shelf;
           })
           c.loop-kept.invariant.goes;
+      kept = goes_trans _ _ _ c.loop-kept.invariant.kept c.add_tracked.ensures.kept;
+      held = c.add_tracked.ensures.held ∙ c.loop-kept.invariant.held;
       added =
           tracked_more c.args.wanted c.args.p1.now (g.T.Tree.history c.args.tree.now) (g.T.Tree.history c.loop-kept.tree) (g.T.Tree.history c.add_tracked.new.tree) c.loop-kept.invariant.goes.tree.past
           c.add_tracked.ensures.tree_passes.past (g.S.Shelf.history c.loop-kept.shelf) (g.S.Shelf.history c.add_tracked.new.shelf) (g.S.Shelf.history c.args.shelf.now).last c.add_tracked.ensures.shelf_passes.past
@@ -89,3 +92,6 @@ loop-kept-preserved g c =
       still = c.in_ok-add_tracked.ensures.cause.quiet ∙ c.loop-kept.invariant.still;
       shelf_still = c.in_ok-add_tracked.ensures.cause_shelf.quiet ∙ c.loop-kept.invariant.shelf_still;
     }
+
+pub returns-in_err-add_tracked-clause-kept : goal.returns-in_err-add_tracked-clause-kept
+returns-in_err-add_tracked-clause-kept g c = goes_trans _ _ _ c.loop-kept.invariant.kept c.add_tracked.ensures.kept

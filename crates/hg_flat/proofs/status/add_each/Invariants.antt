@@ -1,5 +1,6 @@
 use Rattle.std.proofs.Common.{◌≡◌, ℕ, List, IsTrue, take}
 use Rattle.hg_shelf.specs.History as shelves
+use Rattle.hg_shelf.specs.Images as images
 use Rattle.hg_tree.specs.History as trees
 use Rattle.hg_flat.specs.Asked.{AsksReads}
 use Rattle.hg_flat.specs.Course.{Goes}
@@ -20,6 +21,8 @@ invariant-loop-kept g l = record {
     shelf_old = g.S.Shelf.history l.initial.shelf;
     shelf_new = g.S.Shelf.history l.shelf;
   }) l.parent;
+  kept : images.Goes (images.course (g.S.Shelf.history l.initial.shelf) (g.S.Shelf.images l.initial.shelf)) (images.course (g.S.Shelf.history l.shelf) (g.S.Shelf.images l.shelf));
+  held : g.S.Shelf.held l.shelf ≡ g.S.Shelf.held l.initial.shelf;
   added : AddsTracked (IsLeftRow l.wanted l.p1 (g.T.Tree.history l.tree) (g.T.Tree.history l.initial.tree).last (g.S.Shelf.history l.shelf) (g.S.Shelf.history l.initial.shelf).last)
       (shelves.now (g.S.Shelf.history l.initial.shelf)).files l.p1 (trees.now (g.T.Tree.history l.initial.tree)) l.wanted (take l.kept-index l.flat.rows.items) l.initial.rows.items l.rows.items;
   asked : IsTrue (g.T.Tree.history l.initial.tree).told → AsksReads (WasAsked (asked_by l.wanted (flat_in l.flat)) (g.T.Tree.history l.initial.tree) (g.T.Tree.history l.tree)) (g.T.Tree.history l.initial.tree) (g.T.Tree.history l.tree);
