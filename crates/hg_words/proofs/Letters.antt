@@ -75,7 +75,7 @@ pub by_index : (flags : List Flag) → arg_by_index (rules flags) 1 ≡ Some wor
 by_index [] = refl
 by_index (f ∷ flags) = by_index flags
 
-good_name : (f : Flag) → is_good f ≡ true → bytes_eq f.name word_id ≡ false
+pub good_name : (f : Flag) → is_good f ≡ true → bytes_eq f.name word_id ≡ false
 good_name f good = not-true (bytes_eq f.name word_id) (and_parts (not (bytes_eq f.name word_id)) (not (list_any (λ b. eqb b 61) f.name)) (and_parts (ltb f.letter 128) (not (bytes_eq f.name word_id) && not (list_any (λ b. eqb b 61) f.name)) good).1).0
 
 pub by_id : (flags : List Flag) → list_all is_good flags ≡ true → arg_by_id (rules flags) word_id ≡ Some word_rule
