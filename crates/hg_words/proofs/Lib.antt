@@ -1,3 +1,5 @@
+pub mod Answering
+pub mod Building
 pub mod Commands
 pub mod Leading
 pub mod Letters

@@ -6,8 +6,9 @@ use Rattle.std.specs.Option.{option_and_then, option_map}
 use Rattle.std.specs.Str.{bytes_eq}
 use Rattle.std.proofs.lemmas.Bool.{and_parts}
 use Rattle.hg_words.specs.Command.{Flag, Parted, is_dashed, is_given, named_behind, parted_of, with_flags, with_word}
-use Rattle.hg_words.proofs.Letters.{Sets, fine_both, flag_arg, flag_rule, good_name, held, is_fine, is_good, now, rules, settle_none, settled_is, word_arg, word_rule}
-use Rattle.hg_words.proofs.Rows.{default_sets_none, given, is_flagged, is_set, put_flagged, put_keeps, put_row, put_word, set_where_row, word_id}
+use Rattle.hg_words.proofs.Letters.{Sets, fine_both, flag_rule, good_name, held, is_fine, now, rules, settle_none, settled_is, word_rule}
+use Rattle.hg_words.proofs.Rows.{default_sets_none, is_flagged, put_flagged, put_keeps, put_row, put_word, set_where_row}
+use Rattle.hg_words.specs.Clapped.{AreTexts, given, is_good, is_set, word_id}
 use Rattle.hg_words.proofs.Turns.{Flagged, at, dashes, dashes_fault, dashes_met, flags_turn, plain_met, plain_turn, top, trailing_fault, trailing_met}
 use Rattle.clap.specs.Kinds.{Kinds, or_else}
 use Rattle.clap.specs.Faults.{check_fault, defaults_fault, fault_of, level_fault, settle_fault, turn_fault, walk_fault}
@@ -16,15 +17,6 @@ use Rattle.clap.specs.Takes.{is_given as was_given}
 use Rattle.clap.specs.Walk.{Held, Row, Rule, Text, Walk, finished, has_row, nothing_held, reading_by, settled, walk, walk_from, walked, with_default, with_values}
 use Rattle.clap.specs.declared.parser.matches.ValueSource.TheVariants.{CommandLine, DefaultValue}
 use Rattle.clap.proofs.FaultLemmas.{leaf_fault}
-
--- each word is a text
-abbrev pub AreTexts : List Text → Type 0
-AreTexts [] = ⊤
-AreTexts (word ∷ words) = IsUtf8 word × AreTexts words
-
--- the words parted, also behind `--`
-abbrev pub parted_from : Bool → List Flag → List Text → Option Parted
-parted_from is_trailing flags words = cond is_trailing (Some (record { flags = []; words = words })) (parted_of flags words)
 
 -- what the walk has read at its end
 pub record Ends (flags : List Flag) (w : Walk) (rows : List Row) (parted : Parted) : Type 0 where

@@ -6,9 +6,10 @@ use Rattle.std.specs.Option.{option_and_then, option_map}
 use Rattle.std.specs.Str.{bytes_eq}
 use Rattle.std.proofs.lemmas.Bool.{and_parts}
 use Rattle.hg_words.specs.Command.{Flag, Parted, is_dashed, is_given, named_behind, parted_of, with_flags, with_word}
-use Rattle.hg_words.proofs.Letters.{fine_both, flag_arg, flag_rule, good_name, is_fine, is_good, now, rules, word_arg, word_rule}
-use Rattle.hg_words.proofs.Parsed.{AreTexts, Ends, by_kind, walk_ends}
-use Rattle.hg_words.proofs.Rows.{default_sets_none, given, is_flagged, is_set, put_keeps, set_where_row, word_id}
+use Rattle.hg_words.proofs.Letters.{fine_both, flag_rule, good_name, is_fine, now, rules, word_rule}
+use Rattle.hg_words.proofs.Parsed.{Ends, by_kind, walk_ends}
+use Rattle.hg_words.proofs.Rows.{default_sets_none, is_flagged, put_keeps, set_where_row}
+use Rattle.hg_words.specs.Clapped.{AreTexts, Parts, app, flag_arg, given, is_good, is_set, word_arg, word_id}
 use Rattle.hg_words.proofs.Turns.{at, dashes, dashes_fault, dashes_met, flags_turn, plain_met, plain_turn, top, trailing_fault, trailing_met}
 use Rattle.clap.specs.Kinds.{Kinds, check_kinds, or_else}
 use Rattle.clap.specs.Faults.{built_fault, check_fault, defaults_fault, fault_of, is_simple_and_free, level_fault, settle_fault, turn_fault, walk_fault}
@@ -17,13 +18,6 @@ use Rattle.clap.specs.Takes.{is_given as was_given}
 use Rattle.clap.specs.Walk.{Row, Rule, Text, Walk, finished, has_row, nothing_held, reading_by, rows_after, settled, walk, walk_from, walked, with_default, with_values}
 use Rattle.clap.specs.declared.parser.matches.ValueSource.TheVariants.{DefaultValue}
 use Rattle.clap.proofs.FaultLemmas.{leaf_fault}
-
--- the command as it is given
-abbrev pub app : Text → List Flag → App
-app name flags = record {
-  top = record (new_shape name) { rules = map flag_arg flags ++ word_arg ∷ []; disable_help_flag = true; args_override_self = true };
-  subs = [];
-}
 
 rules_built : (flags : List Flag) → filled_from 1 (map flag_arg flags ++ word_arg ∷ []) ≡ rules flags
 rules_built [] = refl
@@ -114,15 +108,17 @@ module _ (name : Text) (flags : List Flag) (good : list_all is_good flags ≡ tr
   check_fine rows = ap (λ (t : Bool). check_kinds false false t) (none_required flags rows)
 
   -- `clap` refuses the words exactly where they aren't parted
-  pub refuses : (words : List Text) → AreTexts words → is_fine (fault_of (app name flags) (name ∷ words)) ≡ is_some (parted_of flags words)
-  refuses words texts = ap is_fine level ∙ by (parted_of flags words) refl
+  pub refuses : (all : List Text) → AreTexts (drop 1 all) → is_fine (fault_of (app name flags) all) ≡ is_some (parted_of flags (drop 1 all))
+  refuses all texts = ap is_fine level ∙ by (parted_of flags words) refl
     where
+      words : List Text
+      words = drop 1 all
       end : Walk
       end = fold (walked (rules flags) []) (at false [] None false) words
       behind : Kinds
       behind = or_else (settle_fault (rules flags) true end.held)
           (or_else (defaults_fault (settled (rules flags) end.held).rows (rules flags)) (check_fault (top name flags) (finished (rules flags) end.held) false))
-      level : fault_of (app name flags) (name ∷ words) ≡ or_else (walk_fault (top name flags) [] (at false [] None false) words) behind
+      level : fault_of (app name flags) all ≡ or_else (walk_fault (top name flags) [] (at false [] None false) words) behind
       level = ap (λ (a : App). built_fault a nothing_held words) (app_built name flags)
           ∙ leaf_fault (record { top = top name flags; subs = [] }) nothing_held words refl
       by : (o : Option Parted) → parted_of flags words ≡ o → is_fine (or_else (walk_fault (top name flags) [] (at false [] None false) words) behind) ≡ is_some (parted_of flags words)
@@ -172,18 +168,17 @@ module _ (name : Text) (flags : List Flag) (good : list_all is_good flags ≡ tr
   finished_set (f ∷ flags) rows flag = finished_set flags (with_default rows (flag_rule f)) flag ∙ default_sets f rows flag
 
   -- what it has read of the words that it takes
-  pub record HasRead (words : List Text) (parted : Parted) : Type 0 where
-    pub others : given (matches_of (app name flags) (name ∷ words)) ≡ parted.words
-    pub set : (flag : Text) → bytes_eq flag word_id ≡ false → bytes_eq word_id flag ≡ false → is_set flag (matches_of (app name flags) (name ∷ words)) ≡ is_given flag parted
-
-  pub reads : (words : List Text) (parted : Parted) → AreTexts words → parted_of flags words ≡ Some parted → HasRead words parted
-  reads words parted texts is =
+  pub reads : (all : List Text) (parted : Parted) → AreTexts (drop 1 all) → parted_of flags (drop 1 all) ≡ Some parted → Parts flags (drop 1 all) (matches_of (app name flags) all)
+  reads all parted texts is =
+      let words = drop 1 all in
       let end = fold (walked (rules flags) []) (at false [] None false) words in
       let rows = (settled (rules flags) end.held).rows in
       let ends = walk_ends name flags good words [] None false parted texts is in
-      let matches : matches_of (app name flags) (name ∷ words) ≡ fold with_default rows (rules flags) =
+      let matches : matches_of (app name flags) all ≡ fold with_default rows (rules flags) =
       ap (λ (a : App). rows_after a.top.rules (names_of a) words) (app_built name flags) in
       record {
+        parted = parted;
+        is = is;
         others = ap given matches ∙ finished_given flags rows good ∙ ends.words;
         set = λ flag other same. ap (is_set flag) matches ∙ finished_set flags rows flag ∙ set_where_row flag rows other (ends.flagged refl) ∙ ends.flags_set flag same
             ∙ or_none (is_given flag parted);
