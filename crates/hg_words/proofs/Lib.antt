@@ -5,6 +5,7 @@ pub mod Leading
 pub mod Letters
 pub mod Parsed
 pub mod Paths
+pub mod Readings
 pub mod Refused
 pub mod Rows
 pub mod Turns
