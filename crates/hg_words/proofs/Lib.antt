@@ -8,4 +8,5 @@ pub mod Paths
 pub mod Readings
 pub mod Refused
 pub mod Rows
+pub mod Telling
 pub mod Turns

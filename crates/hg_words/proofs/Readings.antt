@@ -1,10 +1,10 @@
 -- What is read of the answer of `clap`, and of single words.
-use Rattle.std.proofs.Common.{ℕ, ◌≡◌, ◌+◌, ◌<◌, ◌≤◌, ◌^◌, ◌⊎◌, inl, inr, ⊎_elim, Bool, true, false, cond, ◌&&◌, List, [], ◌∷◌, ◌++◌, map, drop, length, zero, suc, get_or, Option, Some, None, Ok, Err, refl, sym, ap, ◌∙◌, true≢false, arith, IsUtf8, subst, append-nil, append_assoc}
+use Rattle.std.proofs.Common.{ℕ, ◌≡◌, ◌+◌, ◌<◌, ◌≤◌, ⊎_elim, Bool, true, false, cond, ◌&&◌, List, [], ◌∷◌, ◌++◌, map, drop, length, zero, suc, get_or, Option, Some, None, Ok, Err, refl, sym, ap, ◌∙◌, arith, IsUtf8, subst, append-nil, append_assoc}
 use Rattle.std.specs.Prelude.{nat_le, nat_lt, slice_get}
-use Rattle.std.specs.List.{find, list_all}
+use Rattle.std.specs.List.{list_all}
 use Rattle.std.specs.Option.{option_map}
 use Rattle.std.specs.Char.{digit_value}
-use Rattle.std.specs.Str.Parse.{AllDigits, IsNumeral, digits_value, without_leading_plus}
+use Rattle.std.specs.Str.Parse.{AllDigits, IsNumeral, without_leading_plus}
 use Rattle.std.proofs.lemmas.Bool.{and_parts, cases_lt, leb-true, le-leb, lt-ltb, ltb-true}
 use Rattle.std.proofs.lemmas.List.{at_drop_more, drop_all}
 use Rattle.std.proofs.lemmas.Option.{get_or_from_slice_get}
@@ -12,7 +12,7 @@ use Rattle.hg_words.specs.Clapped.{AreTexts, given, values_of_row, word_id}
 use Rattle.hg_words.specs.Command.{is_number, load_of, number_of}
 use Rattle.hg_words.specs.declared.fault.WordsFault.TheVariants as a_fault
 use Rattle.hg_words.specs.declared.given.Command.TheVariants as a_command
-use Rattle.clap.specs.Words.{Row, Text, found_of, matched_of, raw_values, rows_of}
+use Rattle.clap.specs.Words.{Row, Text, matched_of, raw_values, rows_of}
 use Rattle.clap.specs.declared.parser.matches.Found.{Found}
 use Rattle.clap.proofs.WalkLemmas.{raw_values-rows}
 

@@ -9,7 +9,7 @@ ghost use Rattle.hg_words.specs.declared.fault.WordsFault.TheVariants as a_fault
 
 use crate::fault::WordsFault;
 use crate::flags::StatusFlags;
-use crate::forms::{NONE, REMOVE, STATUS, parted};
+use crate::forms::{NONE, REMOVE, parted, parted_status};
 use crate::given::Command;
 use clap::ArgMatches;
 use hex::FromHex;
@@ -73,25 +73,31 @@ fn wanted(
 
 // ---- the commands
 
+fn status_flags(matches: &ArgMatches<'_>) -> StatusFlags
+    ensures { result ≡ clapped.status_flags_of (rows_of (found_of matches.now)) }
+{
+    StatusFlags {
+        modified: has(matches, "modified"),
+        added: has(matches, "added"),
+        removed: has(matches, "removed"),
+        deleted: has(matches, "deleted"),
+        clean: has(matches, "clean"),
+        unknown: has(matches, "unknown"),
+        ignored: has(matches, "ignored"),
+        all: has(matches, "all"),
+        no_status: has(matches, "no-status"),
+        print0: has(matches, "print0"),
+        copies: has(matches, "copies"),
+    }
+}
+
 fn status(alloc: Global, words: &[&str]) -> Result<Command, WordsFault>
     requires { clapped.AreTexts (drop 1 (map (λ word. word.now) words.now)) }
     ensures { clapped.Gives (commands.by_form (Some commands.status_form) (drop 1 (map (λ word. word.now) words.now))) result }
 {
-    let matches = parted(alloc, "status", STATUS.as_slice(), words)?;
+    let matches = parted_status(alloc, words)?;
     let _ = wanted(alloc, &matches, 0, Some(0))?;
-    Ok(Command::Status(StatusFlags {
-        modified: has(&matches, "modified"),
-        added: has(&matches, "added"),
-        removed: has(&matches, "removed"),
-        deleted: has(&matches, "deleted"),
-        clean: has(&matches, "clean"),
-        unknown: has(&matches, "unknown"),
-        ignored: has(&matches, "ignored"),
-        all: has(&matches, "all"),
-        no_status: has(&matches, "no-status"),
-        print0: has(&matches, "print0"),
-        copies: has(&matches, "copies"),
-    }))
+    Ok(Command::Status(status_flags(&matches)))
 }
 
 fn remove(alloc: Global, words: &[&str]) -> Result<Command, WordsFault>

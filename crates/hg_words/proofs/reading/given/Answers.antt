@@ -1,4 +1,4 @@
-use Rattle.std.proofs.Common.{◌≡◌, ◌∙◌}
+use Rattle.std.proofs.Common.{◌∙◌}
 use Rattle.clap.specs.Words.{found_of}
 use Rattle.hg_words.proofs.Readings.{all_put, given_none, given_some}
 use Rattle.hg_words.proofs.reading.given.Goals.{in-Some+else-loop-i-test, in_default}

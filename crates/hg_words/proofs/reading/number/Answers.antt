@@ -1,4 +1,3 @@
-use Rattle.std.proofs.Common.{◌≡◌, arith}
 use Rattle.hg_words.proofs.Readings.{number_read, number_refused}
 use Rattle.hg_words.proofs.reading.number.Goals as goal
 

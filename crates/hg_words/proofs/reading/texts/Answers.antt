@@ -1,4 +1,4 @@
-use Rattle.std.proofs.Common.{◌≡◌, sym, ◌∙◌, ◌∷◌, ◌++◌, [], Some, ap, map, arith}
+use Rattle.std.proofs.Common.{sym, ◌∙◌, ◌∷◌, [], Some, ap, map, arith}
 use Rattle.std.proofs.lemmas.List.{map-append}
 use Rattle.hg_words.proofs.Readings.{all_texts, one_put, one_text}
 use Rattle.hg_words.proofs.reading.texts.Goals as goal
