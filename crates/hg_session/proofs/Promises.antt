@@ -15,16 +15,15 @@ use Rattle.hg_save.proofs.Loads.{last_within, unstepped_found}
 use Rattle.hg_save.specs.Loads.{Try, files_at}
 use Rattle.hg_save.specs.Record.{id_in, reading}
 use Rattle.hg_session.proofs.Acted.{as_many, no_lines, none_refused}
-use Rattle.hg_session.proofs.Commands.{not_without}
+use Rattle.hg_session.proofs.Looks.{not_without}
 use Rattle.hg_session.proofs.Crashes.{crash_safe, lasting}
 use Rattle.hg_session.proofs.Readings.{unstepped_refuses}
 use Rattle.hg_session.specs.Acts.{AllSteps, refusals_text}
 use Rattle.hg_session.specs.Call.{Call, Count, Fails, Saved, Serves, Watched}
-use Rattle.hg_session.specs.Change.{FailsOrUnwritten, Fits, FitsFirst, IsDone, IsFreed, IsMade, IsReadFirst, IsSafe, MayFollowWriting, MetChanging, MetLocking, NoneOurs, files_of, id_read, up_to}
+use Rattle.hg_session.specs.Change.{FailsOrUnwritten, Fits, FitsFirst, IsDone, IsFreed, IsMade, IsReadFirst, IsSafe, MayFollowWriting, MetChanging, MetLocking, NoneOurs, id_read, up_to}
 use Rattle.hg_session.specs.Changed.{IsExpectedChange, IsMadeOf, IsPartlyTold, IsUnlooked, IsUnwrittenUnless, OnlyLooks, RanChange, TellsFault, status_of}
-use Rattle.hg_session.specs.Command.{IsFaultOrMemory, IsSilent, TellsLine}
-use Rattle.hg_session.specs.Listed.{LoadMet}
-use Rattle.hg_session.specs.Loaded.{IsRefused}
+use Rattle.hg_session.specs.Loaded.{IsRefused, LoadMet}
+use Rattle.hg_session.specs.Put.{IsFaultOrMemory, IsSilent, TellsLine}
 use Rattle.hg_session.specs.declared.acting.Changing.{Changing}
 use Rattle.hg_session.specs.declared.acting.Changing.TheVariants as a_change
 use Rattle.hg_session.specs.declared.read_fault.ReadFault.{ReadFault}
@@ -34,6 +33,7 @@ use Rattle.hg_shelf.specs.Images.{Course, Goes}
 use Rattle.hg_shelf.specs.Polite.{Undisturbed}
 use Rattle.hg_stream.specs.Stream.{Grown, GrownByFront}
 use Rattle.hg_tree.specs.History as tree
+use Rattle.hg_words.specs.declared.given.Command.{Command}
 
 -- ---- the status
 
@@ -150,49 +150,14 @@ module _ (command : Changing) (words : List (List ℕ)) (copy : Watched tree.His
   }
   met_own a_fault.TreeFailed safe met p q = steady_not_rose copy.before copy.after p met
   met_own a_fault.ShelfFailed safe met p q = steady_not_rose before after q met
-  met_own a_fault.NotBuilt safe met p q = met
-  met_own (a_fault.NoManifest id) safe met p q = met
-  met_own (a_fault.ManifestTooLarge size) safe met p q = met
-  met_own (a_fault.ManifestLine line) safe met p q = met
-  met_own (a_fault.ManifestOrder line) safe met p q = met
-  met_own (a_fault.NoContents id) safe met p q = met
-  met_own (a_fault.IgnoreTooLarge size) safe met p q = met
-  met_own (a_fault.IgnoreText at) safe met p q = met
-  met_own (a_fault.BadGlob line) safe met p q = met
-  met_own (a_fault.BadRegexp line) safe met p q = met
-  met_own (a_fault.RegexpTooBig line) safe met p q = met
-  met_own (a_fault.BadInclude line) safe met p q = met
-  met_own a_fault.Held safe met p q = met
-  met_own a_fault.OutFailed safe met p q = met
-  met_own a_fault.ErrFailed safe met p q = met
+  met_own fault safe met p q = met
 
 -- ---- what is told
 
 -- a fault that is met before anything is told has a line
 changing_told : (command : Changing) (words : List (List ℕ)) (copy : Watched tree.History) (files : Watched History) (fault : Fault) → MetChanging command words copy files fault → has_line fault ≡ true
-changing_told command words copy files a_fault.OutOfMemory met = refl
-changing_told command words copy files (a_fault.Docket fault) met = refl
-changing_told command words copy files (a_fault.Node fault) met = refl
-changing_told command words copy files (a_fault.DataGone ids) met = refl
-changing_told command words copy files (a_fault.TooLarge size) met = refl
-changing_told command words copy files a_fault.IdsSpent met = refl
-changing_told command words copy files a_fault.TreeFailed met = refl
-changing_told command words copy files a_fault.ShelfFailed met = refl
-changing_told command words copy files a_fault.NotBuilt met = refl
-changing_told command words copy files (a_fault.NoManifest id) met = refl
-changing_told command words copy files (a_fault.ManifestTooLarge size) met = refl
-changing_told command words copy files (a_fault.ManifestLine line) met = refl
-changing_told command words copy files (a_fault.ManifestOrder line) met = refl
-changing_told command words copy files (a_fault.NoContents id) met = refl
-changing_told command words copy files (a_fault.IgnoreTooLarge size) met = refl
-changing_told command words copy files (a_fault.IgnoreText at) met = refl
-changing_told command words copy files (a_fault.BadGlob line) met = refl
-changing_told command words copy files (a_fault.BadRegexp line) met = refl
-changing_told command words copy files (a_fault.RegexpTooBig line) met = refl
-changing_told command words copy files (a_fault.BadInclude line) met = refl
-changing_told command words copy files a_fault.Held met = refl
-changing_told command words copy files a_fault.OutFailed met = refl
 changing_told command words copy files a_fault.ErrFailed met = absurd met
+changing_told command words copy files fault met = refl
 
 pub locking_told : (command : Changing) (words : List (List ℕ)) (copy : Watched tree.History) (files : Watched History) (locks : Count) (fault : Fault) → MetLocking command words copy files locks fault → has_line fault ≡ true
 locking_told command words copy files locks fault (inl met) = changing_told command words copy files fault met
@@ -200,14 +165,14 @@ locking_told command words copy files locks fault (inr (held, rose)) = ap has_li
 
 -- ---- the whole command
 
-line_of_told : (command : Changing) (call : Call) (fault : Fault) → has_line fault ≡ true → TellsLine call.err.old call.err.new call.err.before call.err.after fault → TellsFault command call fault
-line_of_told command call fault told line = subst (λ (h : Bool). MatchBool h (TellsLine call.err.old call.err.new call.err.before call.err.after fault) (IsPartlyTold command call)) (sym told) line
+line_of_told : (command : Changing) (words : List (List ℕ)) (call : Call) (fault : Fault) → has_line fault ≡ true → TellsLine call.err.old call.err.new call.err.before call.err.after fault → TellsFault command words call fault
+line_of_told command words call fault told line = subst (λ (h : Bool). MatchBool h (TellsLine call.err.old call.err.new call.err.before call.err.after fault) (IsPartlyTold command words call)) (sym told) line
 
-module _ (command : Changing) (words : List (List ℕ)) (copy : Watched tree.History) (a b : Course) (before after : ℕ) (locks oversize : Count) (out err : Watched (Option (List ℕ)))
+module _ (command : Changing) (words : List (List ℕ)) (copy : Watched tree.History) (a b : Course) (before after : ℕ) (locks oversize : Count) (called : Command) (out err : Watched (Option (List ℕ)))
     (silent : IsSilent out) (uncounted : oversize.after ≡ oversize.before) (looks : OnlyLooks copy) (unlooked : command ≡ a_change.Forget → IsUnlooked copy) (kept : Goes a b) where
   abbrev call : Call
   call = record {
-    words = words;
+    command = called;
     looked = record { tree = copy; shelf = record { old = a.history; new = b.history; before = before; after = after }; oversize = oversize };
     saved = record { old = a; new = b };
     locks = locks;
@@ -217,7 +182,7 @@ module _ (command : Changing) (words : List (List ℕ)) (copy : Watched tree.His
 
   -- the lock is given back, or that failed, where this is the fault
   abbrev pub FreesFor : Option Fault → Type 0
-  FreesFor fault = IsFreed command (files_of words) copy call.looked.shelf call.saved fault
+  FreesFor fault = IsFreed command words copy call.looked.shelf call.saved fault
 
   -- so it is where another fault is told, or none
   frees_as : (first told : Option Fault) → (told ≡ Some a_fault.ShelfFailed → first ≡ Some a_fault.ShelfFailed) → FreesFor first → FreesFor told
@@ -226,18 +191,18 @@ module _ (command : Changing) (words : List (List ℕ)) (copy : Watched tree.His
     | inr is ↦ inr (record { failed = is.failed; alone = λ one same. is.alone one (only same) })
   ]
 
-  pub ran_done : FreesFor None → (status : ℕ) (lines : List ℕ) (done : IsDone command (files_of words) copy call.looked.shelf call.saved lines) → Grown err.old err.new lines → status ≡ status_of done.refused
-      → (Undisturbed a b → IsSafe command (files_of words) copy call.saved None) → copy.after ≡ copy.before → after ≡ before → err.after ≡ err.before → (locks.before < locks.after → ⊥) → (copy.before < copy.after → ⊥)
-      → RanChange command call status None
+  pub ran_done : FreesFor None → (status : ℕ) (lines : List ℕ) (done : IsDone command words copy call.looked.shelf call.saved lines) → Grown err.old err.new lines → status ≡ status_of done.refused
+      → (Undisturbed a b → IsSafe command words copy call.saved None) → copy.after ≡ copy.before → after ≡ before → err.after ≡ err.before → (locks.before < locks.after → ⊥) → (copy.before < copy.after → ⊥)
+      → RanChange command words call status None
   ran_done freed status lines done grown is safe calm_tree calm_shelf calm_err unheld well = record {
     stepped = λ none. record { lines = lines; done = done; told = grown; ends = is; lasts = λ calm keep. lasting a b kept calm keep done.is.loaded done.made (done.kept calm) };
     safe = safe;
-    crash = λ calm keep first. crash_safe a b kept calm keep command (files_of words) copy first None (safe calm);
+    crash = λ calm keep first. crash_safe a b kept calm keep command words copy first None (safe calm);
     unwritten = tt;
     cause = tt;
     held = λ rose. absurd (unheld rose);
     tree = λ rose. absurd (well rose);
-    complete = λ own p q r steady. done_own command (files_of words) copy a b before after kept.past own.shelf lines done;
+    complete = λ own p q r steady. done_own command words copy a b before after kept.past own.shelf lines done;
     calm_tree = λ none. calm_tree;
     calm_shelf = λ well. calm_shelf;
     calm_err = λ none. calm_err;
@@ -250,17 +215,17 @@ module _ (command : Changing) (words : List (List ℕ)) (copy : Watched tree.His
     freed = freed;
   }
 
-  safe_untold : IsSafe command (files_of words) copy call.saved None → IsSafe command (files_of words) copy call.saved (Some a_fault.ErrFailed)
+  safe_untold : IsSafe command words copy call.saved None → IsSafe command words copy call.saved (Some a_fault.ErrFailed)
   safe_untold (inl none) = inl none
   safe_untold (inr (may, is)) = inr (inr (inl refl), is)
 
   -- the error stream failed while the refused words were told
-  pub ran_untold : FreesFor None → (lines : List ℕ) (done : IsDone command (files_of words) copy call.looked.shelf call.saved lines) → GrownByFront err.old err.new lines → Fails err → after ≡ before
-      → (Undisturbed a b → IsSafe command (files_of words) copy call.saved None) → (locks.before < locks.after → ⊥) → (copy.before < copy.after → ⊥) → (status : ℕ) → RanChange command call status (Some a_fault.ErrFailed)
+  pub ran_untold : FreesFor None → (lines : List ℕ) (done : IsDone command words copy call.looked.shelf call.saved lines) → GrownByFront err.old err.new lines → Fails err → after ≡ before
+      → (Undisturbed a b → IsSafe command words copy call.saved None) → (locks.before < locks.after → ⊥) → (copy.before < copy.after → ⊥) → (status : ℕ) → RanChange command words call status (Some a_fault.ErrFailed)
   ran_untold freed lines done grown failed calm_shelf safe unheld well status = record {
     stepped = λ none. absurd (cc none);
     safe = λ calm. safe_untold (safe calm);
-    crash = λ calm keep first. crash_safe a b kept calm keep command (files_of words) copy first (Some a_fault.ErrFailed) (safe_untold (safe calm));
+    crash = λ calm keep first. crash_safe a b kept calm keep command words copy first (Some a_fault.ErrFailed) (safe_untold (safe calm));
     unwritten = inl refl;
     cause = inr (refl, failed);
     held = λ rose. absurd (unheld rose);
@@ -278,47 +243,47 @@ module _ (command : Changing) (words : List (List ℕ)) (copy : Watched tree.His
     freed = frees_as None (Some a_fault.ErrFailed) (λ is. absurd (cc is)) freed;
   }
 
-  safe_any : (fault : Fault) → IsSafe command (files_of words) copy call.saved (Some fault) → IsSafe command (files_of words) copy call.saved (Some a_fault.OutOfMemory)
+  safe_any : (fault : Fault) → IsSafe command words copy call.saved (Some fault) → IsSafe command words copy call.saved (Some a_fault.OutOfMemory)
   safe_any fault (inl none) = inl none
   safe_any fault (inr (may, is)) = inr (inr (inr refl), is)
 
-  locked_own : (fault : Fault) → IsSafe command (files_of words) copy call.saved (Some fault) → MetLocking command (files_of words) copy call.looked.shelf locks fault → IsOurs a.history b.history → Serves copy → Serves call.looked.shelf
-      → IsSteady locks.before locks.after → IsExpectedChange command (files_of words) copy (now a.history).files (Some fault)
-  locked_own fault safe (inl met) own p q steady = met_own command (files_of words) copy a b before after kept.past own fault safe met p q
+  locked_own : (fault : Fault) → IsSafe command words copy call.saved (Some fault) → MetLocking command words copy call.looked.shelf locks fault → IsOurs a.history b.history → Serves copy → Serves call.looked.shelf
+      → IsSteady locks.before locks.after → IsExpectedChange command words copy (now a.history).files (Some fault)
+  locked_own fault safe (inl met) own p q steady = met_own command words copy a b before after kept.past own fault safe met p q
   locked_own fault safe (inr (held, rose)) own p q steady = absurd (steady_not_rose locks.before locks.after steady rose)
 
-  shelf_met : MetLocking command (files_of words) copy call.looked.shelf locks a_fault.ShelfFailed → Fails call.looked.shelf
+  shelf_met : MetLocking command words copy call.looked.shelf locks a_fault.ShelfFailed → Fails call.looked.shelf
   shelf_met (inl rose) = rose
   shelf_met (inr (held, rose)) = absurd (cc held)
 
-  shelf_fails : (fault : Fault) → fault ≡ a_fault.ShelfFailed → MetLocking command (files_of words) copy call.looked.shelf locks fault → Fails call.looked.shelf
-  shelf_fails fault is met = shelf_met (subst (MetLocking command (files_of words) copy call.looked.shelf locks) is met)
+  shelf_fails : (fault : Fault) → fault ≡ a_fault.ShelfFailed → MetLocking command words copy call.looked.shelf locks fault → Fails call.looked.shelf
+  shelf_fails fault is met = shelf_met (subst (MetLocking command words copy call.looked.shelf locks) is met)
 
-  err_met : MetLocking command (files_of words) copy call.looked.shelf locks a_fault.ErrFailed → ⊥
+  err_met : MetLocking command words copy call.looked.shelf locks a_fault.ErrFailed → ⊥
   err_met (inl met) = met
   err_met (inr (held, rose)) = cc held
 
   -- the error stream isn't told before the lines of the words
-  never_err : (fault : Fault) → MetLocking command (files_of words) copy call.looked.shelf locks fault → fault ≡ a_fault.ErrFailed → ⊥
-  never_err fault met is = err_met (subst (MetLocking command (files_of words) copy call.looked.shelf locks) is met)
+  never_err : (fault : Fault) → MetLocking command words copy call.looked.shelf locks fault → fault ≡ a_fault.ErrFailed → ⊥
+  never_err fault met is = err_met (subst (MetLocking command words copy call.looked.shelf locks) is met)
 
   -- whether the fault is told, or want of memory for its line
-  unless_same : (fault : Fault) → MetLocking command (files_of words) copy call.looked.shelf locks fault → FailsOrUnwritten a.history b.history fault → IsUnwrittenUnless call fault
+  unless_same : (fault : Fault) → MetLocking command words copy call.looked.shelf locks fault → FailsOrUnwritten a.history b.history fault → IsUnwrittenUnless call fault
   unless_same fault met (inl is) = inr (inl (shelf_fails fault is met, inl is))
   unless_same fault met (inr none) = inr (inr none)
 
-  unless_memory : (fault : Fault) → MetLocking command (files_of words) copy call.looked.shelf locks fault → FailsOrUnwritten a.history b.history fault → IsUnwrittenUnless call a_fault.OutOfMemory
+  unless_memory : (fault : Fault) → MetLocking command words copy call.looked.shelf locks fault → FailsOrUnwritten a.history b.history fault → IsUnwrittenUnless call a_fault.OutOfMemory
   unless_memory fault met (inl is) = inr (inl (shelf_fails fault is met, inr refl))
   unless_memory fault met (inr none) = inr (inr none)
 
-  ran_fault : (status : ℕ) (fault answered : Fault) → FreesFor (Some fault) → (answered ≡ fault) ⊎ (answered ≡ a_fault.OutOfMemory) → MetLocking command (files_of words) copy call.looked.shelf locks fault
-      → (Undisturbed a b → IsSafe command (files_of words) copy call.saved (Some fault)) → FailsOrUnwritten a.history b.history fault → (locks.before < locks.after → fault ≡ a_fault.Held) → (copy.before < copy.after → fault ≡ a_fault.TreeFailed)
-      → TellsLine err.old err.new err.before err.after answered → RanChange command call status (Some answered)
+  ran_fault : (status : ℕ) (fault answered : Fault) → FreesFor (Some fault) → (answered ≡ fault) ⊎ (answered ≡ a_fault.OutOfMemory) → MetLocking command words copy call.looked.shelf locks fault
+      → (Undisturbed a b → IsSafe command words copy call.saved (Some fault)) → FailsOrUnwritten a.history b.history fault → (locks.before < locks.after → fault ≡ a_fault.Held) → (copy.before < copy.after → fault ≡ a_fault.TreeFailed)
+      → TellsLine err.old err.new err.before err.after answered → RanChange command words call status (Some answered)
   ran_fault status fault answered freed (inl same) met safe written held failed line =
-      subst (λ (f : Fault). TellsLine err.old err.new err.before err.after f → RanChange command call status (Some f)) (sym same) (λ told. record {
+      subst (λ (f : Fault). TellsLine err.old err.new err.before err.after f → RanChange command words call status (Some f)) (sym same) (λ told. record {
         stepped = λ none. absurd (cc none);
         safe = safe;
-        crash = λ calm keep first. crash_safe a b kept calm keep command (files_of words) copy first (Some fault) (safe calm);
+        crash = λ calm keep first. crash_safe a b kept calm keep command words copy first (Some fault) (safe calm);
         unwritten = unless_same fault met written;
         cause = inl met;
         held = λ rose. inl (ap Some (held rose));
@@ -330,7 +295,7 @@ module _ (command : Changing) (words : List (List ℕ)) (copy : Watched tree.His
           | inr is ↦ absurd (never_err fault met (cc is))
         ];
         calm_err = λ none. absurd (cc none);
-        told = line_of_told command call fault (locking_told command (files_of words) copy call.looked.shelf locks fault met) told;
+        told = line_of_told command words call fault (locking_told command words copy call.looked.shelf locks fault met) told;
         silent = silent;
         uncounted = uncounted;
         looks = looks;
@@ -339,10 +304,10 @@ module _ (command : Changing) (words : List (List ℕ)) (copy : Watched tree.His
         freed = freed;
       }) line
   ran_fault status fault answered freed (inr memory) met safe written held failed line =
-      subst (λ (f : Fault). TellsLine err.old err.new err.before err.after f → RanChange command call status (Some f)) (sym memory) (λ told. record {
+      subst (λ (f : Fault). TellsLine err.old err.new err.before err.after f → RanChange command words call status (Some f)) (sym memory) (λ told. record {
         stepped = λ none. absurd (cc none);
         safe = λ calm. safe_any fault (safe calm);
-        crash = λ calm keep first. crash_safe a b kept calm keep command (files_of words) copy first (Some a_fault.OutOfMemory) (safe_any fault (safe calm));
+        crash = λ calm keep first. crash_safe a b kept calm keep command words copy first (Some a_fault.OutOfMemory) (safe_any fault (safe calm));
         unwritten = unless_memory fault met written;
         cause = inl (inl tt);
         held = λ rose. inr refl;
@@ -354,7 +319,7 @@ module _ (command : Changing) (words : List (List ℕ)) (copy : Watched tree.His
           | inr is ↦ absurd (cc is)
         ];
         calm_err = λ none. absurd (cc none);
-        told = line_of_told command call a_fault.OutOfMemory refl told;
+        told = line_of_told command words call a_fault.OutOfMemory refl told;
         silent = silent;
         uncounted = uncounted;
         looks = looks;
@@ -363,9 +328,9 @@ module _ (command : Changing) (words : List (List ℕ)) (copy : Watched tree.His
         freed = frees_as (Some fault) (Some a_fault.OutOfMemory) (λ is. absurd (cc is)) freed;
       }) line
 
-  pub ran_failed : (status : ℕ) (fault : Fault) (answered : Option Fault) → FreesFor (Some fault) → IsFaultOrMemory answered fault → MetLocking command (files_of words) copy call.looked.shelf locks fault
-      → (Undisturbed a b → IsSafe command (files_of words) copy call.saved (Some fault)) → FailsOrUnwritten a.history b.history fault → (locks.before < locks.after → fault ≡ a_fault.Held) → (copy.before < copy.after → fault ≡ a_fault.TreeFailed)
-      → IfSome answered (λ f. TellsLine err.old err.new err.before err.after f) → RanChange command call status answered
+  pub ran_failed : (status : ℕ) (fault : Fault) (answered : Option Fault) → FreesFor (Some fault) → IsFaultOrMemory answered fault → MetLocking command words copy call.looked.shelf locks fault
+      → (Undisturbed a b → IsSafe command words copy call.saved (Some fault)) → FailsOrUnwritten a.history b.history fault → (locks.before < locks.after → fault ≡ a_fault.Held) → (copy.before < copy.after → fault ≡ a_fault.TreeFailed)
+      → IfSome answered (λ f. TellsLine err.old err.new err.before err.after f) → RanChange command words call status answered
   ran_failed status fault None freed is met safe written held failed line = not_without None fault is refl
   ran_failed status fault (Some f) freed (inl same) met safe written held failed line = ran_fault status fault f freed (inl (cc same)) met safe written held failed line
   ran_failed status fault (Some f) freed (inr memory) met safe written held failed line = ran_fault status fault f freed (inr (cc memory)) met safe written held failed line

@@ -16,7 +16,7 @@ use Rattle.hg_save.specs.Record.{data_name, id_in, reading}
 use Rattle.hg_save.specs.Saved.{IsLatest, KeepsOthers, ReadsAsBeforeOr, name_after}
 use Rattle.hg_session.specs.Call.{Watched}
 use Rattle.hg_session.specs.Change.{Fits, FitsFirst, IsDone, IsKept, IsMade, IsPublished, IsReadFirst, IsSafe, IsUnwritten, MetChanging, NoneOurs, Stretch, id_read, up_to}
-use Rattle.hg_session.specs.Listed.{LoadMet}
+use Rattle.hg_session.specs.Loaded.{LoadMet}
 use Rattle.hg_session.specs.Loaded.{IsRefused}
 use Rattle.hg_session.specs.declared.acting.Changing.{Changing}
 use Rattle.hg_session.specs.declared.read_fault.ReadFault.{ReadFault}
@@ -281,20 +281,6 @@ module _ (a b c d : Course) (lock : Waits a.history b.history) (unlock : Waits c
       busy = met.busy;
       spent = λ told. ap next_name (id_wide met.is.loaded (met.is.read (told_part told))) ∙ met.spent (told_part told);
     }
-    met_wide a_fault.TreeFailed rose met = met
+    met_wide fault rose met = met
     met_wide a_fault.ShelfFailed rose met = rose met
-    met_wide a_fault.NotBuilt rose met = met
-    met_wide (a_fault.NoManifest id) rose met = met
-    met_wide (a_fault.ManifestTooLarge size) rose met = met
-    met_wide (a_fault.ManifestLine line) rose met = met
-    met_wide (a_fault.ManifestOrder line) rose met = met
-    met_wide (a_fault.NoContents id) rose met = met
-    met_wide (a_fault.IgnoreTooLarge size) rose met = met
-    met_wide (a_fault.IgnoreText at) rose met = met
-    met_wide (a_fault.BadGlob line) rose met = met
-    met_wide (a_fault.BadRegexp line) rose met = met
-    met_wide (a_fault.RegexpTooBig line) rose met = met
-    met_wide (a_fault.BadInclude line) rose met = met
-    met_wide a_fault.Held rose met = met
-    met_wide a_fault.OutFailed rose met = met
-    met_wide a_fault.ErrFailed rose met = met
+    met_wide fault rose met = met

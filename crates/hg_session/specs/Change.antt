@@ -1,7 +1,5 @@
 -- What a command that changes the record answers and leaves, and why.
 use Rattle.std.specs.Prelude.{ℕ, ◌≡◌, ◌⊎◌, ◌≤◌, ◌<◌, ◌^◌, Bool, true, if◌then◌else◌, List, [], ◌∷◌, drop, take, Option, Some, None, Result, Ok, Err, IsTrue, codes, is_some}
-use Rattle.std.specs.List.{list_any}
-use Rattle.std.specs.Str.{bytes_eq}
 use Rattle.hg_append.specs.Encoded.{IsTooLarge}
 use Rattle.hg_append.specs.Layout.{size_of}
 use Rattle.hg_append.specs.Tree.{IsTreeOf, Tree}
@@ -19,34 +17,13 @@ use Rattle.hg_save.specs.Record.{data_name, id_in, reading}
 use Rattle.hg_save.specs.Saved.{IsLatest, KeepsOthers, ReadsAsBeforeOr}
 use Rattle.hg_session.specs.Acts.{AllIdle, AllSteps, refusals_text}
 use Rattle.hg_session.specs.Call.{Call, Count, Fails, FailsOnce, Saved, Watched}
-use Rattle.hg_session.specs.Debug.{IsRead}
-use Rattle.hg_session.specs.Listed.{LoadMet}
+use Rattle.hg_session.specs.Loaded.{IsRead, LoadMet}
 use Rattle.hg_session.specs.declared.acting.Changing.{Changing}
-use Rattle.hg_session.specs.declared.acting.Changing.TheVariants as a_change
 use Rattle.hg_session.specs.declared.read_fault.ReadFault.TheVariants as a_read
 use Rattle.hg_shelf.specs.History as shelf
 use Rattle.hg_shelf.specs.Images.{scene}
 use Rattle.hg_shelf.specs.Polite.{Undisturbed}
 use Rattle.hg_tree.specs.History as tree
-
--- ---- the words
-
--- a word that begins with a dash
-abbrev pub is_dashed : List ℕ → Bool
-is_dashed word = bytes_eq (take 1 word) (codes "-")
-
-abbrev pub changing_named : List ℕ → Option Changing
-changing_named name = if bytes_eq name (codes "add") then Some a_change.Add else (if bytes_eq name (codes "forget") then Some a_change.Forget else None)
-
--- the command that changes the record, where file words follow its name, none of which begins with a dash
-abbrev pub changing_of : List (List ℕ) → Option Changing
-changing_of [] = None
-changing_of (name ∷ []) = None
-changing_of (name ∷ word ∷ words) = if list_any is_dashed (word ∷ words) then None else changing_named name
-
--- the file words
-abbrev pub files_of : List (List ℕ) → List (List ℕ)
-files_of words = drop 1 words
 
 -- ---- what the words make of the record
 
@@ -193,30 +170,16 @@ MetChanging command words copy files (a_fault.TooLarge size) = MetLarge command 
 MetChanging command words copy files a_fault.IdsSpent = MetSpent command words copy files
 MetChanging command words copy files a_fault.TreeFailed = Fails copy
 MetChanging command words copy files a_fault.ShelfFailed = Fails files
-MetChanging command words copy files a_fault.NotBuilt = ⊥
-MetChanging command words copy files (a_fault.NoManifest id) = ⊥
-MetChanging command words copy files (a_fault.ManifestTooLarge size) = ⊥
-MetChanging command words copy files (a_fault.ManifestLine line) = ⊥
-MetChanging command words copy files (a_fault.ManifestOrder line) = ⊥
-MetChanging command words copy files (a_fault.NoContents id) = ⊥
-MetChanging command words copy files (a_fault.IgnoreTooLarge size) = ⊥
-MetChanging command words copy files (a_fault.IgnoreText at) = ⊥
-MetChanging command words copy files (a_fault.BadGlob line) = ⊥
-MetChanging command words copy files (a_fault.BadRegexp line) = ⊥
-MetChanging command words copy files (a_fault.RegexpTooBig line) = ⊥
-MetChanging command words copy files (a_fault.BadInclude line) = ⊥
-MetChanging command words copy files a_fault.Held = ⊥
-MetChanging command words copy files a_fault.OutFailed = ⊥
-MetChanging command words copy files a_fault.ErrFailed = ⊥
+MetChanging command words copy files fault = ⊥
 
 -- or a lock that was refused
 abbrev pub MetLocking : Changing → List (List ℕ) → Watched tree.History → Watched shelf.History → Count → Fault → Type 0
 MetLocking command words copy files locks fault = MetChanging command words copy files fault ⊎ ((fault ≡ a_fault.Held) × Rose locks.before locks.after)
 
 -- or an error stream that failed while the refused words were told
-abbrev pub ChangeCause : Changing → Call → Fault → Type 0
-ChangeCause command call fault =
-    MetLocking command (files_of call.words) call.looked.tree call.looked.shelf call.locks fault ⊎ ((fault ≡ a_fault.ErrFailed) × Fails call.err)
+abbrev pub ChangeCause : Changing → List (List ℕ) → Call → Fault → Type 0
+ChangeCause command words call fault =
+    MetLocking command words call.looked.tree call.looked.shelf call.locks fault ⊎ ((fault ≡ a_fault.ErrFailed) × Fails call.err)
 
 -- a fault that may be met once something was written: a shelf or an error stream that failed; for the line of the one there may be no memory
 abbrev pub MayFollowWriting : Option Fault → Type 0

@@ -1,6 +1,6 @@
 //! The words of a command that changes the record, one after another.
 
-ghost use Rattle.std.specs.Prelude.{◌≡◌, ◌<◌, ◌++◌, ◌⊎◌, Err, IfErr, IfOk, IsTrue, OnOk, drop, false, true};
+ghost use Rattle.std.specs.Prelude.{◌≡◌, ◌<◌, ◌++◌, ◌⊎◌, Err, IfErr, IfOk, IsTrue, OnOk, false, true};
 ghost use Rattle.hg_base.specs.Fault.{HasCause};
 ghost use Rattle.hg_mixed.specs.Edits.{IsOfSameImage, IsSame, Marks};
 ghost use Rattle.hg_mixed.specs.Held.{table};
@@ -77,7 +77,7 @@ fn put_refused(
     }
 }
 
-/// Does what a command says for each word behind the first, in order, and answers the lines of those that were refused.
+/// Does what a command says for each word, in order, and answers the lines of those that were refused.
 pub(crate) fn act<T: Tree>(
     alloc: Global,
     command: Changing,
@@ -85,7 +85,7 @@ pub(crate) fn act<T: Tree>(
     mixed: &mut Mixed<'_>,
     tree: &mut T,
 ) -> Result<Vec<u8>, Fault>
-    ensures acts { IfOk result (λ lines. IsActed command (T.history tree.old) (T.history tree.new) (drop 1 words.now) (table mixed.old) (table mixed.new) mixed.old.changed mixed.new.changed lines.items) }
+    ensures acts { IfOk result (λ lines. IsActed command (T.history tree.old) (T.history tree.new) words.now (table mixed.old) (table mixed.new) mixed.old.changed mixed.new.changed lines.items) }
     // The mark that something was changed stays where it was set; where it isn't set, nothing was changed.
     ensures marked { OnOk result (mixed.old.changed ≡ true → mixed.new.changed ≡ true) }
     ensures changed { OnOk result (mixed.old.changed ≡ false → mixed.new.changed ≡ false → IsSame (table mixed.new) (table mixed.old)) }
@@ -101,7 +101,7 @@ pub(crate) fn act<T: Tree>(
     ensures failed { T.faults tree.old < T.faults tree.new → result ≡ Err a_fault.TreeFailed }
 {
     let mut lines = Vec::new(alloc);
-    for i in 1..words.len() {
+    for i in 0..words.len() {
         let word = words.at(i).as_str();
         let refused = step(command, word, mixed, tree)?;
         put_refused(alloc, command, word, &refused, &mut lines)?;

@@ -9,7 +9,7 @@ ghost use Rattle.hg_report.specs.declared.fault.Fault.TheVariants as a_fault;
 ghost use Rattle.hg_save.specs.Loads.{Try};
 ghost use Rattle.hg_save.specs.Saved.{Stands};
 ghost use Rattle.hg_session.specs.Anew.{CanWrite, IsOpened, IsRecorded, LoadsOrRefuses, MetWriting, WritesOnly};
-ghost use Rattle.hg_session.specs.Change.{FailsOrUnwritten, IsDone, IsSafe, MetChanging, files_of};
+ghost use Rattle.hg_session.specs.Change.{FailsOrUnwritten, IsDone, IsSafe, MetChanging};
 ghost use Rattle.hg_session.specs.Changed.{OnlyLooks};
 ghost use Rattle.hg_session.specs.Loaded.{NodesFind};
 ghost use Rattle.hg_session.specs.declared.acting.Changing.TheVariants as a_command;
@@ -111,7 +111,7 @@ pub(crate) fn change_locked<T: Tree, S: Shelf>(
         result
         (λ lines. IsDone
         command
-        (files_of words.now)
+        words.now
         (record { old = T.history tree.old; new = T.history tree.new; before = T.faults tree.old; after = T.faults tree.new })
         (record { old = S.history shelf.old; new = S.history shelf.new; before = S.faults shelf.old; after = S.faults shelf.new })
         (record { old = course (S.history shelf.old) (S.images shelf.old); new = course (S.history shelf.new) (S.images shelf.new) })
@@ -120,13 +120,13 @@ pub(crate) fn change_locked<T: Tree, S: Shelf>(
         result
         (MetChanging
         command
-        (files_of words.now)
+        words.now
         (record { old = T.history tree.old; new = T.history tree.new; before = T.faults tree.old; after = T.faults tree.new })
         (record { old = S.history shelf.old; new = S.history shelf.new; before = S.faults shelf.old; after = S.faults shelf.new })) }
     ensures safe { Undisturbed (course (S.history shelf.old) (S.images shelf.old)) (course (S.history shelf.new) (S.images shelf.new))
         → IsSafe
         command
-        (files_of words.now)
+        words.now
         (record { old = T.history tree.old; new = T.history tree.new; before = T.faults tree.old; after = T.faults tree.new })
         (record { old = course (S.history shelf.old) (S.images shelf.old); new = course (S.history shelf.new) (S.images shelf.new) })
         (result_err result) }

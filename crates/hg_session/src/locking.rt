@@ -3,13 +3,14 @@
 ghost use Rattle.std.specs.Prelude.{◌≡◌, ◌⊎◌, ◌<◌, List, Option, ℕ, IfErr, IfOk, MatchOption, None, OnOk, Err, []};
 ghost use Rattle.std.specs.Result.{result_err};
 ghost use Rattle.hg_report.specs.declared.fault.Fault.TheVariants as a_fault;
-ghost use Rattle.hg_session.specs.Call.{Count, Watched};
-ghost use Rattle.hg_session.specs.Change.{FailsOrUnwritten, IsDone, IsFreed, IsSafe, MetLocking, files_of, once_freed};
+ghost use Rattle.hg_session.specs.Call.{Count, Sink};
+ghost use Rattle.hg_session.specs.Change.{FailsOrUnwritten, IsDone, IsFreed, IsSafe, MetLocking, once_freed};
 ghost use Rattle.hg_session.specs.Changed.{OnlyLooks, RanChange};
-ghost use Rattle.hg_session.specs.Command.{IsSilent};
+ghost use Rattle.hg_session.specs.Put.{IsSilent};
 ghost use Rattle.hg_session.specs.declared.acting.Changing.TheVariants as a_command;
 ghost use Rattle.hg_shelf.specs.Images.{Goes, course};
 ghost use Rattle.hg_shelf.specs.Polite.{Undisturbed};
+ghost use Rattle.hg_words.specs.declared.given.Command.{Command};
 
 use crate::acting::Changing;
 use crate::changing::change_locked;
@@ -46,7 +47,7 @@ fn change<T: Tree, S: Shelf>(
         result
         (λ lines. IsDone
         command
-        (files_of words.now)
+        words.now
         (record { old = T.history tree.old; new = T.history tree.new; before = T.faults tree.old; after = T.faults tree.new })
         (record { old = S.history shelf.old; new = S.history shelf.new; before = S.faults shelf.old; after = S.faults shelf.new })
         (record { old = course (S.history shelf.old) (S.images shelf.old); new = course (S.history shelf.new) (S.images shelf.new) })
@@ -55,14 +56,14 @@ fn change<T: Tree, S: Shelf>(
         result
         (MetLocking
         command
-        (files_of words.now)
+        words.now
         (record { old = T.history tree.old; new = T.history tree.new; before = T.faults tree.old; after = T.faults tree.new })
         (record { old = S.history shelf.old; new = S.history shelf.new; before = S.faults shelf.old; after = S.faults shelf.new })
         (record { before = S.held shelf.old; after = S.held shelf.new })) }
     ensures safe { Undisturbed (course (S.history shelf.old) (S.images shelf.old)) (course (S.history shelf.new) (S.images shelf.new))
         → IsSafe
         command
-        (files_of words.now)
+        words.now
         (record { old = T.history tree.old; new = T.history tree.new; before = T.faults tree.old; after = T.faults tree.new })
         (record { old = course (S.history shelf.old) (S.images shelf.old); new = course (S.history shelf.new) (S.images shelf.new) })
         (result_err result) }
@@ -76,7 +77,7 @@ fn change<T: Tree, S: Shelf>(
     ensures kept { Goes (course (S.history shelf.old) (S.images shelf.old)) (course (S.history shelf.new) (S.images shelf.new)) }
     ensures freed { IsFreed
         command
-        (files_of words.now)
+        words.now
         (record { old = T.history tree.old; new = T.history tree.new; before = T.faults tree.old; after = T.faults tree.new })
         (record { old = S.history shelf.old; new = S.history shelf.new; before = S.faults shelf.old; after = S.faults shelf.new })
         (record { old = course (S.history shelf.old) (S.images shelf.old); new = course (S.history shelf.new) (S.images shelf.new) })
@@ -111,11 +112,12 @@ pub(crate) fn change_record<T: Tree, S: Shelf, E: Sink>(
     err: &mut E,
 ) -> Outcome
     // `RanChange` in specs/Changed.antt, whatever else a call has that isn't touched.
-    ensures ran { (out : Watched (Option (List ℕ))) (oversize : Count) → IsSilent out → oversize.after ≡ oversize.before
+    ensures ran { (called : Command) (out : Sink) (oversize : Count) → IsSilent out → oversize.after ≡ oversize.before
         → RanChange
         command
+        words.now
         (record {
-          words = words.now;
+          command = called;
           looked =
               record {
                 tree = record { old = T.history tree.old; new = T.history tree.new; before = T.faults tree.old; after = T.faults tree.new };

@@ -1,7 +1,6 @@
 -- A change of the record: the load, what the words make of it, the publication.
 use Rattle.std.proofs.Common.{Some, None, inl, inr, ap}
 use Rattle.std.proofs.lemmas.Result.{err_from_is_err_and}
-use Rattle.hg_session.specs.Change.{files_of}
 use Rattle.hg_session.proofs.Changes.{done_by, met_opened, met_read, met_writing, safe_by, stands}
 use Rattle.hg_session.proofs.Locked.{unwritten, unwritten_unless}
 use Rattle.hg_docket.specs.Docket.{docket_of}
@@ -13,13 +12,13 @@ use Rattle.hg_session.proofs.changing.change_locked.Goals as goal
 pub returns-in_err-loaded-clause-met : goal.returns-in_err-loaded-clause-met
 returns-in_err-loaded-clause-met g c =
     let p = err_from_is_err_and c.from_residual.result c.from_residual.ensures.1 in
-    rw (p.1, p.2) (met_read c.args.command (files_of c.args.words.now) _ _ c.in_err-loaded.field-0.0 c.in_err-loaded.ensures.found c.in_err-loaded.ensures.cause.rose)
+    rw (p.1, p.2) (met_read c.args.command c.args.words.now _ _ c.in_err-loaded.field-0.0 c.in_err-loaded.ensures.found c.in_err-loaded.ensures.cause.rose)
 
 pub returns-in_err-table-clause-met : goal.returns-in_err-table-clause-met
 returns-in_err-table-clause-met g c =
     let p = err_from_is_err_and c.from_residual-in_err-table.result c.from_residual-in_err-table.ensures.1 in
     rw (p.1, p.2)
-    (met_opened c.args.command (files_of c.args.words.now) _ _ (IsOpened (docket_of c.in_ok-loaded.loaded.docket.items)) c.in_ok-loaded.loaded c.in_err-table.field-0.0 c.in_ok-loaded.ensures.whole
+    (met_opened c.args.command c.args.words.now _ _ (IsOpened (docket_of c.in_ok-loaded.loaded.docket.items)) c.in_ok-loaded.loaded c.in_err-table.field-0.0 c.in_ok-loaded.ensures.whole
     c.in_ok-loaded.ensures.found c.in_err-table.ensures)
 
 pub returns-in_err-lines-clause-safe : goal.returns-in_err-lines-clause-safe
@@ -31,7 +30,7 @@ returns-in_err-save-clause-met g c =
     rw (p.1, p.2)
     (met_writing (course (g.S.Shelf.history c.args.shelf.now) (g.S.Shelf.images c.args.shelf.now)) (course (g.S.Shelf.history c.read.new.shelf) (g.S.Shelf.images c.read.new.shelf)) (course (g.S.Shelf.history c.save.new.shelf) (g.S.Shelf.images c.save.new.shelf)) c.in_ok-loaded.ensures.passes c.in_err-save.ensures.kept
     c.in_ok-loaded.loaded c.in_ok-loaded.ensures.whole c.in_ok-loaded.ensures.found c.in_ok-table.ensures.0 c.in_ok-table.ensures.1
-    c.args.command (files_of c.args.words.now) (record { old = g.T.Tree.history c.args.tree.now; new = g.T.Tree.history c.act.new.tree; before = g.T.Tree.faults c.args.tree.now; after = g.T.Tree.faults c.act.new.tree })
+    c.args.command c.args.words.now (record { old = g.T.Tree.history c.args.tree.now; new = g.T.Tree.history c.act.new.tree; before = g.T.Tree.faults c.args.tree.now; after = g.T.Tree.faults c.act.new.tree })
     c.in_ok-table.table c.act.new.mixed c.in_ok-table.ensures.2 c.in_ok-lines.ensures.image c.in_ok-lines.lines.items c.in_ok-lines.ensures.acts
     (g.S.Shelf.faults c.args.shelf.now) (g.S.Shelf.faults c.read.new.shelf) (g.S.Shelf.faults c.save.new.shelf) c.in_err-save.field-0.0 c.in_ok-loaded.ensures.cause.quiet c.in_err-save.ensures.met)
 
@@ -41,13 +40,13 @@ returns-in_err-save-clause-safe g c = λ calm.
     rw (p.1, p.2)
     (safe_by (course (g.S.Shelf.history c.args.shelf.now) (g.S.Shelf.images c.args.shelf.now)) (course (g.S.Shelf.history c.read.new.shelf) (g.S.Shelf.images c.read.new.shelf)) (course (g.S.Shelf.history c.save.new.shelf) (g.S.Shelf.images c.save.new.shelf)) c.in_ok-loaded.ensures.passes c.in_err-save.ensures.kept
     c.in_ok-loaded.loaded c.in_ok-loaded.ensures.whole c.in_ok-loaded.ensures.found c.in_ok-table.ensures.0 c.in_ok-table.ensures.1
-    c.args.command (files_of c.args.words.now) (record { old = g.T.Tree.history c.args.tree.now; new = g.T.Tree.history c.act.new.tree; before = g.T.Tree.faults c.args.tree.now; after = g.T.Tree.faults c.act.new.tree })
+    c.args.command c.args.words.now (record { old = g.T.Tree.history c.args.tree.now; new = g.T.Tree.history c.act.new.tree; before = g.T.Tree.faults c.args.tree.now; after = g.T.Tree.faults c.act.new.tree })
     c.in_ok-table.table c.act.new.mixed c.in_ok-table.ensures.2 c.in_ok-lines.ensures.image c.in_ok-lines.lines.items c.in_ok-lines.ensures.acts
     c.requires calm (Some c.in_err-save.field-0.0)
     (c.in_err-save.ensures.safe (second_part (course (g.S.Shelf.history c.args.shelf.now) (g.S.Shelf.images c.args.shelf.now)) (course (g.S.Shelf.history c.read.new.shelf) (g.S.Shelf.images c.read.new.shelf)) (course (g.S.Shelf.history c.save.new.shelf) (g.S.Shelf.images c.save.new.shelf)) c.in_ok-loaded.ensures.kept calm)
     (stands (course (g.S.Shelf.history c.args.shelf.now) (g.S.Shelf.images c.args.shelf.now)) (course (g.S.Shelf.history c.read.new.shelf) (g.S.Shelf.images c.read.new.shelf)) (course (g.S.Shelf.history c.save.new.shelf) (g.S.Shelf.images c.save.new.shelf)) c.in_ok-loaded.ensures.passes c.in_err-save.ensures.kept
     c.in_ok-loaded.loaded c.in_ok-loaded.ensures.whole c.in_ok-loaded.ensures.found c.in_ok-table.ensures.0 c.in_ok-table.ensures.1
-    c.args.command (files_of c.args.words.now) (record { old = g.T.Tree.history c.args.tree.now; new = g.T.Tree.history c.act.new.tree; before = g.T.Tree.faults c.args.tree.now; after = g.T.Tree.faults c.act.new.tree })
+    c.args.command c.args.words.now (record { old = g.T.Tree.history c.args.tree.now; new = g.T.Tree.history c.act.new.tree; before = g.T.Tree.faults c.args.tree.now; after = g.T.Tree.faults c.act.new.tree })
     c.in_ok-table.table c.act.new.mixed c.in_ok-table.ensures.2 c.in_ok-lines.ensures.image c.in_ok-lines.lines.items c.in_ok-lines.ensures.acts
     c.requires calm)))
 
@@ -78,7 +77,7 @@ pub returns-clause-done : goal.returns-clause-done
 returns-clause-done g c =
     done_by (course (g.S.Shelf.history c.args.shelf.now) (g.S.Shelf.images c.args.shelf.now)) (course (g.S.Shelf.history c.read.new.shelf) (g.S.Shelf.images c.read.new.shelf)) (course (g.S.Shelf.history c.save.new.shelf) (g.S.Shelf.images c.save.new.shelf)) c.in_ok-loaded.ensures.passes c.in_ok-save.ensures.kept
     c.in_ok-loaded.loaded c.in_ok-loaded.ensures.whole c.in_ok-loaded.ensures.found c.in_ok-table.ensures.0 c.in_ok-table.ensures.1
-    c.args.command (files_of c.args.words.now) (record { old = g.T.Tree.history c.args.tree.now; new = g.T.Tree.history c.act.new.tree; before = g.T.Tree.faults c.args.tree.now; after = g.T.Tree.faults c.act.new.tree })
+    c.args.command c.args.words.now (record { old = g.T.Tree.history c.args.tree.now; new = g.T.Tree.history c.act.new.tree; before = g.T.Tree.faults c.args.tree.now; after = g.T.Tree.faults c.act.new.tree })
     c.in_ok-table.table c.act.new.mixed c.in_ok-table.ensures.2 c.in_ok-lines.ensures.image c.in_ok-lines.lines.items c.in_ok-lines.ensures.acts
     (g.S.Shelf.faults c.args.shelf.now) (g.S.Shelf.faults c.save.new.shelf) c.requires c.in_ok-lines.ensures.changed c.in_ok-save.ensures.fits
     (λ none. ap (λ s. course (g.S.Shelf.history s) (g.S.Shelf.images s)) (c.in_ok-save.ensures.still none))
@@ -88,13 +87,13 @@ pub returns-clause-safe : goal.returns-clause-safe
 returns-clause-safe g c = λ calm.
     safe_by (course (g.S.Shelf.history c.args.shelf.now) (g.S.Shelf.images c.args.shelf.now)) (course (g.S.Shelf.history c.read.new.shelf) (g.S.Shelf.images c.read.new.shelf)) (course (g.S.Shelf.history c.save.new.shelf) (g.S.Shelf.images c.save.new.shelf)) c.in_ok-loaded.ensures.passes c.in_ok-save.ensures.kept
     c.in_ok-loaded.loaded c.in_ok-loaded.ensures.whole c.in_ok-loaded.ensures.found c.in_ok-table.ensures.0 c.in_ok-table.ensures.1
-    c.args.command (files_of c.args.words.now) (record { old = g.T.Tree.history c.args.tree.now; new = g.T.Tree.history c.act.new.tree; before = g.T.Tree.faults c.args.tree.now; after = g.T.Tree.faults c.act.new.tree })
+    c.args.command c.args.words.now (record { old = g.T.Tree.history c.args.tree.now; new = g.T.Tree.history c.act.new.tree; before = g.T.Tree.faults c.args.tree.now; after = g.T.Tree.faults c.act.new.tree })
     c.in_ok-table.table c.act.new.mixed c.in_ok-table.ensures.2 c.in_ok-lines.ensures.image c.in_ok-lines.lines.items c.in_ok-lines.ensures.acts
     c.requires calm None
     (c.in_ok-save.ensures.safe (second_part (course (g.S.Shelf.history c.args.shelf.now) (g.S.Shelf.images c.args.shelf.now)) (course (g.S.Shelf.history c.read.new.shelf) (g.S.Shelf.images c.read.new.shelf)) (course (g.S.Shelf.history c.save.new.shelf) (g.S.Shelf.images c.save.new.shelf)) c.in_ok-loaded.ensures.kept calm)
     (stands (course (g.S.Shelf.history c.args.shelf.now) (g.S.Shelf.images c.args.shelf.now)) (course (g.S.Shelf.history c.read.new.shelf) (g.S.Shelf.images c.read.new.shelf)) (course (g.S.Shelf.history c.save.new.shelf) (g.S.Shelf.images c.save.new.shelf)) c.in_ok-loaded.ensures.passes c.in_ok-save.ensures.kept
     c.in_ok-loaded.loaded c.in_ok-loaded.ensures.whole c.in_ok-loaded.ensures.found c.in_ok-table.ensures.0 c.in_ok-table.ensures.1
-    c.args.command (files_of c.args.words.now) (record { old = g.T.Tree.history c.args.tree.now; new = g.T.Tree.history c.act.new.tree; before = g.T.Tree.faults c.args.tree.now; after = g.T.Tree.faults c.act.new.tree })
+    c.args.command c.args.words.now (record { old = g.T.Tree.history c.args.tree.now; new = g.T.Tree.history c.act.new.tree; before = g.T.Tree.faults c.args.tree.now; after = g.T.Tree.faults c.act.new.tree })
     c.in_ok-table.table c.act.new.mixed c.in_ok-table.ensures.2 c.in_ok-lines.ensures.image c.in_ok-lines.lines.items c.in_ok-lines.ensures.acts
     c.requires calm))
 
