@@ -59,9 +59,9 @@ grown_whole old new text grown = ([], record { front = text; parts = sym (append
 pub front_by : (IsText Own : List ℕ → Type 0) → ((text : List ℕ) → IsText text → Own text) → (look : Look) → ((text : List ℕ) → look.Text text → IsText text) → (call : Call) (fault : Fault)
     → (stage : Stage) × LeavesAt look call.out call.err (Tells call.err) stage fault → LeavesFront Own call.out
 front_by IsText Own own look is call fault (at_first, (before, silent, line)) = inl silent.bytes
-front_by IsText Own own look is call fault (at_printing, (ready, front, kind, line)) = inr (front.text, (own front.text (is front.text front.is), front.put))
+front_by IsText Own own look is call fault (at_printing, (ready, front, kind, line)) = inr (front.text, own front.text (is front.text front.is), front.put)
 front_by IsText Own own look is call fault (at_telling, (telling, ready, puts, front, kind)) =
-    inr (puts.text, (own puts.text (is puts.text puts.is), grown_whole call.out.old call.out.new puts.text puts.put))
+    inr (puts.text, own puts.text (is puts.text puts.is), grown_whole call.out.old call.out.new puts.text puts.put)
 
 -- ---- where nobody else steps
 

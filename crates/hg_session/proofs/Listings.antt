@@ -105,14 +105,15 @@ module _ (looked : Looked) (wanted : Wanted) (behind : shelf.History) (flat : pl
 
   pub asks_little : (IsTrue looked.tree.old.told → AsksAll wanted (Compared flat) (IsListedDir wanted looked.tree.old looked.tree.new) looked.tree.old looked.tree.new) → AsksLittle looked wanted
   asks_little asks told =
-      inr (table, (loaded, by_table (λ f i. AsksAll wanted (Compared f) (IsListedDir wanted looked.tree.old looked.tree.new) looked.tree.old looked.tree.new) (asks told)))
+      inr (table, loaded, by_table (λ f i. AsksAll wanted (Compared f) (IsListedDir wanted looked.tree.old looked.tree.new) looked.tree.old looked.tree.new) (asks told))
 
   pub asks_own : (tree.IsOurs looked.tree.old looked.tree.new
           → AsksBehind (pattern_reads wanted (tree.now looked.tree.old)) (Compared flat) (IsListedDir wanted looked.tree.old looked.tree.new) looked.tree.old looked.tree.new) → AsksOwn looked wanted
-  asks_own asks own = (table, (
+  asks_own asks own = (
+    table,
     loaded,
     by_table (λ f i. AsksBehind (pattern_reads wanted (tree.now looked.tree.old)) (Compared f) (IsListedDir wanted looked.tree.old looked.tree.new) looked.tree.old looked.tree.new) (asks own),
-  ))
+  )
 
 -- warnings that were read say that the patterns were
 pub had_patterns : (wanted : Wanted) (old new : tree.History) (warnings : List Warning) → Warns wanted old new warnings → HadPatterns wanted old new

@@ -1,7 +1,8 @@
 -- What a status does, from what its parts do.
-use Rattle.std.proofs.Common.{ℕ, ◌≡◌, true, List, Ok, Err, refl, ap, ◌∙◌, subst, inl, inr}
+use Rattle.std.proofs.Common.{ℕ, ◌≡◌, true, List, Result, Ok, Err, refl, ap, ◌∙◌, subst, inl}
 use Rattle.hg_flat.specs.declared.listed.Listed.{Listed}
 use Rattle.hg_listing.specs.declared.fault.StatusFault.TheVariants as a_status
+use Rattle.hg_listing.specs.declared.row.Row.{Row}
 use Rattle.hg_listing.specs.declared.row.Wanted.{Wanted}
 use Rattle.hg_report.specs.Fault.{has_line}
 use Rattle.hg_report.specs.Status.{text_of}
@@ -30,6 +31,13 @@ listing_told (a_list.Read (a_read.DataGone ids)) = refl
 listing_told (a_list.Read a_read.Failed) = refl
 listing_told (a_list.Status a_status.OutOfMemory) = refl
 listing_told (a_list.Status fault) = refl
+
+-- what a listing does is so by the flags, and so is the text
+pub lists_as : (looked : Looked) (flags : StatusFlags) (wanted : Wanted) (result : Result Listed ListFault) → wanted ≡ wanted_of flags → Lists looked wanted result → Lists looked (wanted_of flags) result
+lists_as looked flags wanted result is lists = subst (λ (w : Wanted). Lists looked w result) is lists
+
+pub text_as : (rows : List Row) (text : List ℕ) (style : Style) (flags : StatusFlags) → style ≡ style_of flags → text ≡ text_of style rows → text ≡ text_of (style_of flags) rows
+text_as rows text style flags is same = same ∙ ap (λ (s : Style). text_of s rows) is
 
 -- ---- what a status does, exit by exit
 

@@ -1,5 +1,5 @@
 -- What reading the record finds, from what a load found and what its nodes lead to.
-use Rattle.std.proofs.Common.{ℕ, ◌≡◌, List, [], ◌∷◌, map, Option, Some, None, Result, Ok, Err, IsTrue, refl, sym, ap, ◌∙◌, subst, arith, inl, inr, true≢false}
+use Rattle.std.proofs.Common.{ℕ, ◌≡◌, List, [], ◌∷◌, map, Option, Some, None, Result, Ok, Err, IfOk, IsTrue, refl, sym, ap, ◌∙◌, subst, arith, inl, inr, true≢false}
 use Rattle.std.specs.List.{AllByRecursion}
 use Rattle.std.proofs.lemmas.Bool.{cases_Bool}
 use Rattle.hg_base.proofs.Faults.{steady_not_rose}
@@ -30,6 +30,11 @@ cause_still IsOf before now (Err (a_fault.Node fault)) found still finds = recor
 cause_still IsOf before now (Err (a_fault.Docket fault)) found still finds = absurd finds
 cause_still IsOf before now (Err (a_fault.DataGone ids)) found still finds = absurd finds
 cause_still IsOf before now (Err a_fault.Failed) found still finds = absurd finds
+
+-- what was made was made of some table
+pub some_found : {X : Type 0} (IsOf : Table → X → Type 0) (result : Result X ReadFault) (found : Result Table NodeFault) → NodesFind IsOf result found → IfOk result (λ made. (table : Table) × IsOf table made)
+some_found IsOf (Ok made) found finds = (finds.0, finds.2)
+some_found IsOf (Err fault) found finds = tt
 
 by_nodes : {X : Type 0} (IsOf : Table → X → Type 0) (result : Result X ReadFault) (ids : List (List ℕ)) (found : Result Table NodeFault) → NodesFind IsOf result found → Answers IsOf result ids (Some (of_data found))
 by_nodes IsOf (Ok made) ids found finds = (finds.0, ap (λ (r : Result Table NodeFault). Some (of_data r)) finds.1, finds.2)
@@ -78,8 +83,8 @@ pub loaded_as : {X : Type 0} (IsOf : Table → X → Type 0) (files : Watched Hi
 loaded_as IsOf files mid made second found some = elim (cases_Bool files.old.told) [
   | inl told ↦
       let m = found told in
-      (m.1.answer.0, (λ is. read_longer files.old mid files.new m.1.answer.0 second (record { tries = m.0 ∷ []; tried = m.1.tried; found = m.1.answer.1 }), m.1.answer.2))
-  | inr not ↦ (some.0, (λ told. absurd (true≢false (sym told ∙ not)), some.1))
+      (m.1.answer.0, (λ is. read_longer files.old mid files.new m.1.answer.0 second (record { tries = m.0 ∷ []; tried = m.1.tried; found = m.1.answer.1 })), m.1.answer.2)
+  | inr not ↦ (some.0, (λ told. absurd (true≢false (sym told ∙ not))), some.1)
 ]
 
 -- why a reading was refused

@@ -1,5 +1,5 @@
 -- What the command that prints the record did, from how it ended.
-use Rattle.std.proofs.Common.{ℕ, ◌≡◌, List, Option, Some, None, IfSome, refl, sym, ap, ◌∙◌, subst}
+use Rattle.std.proofs.Common.{ℕ, ◌≡◌, true, List, [], Option, Some, None, IfSome, refl, sym, ap, ◌∙◌, subst}
 use Rattle.std.proofs.lemmas.List.{append-nil}
 use Rattle.hg_base.proofs.Faults.{steady_not_rose}
 use Rattle.hg_entry.specs.Table.{Table}

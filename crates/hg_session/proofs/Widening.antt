@@ -281,6 +281,5 @@ module _ (a b c d : Course) (lock : Waits a.history b.history) (unlock : Waits c
       busy = met.busy;
       spent = λ told. ap next_name (id_wide met.is.loaded (met.is.read (told_part told))) ∙ met.spent (told_part told);
     }
-    met_wide fault rose met = met
     met_wide a_fault.ShelfFailed rose met = rose met
     met_wide fault rose met = met

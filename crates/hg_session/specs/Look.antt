@@ -70,15 +70,15 @@ pub record Looks (look : Look) (out err : Sink) (fault : Option Fault) : Type 0 
 pub record OnlyReads (files : Watched shelf.History) (saved : Saved) (locks : Count) : Type 0 where
   pub passes : shelf.Passes files.old files.new
   pub kept : Goes saved.old saved.new
-  pub locks : locks.after ≡ locks.before
+  pub held : locks.after ≡ locks.before
 
 -- no count rose
-pub record IsCalm (looked : Looked) (out err : Sink) : Type 0 where
+pub record IsCalm (looked : Looked) (output errors : Sink) : Type 0 where
   pub tree : looked.tree.after ≡ looked.tree.before
   pub shelf : looked.shelf.after ≡ looked.shelf.before
   pub regexps : looked.oversize.after ≡ looked.oversize.before
-  pub out : out.after ≡ out.before
-  pub err : err.after ≡ err.before
+  pub out : output.after ≡ output.before
+  pub err : errors.after ≡ errors.before
 
 -- what a call did whose command doesn't change the record
 pub record IsLook (call : Call) (code : ℕ) (fault : Option Fault) : Type 0 where
