@@ -9,7 +9,7 @@ use Rattle.hg_report.specs.declared.fault.Fault.TheVariants as a_fault
 use Rattle.hg_session.specs.Answered.{IsAnswered, Looks}
 use Rattle.hg_session.specs.Call.{Call}
 use Rattle.hg_session.specs.Cause.{CommandCause, IsNoCommand}
-use Rattle.hg_session.specs.Change.{ChangeCause, MetChanging, changing_of, files_of}
+use Rattle.hg_session.specs.Change.{ChangeCause, MetChanging, changing_of, makes_in}
 use Rattle.hg_session.specs.Changed.{RanChange}
 use Rattle.hg_session.specs.Command.{IsFaultOrMemory, LeavesOut, MetBefore, Ran, wanted_in}
 use Rattle.hg_session.specs.Debug.{LeavesText, is_debug}
@@ -88,37 +88,23 @@ module _ (call : Call) (other : changing_of call.words ≡ None) where
 -- ---- a command that changes the record
 
 module _ (call : Call) (command : Changing) (is : changing_of call.words ≡ Some command) where
-  by_changing : (fault : Fault) → MetChanging command (files_of call.words) call.looked.tree call.looked.shelf fault → CommandCause call fault
+  by_changing : (fault : Fault) → MetChanging (makes_in command call) call.looked.tree call.looked.shelf fault → CommandCause call fault
   by_changing a_fault.OutOfMemory met = tt
   by_changing (a_fault.Docket fault) met = met
   by_changing (a_fault.Node fault) met = met
   by_changing (a_fault.DataGone ids) met = met
   by_changing (a_fault.TooLarge size) met = (command, is, met)
   by_changing a_fault.IdsSpent met = (command, is, met)
-  by_changing a_fault.TreeFailed met = met
+  by_changing a_fault.TreeFailed met = met.0
   by_changing a_fault.ShelfFailed met = met
-  by_changing a_fault.NotBuilt met = absurd met
-  by_changing (a_fault.NoManifest id) met = absurd met
-  by_changing (a_fault.ManifestTooLarge size) met = absurd met
-  by_changing (a_fault.ManifestLine line) met = absurd met
-  by_changing (a_fault.ManifestOrder line) met = absurd met
-  by_changing (a_fault.NoContents id) met = absurd met
-  by_changing (a_fault.IgnoreTooLarge size) met = absurd met
-  by_changing (a_fault.IgnoreText at) met = absurd met
-  by_changing (a_fault.BadGlob line) met = absurd met
-  by_changing (a_fault.BadRegexp line) met = absurd met
-  by_changing (a_fault.RegexpTooBig line) met = absurd met
-  by_changing (a_fault.BadInclude line) met = absurd met
-  by_changing a_fault.Held met = absurd met
-  by_changing a_fault.OutFailed met = absurd met
-  by_changing a_fault.ErrFailed met = absurd met
+  by_changing fault met = absurd met
 
-  by_change : (fault : Fault) → ChangeCause command call fault → CommandCause call fault
+  by_change : (fault : Fault) → ChangeCause (makes_in command call) call fault → CommandCause call fault
   by_change fault (inl (inl met)) = by_changing fault met
   by_change fault (inl (inr (held, rose))) = subst (CommandCause call) (sym held) (command, is, rose)
   by_change fault (inr (err, failed)) = subst (CommandCause call) (sym err) failed
 
-  changed_cause : (fault : Option Fault) → IfSome fault (ChangeCause command call) → IfSome fault (CommandCause call)
+  changed_cause : (fault : Option Fault) → IfSome fault (ChangeCause (makes_in command call) call) → IfSome fault (CommandCause call)
   changed_cause None cause = tt
   changed_cause (Some fault) cause = by_change fault cause
 

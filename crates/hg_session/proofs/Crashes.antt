@@ -1,5 +1,5 @@
 -- What a crash may leave at each moment of a whole call, from what was said of the stretch in which the lock was held.
-use Rattle.std.proofs.Common.{ℕ, ◌≡◌, ◌≤◌, List, Option, Some, Result, Ok, refl, sym, ◌∙◌, subst, arith, inl, inr, ◌⊎◌}
+use Rattle.std.proofs.Common.{ℕ, ◌≡◌, ◌≤◌, Option, Some, Result, Ok, refl, sym, ◌∙◌, subst, arith, inl, inr, ◌⊎◌}
 use Rattle.std.proofs.lemmas.Bool.{cases_lt}
 use Rattle.hg_entry.specs.Table.{Table}
 use Rattle.hg_image.specs.Reading.{RecordFault}
@@ -9,15 +9,14 @@ use Rattle.hg_save.proofs.Published.{keeps_front, keeps_later, latest_still, lat
 use Rattle.hg_save.specs.Others.{KeepsRecords, WasPublished}
 use Rattle.hg_save.specs.Record.{IsSound, reading}
 use Rattle.hg_save.specs.Saved.{IsLatest, ReadsAsBeforeOr}
-use Rattle.hg_session.specs.Call.{Saved, Watched}
+use Rattle.hg_session.specs.Acts.{Makes}
+use Rattle.hg_session.specs.Call.{Saved}
 use Rattle.hg_session.specs.Change.{IsKept, IsPublished, IsSafe, IsUnwritten, NoneOurs}
 use Rattle.hg_session.specs.Crash.{IsCrashSafe, IsLasting, LeavesSound, MightBeLeft}
-use Rattle.hg_session.specs.declared.acting.Changing.{Changing}
 use Rattle.hg_shelf.proofs.Scenes.{only_later}
 use Rattle.hg_shelf.specs.History.{Files, others, us}
 use Rattle.hg_shelf.specs.Images.{Course, Goes, last_scene, scene}
 use Rattle.hg_shelf.specs.Polite.{Undisturbed}
-use Rattle.hg_tree.specs.History as tree
 
 -- none of the steps of a span is the caller's, so none of those of its front or its end is
 none_before : (c : Course) (from to early : ℕ) → early ≤ to → NoneOurs c.history from to → NoneOurs c.history from early
@@ -65,11 +64,11 @@ module _ (a b : Course) (goes : Goes a b) (calm : Undisturbed a b) (keep : Keeps
   known_sound Own own_sound sound k within r (inr (inl own)) = own_sound r own
   known_sound Own own_sound sound k within r (inr (inr was)) = published_sound b start k r keep within was
 
-  module _ (command : Changing) (words : List (List ℕ)) (copy : Watched tree.History) (first : IsLatest (last_scene a)) where
+  module _ (Does : Makes) (first : IsLatest (last_scene a)) where
     first_there : IsLatest (scene b start)
     first_there = latest_still (last_scene a) (scene b start) (goes.kept start (omega arith)) first
 
-    module _ (is : IsPublished command words copy saved) where
+    module _ (is : IsPublished Does saved) where
       abbrev Own : Option (Result Table RecordFault) → Type 0
       Own r = r ≡ Some (Ok is.found)
 
@@ -107,7 +106,7 @@ module _ (a b : Course) (goes : Goes a b) (calm : Undisturbed a b) (keep : Keeps
           latest_until b is.stretch.to (only_later b start is.stretch.to later calm.others) (keeps_later others b start is.stretch.to later keep) b.history.last is.stretch.end is.stretch.behind (omega arith)
           (is.latest latest_from)
 
-    pub crash_safe : (fault : Option Fault) (safe : IsSafe command words copy saved fault) → IsCrashSafe command words copy saved fault safe
+    pub crash_safe : (fault : Option Fault) (safe : IsSafe Does saved fault) → IsCrashSafe Does saved fault safe
     crash_safe fault (inl none) =
         let known : (k : ℕ) (f : Files) → start ≤ k → k ≤ b.history.last → (scene b k).leaves f → IsKnown (λ r. ⊥) k (reading f) =
         λ k f after within left. known_before (λ r. ⊥) k after (none_before b start b.history.last k within none.none) within f left in

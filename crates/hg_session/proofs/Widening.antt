@@ -1,12 +1,11 @@
 -- What was done while the lock was held, said of the whole call.
-use Rattle.std.proofs.Common.{ℕ, ◌≡◌, ◌≤◌, List, ◌∷◌, [], map, Option, Some, None, is_some, Result, Ok, IsTrue, refl, sym, ap, ◌∙◌, subst, arith, inl, inr}
+use Rattle.std.proofs.Common.{ℕ, ◌≡◌, ◌≤◌, Bool, true, List, ◌∷◌, [], map, Option, Some, None, is_some, Result, Ok, IsTrue, refl, sym, ap, ◌∙◌, subst, arith, inl, inr}
 use Rattle.std.specs.List.{AllByRecursion}
 use Rattle.std.proofs.lemmas.Bool.{cases_lt}
 use Rattle.hg_base.specs.Fault.{Rose}
 use Rattle.hg_docket.specs.Number.{next_name}
 use Rattle.hg_entry.specs.Table.{Table}
 use Rattle.hg_image.specs.Reading.{RecordFault}
-use Rattle.hg_ops.specs.declared.refusal.Refusal.{Refusal}
 use Rattle.hg_report.specs.declared.fault.Fault.{Fault}
 use Rattle.hg_report.specs.declared.fault.Fault.TheVariants as a_fault
 use Rattle.hg_save.proofs.Loads.{found_longer, last_within, tries_longer}
@@ -14,11 +13,11 @@ use Rattle.hg_save.proofs.Published.{keeps_longer}
 use Rattle.hg_save.specs.Loads.{IsTry, Tries, Try, found_by, id_by}
 use Rattle.hg_save.specs.Record.{data_name, id_in, reading}
 use Rattle.hg_save.specs.Saved.{IsLatest, KeepsOthers, ReadsAsBeforeOr, name_after}
+use Rattle.hg_session.specs.Acts.{Makes}
 use Rattle.hg_session.specs.Call.{Watched}
 use Rattle.hg_session.specs.Change.{Fits, FitsFirst, IsDone, IsKept, IsMade, IsPublished, IsReadFirst, IsSafe, IsUnwritten, MetChanging, NoneOurs, Stretch, id_read, up_to}
 use Rattle.hg_session.specs.Listed.{LoadMet}
 use Rattle.hg_session.specs.Loaded.{IsRefused}
-use Rattle.hg_session.specs.declared.acting.Changing.{Changing}
 use Rattle.hg_session.specs.declared.read_fault.ReadFault.{ReadFault}
 use Rattle.hg_session.specs.declared.read_fault.ReadFault.TheVariants as a_read
 use Rattle.hg_shelf.proofs.Scenes.{first_part, second_part}
@@ -139,6 +138,9 @@ module _ (a b c d : Course) (lock : Waits a.history b.history) (unlock : Waits c
         };
       }
 
+  pub read_some_wide : (IsTrue b.history.told → (loaded : Table) × IsReadFirst b.history c.history loaded) → IsTrue a.history.told → (loaded : Table) × IsReadFirst a.history d.history loaded
+  read_some_wide is told = let read = is (p.past.told ∙ told) in (read.0, read_wide read.0 read.1)
+
   -- the identifier that was read is the same, seen from the end
   id_wide : (loaded : Table) (is : IsReadFirst b.history c.history loaded) → id_read (read_wide loaded is) ≡ id_read is
   id_wide loaded is =
@@ -154,7 +156,8 @@ module _ (a b c d : Course) (lock : Waits a.history b.history) (unlock : Waits c
       subst (λ (f : Files). (scene d to).files (data_name (id_in f)) ≡ None) (sym (to_end from near).shown)
       (subst (λ (f : Files). f (data_name (id_in (scene c from).files)) ≡ None) (sym (to_end to far).shown) (gone (λ empty. some (ap id_in (to_end from near).shown ∙ empty))))
 
-  module _ (command : Changing) (words : List (List ℕ)) (copy : Watched tree.History) (before after start end : ℕ) where
+  module _ (Part Whole : Makes) (wide : (old new : Table) (lines : List ℕ) (changed : Bool) → Part old new lines changed → Whole old new lines changed)
+      (copy : Watched tree.History) (before after start end : ℕ) where
     abbrev part : Watched History
     part = record { old = b.history; new = c.history; before = before; after = after }
 
@@ -164,8 +167,8 @@ module _ (a b c d : Course) (lock : Waits a.history b.history) (unlock : Waits c
     told_part : IsTrue a.history.told → IsTrue b.history.told
     told_part told = p.past.told ∙ told
 
-    abbrev made_wide : (refused : List (Option Refusal)) (made : Table) → IsMade command words copy part refused made → IsMade command words copy whole refused made
-    made_wide refused made is = record { loaded = is.loaded; read = λ told. read_wide is.loaded (is.read (told_part told)); steps = is.steps }
+    abbrev made_wide : (made : Table) (lines : List ℕ) (changed : Bool) → IsMade Part part made lines changed → IsMade Whole whole made lines changed
+    made_wide made lines changed is = record { loaded = is.loaded; read = λ told. read_wide is.loaded (is.read (told_part told)); does = wide is.loaded made lines changed is.does }
 
     fits_wide : (made : Table) → FitsFirst b.history c.history made → FitsFirst a.history d.history made
     fits_wide made is = record {
@@ -194,18 +197,17 @@ module _ (a b c d : Course) (lock : Waits a.history b.history) (unlock : Waits c
           ];
     }
 
-    pub done_wide : (lines : List ℕ) → IsDone command words copy part (record { old = b; new = c }) lines → IsDone command words copy whole (record { old = a; new = d }) lines
+    pub done_wide : (lines : List ℕ) → IsDone Part part (record { old = b; new = c }) lines → IsDone Whole whole (record { old = a; new = d }) lines
     done_wide lines done = record {
-      refused = done.refused;
       made = done.made;
-      is = made_wide done.refused done.made done.is;
-      text = done.text;
+      changed = done.changed;
+      is = made_wide done.made lines done.changed done.is;
       fits = λ told. elim (done.fits (told_part told)) [ inl same ↦ inl same | inr fits ↦ inr (fits_wide done.made fits) ];
       kept = λ calm. kept_wide done.is.loaded done.made (done.kept (calm_within calm));
       idle = λ idle. unwritten_wide (done.idle idle);
     }
 
-    published_wide : IsPublished command words copy (record { old = b; new = c }) → IsPublished command words copy (record { old = a; new = d })
+    published_wide : IsPublished Part (record { old = b; new = c }) → IsPublished Whole (record { old = a; new = d })
     published_wide is =
         let from = is.stretch.from in
         let near : from ≤ c.history.last = omega (arith, is.stretch.order, is.stretch.end) in
@@ -214,9 +216,9 @@ module _ (a b c d : Course) (lock : Waits a.history b.history) (unlock : Waits c
           stretch = stretch_wide is.stretch;
           loaded = is.loaded;
           there = reading_wide from near ∙ is.there;
-          refused = is.refused;
           made = is.made;
-          steps = is.steps;
+          lines = is.lines;
+          does = wide is.loaded is.made is.lines true is.does;
           found = is.found;
           is = is.is;
           crash = λ first k f after upto left.
@@ -241,7 +243,7 @@ module _ (a b c d : Course) (lock : Waits a.history b.history) (unlock : Waits c
           latest = λ first. latest_same (scene c is.stretch.to) (scene d is.stretch.to) (to_end is.stretch.to is.stretch.end) (from_end is.stretch.to is.stretch.end) (is.latest (latest first));
         }
 
-    pub safe_wide : (fault : Option Fault) → IsSafe command words copy (record { old = b; new = c }) fault → IsSafe command words copy (record { old = a; new = d }) fault
+    pub safe_wide : (fault : Option Fault) → IsSafe Part (record { old = b; new = c }) fault → IsSafe Whole (record { old = a; new = d }) fault
     safe_wide fault (inl none) = inl (unwritten_wide none)
     safe_wide fault (inr (may, is)) = inr (may, published_wide is)
 
@@ -259,42 +261,26 @@ module _ (a b c d : Course) (lock : Waits a.history b.history) (unlock : Waits c
           },
         )
 
-    pub met_wide : (fault : Fault) → (Rose before after → Rose start end) → MetChanging command words copy part fault → MetChanging command words copy whole fault
+    pub met_wide : (fault : Fault) → (Rose before after → Rose start end) → MetChanging Part copy part fault → MetChanging Whole copy whole fault
     met_wide a_fault.OutOfMemory rose met = tt
     met_wide (a_fault.Docket fault) rose met = refuses_wide (a_read.Docket fault) met
     met_wide (a_fault.Node fault) rose met = refuses_wide (a_read.Node fault) met
     met_wide (a_fault.DataGone ids) rose met = refuses_wide (a_read.DataGone ids) met
     met_wide (a_fault.TooLarge size) rose met = record {
-      refused = met.refused;
       made = met.made;
-      is = made_wide met.refused met.made met.is;
-      busy = met.busy;
+      lines = met.lines;
+      is = made_wide met.made met.lines true met.is;
       held = met.held;
       same = met.same;
       large = met.large;
       next = λ told. ap (λ (id : List ℕ). is_some (next_name id)) (id_wide met.is.loaded (met.is.read (told_part told))) ∙ met.next (told_part told);
     }
     met_wide a_fault.IdsSpent rose met = record {
-      refused = met.refused;
       made = met.made;
-      is = made_wide met.refused met.made met.is;
-      busy = met.busy;
+      lines = met.lines;
+      is = made_wide met.made met.lines true met.is;
       spent = λ told. ap next_name (id_wide met.is.loaded (met.is.read (told_part told))) ∙ met.spent (told_part told);
     }
-    met_wide a_fault.TreeFailed rose met = met
+    met_wide a_fault.TreeFailed rose met = (met.0, read_some_wide met.1)
     met_wide a_fault.ShelfFailed rose met = rose met
-    met_wide a_fault.NotBuilt rose met = met
-    met_wide (a_fault.NoManifest id) rose met = met
-    met_wide (a_fault.ManifestTooLarge size) rose met = met
-    met_wide (a_fault.ManifestLine line) rose met = met
-    met_wide (a_fault.ManifestOrder line) rose met = met
-    met_wide (a_fault.NoContents id) rose met = met
-    met_wide (a_fault.IgnoreTooLarge size) rose met = met
-    met_wide (a_fault.IgnoreText at) rose met = met
-    met_wide (a_fault.BadGlob line) rose met = met
-    met_wide (a_fault.BadRegexp line) rose met = met
-    met_wide (a_fault.RegexpTooBig line) rose met = met
-    met_wide (a_fault.BadInclude line) rose met = met
-    met_wide a_fault.Held rose met = met
-    met_wide a_fault.OutFailed rose met = met
-    met_wide a_fault.ErrFailed rose met = met
+    met_wide fault rose met = absurd met

@@ -1,5 +1,5 @@
 -- What a command that changes the record answers and leaves, and why.
-use Rattle.std.specs.Prelude.{ℕ, ◌≡◌, ◌⊎◌, ◌≤◌, ◌<◌, ◌^◌, Bool, true, if◌then◌else◌, List, [], ◌∷◌, drop, take, Option, Some, None, Result, Ok, Err, IsTrue, codes, is_some}
+use Rattle.std.specs.Prelude.{ℕ, ◌≡◌, ◌⊎◌, ◌≤◌, ◌<◌, ◌^◌, Bool, true, false, if◌then◌else◌, List, [], ◌∷◌, drop, take, Option, Some, None, Result, Ok, Err, IsTrue, codes, is_some}
 use Rattle.std.specs.List.{list_any}
 use Rattle.std.specs.Str.{bytes_eq}
 use Rattle.hg_append.specs.Encoded.{IsTooLarge}
@@ -10,14 +10,13 @@ use Rattle.hg_docket.specs.Number.{next_name}
 use Rattle.hg_entry.specs.Table.{Table}
 use Rattle.hg_mixed.specs.Edits.{IsSame}
 use Rattle.hg_mixed.specs.Held.{Held, table}
-use Rattle.hg_ops.specs.declared.refusal.Refusal.{Refusal}
 use Rattle.hg_report.specs.declared.fault.Fault.{Fault}
 use Rattle.hg_report.specs.declared.fault.Fault.TheVariants as a_fault
 use Rattle.hg_save.specs.Loads.{files_at}
 use Rattle.hg_save.specs.Others.{KeepsRecords}
 use Rattle.hg_save.specs.Record.{data_name, id_in, reading}
 use Rattle.hg_save.specs.Saved.{IsLatest, KeepsOthers, ReadsAsBeforeOr}
-use Rattle.hg_session.specs.Acts.{AllIdle, AllSteps, refusals_text}
+use Rattle.hg_session.specs.Acts.{IsActed, Makes}
 use Rattle.hg_session.specs.Call.{Call, Count, Fails, FailsOnce, Saved, Watched}
 use Rattle.hg_session.specs.Debug.{IsRead}
 use Rattle.hg_session.specs.Listed.{LoadMet}
@@ -70,11 +69,11 @@ pub record IsReadFirst (old new : shelf.History) (loaded : Table) : Type 0 where
 abbrev pub id_read : {old new : shelf.History} {loaded : Table} → IsReadFirst old new loaded → List ℕ
 id_read {new = new} is = id_in (files_at new is.read.tried.last.docket)
 
--- the words make this of the record that was read in the call, and these are refused
-pub record IsMade (command : Changing) (words : List (List ℕ)) (copy : Watched tree.History) (files : Watched shelf.History) (refused : List (Option Refusal)) (made : Table) : Type 0 where
+-- a command made this of the record that was read in the call
+pub record IsMade (Does : Makes) (files : Watched shelf.History) (made : Table) (lines : List ℕ) (changed : Bool) : Type 0 where
   pub loaded : Table
   pub read : IsTrue files.old.told → IsReadFirst files.old files.new loaded
-  pub steps : AllSteps command copy.old copy.new words refused loaded made
+  pub does : Does loaded made lines changed
 
 -- a stretch of a call from where the caller got the lock to where it gave it back; outside it the caller makes no step
 pub record Stretch (old new : shelf.History) : Type 0 where
@@ -95,13 +94,13 @@ abbrev pub FailsOrUnwritten : shelf.History → shelf.History → Fault → Type
 FailsOrUnwritten old new fault = (fault ≡ a_fault.ShelfFailed) ⊎ IsUnwritten old new
 
 -- the record was published over the one that stood where the lock was got
-pub record IsPublished (command : Changing) (words : List (List ℕ)) (copy : Watched tree.History) (saved : Saved) : Type 0 where
+pub record IsPublished (Does : Makes) (saved : Saved) : Type 0 where
   pub stretch : Stretch saved.old.history saved.new.history
   pub loaded : Table
   pub there : reading (scene saved.new stretch.from).files ≡ Some (Ok loaded)
-  pub refused : List (Option Refusal)
   pub made : Table
-  pub steps : AllSteps command copy.old copy.new words refused loaded made
+  pub lines : List ℕ
+  pub does : Does loaded made lines true
   -- what is recorded once it is published
   pub found : Table
   pub is : IsSame found made
@@ -151,72 +150,71 @@ pub record FitsFirst (old new : shelf.History) (made : Table) : Type 0 where
   pub none : NoneOurs new old.last at
   pub fits : Fits (files_at new at) made
 
--- the words were done, and what they made is recorded
-pub record IsDone (command : Changing) (words : List (List ℕ)) (copy : Watched tree.History) (files : Watched shelf.History) (saved : Saved) (lines : List ℕ) : Type 0 where
-  pub refused : List (Option Refusal)
+-- it was done, and what it made is recorded
+pub record IsDone (Does : Makes) (files : Watched shelf.History) (saved : Saved) (lines : List ℕ) : Type 0 where
   pub made : Table
-  pub is : IsMade command words copy files refused made
-  pub text : lines ≡ refusals_text command words refused
-  pub fits : IsTrue files.old.told → IsSame made is.loaded ⊎ FitsFirst files.old files.new made
+  pub changed : Bool
+  pub is : IsMade Does files made lines changed
+  pub fits : IsTrue files.old.told → ((changed ≡ false) × IsSame made is.loaded) ⊎ FitsFirst files.old files.new made
   pub kept : Undisturbed saved.old saved.new → IsKept is.loaded made saved
-  -- where no word changed anything, nothing is written
-  pub idle : AllIdle command copy.old copy.new words refused is.loaded made is.steps → IsUnwritten saved.old.history saved.new.history
+  -- where nothing was changed nothing is written
+  pub idle : changed ≡ false → IsUnwritten saved.old.history saved.new.history
 
 -- ---- why it met a fault
 
--- some word changed something, an identifier is left, and the new record would take so many bytes, which are too many
-pub record MetLarge (command : Changing) (words : List (List ℕ)) (copy : Watched tree.History) (files : Watched shelf.History) (size : ℕ) : Type 0 where
-  pub refused : List (Option Refusal)
+-- something was changed, an identifier is left, and the new record would take so many bytes, which are too many
+pub record MetLarge (Does : Makes) (files : Watched shelf.History) (size : ℕ) : Type 0 where
   pub made : Table
-  pub is : IsMade command words copy files refused made
-  pub busy : AllIdle command copy.old copy.new words refused is.loaded made is.steps → ⊥
+  pub lines : List ℕ
+  pub is : IsMade Does files made lines true
   pub held : Held
   pub same : IsSame (table held) made
   pub large : IsTooLarge held size
   pub next : (told : IsTrue files.old.told) → is_some (next_name (id_read (is.read told))) ≡ true
 
--- some word changed something, and the docket that was read names the last identifier
-pub record MetSpent (command : Changing) (words : List (List ℕ)) (copy : Watched tree.History) (files : Watched shelf.History) : Type 0 where
-  pub refused : List (Option Refusal)
+-- something was changed, and the docket that was read names the last identifier
+pub record MetSpent (Does : Makes) (files : Watched shelf.History) : Type 0 where
   pub made : Table
-  pub is : IsMade command words copy files refused made
-  pub busy : AllIdle command copy.old copy.new words refused is.loaded made is.steps → ⊥
+  pub lines : List ℕ
+  pub is : IsMade Does files made lines true
   pub spent : (told : IsTrue files.old.told) → next_name (id_read (is.read told)) ≡ None
 
--- before anything was published, or while it was: what stood in the files, or a device that failed. Want of memory needs no reason
-abbrev pub MetChanging : Changing → List (List ℕ) → Watched tree.History → Watched shelf.History → Fault → Type 0
-MetChanging command words copy files a_fault.OutOfMemory = Unit {0}
-MetChanging command words copy files (a_fault.Docket fault) = LoadMet (a_read.Docket fault) files
-MetChanging command words copy files (a_fault.Node fault) = LoadMet (a_read.Node fault) files
-MetChanging command words copy files (a_fault.DataGone ids) = LoadMet (a_read.DataGone ids) files
-MetChanging command words copy files (a_fault.TooLarge size) = MetLarge command words copy files size
-MetChanging command words copy files a_fault.IdsSpent = MetSpent command words copy files
-MetChanging command words copy files a_fault.TreeFailed = Fails copy
-MetChanging command words copy files a_fault.ShelfFailed = Fails files
-MetChanging command words copy files a_fault.NotBuilt = ⊥
-MetChanging command words copy files (a_fault.NoManifest id) = ⊥
-MetChanging command words copy files (a_fault.ManifestTooLarge size) = ⊥
-MetChanging command words copy files (a_fault.ManifestLine line) = ⊥
-MetChanging command words copy files (a_fault.ManifestOrder line) = ⊥
-MetChanging command words copy files (a_fault.NoContents id) = ⊥
-MetChanging command words copy files (a_fault.IgnoreTooLarge size) = ⊥
-MetChanging command words copy files (a_fault.IgnoreText at) = ⊥
-MetChanging command words copy files (a_fault.BadGlob line) = ⊥
-MetChanging command words copy files (a_fault.BadRegexp line) = ⊥
-MetChanging command words copy files (a_fault.RegexpTooBig line) = ⊥
-MetChanging command words copy files (a_fault.BadInclude line) = ⊥
-MetChanging command words copy files a_fault.Held = ⊥
-MetChanging command words copy files a_fault.OutFailed = ⊥
-MetChanging command words copy files a_fault.ErrFailed = ⊥
+-- the record was read in the call, where the files are told
+abbrev pub IsReadSome : Watched shelf.History → Type 0
+IsReadSome files = IsTrue files.old.told → (loaded : Table) × IsReadFirst files.old files.new loaded
+
+-- before anything was published, or while it was: what stood in the files, or a device that failed, a working copy behind a record that was read.
+-- Want of memory needs no reason
+abbrev pub MetChanging : Makes → Watched tree.History → Watched shelf.History → Fault → Type 0
+MetChanging Does copy files a_fault.OutOfMemory = Unit {0}
+MetChanging Does copy files (a_fault.Docket fault) = LoadMet (a_read.Docket fault) files
+MetChanging Does copy files (a_fault.Node fault) = LoadMet (a_read.Node fault) files
+MetChanging Does copy files (a_fault.DataGone ids) = LoadMet (a_read.DataGone ids) files
+MetChanging Does copy files (a_fault.TooLarge size) = MetLarge Does files size
+MetChanging Does copy files a_fault.IdsSpent = MetSpent Does files
+MetChanging Does copy files a_fault.TreeFailed = Fails copy × IsReadSome files
+MetChanging Does copy files a_fault.ShelfFailed = Fails files
+MetChanging Does copy files fault = ⊥
+
+-- a fault that is met before the working copy is looked at: what stood in the files, or a lock that was refused
+abbrev pub IsEarly : Fault → Type 0
+IsEarly (a_fault.Docket fault) = Unit {0}
+IsEarly (a_fault.Node fault) = Unit {0}
+IsEarly (a_fault.DataGone ids) = Unit {0}
+IsEarly a_fault.Held = Unit {0}
+IsEarly fault = ⊥
 
 -- or a lock that was refused
-abbrev pub MetLocking : Changing → List (List ℕ) → Watched tree.History → Watched shelf.History → Count → Fault → Type 0
-MetLocking command words copy files locks fault = MetChanging command words copy files fault ⊎ ((fault ≡ a_fault.Held) × Rose locks.before locks.after)
+abbrev pub MetLocking : Makes → Watched tree.History → Watched shelf.History → Count → Fault → Type 0
+MetLocking Does copy files locks fault = MetChanging Does copy files fault ⊎ ((fault ≡ a_fault.Held) × Rose locks.before locks.after)
+
+-- what a call makes of the record
+abbrev pub makes_in : Changing → Call → Makes
+makes_in command call = IsActed command (files_of call.words) call.looked.tree call.looked.shelf
 
 -- or an error stream that failed while the refused words were told
-abbrev pub ChangeCause : Changing → Call → Fault → Type 0
-ChangeCause command call fault =
-    MetLocking command (files_of call.words) call.looked.tree call.looked.shelf call.locks fault ⊎ ((fault ≡ a_fault.ErrFailed) × Fails call.err)
+abbrev pub ChangeCause : Makes → Call → Fault → Type 0
+ChangeCause Does call fault = MetLocking Does call.looked.tree call.looked.shelf call.locks fault ⊎ ((fault ≡ a_fault.ErrFailed) × Fails call.err)
 
 -- a fault that may be met once something was written: a shelf or an error stream that failed; for the line of the one there may be no memory
 abbrev pub MayFollowWriting : Option Fault → Type 0
@@ -224,17 +222,17 @@ MayFollowWriting None = Unit {0}
 MayFollowWriting (Some fault) = (fault ≡ a_fault.ShelfFailed) ⊎ ((fault ≡ a_fault.ErrFailed) ⊎ (fault ≡ a_fault.OutOfMemory))
 
 -- nothing was written, or a record was published
-abbrev pub IsSafe : Changing → List (List ℕ) → Watched tree.History → Saved → Option Fault → Type 0
-IsSafe command words copy saved fault = IsUnwritten saved.old.history saved.new.history ⊎ (MayFollowWriting fault × IsPublished command words copy saved)
+abbrev pub IsSafe : Makes → Saved → Option Fault → Type 0
+IsSafe Does saved fault = IsUnwritten saved.old.history saved.new.history ⊎ (MayFollowWriting fault × IsPublished Does saved)
 
--- a call below `.hg` failed; where no other one did, and that is the fault, the words were done: it was giving the lock back that failed
-pub record IsStuck (command : Changing) (words : List (List ℕ)) (copy : Watched tree.History) (files : Watched shelf.History) (saved : Saved) (fault : Option Fault) : Type 0 where
+-- a call below `.hg` failed; where no other one did, and that is the fault, the change was done: it was giving the lock back that failed
+pub record IsStuck (Does : Makes) (files : Watched shelf.History) (saved : Saved) (fault : Option Fault) : Type 0 where
   pub failed : Fails files
-  pub alone : FailsOnce files → fault ≡ Some a_fault.ShelfFailed → (lines : List ℕ) × IsDone command words copy files saved lines
+  pub alone : FailsOnce files → fault ≡ Some a_fault.ShelfFailed → (lines : List ℕ) × IsDone Does files saved lines
 
 -- the lock is held at the end only where it was at the start, or a call below `.hg` failed; where one alone did, as `IsStuck` says
-abbrev pub IsFreed : Changing → List (List ℕ) → Watched tree.History → Watched shelf.History → Saved → Option Fault → Type 0
-IsFreed command words copy files saved fault = IsTrue saved.new.history.ours → IsTrue saved.old.history.ours ⊎ IsStuck command words copy files saved fault
+abbrev pub IsFreed : Makes → Watched shelf.History → Saved → Option Fault → Type 0
+IsFreed Does files saved fault = IsTrue saved.new.history.ours → IsTrue saved.old.history.ours ⊎ IsStuck Does files saved fault
 
 -- what is answered once the lock was given back, or couldn't be: the first fault
 abbrev pub once_freed : {A U E : Type 0} → Result A Fault → Result U E → Result A Fault
