@@ -26,12 +26,12 @@ use Rattle.hg_save.proofs.Published.{keeps_front}
 use Rattle.hg_session.specs.Acts.{Makes}
 use Rattle.hg_session.specs.Anew.{CanWrite, IsOpened, IsOverwritten, IsRecorded, LoadsOrRefuses, MetWriting, WritesOnly}
 use Rattle.hg_session.specs.Call.{Fails, Watched}
-use Rattle.hg_session.specs.Change.{FitsFirst, IsDone, IsKept, IsMade, IsPublished, IsReadFirst, IsReadSome, IsSafe, IsUnwritten, MetChanging, up_to}
+use Rattle.hg_session.specs.Change.{FitsFirst, IsDone, IsKept, IsMade, IsPublished, IsReadFirst, IsReadSome, IsSafeHeld, IsUnwritten, MetChanging, up_to}
 use Rattle.hg_session.specs.Load.{by_load, of_read}
 use Rattle.hg_session.specs.Loaded.{NodesFind, Refuses}
 use Rattle.hg_session.specs.declared.read_fault.ReadFault.{ReadFault}
 use Rattle.hg_session.specs.declared.read_fault.ReadFault.TheVariants as a_read
-use Rattle.hg_session.proofs.Locked.{end_remains, front_docket, front_found, front_latest, front_remains, none_front, unwritten, unwritten_then, whole_stretch}
+use Rattle.hg_session.proofs.Locked.{end_remains, front_docket, front_found, front_latest, front_remains, none_front, unwritten, unwritten_then}
 use Rattle.hg_session.proofs.Readings.{refused_by, sound_reading}
 use Rattle.hg_session.proofs.SameTables.{one_table}
 use Rattle.hg_shelf.specs.History as shelf
@@ -232,9 +232,8 @@ module _ (a b c : Course) (passes : Passes a.history b.history) (goes : Goes b c
         | inr early ↦ (f, (front_remains a b c ours passes goes calm k from early).left f is, record { others = λ at p q r s. refl; named = inl refl })
       ]
 
-      published_by : IsOverwritten made b c → IsPublished Does (record { old = a; new = c })
+      published_by : IsOverwritten made b c → IsPublished Does c a.history.last c.history.last
       published_by over = record {
-        stretch = whole_stretch a.history c.history (omega (arith, passes.past.later, goes.past.later));
         loaded = recorded;
         there = there;
         made = table made;
@@ -253,13 +252,12 @@ module _ (a b c : Course) (passes : Passes a.history b.history) (goes : Goes b c
       }
 
       -- nothing was written, or the table was over the record that stood
-      pub safe_by : (fault : Option Fault) → WritesOnly made b c fault → IsSafe Does (record { old = a; new = c }) fault
+      pub safe_by : (fault : Option Fault) → WritesOnly made b c fault → IsSafeHeld Does (record { old = a; new = c }) fault
       safe_by fault (inl none) = inl (unwritten_then a b c passes goes none)
       safe_by fault (inr (follows, over)) = inr (follows, published_by over)
 
-      kept_written : IsRecorded made c → IsKept recorded (table made) (record { old = a; new = c })
+      kept_written : IsRecorded made c → IsKept recorded (table made) (record { old = a; new = c }) a.history.last c.history.last
       kept_written is = record {
-        stretch = whole_stretch a.history c.history (omega (arith, passes.past.later, goes.past.later));
         found = is.found;
         is = is.is;
         shown = is.records.shown;
@@ -269,9 +267,8 @@ module _ (a b c : Course) (passes : Passes a.history b.history) (goes : Goes b c
             subst (λ (id : List ℕ). (last_scene c).files (data_name id) ≡ None) (sym id_there) (is.gone (λ empty. some (id_there ∙ empty))));
       }
 
-      kept_still : c ≡ b → IsSame (table made) recorded → IsKept recorded (table made) (record { old = a; new = c })
+      kept_still : c ≡ b → IsSame (table made) recorded → IsKept recorded (table made) (record { old = a; new = c }) a.history.last c.history.last
       kept_still none same = record {
-        stretch = whole_stretch a.history c.history (omega (arith, passes.past.later, goes.past.later));
         found = recorded;
         is = subst (λ (t : Table). IsSame t (table made)) (one_table (table made) recorded same) (same_table (table made));
         shown = subst (λ (x : Course). reading (last_scene x).files ≡ Some (Ok recorded)) (sym none) (ap reading (end_remains a b c ours passes goes calm).shown ∙ there);
@@ -285,7 +282,7 @@ module _ (a b c : Course) (passes : Passes a.history b.history) (goes : Goes b c
     -- it was done, and what was made is recorded
     pub done_by : (before after : ℕ) → a.history.ours ≡ true → (made.changed ≡ false → IsSame (table made) (table opened))
         → (made.changed ≡ true → CanWrite made) → (made.changed ≡ false → c ≡ b) → (Undisturbed a c → made.changed ≡ true → IsRecorded made c)
-        → IsDone Does (record { old = a.history; new = c.history; before = before; after = after }) (record { old = a; new = c }) lines
+        → IsDone Does (record { old = a.history; new = c.history; before = before; after = after }) (record { old = a; new = c }) a.history.last c.history.last lines
     done_by before after ours stays can none records = record {
       made = table made;
       changed = made.changed;

@@ -6,10 +6,10 @@ use Rattle.hg_base.specs.declared.fault.Failed.{Failed}
 use Rattle.hg_entry.specs.Table.{Table}
 use Rattle.hg_report.specs.declared.fault.Fault.{Fault}
 use Rattle.hg_report.specs.declared.fault.Fault.TheVariants as a_fault
-use Rattle.hg_session.proofs.Widening.{calm_within, done_wide, met_wide, safe_wide, unwritten_wide}
+use Rattle.hg_session.proofs.Widening.{calm_within, done_wide, held_stretch, met_wide, safe_wide, unwritten_wide}
 use Rattle.hg_session.specs.Acts.{Makes}
 use Rattle.hg_session.specs.Call.{Count, FailsOnce, Saved, Watched}
-use Rattle.hg_session.specs.Change.{FailsOrUnwritten, IsDone, IsFreed, IsSafe, MetChanging, MetLocking, once_freed}
+use Rattle.hg_session.specs.Change.{FailsOrUnwritten, IsDone, IsFreed, IsSafe, IsSafeHeld, MetChanging, MetLocking, Stretch, once_freed}
 use Rattle.hg_shelf.specs.History.{History, Waits}
 use Rattle.hg_shelf.specs.Images.{Course, Goes}
 use Rattle.hg_shelf.specs.Lock.{Locks, Unlocks}
@@ -43,11 +43,11 @@ module _ (a b c d : Course) (lock : Waits a.history b.history) (unlock : Waits c
   abbrev outer : Saved
   outer = record { old = a; new = d }
 
-  pub once_done : (done : Result (Vec ℕ Global) Fault) (freed : Result Unit Failed) → IfOk done (λ lines. IsDone Part part inner lines.items)
-      → IfOk (once_freed done freed) (λ lines. IsDone Whole whole outer lines.items)
+  pub once_done : (done : Result (Vec ℕ Global) Fault) (freed : Result Unit Failed) → IfOk done (λ lines. IsDone Part part inner b.history.last c.history.last lines.items)
+      → IfOk (once_freed done freed) (λ lines. (stretch : Stretch a.history d.history) × IsDone Whole whole outer stretch.from stretch.to lines.items)
   once_done (Err fault) freed is = tt
   once_done (Ok lines) (Err failed) is = tt
-  once_done (Ok lines) (Ok unit) is = done_wide a b c d lock unlock p q r Part Whole wide copy before after start end lines.items is
+  once_done (Ok lines) (Ok unit) is = (held_stretch a b c d lock unlock p q r, done_wide a b c d lock unlock p q r Part Whole wide copy before after start end lines.items is)
 
   pub once_met : (locks : Count) (done : Result (Vec ℕ Global) Fault) (freed : Result Unit Failed) → before ≡ start → before ≤ after → IfErr done (MetChanging Part copy part) → HasCause after end freed (λ e. Unit {0})
       → IfErr (once_freed done freed) (MetLocking Whole copy whole locks)
@@ -62,7 +62,7 @@ module _ (a b c d : Course) (lock : Waits a.history b.history) (unlock : Waits c
   once_unwritten (Ok lines) (Err failed) is = inl refl
   once_unwritten (Ok lines) (Ok unit) is = tt
 
-  once_safe_in : (done : Result (Vec ℕ Global) Fault) (freed : Result Unit Failed) → IsSafe Part inner (result_err done) → IsSafe Whole outer (result_err (once_freed done freed))
+  once_safe_in : (done : Result (Vec ℕ Global) Fault) (freed : Result Unit Failed) → IsSafeHeld Part inner (result_err done) → IsSafe Whole outer (result_err (once_freed done freed))
   once_safe_in (Err fault) freed safe = safe_wide a b c d lock unlock p q r Part Whole wide copy before after start end (Some fault) safe
   once_safe_in (Ok lines) (Err failed) safe = elim (safe_wide a b c d lock unlock p q r Part Whole wide copy before after start end None safe) [
     | inl none ↦ inl none
@@ -74,7 +74,7 @@ module _ (a b c d : Course) (lock : Waits a.history b.history) (unlock : Waits c
   two_rose : (fault : Fault) → MetChanging Part copy part fault → before ≡ start → Rose after end → FailsOnce whole → fault ≡ a_fault.ShelfFailed → ⊥
   two_rose fault met same rose one is = let first : Rose before after = subst (MetChanging Part copy part) is met in omega (arith, same, rose, one.0, one.1, first)
 
-  pub once_released : (done : Result (Vec ℕ Global) Fault) (freed : Result Unit Failed) → before ≡ start → before ≤ after → IfOk done (λ lines. IsDone Part part inner lines.items)
+  pub once_released : (done : Result (Vec ℕ Global) Fault) (freed : Result Unit Failed) → before ≡ start → before ≤ after → IfOk done (λ lines. IsDone Part part inner b.history.last c.history.last lines.items)
       → IfErr done (MetChanging Part copy part) → HasCause after end freed (λ e. Unit {0}) → Unlocks c.history.ours d.history.ours freed
       → IsFreed Whole whole outer (result_err (once_freed done freed))
   once_released done (Ok unit) same later is met cause free = λ held. absurd (let never : false ≡ true = sym free ∙ held in cc never)
@@ -84,9 +84,9 @@ module _ (a b c d : Course) (lock : Waits a.history b.history) (unlock : Waits c
       λ held.
       inr (record {
         failed = rose_last start before after end same later (cause.rose tt);
-        alone = λ one told. (lines.items, done_wide a b c d lock unlock p q r Part Whole wide copy before after start end lines.items is);
+        alone = λ one told. (held_stretch a b c d lock unlock p q r, lines.items, done_wide a b c d lock unlock p q r Part Whole wide copy before after start end lines.items is);
       })
 
-  pub once_safe : (done : Result (Vec ℕ Global) Fault) (freed : Result Unit Failed) → (Undisturbed b c → IsSafe Part inner (result_err done))
+  pub once_safe : (done : Result (Vec ℕ Global) Fault) (freed : Result Unit Failed) → (Undisturbed b c → IsSafeHeld Part inner (result_err done))
       → Undisturbed a d → IsSafe Whole outer (result_err (once_freed done freed))
   once_safe done freed safe calm = once_safe_in done freed (safe (calm_within a b c d lock unlock p q r calm))

@@ -18,7 +18,7 @@ use Rattle.hg_session.proofs.Crashes.{crash_safe, lasting}
 use Rattle.hg_session.proofs.Readings.{unstepped_refuses}
 use Rattle.hg_session.specs.Acts.{Makes}
 use Rattle.hg_session.specs.Call.{Call, Count, Fails, Saved, Serves, Watched}
-use Rattle.hg_session.specs.Change.{FailsOrUnwritten, Fits, FitsFirst, IsDone, IsEarly, IsFreed, IsMade, IsReadFirst, IsReadSome, IsSafe, MayFollowWriting, MetChanging, MetLocking, NoneOurs, id_read, makes_in, up_to}
+use Rattle.hg_session.specs.Change.{FailsOrUnwritten, Fits, FitsFirst, IsDone, IsEarly, IsFreed, IsMade, IsReadFirst, IsReadSome, IsSafe, MayFollowWriting, MetChanging, MetLocking, NoneOurs, Stretch, id_read, makes_in, up_to}
 use Rattle.hg_session.specs.Changed.{IsExpectedChange, IsMadeOf, IsPartlyTold, IsUnlooked, IsUnwrittenUnless, OnlyLooks, RanChange, TellsFault, status_of}
 use Rattle.hg_session.specs.Command.{IsFaultOrMemory, IsSilent, TellsLine}
 use Rattle.hg_session.specs.Listed.{LoadMet}
@@ -84,8 +84,8 @@ module _ (Does : Makes) (copy : Watched tree.History) (a b : Course) (before aft
       let first = none_own a.history b.history is.at own is.later is.within is.none in
       subst (λ (f : Files). Fits f made) (ap (files_at b.history) first ∙ (past.stay a.history.last (omega arith)).shown) is.fits
 
-  pub done_own : (lines : List ℕ) → IsDone Does files saved lines → IsExpectedChange Does there None
-  done_own lines done = record {
+  pub done_own : (from to : ℕ) (lines : List ℕ) → IsDone Does files saved from to lines → IsExpectedChange Does there None
+  done_own from to lines done = record {
     made = done.made;
     lines = lines;
     changed = done.changed;
@@ -181,18 +181,18 @@ module _ (command : Changing) (words : List (List ℕ)) (copy : Watched tree.His
     | inr is ↦ inr (record { failed = is.failed; alone = λ one same. is.alone one (only same) })
   ]
 
-  pub ran_done : FreesFor None → (status : ℕ) (lines : List ℕ) (done : IsDone Does call.looked.shelf call.saved lines) → Grown err.old err.new lines → status ≡ status_of lines
+  pub ran_done : FreesFor None → (status : ℕ) (stretch : Stretch a.history b.history) (lines : List ℕ) (done : IsDone Does call.looked.shelf call.saved stretch.from stretch.to lines) → Grown err.old err.new lines → status ≡ status_of lines
       → (Undisturbed a b → IsSafe Does call.saved None) → copy.after ≡ copy.before → after ≡ before → err.after ≡ err.before → (locks.before < locks.after → ⊥) → (copy.before < copy.after → ⊥)
       → RanChange command call status None
-  ran_done freed status lines done grown is safe calm_tree calm_shelf calm_err unheld well = record {
-    stepped = λ none. record { lines = lines; done = done; told = grown; ends = is; lasts = λ calm keep. lasting a b kept calm keep done.is.loaded done.made (done.kept calm) };
+  ran_done freed status stretch lines done grown is safe calm_tree calm_shelf calm_err unheld well = record {
+    stepped = λ none. record { stretch = stretch; lines = lines; done = done; told = grown; ends = is; lasts = λ calm keep. lasting a b kept calm keep done.is.loaded done.made stretch (done.kept calm) };
     safe = safe;
     crash = λ calm keep first. crash_safe a b kept calm keep Does first None (safe calm);
     unwritten = tt;
     cause = tt;
     held = λ rose. absurd (unheld rose);
     tree = λ rose. absurd (well rose);
-    complete = λ own p q r steady. done_own Does copy a b before after kept.past own.shelf lines done;
+    complete = λ own p q r steady. done_own Does copy a b before after kept.past own.shelf stretch.from stretch.to lines done;
     calm_tree = λ none. calm_tree;
     calm_shelf = λ well. calm_shelf;
     calm_err = λ none. calm_err;
@@ -212,9 +212,9 @@ module _ (command : Changing) (words : List (List ℕ)) (copy : Watched tree.His
   safe_untold (inr (may, is)) = inr (inr (inl refl), is)
 
   -- the error stream failed while the refused words were told
-  pub ran_untold : FreesFor None → (lines : List ℕ) (done : IsDone Does call.looked.shelf call.saved lines) → GrownByFront err.old err.new lines → Fails err → after ≡ before
+  pub ran_untold : FreesFor None → (stretch : Stretch a.history b.history) (lines : List ℕ) (done : IsDone Does call.looked.shelf call.saved stretch.from stretch.to lines) → GrownByFront err.old err.new lines → Fails err → after ≡ before
       → (Undisturbed a b → IsSafe Does call.saved None) → (locks.before < locks.after → ⊥) → (copy.before < copy.after → ⊥) → (status : ℕ) → RanChange command call status (Some a_fault.ErrFailed)
-  ran_untold freed lines done grown failed calm_shelf safe unheld well status = record {
+  ran_untold freed stretch lines done grown failed calm_shelf safe unheld well status = record {
     stepped = λ none. absurd (cc none);
     safe = λ calm. safe_untold (safe calm);
     crash = λ calm keep first. crash_safe a b kept calm keep Does first (Some a_fault.ErrFailed) (safe_untold (safe calm));
@@ -226,7 +226,7 @@ module _ (command : Changing) (words : List (List ℕ)) (copy : Watched tree.His
     calm_tree = λ none. absurd (cc none);
     calm_shelf = λ told. calm_shelf;
     calm_err = λ none. absurd (cc none);
-    told = record { lines = lines; done = done; told = grown; failed = failed; lasts = λ calm keep. lasting a b kept calm keep done.is.loaded done.made (done.kept calm) };
+    told = record { stretch = stretch; lines = lines; done = done; told = grown; failed = failed; lasts = λ calm keep. lasting a b kept calm keep done.is.loaded done.made stretch (done.kept calm) };
     silent = silent;
     uncounted = uncounted;
     looks = looks;

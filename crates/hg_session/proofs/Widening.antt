@@ -15,11 +15,12 @@ use Rattle.hg_save.specs.Record.{data_name, id_in, reading}
 use Rattle.hg_save.specs.Saved.{IsLatest, KeepsOthers, ReadsAsBeforeOr, name_after}
 use Rattle.hg_session.specs.Acts.{Makes}
 use Rattle.hg_session.specs.Call.{Watched}
-use Rattle.hg_session.specs.Change.{Fits, FitsFirst, IsDone, IsKept, IsMade, IsPublished, IsReadFirst, IsSafe, IsUnwritten, MetChanging, NoneOurs, Stretch, id_read, up_to}
+use Rattle.hg_session.specs.Change.{Fits, FitsFirst, IsDone, IsKept, IsMade, IsPublished, IsReadFirst, IsSafe, IsSafeHeld, IsUnwritten, MetChanging, NoneOurs, Stretch, id_read, up_to}
 use Rattle.hg_session.specs.Listed.{LoadMet}
 use Rattle.hg_session.specs.Loaded.{IsRefused}
 use Rattle.hg_session.specs.declared.read_fault.ReadFault.{ReadFault}
 use Rattle.hg_session.specs.declared.read_fault.ReadFault.TheVariants as a_read
+use Rattle.hg_session.proofs.Locked.{none_within}
 use Rattle.hg_shelf.proofs.Scenes.{first_part, second_part}
 use Rattle.hg_shelf.specs.History.{Extends, Files, History, Waits, us}
 use Rattle.hg_shelf.specs.Images.{Course, Goes, Remains, Scene, scene}
@@ -75,19 +76,19 @@ ids_longer old mid new (one ∷ more) past within = λ i. id_in ((past.stay one.
 -- ---- a call that takes the lock, changes the record and gives the lock back
 
 module _ (a b c d : Course) (lock : Waits a.history b.history) (unlock : Waits c.history d.history) (p : Goes a b) (q : Goes b c) (r : Goes c d) where
-  later : a.history.last ≤ b.history.last
+  pub later : a.history.last ≤ b.history.last
   later = p.past.later
 
   pub calm_within : Undisturbed a d → Undisturbed b c
   calm_within calm = first_part b c d r (second_part a b d p calm)
 
-  none_wide : (k : ℕ) → k ≤ c.history.last → NoneOurs c.history b.history.last k → NoneOurs d.history a.history.last k
+  pub none_wide : (k : ℕ) → k ≤ c.history.last → NoneOurs c.history b.history.last k → NoneOurs d.history a.history.last k
   none_wide k within none = λ j from to is. elim (cases_lt j b.history.last) [
     | inl early ↦ lock.none j from early (sym (q.past.who j early) ∙ sym (r.past.who j (omega (arith, to, within))) ∙ is)
     | inr late ↦ none j late to (sym (r.past.who j (omega (arith, to, within))) ∙ is)
   ]
 
-  none_behind : (k : ℕ) → NoneOurs c.history k c.history.last → NoneOurs d.history k d.history.last
+  pub none_behind : (k : ℕ) → NoneOurs c.history k c.history.last → NoneOurs d.history k d.history.last
   none_behind k none = λ j from to is. elim (cases_lt j c.history.last) [
     | inl early ↦ none j from early (sym (r.past.who j early) ∙ is)
     | inr late ↦ unlock.none j late to is
@@ -101,15 +102,15 @@ module _ (a b c d : Course) (lock : Waits a.history b.history) (unlock : Waits c
     ];
   }
 
-  abbrev stretch_wide : Stretch b.history c.history → Stretch a.history d.history
-  stretch_wide s = record {
-    from = s.from;
-    to = s.to;
-    start = omega (arith, later, s.start);
-    order = s.order;
-    end = omega (arith, s.end, r.past.later);
-    before = none_wide s.from (omega (arith, s.order, s.end)) s.before;
-    behind = none_behind s.to s.behind;
+  abbrev pub held_stretch : Stretch a.history d.history
+  held_stretch = record {
+    from = b.history.last;
+    to = c.history.last;
+    start = later;
+    order = q.past.later;
+    end = r.past.later;
+    before = none_wide b.history.last q.past.later (none_within c.history b.history.last);
+    behind = none_behind c.history.last (none_within c.history c.history.last);
   }
 
   -- a moment of the change, seen from the end
@@ -179,25 +180,24 @@ module _ (a b c d : Course) (lock : Waits a.history b.history) (unlock : Waits c
       fits = subst (λ (f : Files). Fits f made) (sym (r.past.stay is.at is.within).shown) is.fits;
     }
 
-    kept_wide : (loaded made : Table) → IsKept loaded made (record { old = b; new = c }) → IsKept loaded made (record { old = a; new = d })
+    kept_wide : (loaded made : Table) → IsKept loaded made (record { old = b; new = c }) b.history.last c.history.last → IsKept loaded made (record { old = a; new = d }) b.history.last c.history.last
     kept_wide loaded made is = record {
-      stretch = stretch_wide is.stretch;
       found = is.found;
       is = is.is;
-      shown = reading_wide is.stretch.to is.stretch.end ∙ is.shown;
+      shown = reading_wide c.history.last (omega arith) ∙ is.shown;
       left =
           elim is.left [
-            | inl each ↦ inl (λ f left. each f ((to_end is.stretch.to is.stretch.end).left f left))
+            | inl each ↦ inl (λ f left. each f ((to_end c.history.last (omega arith)).left f left))
             | inr same ↦ inr (same.0, unwritten_wide same.1)
           ];
       gone =
           elim is.gone [
-            | inl gone ↦ inl (gone_wide is.stretch.from is.stretch.to (omega (arith, is.stretch.order, is.stretch.end)) is.stretch.end gone)
+            | inl gone ↦ inl (gone_wide b.history.last c.history.last q.past.later (omega arith) gone)
             | inr none ↦ inr (unwritten_wide none)
           ];
     }
 
-    pub done_wide : (lines : List ℕ) → IsDone Part part (record { old = b; new = c }) lines → IsDone Whole whole (record { old = a; new = d }) lines
+    pub done_wide : (lines : List ℕ) → IsDone Part part (record { old = b; new = c }) b.history.last c.history.last lines → IsDone Whole whole (record { old = a; new = d }) b.history.last c.history.last lines
     done_wide lines done = record {
       made = done.made;
       changed = done.changed;
@@ -207,13 +207,12 @@ module _ (a b c d : Course) (lock : Waits a.history b.history) (unlock : Waits c
       idle = λ idle. unwritten_wide (done.idle idle);
     }
 
-    published_wide : IsPublished Part (record { old = b; new = c }) → IsPublished Whole (record { old = a; new = d })
+    published_wide : IsPublished Part c b.history.last c.history.last → IsPublished Whole d b.history.last c.history.last
     published_wide is =
-        let from = is.stretch.from in
-        let near : from ≤ c.history.last = omega (arith, is.stretch.order, is.stretch.end) in
+        let from = b.history.last in
+        let near : from ≤ c.history.last = q.past.later in
         let latest : IsLatest (scene d from) → IsLatest (scene c from) = latest_same (scene d from) (scene c from) (from_end from near) (to_end from near) in
         record {
-          stretch = stretch_wide is.stretch;
           loaded = is.loaded;
           there = reading_wide from near ∙ is.there;
           made = is.made;
@@ -223,29 +222,29 @@ module _ (a b c d : Course) (lock : Waits a.history b.history) (unlock : Waits c
           is = is.is;
           crash = λ first k f after upto left.
               reads_same (scene c from) (scene d from) (Some (Ok is.found)) f (from_end from near)
-              (is.crash (latest first) k f after upto ((to_end k (omega (arith, upto, is.stretch.end))).left f left));
+              (is.crash (latest first) k f after upto ((to_end k upto).left f left));
           shown = λ first k after upto. elim (is.shown (latest first) k after upto) [
-            | inl same ↦ inl (reading_wide k (omega (arith, upto, is.stretch.end)) ∙ same ∙ sym (reading_wide from near))
-            | inr new ↦ inr (reading_wide k (omega (arith, upto, is.stretch.end)) ∙ new)
+            | inl same ↦ inl (reading_wide k upto ∙ same ∙ sym (reading_wide from near))
+            | inr new ↦ inr (reading_wide k upto ∙ new)
           ];
           id = is.id;
           next = ap (λ (f : Files). next_name (id_in f)) (to_end from near).shown ∙ is.next;
           others = λ k after upto.
               subst (λ (f : Files). KeepsOthers (id_in f) is.id f (scene d k).files) (sym (to_end from near).shown)
-              (subst (λ (f : Files). KeepsOthers (id_in (scene c from).files) is.id (scene c from).files f) (sym (to_end k (omega (arith, upto, is.stretch.end))).shown) (is.others k after upto));
+              (subst (λ (f : Files). KeepsOthers (id_in (scene c from).files) is.id (scene c from).files f) (sym (to_end k upto).shown) (is.others k after upto));
           spared = λ k f after upto left.
-              let was = is.spared k f after upto ((to_end k (omega (arith, upto, is.stretch.end))).left f left) in (
+              let was = is.spared k f after upto ((to_end k upto).left f left) in (
                 was.0,
                 (from_end from near).left was.0 was.1,
                 subst (λ (x : Files). KeepsOthers (id_in x) is.id was.0 f) (sym (to_end from near).shown) was.2,
               );
           orderly = λ first. keeps_longer us c d from r unlock.none (is.orderly (latest first));
-          latest = λ first. latest_same (scene c is.stretch.to) (scene d is.stretch.to) (to_end is.stretch.to is.stretch.end) (from_end is.stretch.to is.stretch.end) (is.latest (latest first));
+          latest = λ first. latest_same (scene c c.history.last) (scene d c.history.last) (to_end c.history.last (omega arith)) (from_end c.history.last (omega arith)) (is.latest (latest first));
         }
 
-    pub safe_wide : (fault : Option Fault) → IsSafe Part (record { old = b; new = c }) fault → IsSafe Whole (record { old = a; new = d }) fault
+    pub safe_wide : (fault : Option Fault) → IsSafeHeld Part (record { old = b; new = c }) fault → IsSafe Whole (record { old = a; new = d }) fault
     safe_wide fault (inl none) = inl (unwritten_wide none)
-    safe_wide fault (inr (may, is)) = inr (may, published_wide is)
+    safe_wide fault (inr (may, is)) = inr (may, record { stretch = held_stretch; is = published_wide is })
 
     refuses_wide : (fault : ReadFault) → LoadMet fault part → LoadMet fault whole
     refuses_wide fault met told =

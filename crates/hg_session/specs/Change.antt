@@ -24,7 +24,7 @@ use Rattle.hg_session.specs.declared.acting.Changing.{Changing}
 use Rattle.hg_session.specs.declared.acting.Changing.TheVariants as a_change
 use Rattle.hg_session.specs.declared.read_fault.ReadFault.TheVariants as a_read
 use Rattle.hg_shelf.specs.History as shelf
-use Rattle.hg_shelf.specs.Images.{scene}
+use Rattle.hg_shelf.specs.Images.{Course, scene}
 use Rattle.hg_shelf.specs.Polite.{Undisturbed}
 use Rattle.hg_tree.specs.History as tree
 
@@ -93,44 +93,46 @@ pub record IsUnwritten (old new : shelf.History) : Type 0 where
 abbrev pub FailsOrUnwritten : shelf.History → shelf.History → Fault → Type 0
 FailsOrUnwritten old new fault = (fault ≡ a_fault.ShelfFailed) ⊎ IsUnwritten old new
 
--- the record was published over the one that stood where the lock was got
-pub record IsPublished (Does : Makes) (saved : Saved) : Type 0 where
-  pub stretch : Stretch saved.old.history saved.new.history
+-- between two moments a record was published over the one that stood at the first
+pub record IsPublished (Does : Makes) (c : Course) (from to : ℕ) : Type 0 where
   pub loaded : Table
-  pub there : reading (scene saved.new stretch.from).files ≡ Some (Ok loaded)
+  pub there : reading (scene c from).files ≡ Some (Ok loaded)
   pub made : Table
   pub lines : List ℕ
   pub does : Does loaded made lines true
   -- what is recorded once it is published
   pub found : Table
   pub is : IsSame found made
-  -- a crash leaves a record of what it might have left where the lock was got, or the new one, and reads show the one or the other
-  pub crash : IsLatest (scene saved.new stretch.from) → (k : ℕ) (c : shelf.Files) → stretch.from ≤ k → k ≤ stretch.to → (scene saved.new k).leaves c → ReadsAsBeforeOr (scene saved.new stretch.from) (Some (Ok found)) c
-  pub shown : IsLatest (scene saved.new stretch.from) → (k : ℕ) → stretch.from ≤ k → k ≤ stretch.to
-      → (reading (scene saved.new k).files ≡ reading (scene saved.new stretch.from).files) ⊎ (reading (scene saved.new k).files ≡ Some (Ok found))
+  -- a crash leaves a record of what it might have left at the first moment, or the new one, and reads show the one or the other
+  pub crash : IsLatest (scene c from) → (k : ℕ) (f : shelf.Files) → from ≤ k → k ≤ to → (scene c k).leaves f → ReadsAsBeforeOr (scene c from) (Some (Ok found)) f
+  pub shown : IsLatest (scene c from) → (k : ℕ) → from ≤ k → k ≤ to
+      → (reading (scene c k).files ≡ reading (scene c from).files) ⊎ (reading (scene c k).files ≡ Some (Ok found))
   -- the data file that is written has the identifier that follows that of the docket that stood
   pub id : List ℕ
-  pub next : next_name (id_in (scene saved.new stretch.from).files) ≡ Some id
+  pub next : next_name (id_in (scene c from).files) ≡ Some id
   -- no file is changed but the docket, the one that is written first and the data files with these two identifiers, of which the old one at most goes:
   -- reads show each other file as it was, and a crash leaves it as it might have left it
-  pub others : (k : ℕ) → stretch.from ≤ k → k ≤ stretch.to
-      → KeepsOthers (id_in (scene saved.new stretch.from).files) id (scene saved.new stretch.from).files (scene saved.new k).files
-  pub spared : (k : ℕ) (c : shelf.Files) → stretch.from ≤ k → k ≤ stretch.to → (scene saved.new k).leaves c
-      → (d : shelf.Files) × (scene saved.new stretch.from).leaves d × KeepsOthers (id_in (scene saved.new stretch.from).files) id d c
-  -- each step of the call keeps to how a record is published
-  pub orderly : IsLatest (scene saved.new stretch.from) → KeepsRecords shelf.us saved.new stretch.from
+  pub others : (k : ℕ) → from ≤ k → k ≤ to → KeepsOthers (id_in (scene c from).files) id (scene c from).files (scene c k).files
+  pub spared : (k : ℕ) (f : shelf.Files) → from ≤ k → k ≤ to → (scene c k).leaves f
+      → (d : shelf.Files) × (scene c from).leaves d × KeepsOthers (id_in (scene c from).files) id d f
+  -- each step of the caller's keeps to how a record is published
+  pub orderly : IsLatest (scene c from) → KeepsRecords shelf.us c from
   -- the next one finds its identifier free
-  pub latest : IsLatest (scene saved.new stretch.from) → IsLatest (scene saved.new stretch.to)
+  pub latest : IsLatest (scene c from) → IsLatest (scene c to)
 
--- where the lock was given back, reads show a record of this table, and so does whatever a crash leaves, unless nothing was to be published
-pub record IsKept (loaded made : Table) (saved : Saved) : Type 0 where
+-- a record was published while the lock was held
+pub record Publishes (Does : Makes) (saved : Saved) : Type 0 where
   pub stretch : Stretch saved.old.history saved.new.history
+  pub is : IsPublished Does saved.new stretch.from stretch.to
+
+-- at the second of two moments reads show a record of this table, and so does whatever a crash leaves, unless nothing was to be published
+pub record IsKept (loaded made : Table) (saved : Saved) (from to : ℕ) : Type 0 where
   pub found : Table
   pub is : IsSame found made
-  pub shown : reading (scene saved.new stretch.to).files ≡ Some (Ok found)
-  pub left : ((c : shelf.Files) → (scene saved.new stretch.to).leaves c → reading c ≡ Some (Ok found)) ⊎ (IsSame made loaded × IsUnwritten saved.old.history saved.new.history)
-  -- and the data file that the docket named where the lock was got is gone
-  pub gone : ((id_in (scene saved.new stretch.from).files ≡ [] → ⊥) → (scene saved.new stretch.to).files (data_name (id_in (scene saved.new stretch.from).files)) ≡ None)
+  pub shown : reading (scene saved.new to).files ≡ Some (Ok found)
+  pub left : ((c : shelf.Files) → (scene saved.new to).leaves c → reading c ≡ Some (Ok found)) ⊎ (IsSame made loaded × IsUnwritten saved.old.history saved.new.history)
+  -- and the data file that the docket named at the first is gone
+  pub gone : ((id_in (scene saved.new from).files ≡ [] → ⊥) → (scene saved.new to).files (data_name (id_in (scene saved.new from).files)) ≡ None)
       ⊎ IsUnwritten saved.old.history saved.new.history
 
 -- a table can be written anew over the record in these files: an identifier is left, and it isn't too large
@@ -150,13 +152,13 @@ pub record FitsFirst (old new : shelf.History) (made : Table) : Type 0 where
   pub none : NoneOurs new old.last at
   pub fits : Fits (files_at new at) made
 
--- it was done, and what it made is recorded
-pub record IsDone (Does : Makes) (files : Watched shelf.History) (saved : Saved) (lines : List ℕ) : Type 0 where
+-- it was done between two moments, and what it made is recorded
+pub record IsDone (Does : Makes) (files : Watched shelf.History) (saved : Saved) (from to : ℕ) (lines : List ℕ) : Type 0 where
   pub made : Table
   pub changed : Bool
   pub is : IsMade Does files made lines changed
   pub fits : IsTrue files.old.told → ((changed ≡ false) × IsSame made is.loaded) ⊎ FitsFirst files.old files.new made
-  pub kept : Undisturbed saved.old saved.new → IsKept is.loaded made saved
+  pub kept : Undisturbed saved.old saved.new → IsKept is.loaded made saved from to
   -- where nothing was changed nothing is written
   pub idle : changed ≡ false → IsUnwritten saved.old.history saved.new.history
 
@@ -221,14 +223,19 @@ abbrev pub MayFollowWriting : Option Fault → Type 0
 MayFollowWriting None = Unit {0}
 MayFollowWriting (Some fault) = (fault ≡ a_fault.ShelfFailed) ⊎ ((fault ≡ a_fault.ErrFailed) ⊎ (fault ≡ a_fault.OutOfMemory))
 
--- nothing was written, or a record was published
+-- nothing was written, or a record was published while the lock was held
 abbrev pub IsSafe : Makes → Saved → Option Fault → Type 0
-IsSafe Does saved fault = IsUnwritten saved.old.history saved.new.history ⊎ (MayFollowWriting fault × IsPublished Does saved)
+IsSafe Does saved fault = IsUnwritten saved.old.history saved.new.history ⊎ (MayFollowWriting fault × Publishes Does saved)
+
+-- so it is where the lock is held all along
+abbrev pub IsSafeHeld : Makes → Saved → Option Fault → Type 0
+IsSafeHeld Does saved fault =
+    IsUnwritten saved.old.history saved.new.history ⊎ (MayFollowWriting fault × IsPublished Does saved.new saved.old.history.last saved.new.history.last)
 
 -- a call below `.hg` failed; where no other one did, and that is the fault, the change was done: it was giving the lock back that failed
 pub record IsStuck (Does : Makes) (files : Watched shelf.History) (saved : Saved) (fault : Option Fault) : Type 0 where
   pub failed : Fails files
-  pub alone : FailsOnce files → fault ≡ Some a_fault.ShelfFailed → (lines : List ℕ) × IsDone Does files saved lines
+  pub alone : FailsOnce files → fault ≡ Some a_fault.ShelfFailed → (stretch : Stretch saved.old.history saved.new.history) × (lines : List ℕ) × IsDone Does files saved stretch.from stretch.to lines
 
 -- the lock is held at the end only where it was at the start, or a call below `.hg` failed; where one alone did, as `IsStuck` says
 abbrev pub IsFreed : Makes → Watched shelf.History → Saved → Option Fault → Type 0

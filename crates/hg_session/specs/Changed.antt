@@ -16,7 +16,7 @@ use Rattle.hg_save.specs.Record.{id_in, reading}
 use Rattle.hg_save.specs.Saved.{IsLatest}
 use Rattle.hg_session.specs.Acts.{Makes}
 use Rattle.hg_session.specs.Call.{Call, Fails, Serves, Watched}
-use Rattle.hg_session.specs.Change.{ChangeCause, Fits, IsDone, IsEarly, IsFreed, IsReadSome, IsSafe, IsUnwritten, makes_in}
+use Rattle.hg_session.specs.Change.{ChangeCause, Fits, IsDone, IsEarly, IsFreed, IsReadSome, IsSafe, IsUnwritten, Stretch, makes_in}
 use Rattle.hg_session.specs.Command.{IsFaultOrMemory, IsSilent, TellsLine}
 use Rattle.hg_session.specs.Crash.{IsCrashSafe, IsLasting}
 use Rattle.hg_session.specs.Listed.{IsOwn}
@@ -35,23 +35,25 @@ status_of (byte ∷ lines) = 1
 
 -- the change was done, its lines were told, and the status says whether there are some
 pub record IsStepped (Does : Makes) (call : Call) (status : ℕ) : Type 0 where
+  pub stretch : Stretch call.saved.old.history call.saved.new.history
   pub lines : List ℕ
-  pub done : IsDone Does call.looked.shelf call.saved lines
+  pub done : IsDone Does call.looked.shelf call.saved stretch.from stretch.to lines
   pub told : Grown call.err.old call.err.new lines
   pub ends : status ≡ status_of lines
   -- what was published is what a crash leaves from then on, until others publish
   pub lasts : (calm : Undisturbed call.saved.old call.saved.new) → KeepsRecords shelf.others call.saved.new call.saved.old.history.last
-      → IsLasting done.is.loaded done.made call.saved (done.kept calm)
+      → IsLasting done.is.loaded done.made call.saved stretch.from stretch.to (done.kept calm)
 
 -- the change was done, its lines were told, or a front of them, and the stream failed
 pub record IsPartlyTold (Does : Makes) (call : Call) : Type 0 where
+  pub stretch : Stretch call.saved.old.history call.saved.new.history
   pub lines : List ℕ
-  pub done : IsDone Does call.looked.shelf call.saved lines
+  pub done : IsDone Does call.looked.shelf call.saved stretch.from stretch.to lines
   pub told : GrownByFront call.err.old call.err.new lines
   pub failed : Fails call.err
   -- what was published is what a crash leaves from then on, until others publish
   pub lasts : (calm : Undisturbed call.saved.old call.saved.new) → KeepsRecords shelf.others call.saved.new call.saved.old.history.last
-      → IsLasting done.is.loaded done.made call.saved (done.kept calm)
+      → IsLasting done.is.loaded done.made call.saved stretch.from stretch.to (done.kept calm)
 
 -- with a fault its line alone is told; where the error stream failed while the lines of a change were told, a front of these
 abbrev pub TellsFault : Makes → Call → Fault → Type 0

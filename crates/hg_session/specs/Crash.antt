@@ -26,7 +26,7 @@ LeavesSound s = (c : Files) → s.leaves c → IsSound (reading c)
 abbrev pub IsOwnRecord : (Does : Makes) (saved : Saved) (fault : Option Fault) → IsSafe Does saved fault
     → Option (Result Table RecordFault) → Type 0
 IsOwnRecord Does saved fault (inl none) recorded = ⊥
-IsOwnRecord Does saved fault (inr (may, is)) recorded = recorded ≡ Some (Ok is.found)
+IsOwnRecord Does saved fault (inr (may, is)) recorded = recorded ≡ Some (Ok is.is.found)
 
 -- at each moment from the call's start to its end, whatever a crash leaves records what it might have left at the start, what the call published, or
 -- what others published since the start; it is sound where that at the start was; each step of the call keeps to how a record is published, as those
@@ -39,11 +39,10 @@ pub record IsCrashSafe (Does : Makes) (saved : Saved) (fault : Option Fault) (sa
   pub orderly : KeepsRecords us saved.new saved.old.history.last
   pub latest : IsLatest (last_scene saved.new)
 
--- from where the lock was given back to the call's end, whatever a crash leaves records what the words made, or what others published since
-pub record Lasts (loaded made : Table) (saved : Saved) (kept : IsKept loaded made saved) : Type 0 where
-  pub each : (k : ℕ) (c : Files) → kept.stretch.to ≤ k → k ≤ saved.new.history.last → (scene saved.new k).leaves c
-      → (reading c ≡ Some (Ok kept.found)) ⊎ WasPublished saved.new kept.stretch.to k (reading c)
+-- from a moment to the call's end, whatever a crash leaves records what was made, or what others published since
+pub record Lasts (saved : Saved) (to : ℕ) (found : Table) : Type 0 where
+  pub each : (k : ℕ) (c : Files) → to ≤ k → k ≤ saved.new.history.last → (scene saved.new k).leaves c → (reading c ≡ Some (Ok found)) ⊎ WasPublished saved.new to k (reading c)
 
 -- so it does, unless nothing was to be published
-abbrev pub IsLasting : (loaded made : Table) (saved : Saved) → IsKept loaded made saved → Type 0
-IsLasting loaded made saved kept = Lasts loaded made saved kept ⊎ (IsSame made loaded × IsUnwritten saved.old.history saved.new.history)
+abbrev pub IsLasting : (loaded made : Table) (saved : Saved) (from to : ℕ) → IsKept loaded made saved from to → Type 0
+IsLasting loaded made saved from to kept = Lasts saved to kept.found ⊎ (IsSame made loaded × IsUnwritten saved.old.history saved.new.history)

@@ -10,7 +10,7 @@ ghost use Rattle.hg_save.specs.Loads.{Try};
 ghost use Rattle.hg_save.specs.Saved.{Stands};
 ghost use Rattle.hg_session.specs.Acts.{IsActed};
 ghost use Rattle.hg_session.specs.Anew.{CanWrite, IsOpened, IsRecorded, LoadsOrRefuses, MetWriting, WritesOnly};
-ghost use Rattle.hg_session.specs.Change.{FailsOrUnwritten, IsDone, IsEarly, IsReadSome, IsSafe, MetChanging, files_of};
+ghost use Rattle.hg_session.specs.Change.{FailsOrUnwritten, IsDone, IsEarly, IsReadSome, IsSafeHeld, MetChanging, files_of};
 ghost use Rattle.hg_session.specs.Changed.{OnlyLooks};
 ghost use Rattle.hg_session.specs.Loaded.{NodesFind};
 ghost use Rattle.hg_session.specs.declared.acting.Changing.TheVariants as a_command;
@@ -118,6 +118,8 @@ pub(crate) fn change_locked<T: Tree, S: Shelf>(
         (record { old = S.history shelf.old; new = S.history shelf.new; before = S.faults shelf.old; after = S.faults shelf.new }))
         (record { old = S.history shelf.old; new = S.history shelf.new; before = S.faults shelf.old; after = S.faults shelf.new })
         (record { old = course (S.history shelf.old) (S.images shelf.old); new = course (S.history shelf.new) (S.images shelf.new) })
+        (S.history shelf.old).last
+        (S.history shelf.new).last
         lines.items) }
     ensures met { IfErr
         result
@@ -130,7 +132,7 @@ pub(crate) fn change_locked<T: Tree, S: Shelf>(
         (record { old = T.history tree.old; new = T.history tree.new; before = T.faults tree.old; after = T.faults tree.new })
         (record { old = S.history shelf.old; new = S.history shelf.new; before = S.faults shelf.old; after = S.faults shelf.new })) }
     ensures safe { Undisturbed (course (S.history shelf.old) (S.images shelf.old)) (course (S.history shelf.new) (S.images shelf.new))
-        → IsSafe
+        → IsSafeHeld
         (IsActed
         command
         (files_of words.now)

@@ -5,7 +5,7 @@ ghost use Rattle.std.specs.Result.{result_err};
 ghost use Rattle.hg_report.specs.declared.fault.Fault.TheVariants as a_fault;
 ghost use Rattle.hg_session.specs.Acts.{IsActed};
 ghost use Rattle.hg_session.specs.Call.{Count, Watched};
-ghost use Rattle.hg_session.specs.Change.{FailsOrUnwritten, IsDone, IsEarly, IsFreed, IsReadSome, IsSafe, MetLocking, files_of, once_freed};
+ghost use Rattle.hg_session.specs.Change.{FailsOrUnwritten, IsDone, IsEarly, IsFreed, IsReadSome, IsSafe, MetLocking, Stretch, files_of, once_freed};
 ghost use Rattle.hg_session.specs.Changed as changed_is;
 ghost use Rattle.hg_session.specs.Changed.{OnlyLooks, RanChange};
 ghost use Rattle.hg_session.specs.Command.{IsSilent};
@@ -46,7 +46,7 @@ fn change<T: Tree, S: Shelf>(
 ) -> Result<Vec<u8>, Fault>
     ensures done { IfOk
         result
-        (λ lines. IsDone
+        (λ lines. (stretch : Stretch (S.history shelf.old) (S.history shelf.new)) × IsDone
         (IsActed
         command
         (files_of words.now)
@@ -54,6 +54,8 @@ fn change<T: Tree, S: Shelf>(
         (record { old = S.history shelf.old; new = S.history shelf.new; before = S.faults shelf.old; after = S.faults shelf.new }))
         (record { old = S.history shelf.old; new = S.history shelf.new; before = S.faults shelf.old; after = S.faults shelf.new })
         (record { old = course (S.history shelf.old) (S.images shelf.old); new = course (S.history shelf.new) (S.images shelf.new) })
+        stretch.from
+        stretch.to
         lines.items) }
     ensures met { IfErr
         result
