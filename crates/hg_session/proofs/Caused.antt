@@ -9,7 +9,7 @@ use Rattle.hg_report.specs.declared.fault.Fault.TheVariants as a_fault
 use Rattle.hg_session.specs.Answered.{IsAnswered, Ran}
 use Rattle.hg_session.specs.Call.{Call}
 use Rattle.hg_session.specs.Cause.{CommandCause}
-use Rattle.hg_session.specs.Change.{ChangeCause, MetChanging}
+use Rattle.hg_session.specs.Change.{ChangeCause, MetChanging, makes_in}
 use Rattle.hg_session.specs.Changed.{RanChange}
 use Rattle.hg_session.specs.Commands.{changing_of, files_of}
 use Rattle.hg_session.specs.Debug.{record_look}
@@ -25,6 +25,7 @@ use Rattle.hg_session.specs.declared.list_fault.ListFault.{ListFault}
 use Rattle.hg_session.specs.declared.list_fault.ListFault.TheVariants as a_list
 use Rattle.hg_session.specs.declared.read_fault.ReadFault.{ReadFault}
 use Rattle.hg_session.specs.declared.read_fault.ReadFault.TheVariants as a_read
+use Rattle.hg_session.proofs.Readings.{was_loaded}
 use Rattle.hg_words.specs.declared.flags.StatusFlags.{StatusFlags}
 use Rattle.hg_words.specs.declared.given.Command.TheVariants as a_command
 
@@ -45,7 +46,7 @@ module _ (call : Call) (flags : StatusFlags) (is : call.command ≡ a_command.St
   by_listing : (fault : ListFault) → ListingCause call.looked (wanted_of flags) fault → CommandCause call (of_list fault)
   by_listing (a_list.Read fault) cause = by_reading call fault cause
   by_listing (a_list.Status a_status.OutOfMemory) cause = tt
-  by_listing (a_list.Status a_status.TreeFailed) cause = cause.0
+  by_listing (a_list.Status a_status.TreeFailed) cause = cause
   by_listing (a_list.Status a_status.ShelfFailed) cause = cause
   by_listing (a_list.Status (a_status.RegexpTooBig line)) cause = ((flags, is, cause.0), cause.1)
   by_listing (a_list.Status fault) cause = (flags, is, cause)
@@ -71,23 +72,23 @@ record_cause call (Some fault) looks = record_left call fault looks.left
 -- ---- a command that changes the record
 
 module _ (call : Call) (command : Changing) (is : changing_of call.command ≡ Some command) where
-  by_changing : (fault : Fault) → MetChanging command (files_of call.command) call.looked.tree call.looked.shelf fault → CommandCause call fault
+  by_changing : (fault : Fault) → MetChanging (makes_in command (files_of call.command) call) call.looked.tree call.looked.shelf fault → CommandCause call fault
   by_changing a_fault.OutOfMemory met = tt
   by_changing (a_fault.Docket fault) met = met
   by_changing (a_fault.Node fault) met = met
   by_changing (a_fault.DataGone ids) met = met
   by_changing (a_fault.TooLarge size) met = (command, is, met)
   by_changing a_fault.IdsSpent met = (command, is, met)
-  by_changing a_fault.TreeFailed met = met
+  by_changing a_fault.TreeFailed met = (met.0, was_loaded call.looked.shelf met.1)
   by_changing a_fault.ShelfFailed met = met
   by_changing fault met = absurd met
 
-  by_change : (fault : Fault) → ChangeCause command (files_of call.command) call fault → CommandCause call fault
+  by_change : (fault : Fault) → ChangeCause (makes_in command (files_of call.command) call) call fault → CommandCause call fault
   by_change fault (inl (inl met)) = by_changing fault met
   by_change fault (inl (inr (held, rose))) = subst (CommandCause call) (sym held) (command, is, rose)
   by_change fault (inr (err, failed)) = subst (CommandCause call) (sym err) failed
 
-  changed_cause : (fault : Option Fault) → IfSome fault (ChangeCause command (files_of call.command) call) → IfSome fault (CommandCause call)
+  changed_cause : (fault : Option Fault) → IfSome fault (ChangeCause (makes_in command (files_of call.command) call) call) → IfSome fault (CommandCause call)
   changed_cause None cause = tt
   changed_cause (Some fault) cause = by_change fault cause
 

@@ -3,12 +3,13 @@ use Rattle.std.proofs.Common.{ℕ, ◌≡◌, ◌≤◌, Bool, false, true, IsTr
 use Rattle.std.specs.Result.{result_err}
 use Rattle.hg_base.specs.Fault.{HasCause, Rose}
 use Rattle.hg_base.specs.declared.fault.Failed.{Failed}
+use Rattle.hg_entry.specs.Table.{Table}
 use Rattle.hg_report.specs.declared.fault.Fault.{Fault}
 use Rattle.hg_report.specs.declared.fault.Fault.TheVariants as a_fault
-use Rattle.hg_session.proofs.Widening.{calm_within, done_wide, met_wide, safe_wide, unwritten_wide}
+use Rattle.hg_session.proofs.Widening.{calm_within, done_wide, held_stretch, met_wide, safe_wide, unwritten_wide}
+use Rattle.hg_session.specs.Acts.{Makes}
 use Rattle.hg_session.specs.Call.{Count, FailsOnce, Saved, Watched}
-use Rattle.hg_session.specs.Change.{FailsOrUnwritten, IsDone, IsFreed, IsSafe, MetChanging, MetLocking, once_freed}
-use Rattle.hg_session.specs.declared.acting.Changing.{Changing}
+use Rattle.hg_session.specs.Change.{FailsOrUnwritten, IsDone, IsFreed, IsSafe, IsSafeHeld, MetChanging, MetLocking, Stretch, once_freed}
 use Rattle.hg_shelf.specs.History.{History, Waits}
 use Rattle.hg_shelf.specs.Images.{Course, Goes}
 use Rattle.hg_shelf.specs.Lock.{Locks, Unlocks}
@@ -28,7 +29,8 @@ refused_holds was is before now true same locks held = absurd (cc same)
 refused_holds was is before now false same locks held = sym locks.0 ∙ held
 
 module _ (a b c d : Course) (lock : Waits a.history b.history) (unlock : Waits c.history d.history) (p : Goes a b) (q : Goes b c) (r : Goes c d)
-    (command : Changing) (words : List (List ℕ)) (copy : Watched tree.History) (start before after end : ℕ) where
+    (Part Whole : Makes) (wide : (old new : Table) (lines : List ℕ) (changed : Bool) → Part old new lines changed → Whole old new lines changed)
+    (copy : Watched tree.History) (start before after end : ℕ) where
   abbrev part : Watched History
   part = record { old = b.history; new = c.history; before = before; after = after }
 
@@ -41,16 +43,16 @@ module _ (a b c d : Course) (lock : Waits a.history b.history) (unlock : Waits c
   abbrev outer : Saved
   outer = record { old = a; new = d }
 
-  pub once_done : (done : Result (Vec ℕ Global) Fault) (freed : Result Unit Failed) → IfOk done (λ lines. IsDone command words copy part inner lines.items)
-      → IfOk (once_freed done freed) (λ lines. IsDone command words copy whole outer lines.items)
+  pub once_done : (done : Result (Vec ℕ Global) Fault) (freed : Result Unit Failed) → IfOk done (λ lines. IsDone Part part inner b.history.last c.history.last lines.items)
+      → IfOk (once_freed done freed) (λ lines. (stretch : Stretch a.history d.history) × IsDone Whole whole outer stretch.from stretch.to lines.items)
   once_done (Err fault) freed is = tt
   once_done (Ok lines) (Err failed) is = tt
-  once_done (Ok lines) (Ok unit) is = done_wide a b c d lock unlock p q r command words copy before after start end lines.items is
+  once_done (Ok lines) (Ok unit) is = (held_stretch a b c d lock unlock p q r, done_wide a b c d lock unlock p q r Part Whole wide copy before after start end lines.items is)
 
-  pub once_met : (locks : Count) (done : Result (Vec ℕ Global) Fault) (freed : Result Unit Failed) → before ≡ start → before ≤ after → IfErr done (MetChanging command words copy part) → HasCause after end freed (λ e. Unit {0})
-      → IfErr (once_freed done freed) (MetLocking command words copy whole locks)
+  pub once_met : (locks : Count) (done : Result (Vec ℕ Global) Fault) (freed : Result Unit Failed) → before ≡ start → before ≤ after → IfErr done (MetChanging Part copy part) → HasCause after end freed (λ e. Unit {0})
+      → IfErr (once_freed done freed) (MetLocking Whole copy whole locks)
   once_met locks (Err fault) freed same later met cause =
-      inl (met_wide a b c d lock unlock p q r command words copy before after start end fault (λ rose. rose_first start before after end same cause.later rose) met)
+      inl (met_wide a b c d lock unlock p q r Part Whole wide copy before after start end fault (λ rose. rose_first start before after end same cause.later rose) met)
   once_met locks (Ok lines) (Err failed) same later met cause = inl (rose_last start before after end same later (cause.rose tt))
   once_met locks (Ok lines) (Ok unit) same later met cause = tt
 
@@ -60,21 +62,21 @@ module _ (a b c d : Course) (lock : Waits a.history b.history) (unlock : Waits c
   once_unwritten (Ok lines) (Err failed) is = inl refl
   once_unwritten (Ok lines) (Ok unit) is = tt
 
-  once_safe_in : (done : Result (Vec ℕ Global) Fault) (freed : Result Unit Failed) → IsSafe command words copy inner (result_err done) → IsSafe command words copy outer (result_err (once_freed done freed))
-  once_safe_in (Err fault) freed safe = safe_wide a b c d lock unlock p q r command words copy before after start end (Some fault) safe
-  once_safe_in (Ok lines) (Err failed) safe = elim (safe_wide a b c d lock unlock p q r command words copy before after start end None safe) [
+  once_safe_in : (done : Result (Vec ℕ Global) Fault) (freed : Result Unit Failed) → IsSafeHeld Part inner (result_err done) → IsSafe Whole outer (result_err (once_freed done freed))
+  once_safe_in (Err fault) freed safe = safe_wide a b c d lock unlock p q r Part Whole wide copy before after start end (Some fault) safe
+  once_safe_in (Ok lines) (Err failed) safe = elim (safe_wide a b c d lock unlock p q r Part Whole wide copy before after start end None safe) [
     | inl none ↦ inl none
     | inr is ↦ inr (inl refl, is.1)
   ]
-  once_safe_in (Ok lines) (Ok unit) safe = safe_wide a b c d lock unlock p q r command words copy before after start end None safe
+  once_safe_in (Ok lines) (Ok unit) safe = safe_wide a b c d lock unlock p q r Part Whole wide copy before after start end None safe
 
   -- both failed: once alone is too few
-  two_rose : (fault : Fault) → MetChanging command words copy part fault → before ≡ start → Rose after end → FailsOnce whole → fault ≡ a_fault.ShelfFailed → ⊥
-  two_rose fault met same rose one is = let first : Rose before after = subst (MetChanging command words copy part) is met in omega (arith, same, rose, one.0, one.1, first)
+  two_rose : (fault : Fault) → MetChanging Part copy part fault → before ≡ start → Rose after end → FailsOnce whole → fault ≡ a_fault.ShelfFailed → ⊥
+  two_rose fault met same rose one is = let first : Rose before after = subst (MetChanging Part copy part) is met in omega (arith, same, rose, one.0, one.1, first)
 
-  pub once_released : (done : Result (Vec ℕ Global) Fault) (freed : Result Unit Failed) → before ≡ start → before ≤ after → IfOk done (λ lines. IsDone command words copy part inner lines.items)
-      → IfErr done (MetChanging command words copy part) → HasCause after end freed (λ e. Unit {0}) → Unlocks c.history.ours d.history.ours freed
-      → IsFreed command words copy whole outer (result_err (once_freed done freed))
+  pub once_released : (done : Result (Vec ℕ Global) Fault) (freed : Result Unit Failed) → before ≡ start → before ≤ after → IfOk done (λ lines. IsDone Part part inner b.history.last c.history.last lines.items)
+      → IfErr done (MetChanging Part copy part) → HasCause after end freed (λ e. Unit {0}) → Unlocks c.history.ours d.history.ours freed
+      → IsFreed Whole whole outer (result_err (once_freed done freed))
   once_released done (Ok unit) same later is met cause free = λ held. absurd (let never : false ≡ true = sym free ∙ held in cc never)
   once_released (Err fault) (Err failed) same later is met cause free =
       λ held. inr (record { failed = rose_last start before after end same later (cause.rose tt); alone = λ one told. absurd (two_rose fault met same (cause.rose tt) one (cc told)) })
@@ -82,9 +84,9 @@ module _ (a b c d : Course) (lock : Waits a.history b.history) (unlock : Waits c
       λ held.
       inr (record {
         failed = rose_last start before after end same later (cause.rose tt);
-        alone = λ one told. (lines.items, done_wide a b c d lock unlock p q r command words copy before after start end lines.items is);
+        alone = λ one told. (held_stretch a b c d lock unlock p q r, lines.items, done_wide a b c d lock unlock p q r Part Whole wide copy before after start end lines.items is);
       })
 
-  pub once_safe : (done : Result (Vec ℕ Global) Fault) (freed : Result Unit Failed) → (Undisturbed b c → IsSafe command words copy inner (result_err done))
-      → Undisturbed a d → IsSafe command words copy outer (result_err (once_freed done freed))
+  pub once_safe : (done : Result (Vec ℕ Global) Fault) (freed : Result Unit Failed) → (Undisturbed b c → IsSafeHeld Part inner (result_err done))
+      → Undisturbed a d → IsSafe Whole outer (result_err (once_freed done freed))
   once_safe done freed safe calm = once_safe_in done freed (safe (calm_within a b c d lock unlock p q r calm))

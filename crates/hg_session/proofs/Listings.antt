@@ -66,7 +66,7 @@ module _ (looked : Looked) (wanted : Wanted) (behind : shelf.History) (flat : pl
   cause_by : (fault : StatusFault) → Behind fault → (fault ≡ a_status.TreeFailed → Fails looked.tree) → (fault ≡ a_status.ShelfFailed → Fails looked.shelf)
       → CountsOversize {T = Listed} looked.oversize.before looked.oversize.after (Err fault) → flat_met.Met (later flat id) fault → ListingCause looked wanted (a_list.Status fault)
   cause_by a_status.OutOfMemory patterns tree_failed shelf_failed counts met = tt
-  cause_by a_status.TreeFailed patterns tree_failed shelf_failed counts met = (tree_failed refl, (table, loaded))
+  cause_by a_status.TreeFailed patterns tree_failed shelf_failed counts met = (tree_failed refl, λ told. (table, loaded told))
   cause_by a_status.ShelfFailed patterns tree_failed shelf_failed counts met = shelf_failed refl
   cause_by (a_status.RegexpTooBig line) patterns tree_failed shelf_failed counts met = (met_here (a_status.RegexpTooBig line) patterns met, counts.1)
   cause_by fault patterns tree_failed shelf_failed counts met = met_here fault patterns met

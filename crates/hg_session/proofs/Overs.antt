@@ -1,5 +1,5 @@
 -- What publishing a table leads to, in the words of a command.
-use Rattle.std.proofs.Common.{ℕ, ◌≡◌, List, [], Some, None, Result, Ok, sym, ap, ◌∙◌, subst}
+use Rattle.std.proofs.Common.{ℕ, ◌≡◌, true, List, [], Some, None, Result, Ok, sym, ap, ◌∙◌, subst}
 use Rattle.hg_append.specs.Encoded.{ReadsAs}
 use Rattle.hg_append.specs.declared.encoding.Encoded.{Encoded}
 use Rattle.hg_docket.specs.Docket.{docket_of}
@@ -29,11 +29,12 @@ module _ (held : Held) (new : Encoded) (reads : ReadsAs (table held) (reading_of
     gone = λ some. subst (λ (id : List ℕ). (last_scene c).files (data_name id) ≡ None) (sym same) (gone (λ empty. some (same ∙ empty)));
   }
 
-  pub over_by : (loaded : List ℕ) (a b : Course) → held.docket.id ≡ (docket_of loaded).id → IsOver loaded new → Stands loaded (last_scene a)
+  pub over_by : (loaded : List ℕ) (a b : Course) → held.changed ≡ true → held.docket.id ≡ (docket_of loaded).id → IsOver loaded new → Stands loaded (last_scene a)
       → (IsFree new.id (last_scene a) → LeavesOnly a b (published new)) → (IsFree new.id (last_scene a) → ShowsOnly a b (published new)) → (IsLatest (last_scene a) → IsLatest (last_scene b))
       → Leads (KeepsOthers (docket_of loaded).id new.id) a b → (IsLatest (last_scene a) → IsSound (published new) → KeepsRecords us b a.history.last)
       → IsOverwritten held a b
-  over_by loaded a b same over stands crash shown latest others orderly = record {
+  over_by loaded a b changed same over stands crash shown latest others orderly = record {
+    changed = changed;
     found = reads.found;
     is = reads.same;
     crash = λ l. subst (LeavesOnly a b) published_is (crash (next_free loaded (last_scene a) new.id stands l over.next));

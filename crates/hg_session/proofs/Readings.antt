@@ -1,5 +1,5 @@
 -- What reading the record finds, from what a load found and what its nodes lead to.
-use Rattle.std.proofs.Common.{ℕ, ◌≡◌, List, [], ◌∷◌, map, Option, Some, None, Result, Ok, Err, IfOk, IsTrue, refl, sym, ap, ◌∙◌, subst, arith, inl, inr, true≢false}
+use Rattle.std.proofs.Common.{ℕ, ◌≡◌, ◌≤◌, List, [], ◌∷◌, map, Option, Some, None, Result, Ok, Err, IfOk, IsTrue, refl, sym, ap, ◌∙◌, subst, arith, inl, inr, true≢false}
 use Rattle.std.specs.List.{AllByRecursion}
 use Rattle.std.proofs.lemmas.Bool.{cases_Bool}
 use Rattle.hg_base.proofs.Faults.{steady_not_rose}
@@ -16,8 +16,9 @@ use Rattle.hg_save.specs.declared.load_fault.LoadFault.{LoadFault}
 use Rattle.hg_save.specs.declared.load_fault.LoadFault.TheVariants as a_load
 use Rattle.hg_save.specs.declared.loaded.Loaded.{Loaded}
 use Rattle.hg_session.specs.Call.{Fails, Serves, Watched}
+use Rattle.hg_session.specs.Change.{IsReadSome, up_to}
 use Rattle.hg_session.specs.Load.{by_load, of_read}
-use Rattle.hg_session.specs.Loaded.{Answers, IsLoaded, IsRead, IsRefused, IsUnreadable, LoadMet, MetReading, NodesFind, Reads, Refuses}
+use Rattle.hg_session.specs.Loaded.{Answers, IsLoaded, IsRead, IsRefused, IsUnreadable, LoadMet, MetReading, NodesFind, Reads, Refuses, WasLoaded}
 use Rattle.hg_session.specs.declared.read_fault.ReadFault.{ReadFault}
 use Rattle.hg_session.specs.declared.read_fault.ReadFault.TheVariants as a_fault
 use Rattle.hg_shelf.specs.History.{Extends, Files, History, now}
@@ -86,6 +87,14 @@ loaded_as IsOf files mid made second found some = elim (cases_Bool files.old.tol
       (m.1.answer.0, (λ is. read_longer files.old mid files.new m.1.answer.0 second (record { tries = m.0 ∷ []; tried = m.1.tried; found = m.1.answer.1 })), m.1.answer.2)
   | inr not ↦ (some.0, (λ told. absurd (true≢false (sym told ∙ not))), some.1)
 ]
+
+-- what was read before the caller made a step was read
+extends_up_to : (h : History) (upto : ℕ) → upto ≤ h.last → Extends (up_to upto h) h
+extends_up_to h upto within = record { told = refl; later = within; who = λ k less. refl; stay = λ k less. record { shown = refl } }
+
+pub was_loaded : (files : Watched History) → IsReadSome files → WasLoaded files
+was_loaded files some told =
+    let s = some told in (s.0, read_longer files.old (up_to s.1.upto files.new) files.new s.0 (extends_up_to files.new s.1.upto s.1.within) s.1.read)
 
 -- why a reading was refused
 pub met_reading : {X : Type 0} (IsOf : Table → X → Type 0) (files : Watched History) (fault : ReadFault) → (IsTrue files.old.told → (tried : Try) × Reads IsOf files.old files.new (tried ∷ []) (Err fault))

@@ -55,7 +55,7 @@ module _ (call : Call) (files : shelf.Passes call.looked.shelf.old call.looked.s
 
   expected_by : (fault : Option Fault) → Looks (record_look call.looked.shelf) call.out call.err fault → shelf.IsOurs call.looked.shelf.old call.looked.shelf.new → Serves call.looked.shelf → Serves call.out
       → IsExpectedOf there fault
-  expected_by None looks own p q = let ready = (looks.done refl).ready in (ready.0, read_now call.looked.shelf files.past (still own) own.told ready.0 (ready.1 own.told))
+  expected_by None looks own p q = let ready = (looks.done refl).ready own.told in (ready.0, read_now call.looked.shelf files.past (still own) own.told ready.0 ready.1)
   expected_by (Some fault) looks own p q = left_expected own fault looks.left p q
 
   front_own : (fault : Option Fault) → Looks (record_look call.looked.shelf) call.out call.err fault → shelf.IsOurs call.looked.shelf.old call.looked.shelf.new

@@ -51,6 +51,7 @@ pub record CanWrite (held : Held) : Type 0 where
 -- leaves what it might have left or the table; no file is changed but the docket, the one that is written first, the data file that the docket names
 -- and the one with the identifier that follows; each step keeps to how a record is published, and the next one finds its identifier free
 pub record IsOverwritten (held : Held) (old new : Course) : Type 0 where
+  pub changed : held.changed ≡ true
   pub found : Table
   pub is : IsSame found (table held)
   pub crash : IsLatest (last_scene old) → LeavesOnly old new (Some (Ok found))

@@ -6,11 +6,11 @@ use Rattle.hg_listing.specs.declared.fault.StatusFault.TheVariants as a_status
 use Rattle.hg_report.specs.declared.fault.Fault.{Fault}
 use Rattle.hg_report.specs.declared.fault.Fault.TheVariants as a_fault
 use Rattle.hg_session.specs.Call.{Call, Fails}
-use Rattle.hg_session.specs.Change.{MetLarge, MetSpent}
+use Rattle.hg_session.specs.Change.{MetLarge, MetSpent, makes_in}
 use Rattle.hg_session.specs.Commands.{changing_of, files_of, is_built}
 use Rattle.hg_session.specs.Flags.{wanted_of}
 use Rattle.hg_session.specs.Listed.{StatusMet}
-use Rattle.hg_session.specs.Loaded.{LoadMet}
+use Rattle.hg_session.specs.Loaded.{LoadMet, WasLoaded}
 use Rattle.hg_session.specs.declared.acting.Changing.{Changing}
 use Rattle.hg_session.specs.declared.read_fault.ReadFault.TheVariants as a_read
 use Rattle.hg_words.specs.declared.flags.StatusFlags.{StatusFlags}
@@ -43,9 +43,9 @@ CommandCause call (a_fault.BadRegexp line) = MetByStatus call (a_status.BadRegex
 CommandCause call (a_fault.RegexpTooBig line) = MetByStatus call (a_status.RegexpTooBig line) × Rose call.looked.oversize.before call.looked.oversize.after
 CommandCause call (a_fault.BadInclude line) = MetByStatus call (a_status.BadInclude line)
 CommandCause call a_fault.Held = MetByChange call (λ command. Rose call.locks.before call.locks.after)
-CommandCause call (a_fault.TooLarge size) = MetByChange call (λ command. MetLarge command (files_of call.command) call.looked.tree call.looked.shelf size)
-CommandCause call a_fault.IdsSpent = MetByChange call (λ command. MetSpent command (files_of call.command) call.looked.tree call.looked.shelf)
-CommandCause call a_fault.TreeFailed = Fails call.looked.tree
+CommandCause call (a_fault.TooLarge size) = MetByChange call (λ command. MetLarge (makes_in command (files_of call.command) call) call.looked.shelf size)
+CommandCause call a_fault.IdsSpent = MetByChange call (λ command. MetSpent (makes_in command (files_of call.command) call) call.looked.shelf)
+CommandCause call a_fault.TreeFailed = Fails call.looked.tree × WasLoaded call.looked.shelf
 CommandCause call a_fault.ShelfFailed = Fails call.looked.shelf
 CommandCause call a_fault.OutFailed = Fails call.out
 CommandCause call a_fault.ErrFailed = Fails call.err

@@ -33,7 +33,7 @@ IsLoaded files table = IsTrue files.old.told → IsRead files.old files.new tabl
 
 -- some table was
 abbrev pub WasLoaded : Watched History → Type 0
-WasLoaded files = (table : Table) × IsLoaded files table
+WasLoaded files = IsTrue files.old.told → (table : Table) × IsRead files.old files.new table
 
 -- ---- what reading it answers
 

@@ -8,7 +8,9 @@ ghost use Rattle.hg_ops.specs.Cause.{HasOpCause};
 ghost use Rattle.hg_ops.specs.declared.refusal.OpFault.TheVariants as an_op_fault;
 ghost use Rattle.hg_report.specs.declared.fault.Fault.TheVariants as a_fault;
 ghost use Rattle.hg_session.specs.Acts.{IsActed, Steps, name, refused_line};
+ghost use Rattle.hg_session.specs.Call.{Watched};
 ghost use Rattle.hg_session.specs.declared.acting.Changing.TheVariants as a_command;
+ghost use Rattle.hg_shelf.specs.History as shelf;
 ghost use Rattle.hg_tree.specs.History.{Passes};
 
 use hg_base::{OutOfMemory, Words};
@@ -42,7 +44,7 @@ fn step<T: Tree>(
     mixed: &mut Mixed<'_>,
     tree: &mut T,
 ) -> Result<Option<Refusal>, OpFault>
-    ensures stepped { IfOk result (λ refused. Steps command (T.history tree.old) (T.history tree.new) word.now (table mixed.old) refused (table mixed.new)) }
+    ensures stepped { (files : Watched shelf.History) → IfOk result (λ refused. Steps command files (T.history tree.old) (T.history tree.new) word.now (table mixed.old) refused (table mixed.new)) }
     ensures changed { OnOk result (Marks (IsSame (table mixed.new) (table mixed.old)) mixed.old.changed mixed.new.changed) }
     ensures image { IsOfSameImage mixed.old mixed.new }
     ensures passes { Passes (T.history tree.old) (T.history tree.new) }
@@ -85,10 +87,21 @@ pub(crate) fn act<T: Tree>(
     mixed: &mut Mixed<'_>,
     tree: &mut T,
 ) -> Result<Vec<u8>, Fault>
-    ensures acts { IfOk result (λ lines. IsActed command (T.history tree.old) (T.history tree.new) words.now (table mixed.old) (table mixed.new) mixed.old.changed mixed.new.changed lines.items) }
-    // The mark that something was changed stays where it was set; where it isn't set, nothing was changed.
+    // `IsActed` in specs/Acts.antt, whatever stands below `.hg`; of a table in which nothing was changed before.
+    ensures acts { (files : Watched shelf.History) → mixed.old.changed ≡ false
+        → IfOk
+        result
+        (λ lines. IsActed
+        command
+        words.now
+        (record { old = T.history tree.old; new = T.history tree.new; before = T.faults tree.old; after = T.faults tree.new })
+        files
+        (table mixed.old)
+        (table mixed.new)
+        lines.items
+        mixed.new.changed) }
+    // The mark that something was changed stays where it was set.
     ensures marked { OnOk result (mixed.old.changed ≡ true → mixed.new.changed ≡ true) }
-    ensures changed { OnOk result (mixed.old.changed ≡ false → mixed.new.changed ≡ false → IsSame (table mixed.new) (table mixed.old)) }
     ensures image { IsOfSameImage mixed.old mixed.new }
     ensures passes { Passes (T.history tree.old) (T.history tree.new) }
     ensures asked { IsTrue (T.history tree.old).told → (T.history tree.new).asked ≡ (T.history tree.old).asked }

@@ -34,7 +34,7 @@ returns-in-Err-clause-does g c =
       shows = λ err silent. record {
         done = tt;
         left = (at_printing, (
-          (l.0, l.1),
+          (λ told. (l.0, l.1 told)),
           record {
             text = c.in_ok-text.text.items;
             is = record { table = l.0; read = l.1; is = l.2 };
@@ -58,7 +58,7 @@ returns-clause-does g c =
     record {
       shows = λ err silent. record {
         done = record {
-          ready = (l.0, l.1);
+          ready = λ told. (l.0, l.1 told);
           printed = record {
             text = c.in_ok-text.text.items;
             is = record { table = l.0; read = l.1; is = l.2 };

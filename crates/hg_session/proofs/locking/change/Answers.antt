@@ -1,6 +1,8 @@
 -- The lock, the change and giving the lock back, as one call.
 use Rattle.std.proofs.Common.{inl, inr, sym, ◌∙◌}
 use Rattle.hg_session.proofs.Freed.{once_done, once_met, once_released, once_safe, once_unwritten, refused_holds}
+use Rattle.hg_session.proofs.Acted.{acted_over}
+use Rattle.hg_session.proofs.Widening.{read_some_wide}
 use Rattle.hg_shelf.specs.Images.{course}
 use Rattle.hg_shelf.proofs.Scenes.{goes_trans}
 use Rattle.hg_session.proofs.locking.change.Goals as goal
@@ -11,7 +13,8 @@ returns-in-Ok-true-clause-done g c =
     (once_done (course (g.S.Shelf.history c.args.shelf.now) (g.S.Shelf.images c.args.shelf.now)) (course (g.S.Shelf.history c.lock.new.self) (g.S.Shelf.images c.lock.new.self))
     (course (g.S.Shelf.history c.change_locked-done.new.shelf) (g.S.Shelf.images c.change_locked-done.new.shelf)) (course (g.S.Shelf.history c.unlock-freed.new.self) (g.S.Shelf.images c.unlock-freed.new.self))
     c.lock.ensures.waits c.unlock-freed.ensures.waits c.lock.ensures.kept c.change_locked-done.ensures.kept c.unlock-freed.ensures.kept
-    c.args.command c.args.words.now _ (g.S.Shelf.faults c.args.shelf.now) (g.S.Shelf.faults c.lock.new.self) (g.S.Shelf.faults c.change_locked-done.new.shelf) (g.S.Shelf.faults c.unlock-freed.new.self)
+    _ _ (acted_over c.args.command _ _ c.args.words.now (record { old = g.T.Tree.history c.args.tree.now; new = g.T.Tree.history c.change_locked-done.new.tree; before = g.T.Tree.faults c.args.tree.now; after = g.T.Tree.faults c.change_locked-done.new.tree }))
+    (record { old = g.T.Tree.history c.args.tree.now; new = g.T.Tree.history c.change_locked-done.new.tree; before = g.T.Tree.faults c.args.tree.now; after = g.T.Tree.faults c.change_locked-done.new.tree }) (g.S.Shelf.faults c.args.shelf.now) (g.S.Shelf.faults c.lock.new.self) (g.S.Shelf.faults c.change_locked-done.new.shelf) (g.S.Shelf.faults c.unlock-freed.new.self)
     c.change_locked-done.result c.unlock-freed.result c.change_locked-done.ensures.done)
 
 pub returns-in-Ok-true-clause-met : goal.returns-in-Ok-true-clause-met
@@ -20,7 +23,8 @@ returns-in-Ok-true-clause-met g c =
     (once_met (course (g.S.Shelf.history c.args.shelf.now) (g.S.Shelf.images c.args.shelf.now)) (course (g.S.Shelf.history c.lock.new.self) (g.S.Shelf.images c.lock.new.self))
     (course (g.S.Shelf.history c.change_locked-done.new.shelf) (g.S.Shelf.images c.change_locked-done.new.shelf)) (course (g.S.Shelf.history c.unlock-freed.new.self) (g.S.Shelf.images c.unlock-freed.new.self))
     c.lock.ensures.waits c.unlock-freed.ensures.waits c.lock.ensures.kept c.change_locked-done.ensures.kept c.unlock-freed.ensures.kept
-    c.args.command c.args.words.now _ (g.S.Shelf.faults c.args.shelf.now) (g.S.Shelf.faults c.lock.new.self) (g.S.Shelf.faults c.change_locked-done.new.shelf) (g.S.Shelf.faults c.unlock-freed.new.self)
+    _ _ (acted_over c.args.command _ _ c.args.words.now (record { old = g.T.Tree.history c.args.tree.now; new = g.T.Tree.history c.change_locked-done.new.tree; before = g.T.Tree.faults c.args.tree.now; after = g.T.Tree.faults c.change_locked-done.new.tree }))
+    (record { old = g.T.Tree.history c.args.tree.now; new = g.T.Tree.history c.change_locked-done.new.tree; before = g.T.Tree.faults c.args.tree.now; after = g.T.Tree.faults c.change_locked-done.new.tree }) (g.S.Shelf.faults c.args.shelf.now) (g.S.Shelf.faults c.lock.new.self) (g.S.Shelf.faults c.change_locked-done.new.shelf) (g.S.Shelf.faults c.unlock-freed.new.self)
     _ c.change_locked-done.result c.unlock-freed.result c.in-Ok-true.ensures.cause.quiet c.change_locked-done.ensures.later c.change_locked-done.ensures.met c.unlock-freed.ensures.cause)
 
 pub returns-in-Ok-true-clause-safe : goal.returns-in-Ok-true-clause-safe
@@ -29,7 +33,8 @@ returns-in-Ok-true-clause-safe g c = λ calm.
     (once_safe (course (g.S.Shelf.history c.args.shelf.now) (g.S.Shelf.images c.args.shelf.now)) (course (g.S.Shelf.history c.lock.new.self) (g.S.Shelf.images c.lock.new.self))
     (course (g.S.Shelf.history c.change_locked-done.new.shelf) (g.S.Shelf.images c.change_locked-done.new.shelf)) (course (g.S.Shelf.history c.unlock-freed.new.self) (g.S.Shelf.images c.unlock-freed.new.self))
     c.lock.ensures.waits c.unlock-freed.ensures.waits c.lock.ensures.kept c.change_locked-done.ensures.kept c.unlock-freed.ensures.kept
-    c.args.command c.args.words.now _ (g.S.Shelf.faults c.args.shelf.now) (g.S.Shelf.faults c.lock.new.self) (g.S.Shelf.faults c.change_locked-done.new.shelf) (g.S.Shelf.faults c.unlock-freed.new.self)
+    _ _ (acted_over c.args.command _ _ c.args.words.now (record { old = g.T.Tree.history c.args.tree.now; new = g.T.Tree.history c.change_locked-done.new.tree; before = g.T.Tree.faults c.args.tree.now; after = g.T.Tree.faults c.change_locked-done.new.tree }))
+    (record { old = g.T.Tree.history c.args.tree.now; new = g.T.Tree.history c.change_locked-done.new.tree; before = g.T.Tree.faults c.args.tree.now; after = g.T.Tree.faults c.change_locked-done.new.tree }) (g.S.Shelf.faults c.args.shelf.now) (g.S.Shelf.faults c.lock.new.self) (g.S.Shelf.faults c.change_locked-done.new.shelf) (g.S.Shelf.faults c.unlock-freed.new.self)
     c.change_locked-done.result c.unlock-freed.result c.change_locked-done.ensures.safe calm)
 
 pub returns-in-Ok-false-clause-unwritten : goal.returns-in-Ok-false-clause-unwritten
@@ -41,7 +46,7 @@ returns-in-Ok-true-clause-unwritten g c =
     (once_unwritten (course (g.S.Shelf.history c.args.shelf.now) (g.S.Shelf.images c.args.shelf.now)) (course (g.S.Shelf.history c.lock.new.self) (g.S.Shelf.images c.lock.new.self))
     (course (g.S.Shelf.history c.change_locked-done.new.shelf) (g.S.Shelf.images c.change_locked-done.new.shelf)) (course (g.S.Shelf.history c.unlock-freed.new.self) (g.S.Shelf.images c.unlock-freed.new.self))
     c.lock.ensures.waits c.unlock-freed.ensures.waits c.lock.ensures.kept c.change_locked-done.ensures.kept c.unlock-freed.ensures.kept
-    c.args.command c.args.words.now (record {
+    (λ old new lines changed. Unit {0}) (λ old new lines changed. Unit {0}) (λ old new lines changed is. is) (record {
       old = g.T.Tree.history c.args.tree.now;
       new = g.T.Tree.history c.change_locked-done.new.tree;
       before = g.T.Tree.faults c.args.tree.now;
@@ -61,7 +66,8 @@ returns-in-Ok-true-clause-freed g c =
     (once_released (course (g.S.Shelf.history c.args.shelf.now) (g.S.Shelf.images c.args.shelf.now)) (course (g.S.Shelf.history c.lock.new.self) (g.S.Shelf.images c.lock.new.self))
     (course (g.S.Shelf.history c.change_locked-done.new.shelf) (g.S.Shelf.images c.change_locked-done.new.shelf)) (course (g.S.Shelf.history c.unlock-freed.new.self) (g.S.Shelf.images c.unlock-freed.new.self))
     c.lock.ensures.waits c.unlock-freed.ensures.waits c.lock.ensures.kept c.change_locked-done.ensures.kept c.unlock-freed.ensures.kept
-    c.args.command c.args.words.now _ (g.S.Shelf.faults c.args.shelf.now) (g.S.Shelf.faults c.lock.new.self) (g.S.Shelf.faults c.change_locked-done.new.shelf) (g.S.Shelf.faults c.unlock-freed.new.self)
+    _ _ (acted_over c.args.command _ _ c.args.words.now (record { old = g.T.Tree.history c.args.tree.now; new = g.T.Tree.history c.change_locked-done.new.tree; before = g.T.Tree.faults c.args.tree.now; after = g.T.Tree.faults c.change_locked-done.new.tree }))
+    (record { old = g.T.Tree.history c.args.tree.now; new = g.T.Tree.history c.change_locked-done.new.tree; before = g.T.Tree.faults c.args.tree.now; after = g.T.Tree.faults c.change_locked-done.new.tree }) (g.S.Shelf.faults c.args.shelf.now) (g.S.Shelf.faults c.lock.new.self) (g.S.Shelf.faults c.change_locked-done.new.shelf) (g.S.Shelf.faults c.unlock-freed.new.self)
     c.change_locked-done.result c.unlock-freed.result c.in-Ok-true.ensures.cause.quiet c.change_locked-done.ensures.later c.change_locked-done.ensures.done c.change_locked-done.ensures.met c.unlock-freed.ensures.cause
     c.unlock-freed.ensures.unlocks)
 
@@ -71,3 +77,12 @@ returns-in-Ok-true-clause-kept g c =
     (course (g.S.Shelf.history c.unlock-freed.new.self) (g.S.Shelf.images c.unlock-freed.new.self)) c.lock.ensures.kept
     (goes_trans (course (g.S.Shelf.history c.lock.new.self) (g.S.Shelf.images c.lock.new.self)) (course (g.S.Shelf.history c.change_locked-done.new.shelf) (g.S.Shelf.images c.change_locked-done.new.shelf))
     (course (g.S.Shelf.history c.unlock-freed.new.self) (g.S.Shelf.images c.unlock-freed.new.self)) c.change_locked-done.ensures.kept c.unlock-freed.ensures.kept)
+
+pub returns-in-Ok-true-clause-behind : goal.returns-in-Ok-true-clause-behind
+returns-in-Ok-true-clause-behind g c = elim c.change_locked-done.ensures.behind [
+  | inl same ↦ inl same
+  | inr read ↦
+      inr (read_some_wide (course (g.S.Shelf.history c.args.shelf.now) (g.S.Shelf.images c.args.shelf.now)) (course (g.S.Shelf.history c.lock.new.self) (g.S.Shelf.images c.lock.new.self))
+      (course (g.S.Shelf.history c.change_locked-done.new.shelf) (g.S.Shelf.images c.change_locked-done.new.shelf)) (course (g.S.Shelf.history c.unlock-freed.new.self) (g.S.Shelf.images c.unlock-freed.new.self))
+      c.lock.ensures.waits c.unlock-freed.ensures.waits c.lock.ensures.kept c.change_locked-done.ensures.kept c.unlock-freed.ensures.kept read)
+]
