@@ -160,7 +160,7 @@ module _ (command : Changing) (words : List (List ℕ)) (copy : Watched tree.His
   }
 
   abbrev Does : Makes
-  Does = makes_in command call
+  Does = makes_in command words call
 
   -- the lock is given back, or that failed, where this is the fault
   abbrev pub FreesFor : Option Fault → Type 0

@@ -17,7 +17,7 @@ use Rattle.hg_words.specs.declared.given.Command.TheVariants as a_command
 
 -- what is done for a command that isn't built: it is answered as such, whatever else holds, its line is told, and every other device is as it was
 pub record IsUnbuilt (call : Call) (fault : Option Fault) : Type 0 where
-  pub fault : IsFaultOrMemory fault a_fault.NotBuilt
+  pub answered : IsFaultOrMemory fault a_fault.NotBuilt
   pub told : IfSome fault (Tells call.err)
   pub tree : IsLeftAlone call.looked.tree
   pub shelf : call.looked.shelf.new ≡ call.looked.shelf.old

@@ -1,0 +1,26 @@
+-- The answer of a call, by its command.
+use Rattle.std.proofs.Common.{ap, refl, sym, subst}
+use Rattle.hg_session.specs.Answered.{Ran}
+use Rattle.hg_session.specs.Commands.{changing_of}
+use Rattle.hg_session.proofs.Caused.{answered_add, answered_forget, answered_record, answered_status}
+use Rattle.hg_session.proofs.choosing.command.Goals as goal
+
+pub returns-in-Status : goal.returns-in-Status
+returns-in-Status g c =
+    answered_status c.args.command.now c.in-Status.flags _ _ _ _ _ _ refl refl c.status-done.result c.ended.result.status c.ended.result.fault c.in-Status.is c.status-done.ensures.does c.status-done.ensures.only c.ended.ensures
+
+pub returns-in-DebugDirstate : goal.returns-in-DebugDirstate
+returns-in-DebugDirstate g c =
+    answered_record c.args.command.now _ _ _ _ _ _ (record { old = g.E.Sink.bytes c.args.err.now; new = g.E.Sink.bytes c.args.err.now; before = g.E.Sink.faults c.args.err.now; after = g.E.Sink.faults c.args.err.now }) _ refl refl
+    c.print_record-done.result c.ended-in-DebugDirstate.result.status c.ended-in-DebugDirstate.result.fault c.in-DebugDirstate.is
+    (record { history = refl; count = refl }) refl (record { bytes = refl; count = refl }) c.print_record-done.ensures.does c.print_record-done.ensures.only c.ended-in-DebugDirstate.ensures
+
+pub returns-in-Add : goal.returns-in-Add
+returns-in-Add g c =
+    answered_add c.args.command.now c.in-Add.files _ c.change_record.result.status c.change_record.result.fault c.in-Add.is refl
+    (c.change_record.ensures.ran c.args.command.now _ _ (record { bytes = refl; count = refl }) refl) c.change_record.ensures.status
+
+pub returns-in-Forget : goal.returns-in-Forget
+returns-in-Forget g c =
+    answered_forget c.args.command.now c.in-Forget.files _ c.change_record-in-Forget.result.status c.change_record-in-Forget.result.fault c.in-Forget.is refl
+    (c.change_record-in-Forget.ensures.ran c.args.command.now _ _ (record { bytes = refl; count = refl }) refl) c.change_record-in-Forget.ensures.status
