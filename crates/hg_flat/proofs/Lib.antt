@@ -2,6 +2,7 @@ pub mod Alike
 pub mod Alone
 pub mod Among
 pub mod Ascending
+pub mod Asking
 pub mod Asks
 pub mod Calls
 pub mod Faces

@@ -13,6 +13,7 @@ use Rattle.hg_manifest.specs.Load.{Finds, IsFrontOf, Reads, Stays, Was, file_at,
 use Rattle.hg_manifest.specs.Plain.{is_null, plain_name}
 use Rattle.hg_manifest.specs.Rows.{Rows}
 use Rattle.hg_manifest.specs.declared.fault.ManifestFault.{ManifestFault}
+use Rattle.hg_manifest.specs.declared.fault.ManifestFault.TheVariants as a_manifest_fault
 use Rattle.hg_manifest.specs.declared.row.FileRow.{FileRow}
 use Rattle.hg_manifest.proofs.Loads.{complete}
 use Rattle.hg_compare.specs.Alike.{contents_name}
@@ -21,6 +22,7 @@ use Rattle.hg_compare.specs.declared.letter.Letter.{Letter}
 use Rattle.hg_flat.specs.Course.{Goes, IsFound, IsJudged, IsKeptManifest, IsManifest, LacksIn, LacksManifest, LoadsParent, MetBy, compared_letter, upto}
 use Rattle.hg_flat.specs.Met.{Status, WasRead}
 use Rattle.hg_flat.specs.Parent.{KeepsRow, manifest_at, row_among, row_of}
+use Rattle.hg_listing.specs.Cause.{of_manifest}
 use Rattle.hg_listing.specs.declared.fault.StatusFault.{StatusFault}
 use Rattle.hg_listing.specs.declared.fault.StatusFault.TheVariants as a_fault
 use Rattle.hg_flat.specs.declared.parent.Loaded.{Loaded}
@@ -105,6 +107,27 @@ load_done s old new id rows answer done first second same null found =
     subst (λ (i : Id20). MatchBool (is_null i.0) (rows ≡ []) (WasRead (upto s s.tree_new new) (Ok rows))) same
     (if_null (rows ≡ []) (WasRead (upto s s.tree_new new) (Ok rows)) (is_null id.0) (λ is. cc (done, null is))
     (λ is. reads_was s s.tree_new old new (Ok rows) first second (subst (λ (i : Id20). Reads old new (plain_name i.0) (Ok rows)) same (found is))))
+
+lacks_file : (s : Status) (old new : shelves.History) (fault : ManifestFault) → is_null s.id.0 ≡ false → shelves.Passes s.shelf_old old → shelves.Passes old new → Finds old new (plain_name s.id.0) s.id (Err fault)
+    → LacksManifest (upto s s.tree_new new) (of_manifest fault)
+lacks_file s old new a_manifest_fault.OutOfMemory committed first second found = tt
+lacks_file s old new a_manifest_fault.Failed committed first second found = tt
+lacks_file s old new (a_manifest_fault.NoManifest gone) committed first second found =
+    (committed, found.0, was_later s.shelf_old old new (plain_name s.id.0) (λ file. file ≡ None) first found.1)
+lacks_file s old new (a_manifest_fault.ManifestTooLarge size) committed first second found =
+    (committed, found.0, was_later s.shelf_old old new (plain_name s.id.0) (λ file. size_of file ≡ Some size) first found.1)
+lacks_file s old new (a_manifest_fault.ManifestLine line) committed first second found =
+    (committed, reads_was s s.tree_new old new (Err (a_manifest_fault.ManifestLine line)) first second found)
+lacks_file s old new (a_manifest_fault.ManifestOrder line) committed first second found =
+    (committed, reads_was s s.tree_new old new (Err (a_manifest_fault.ManifestOrder line)) first second found)
+
+pub load_failed : (s : Status) (old new : shelves.History) (id : Id20) (fault : ManifestFault) (answer : Result Rows ManifestFault) → answer ≡ Err fault → shelves.Passes s.shelf_old old → shelves.Passes old new → id ≡ s.id
+    → (IsTrue (is_null id.0) → answer ≡ Ok []) → (is_null id.0 ≡ false → Finds old new (plain_name id.0) id (Err fault)) → LacksManifest (upto s s.tree_new new) (of_manifest fault)
+load_failed s old new id fault answer failed first second same null found = by (is_null id.0) refl
+  where
+    by : (b : Bool) → is_null id.0 ≡ b → LacksManifest (upto s s.tree_new new) (of_manifest fault)
+    by true is = absurd (cc (failed, null is))
+    by false is = lacks_file s old new fault (ap (λ (i : Id20). is_null i.0) (sym same) ∙ is) first second (subst (λ (i : Id20). Finds old new (plain_name i.0) i (Err fault)) same (found is))
 
 -- ---- a comparison with the parent
 

@@ -5,6 +5,7 @@ ghost use Rattle.hg_compare.specs.Alike.{contents_name, is_alike};
 ghost use Rattle.hg_compare.specs.Same.{Reads, StaysShown, parent_row};
 ghost use Rattle.hg_manifest.specs.Load.{Stays};
 ghost use Rattle.hg_shelf.specs.History as shelves;
+ghost use Rattle.hg_shelf.specs.Images as images;
 ghost use Rattle.hg_tree.specs.History as trees;
 ghost use Rattle.hg_tree.specs.Moment.{stat_at};
 ghost use Rattle.hg_listing.specs.Cause.{HasShelfCause, HasStatusCause};
@@ -25,6 +26,8 @@ use std::alloc::Global;
 // Loads the manifest of a parent.
 fn load<S: Shelf>(alloc: Global, shelf: &mut S, id: &Id20) -> Result<Loaded, StatusFault>
     ensures passes { shelves.Passes (S.history shelf.old) (S.history shelf.new) }
+    ensures kept { images.Goes (images.course (S.history shelf.old) (S.images shelf.old)) (images.course (S.history shelf.new) (S.images shelf.new)) }
+    ensures held { S.held shelf.new ≡ S.held shelf.old }
     ensures found { (s : Status) → shelves.Passes s.shelf_old (S.history shelf.old)
         → id.now ≡ s.id
         → LoadsParent (upto s s.tree_new (S.history shelf.new)) result }
@@ -66,6 +69,8 @@ fn letter_by_row<T: Tree, S: Shelf>(
 ) -> Result<Letter, StatusFault>
     ensures tree_passes { trees.Passes (T.history tree.old) (T.history tree.new) }
     ensures shelf_passes { shelves.Passes (S.history shelf.old) (S.history shelf.new) }
+    ensures kept { images.Goes (images.course (S.history shelf.old) (S.images shelf.old)) (images.course (S.history shelf.new) (S.images shelf.new)) }
+    ensures held { S.held shelf.new ≡ S.held shelf.old }
     ensures judged { (files : shelves.Files) → IsTrue (T.history tree.old).told
         → IsTrue (S.history shelf.old).told
         → StaysShown (T.history tree.old) (T.history tree.new) path.entry.text.now
@@ -93,7 +98,9 @@ fn letter_in<T: Tree, S: Shelf>(
 ) -> Result<Letter, StatusFault>
     ensures tree_passes { trees.Passes (T.history tree.old) (T.history tree.new) }
     ensures shelf_passes { shelves.Passes (S.history shelf.old) (S.history shelf.new) }
-    ensures kept { loaded.new.manifest ≡ loaded.old.manifest }
+    ensures kept { images.Goes (images.course (S.history shelf.old) (S.images shelf.old)) (images.course (S.history shelf.new) (S.images shelf.new)) }
+    ensures held { S.held shelf.new ≡ S.held shelf.old }
+    ensures manifest { loaded.new.manifest ≡ loaded.old.manifest }
     ensures judged { (files : shelves.Files) → IsTrue (T.history tree.old).told
         → IsTrue (S.history shelf.old).told
         → StaysShown (T.history tree.old) (T.history tree.new) path.entry.text.now
@@ -136,6 +143,8 @@ fn first_letter<T: Tree, S: Shelf>(
 ) -> Result<Letter, StatusFault>
     ensures tree_passes { trees.Passes (T.history tree.old) (T.history tree.new) }
     ensures shelf_passes { shelves.Passes (S.history shelf.old) (S.history shelf.new) }
+    ensures kept { images.Goes (images.course (S.history shelf.old) (S.images shelf.old)) (images.course (S.history shelf.new) (S.images shelf.new)) }
+    ensures held { S.held shelf.new ≡ S.held shelf.old }
     ensures goes { OnOk
         result
         ((s : Status) → Goes (upto s (T.history tree.old) (S.history shelf.old)) parent.old
@@ -174,6 +183,8 @@ pub(crate) fn compared_letter<T: Tree, S: Shelf>(
 ) -> Result<Letter, StatusFault>
     ensures tree_passes { trees.Passes (T.history tree.old) (T.history tree.new) }
     ensures shelf_passes { shelves.Passes (S.history shelf.old) (S.history shelf.new) }
+    ensures kept { images.Goes (images.course (S.history shelf.old) (S.images shelf.old)) (images.course (S.history shelf.new) (S.images shelf.new)) }
+    ensures held { S.held shelf.new ≡ S.held shelf.old }
     ensures goes { OnOk
         result
         ((s : Status) → Goes (upto s (T.history tree.old) (S.history shelf.old)) parent.old

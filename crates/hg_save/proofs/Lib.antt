@@ -1,5 +1,8 @@
 pub mod Encodings
+pub mod Exact
 pub mod Exits
+pub mod Keeping
+pub mod Kept
 pub mod Loads
 pub mod Names
 pub mod Orderly

@@ -6,8 +6,8 @@ use Rattle.hg_image.specs.Reading.{RecordFault}
 use Rattle.hg_shelf.specs.History.{Files, History, Who, others}
 use Rattle.hg_shelf.specs.Images.{Course, Scene, scene}
 use Rattle.hg_save.specs.Loads.{During, files_at}
-use Rattle.hg_save.specs.Record.{IsSound, data_name, docket_in, reading}
-use Rattle.hg_save.specs.Saved.{IsLatest}
+use Rattle.hg_save.specs.Record.{IsSound, data_name, docket_in, id_in, reading}
+use Rattle.hg_save.specs.Saved.{IsLatest, name_after}
 
 -- a docket is sound, and uses bytes of its data file
 pub record UsesData (docket : List ℕ) : Type 0 where
@@ -37,6 +37,36 @@ pub record KeepData (h : History) (from : ℕ) : Type 0 where
       → HasFront (docket_of (docket_in (files_at h k))).used (named_file (docket_in (files_at h k)) (files_at h k))
   pub kept : (k m : ℕ) → from ≤ k → k ≤ m → m ≤ h.last → UsesData (docket_in (files_at h k))
       → KeepsFront (docket_of (docket_in (files_at h k))).used (named_file (docket_in (files_at h k)) (files_at h k)) (named_file (docket_in (files_at h k)) (files_at h m))
+
+-- ---- the same, said of single steps
+
+-- the data file that the standing docket names is there
+abbrev pub HasData : Files → Type 0
+HasData files = UsesData (docket_in files) → HasFront (docket_of (docket_in files)).used (named_file (docket_in files) files)
+
+-- so many bytes at the front of a file stay as long as it is there, where it has so many; an absent one stays away
+abbrev pub StaysFront : ℕ → Option (List ℕ) → Option (List ℕ) → Type 0
+StaysFront used old None = Unit {0}
+StaysFront used None (Some now) = ⊥
+StaysFront used (Some old) (Some now) = used ≤ length old → (used ≤ length now) × (take used now ≡ take used old)
+
+-- an identifier doesn't come after another
+abbrev pub IsNotAhead : List ℕ → List ℕ → Type 0
+IsNotAhead of id = (n : ℕ) → name_after n of ≡ Some id → ⊥
+
+-- a step keeps the data that dockets name: of each that isn't ahead of the standing one the used bytes stay as long as the file is there, the
+-- standing one's file is there as before, and what wasn't ahead of the standing one isn't ahead of the one that stands then
+pub record IsKeeping (before behind : Files) : Type 0 where
+  pub kept : (docket : List ℕ) → UsesData docket → IsNotAhead (id_in before) (docket_of docket).id
+      → StaysFront (docket_of docket).used (named_file docket before) (named_file docket behind)
+  pub there : HasData before → HasData behind
+  pub ahead : (id : List ℕ) → IsNotAhead (id_in before) id → IsNotAhead (id_in behind) id
+
+-- from a moment on each step of one keeps the data that dockets name
+pub record KeepsFiles (by : Who) (h : History) (from : ℕ) : Type 0 where
+  pub each : (k : ℕ) → from ≤ k → k < h.last → h.who k ≡ by → IsKeeping (files_at h k) (files_at h (k + 1))
+
+-- ---- what was recorded
 
 -- the files of one moment of a call record this
 pub record WasRecorded (old new : History) (recorded : Result Table RecordFault) : Type 0 where

@@ -17,7 +17,7 @@ returns-in-Some-clause-goes g c =
     (λ s goes.
     goes_loaded s (g.T.Tree.history c.args.tree.now) (g.T.Tree.history c.letter_in.new.tree) (g.S.Shelf.history c.args.shelf.now) (g.S.Shelf.history c.letter_in.new.shelf) c.args.parent.now c.letter_in.new.loaded
     c.letter_in.ensures.tree_passes c.letter_in.ensures.shelf_passes goes
-    (subst (IsManifest (upto s (g.T.Tree.history c.letter_in.new.tree) (g.S.Shelf.history c.letter_in.new.shelf))) (sym c.letter_in.ensures.kept)
+    (subst (IsManifest (upto s (g.T.Tree.history c.letter_in.new.tree) (g.S.Shelf.history c.letter_in.new.shelf))) (sym c.letter_in.ensures.manifest)
     (manifest_later s (g.T.Tree.history c.args.tree.now) (g.T.Tree.history c.letter_in.new.tree) (g.S.Shelf.history c.args.shelf.now) (g.S.Shelf.history c.letter_in.new.shelf) c.in-Some.loaded.manifest goes.shelf
     c.letter_in.ensures.shelf_passes
     (subst (IsKeptManifest (upto s (g.T.Tree.history c.args.tree.now) (g.S.Shelf.history c.args.shelf.now))) c.in-Some.is goes.read))))

@@ -1,6 +1,7 @@
 use Rattle.std.proofs.Common.{Ok, sym, subst}
 use Rattle.std.proofs.lemmas.Result.{err_from_is_err_and}
 use Rattle.hg_shelf.proofs.Histories as shelves
+use Rattle.hg_shelf.proofs.Scenes.{goes_trans}
 use Rattle.hg_flat.specs.Course.{IsManifest, upto}
 use Rattle.hg_flat.proofs.Manifests.{found_letter, goes_loaded, manifest_later, met_in, met_load}
 use Rattle.hg_flat.proofs.comparing.first_letter.Goals as goal
@@ -33,7 +34,7 @@ returns-clause-goes g c = λ s goes.
     c.letter_in.ensures.tree_passes
     (shelves.passes_trans (g.S.Shelf.history c.args.shelf.now) (g.S.Shelf.history c.load.new.shelf) (g.S.Shelf.history c.letter_in.new.shelf) c.load.ensures.passes c.letter_in.ensures.shelf_passes)
     goes
-    (subst (IsManifest (upto s (g.T.Tree.history c.letter_in.new.tree) (g.S.Shelf.history c.letter_in.new.shelf))) (sym c.letter_in.ensures.kept)
+    (subst (IsManifest (upto s (g.T.Tree.history c.letter_in.new.tree) (g.S.Shelf.history c.letter_in.new.shelf))) (sym c.letter_in.ensures.manifest)
     (manifest_later s (g.T.Tree.history c.args.tree.now) (g.T.Tree.history c.letter_in.new.tree) (g.S.Shelf.history c.load.new.shelf) (g.S.Shelf.history c.letter_in.new.shelf) c.in_ok-loaded.loaded.manifest first
     c.letter_in.ensures.shelf_passes
     (c.in_ok-loaded.ensures.found (upto s (g.T.Tree.history c.args.tree.now) (g.S.Shelf.history c.args.shelf.now)) goes.shelf goes.same)))
@@ -47,3 +48,9 @@ returns-clause-found g c = λ s goes told stays keeps shown.
     c.letter_in.ensures.shelf_passes
     (c.in_ok-loaded.ensures.found (upto s (g.T.Tree.history c.args.tree.now) (g.S.Shelf.history c.args.shelf.now)) goes.shelf goes.same))
     keeps (λ files held kept. c.in_ok-letter.ensures.judged files told held stays kept shown)
+
+pub returns-in_err-letter-clause-kept : goal.returns-in_err-letter-clause-kept
+returns-in_err-letter-clause-kept g c = goes_trans _ _ _ c.load.ensures.kept c.letter_in.ensures.kept
+
+pub returns-clause-kept : goal.returns-clause-kept
+returns-clause-kept g c = goes_trans _ _ _ c.load.ensures.kept c.letter_in.ensures.kept

@@ -10,6 +10,8 @@ use Rattle.hg_tree.proofs.Stillness.{alike_between}
 use Rattle.hg_flat.specs.Course.{Goes, upto}
 use Rattle.hg_flat.specs.Listing.{IsLeftRow, IsLetterFor}
 use Rattle.hg_flat.specs.Met.{Status}
+use Rattle.hg_flat.proofs.Asking.{asked_later, reads_behind}
+use Rattle.hg_flat.proofs.Asks.{asks_nothing}
 use Rattle.hg_flat.proofs.Manifests.{goes_on}
 use Rattle.hg_flat.proofs.Tracking.{found_moved, left_second}
 use Rattle.hg_flat.proofs.letter.find_letter.Goals as goal
@@ -43,3 +45,21 @@ returns-clause-found g c =
     (goes_on s old mid (g.S.Shelf.history c.args.shelf.now) (g.S.Shelf.history c.args.shelf.now) c.args.parent.now c.stat.ensures.passes (shelf.passes_same (g.S.Shelf.history c.args.shelf.now)) goes)
     (λ told. ap (stat_at (trees.now mid)) (sym c.as_ref.ensures) ∙ sym (c.in_ok-there.ensures.found (sym c.stat.ensures.passes.past.told ∙ told)) ∙ c.in-Some.is)))
     c.letter_there.ensures.found
+
+pub returns-clause-asked : goal.returns-clause-asked
+returns-clause-asked g c = λ asks agrees told.
+    let old = g.T.Tree.history c.args.tree.now in
+    let mid = g.T.Tree.history c.stat.new.self in
+    let new = g.T.Tree.history c.letter_there.new.tree in
+    let here : IsTrue mid.told = c.stat.ensures.passes.past.told ∙ told in
+    reads_behind asks old mid new c.stat.ensures.passes.past (asks_nothing _ old mid (c.stat.ensures.asked told))
+    (c.letter_there.ensures.asked asks agrees here (ap (stat_at (trees.now mid)) (sym c.as_ref.ensures) ∙ sym (c.in_ok-there.ensures.found told) ∙ c.in-Some.is))
+
+pub returns-clause-unasked : goal.returns-clause-unasked
+returns-clause-unasked g c = λ asks agrees never.
+    let old = g.T.Tree.history c.args.tree.now in
+    let mid = g.T.Tree.history c.stat.new.self in
+    let new = g.T.Tree.history c.letter_there.new.tree in
+    c.letter_there.ensures.unasked asks agrees
+    (λ told. ap (stat_at (trees.now mid)) (sym c.as_ref.ensures) ∙ sym (c.in_ok-there.ensures.found (sym c.stat.ensures.passes.past.told ∙ told)) ∙ c.in-Some.is)
+    (λ was. never (asked_later asks old mid new c.args.kept.now.path c.stat.ensures.passes.past was))
