@@ -6,8 +6,9 @@ use Rattle.hg_image.specs.Reading.{RecordFault}
 use Rattle.hg_shelf.specs.History.{Files, History, Who, others}
 use Rattle.hg_shelf.specs.Images.{Course, Scene, scene}
 use Rattle.hg_save.specs.Loads.{During, files_at}
-use Rattle.hg_save.specs.Record.{IsSound, data_name, docket_in, id_in, reading}
+use Rattle.hg_save.specs.Record.{IsSound, data_in, data_name, docket_in, id_in, reading}
 use Rattle.hg_save.specs.Saved.{IsLatest, name_after}
+use Rattle.hg_save.specs.declared.loaded.Loaded.{Loaded}
 
 -- a docket is sound, and uses bytes of its data file
 pub record UsesData (docket : List ℕ) : Type 0 where
@@ -66,6 +67,12 @@ pub record IsKeeping (before behind : Files) : Type 0 where
 pub record KeepsFiles (by : Who) (h : History) (from : ℕ) : Type 0 where
   pub each : (k : ℕ) → from ≤ k → k < h.last → h.who k ≡ by → IsKeeping (files_at h k) (files_at h (k + 1))
 
+-- a step keeps the data of the dockets that have stood since a moment
+pub record KeepsStood (h : History) (from k : ℕ) : Type 0 where
+  pub kept : (j : ℕ) → from ≤ j → j ≤ k → UsesData (docket_in (files_at h j))
+      → StaysFront (docket_of (docket_in (files_at h j))).used (named_file (docket_in (files_at h j)) (files_at h k)) (named_file (docket_in (files_at h j)) (files_at h (k + 1)))
+  pub there : HasData (files_at h k) → HasData (files_at h (k + 1))
+
 -- ---- what was recorded
 
 -- the files of one moment of a call record this
@@ -73,6 +80,18 @@ pub record WasRecorded (old new : History) (recorded : Result Table RecordFault)
   pub at : ℕ
   pub during : During old new at
   pub reading : reading (files_at new at) ≡ Some recorded
+
+-- bytes are the first of a file, or all where it has fewer
+abbrev pub IsFrontOf : Option (List ℕ) → ℕ → List ℕ → Type 0
+IsFrontOf None used nodes = ⊥
+IsFrontOf (Some bytes) used nodes = nodes ≡ take used bytes
+
+-- what was loaded stood so at one moment of a call: the docket, and the used bytes of the data file that it names
+pub record WasLoaded (old new : History) (loaded : Loaded) : Type 0 where
+  pub at : ℕ
+  pub during : During old new at
+  pub docket : docket_in (files_at new at) ≡ loaded.docket.items
+  pub nodes : IsFrontOf (data_in (docket_of loaded.docket.items) (files_at new at)) (docket_of loaded.docket.items).used loaded.nodes.items
 
 -- ---- what others publish
 

@@ -77,9 +77,9 @@ pub record IsExact (new : Encoded) (start files : Files) : Type 0 where
   pub named : id_in files ≡ new.id
 
 -- reads show exactly what was published over what they showed at the start, and so does whatever a crash leaves
-pub record HoldsExactly (published : Encoded) (old new : Course) : Type 0 where
-  pub shown : IsExact published (last_scene old).files (last_scene new).files
-  pub left : (c : Files) → (last_scene new).leaves c → IsExact published (last_scene old).files c
+pub record HoldsExactly (encoded : Encoded) (old new : Course) : Type 0 where
+  pub shown : IsExact encoded (last_scene old).files (last_scene new).files
+  pub left : (c : Files) → (last_scene new).leaves c → IsExact encoded (last_scene old).files c
 
 -- no file is changed but the docket, the one that is written first, and the data files with these identifiers; that of the loaded docket is as it
 -- was or, where that docket names one and the docket names the new one by now, gone

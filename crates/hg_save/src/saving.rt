@@ -4,6 +4,7 @@ ghost use Rattle.std.specs.Prelude.{◌≡◌, ◌≤◌, ◌∷◌, [], length,
 ghost use Rattle.hg_base.specs.Fault.{HasCause};
 ghost use Rattle.hg_docket.specs.Docket.{docket_of, docket_refusal};
 ghost use Rattle.hg_shelf.specs.History.{us};
+ghost use Rattle.hg_shelf.specs.Asks.{AsksNothing};
 ghost use Rattle.hg_shelf.specs.Images.{Goes, course, last_scene};
 ghost use Rattle.hg_shelf.specs.Polite.{Undisturbed};
 ghost use Rattle.hg_save.specs.Leads.{Clears, Leads, OwnSteps, StepBy};
@@ -46,6 +47,7 @@ fn clear<S: Shelf>(shelf: &mut S, docket: &[u8]) -> Result<(), Failed>
         (course (S.history shelf.new) (S.images shelf.new)) }
     ensures kept { Goes (course (S.history shelf.old) (S.images shelf.old)) (course (S.history shelf.new) (S.images shelf.new)) }
     ensures ours { (S.history shelf.new).ours ≡ (S.history shelf.old).ours }
+    ensures unasked { AsksNothing (S.history shelf.old) (S.history shelf.new) }
     ensures held { S.held shelf.new ≡ S.held shelf.old }
     ensures cause { HasCause (S.faults shelf.old) (S.faults shelf.new) result (λ e. Unit {0}) }
 {
@@ -121,6 +123,7 @@ pub fn publish<S: Shelf>(shelf: &mut S, loaded: &Loaded, new: &Encoded) -> Resul
         → (last_scene (course (S.history shelf.new) (S.images shelf.new))).files (data_name (docket_of loaded.now.docket.items).id) ≡ None) }
     ensures kept { Goes (course (S.history shelf.old) (S.images shelf.old)) (course (S.history shelf.new) (S.images shelf.new)) }
     ensures ours { (S.history shelf.new).ours ≡ (S.history shelf.old).ours }
+    ensures unasked { AsksNothing (S.history shelf.old) (S.history shelf.new) }
     ensures held { S.held shelf.new ≡ S.held shelf.old }
     ensures cause { HasCause (S.faults shelf.old) (S.faults shelf.new) result (λ e. Unit {0}) }
 {
