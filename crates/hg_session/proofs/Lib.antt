@@ -8,6 +8,7 @@ pub mod Expectations
 pub mod Freed
 pub mod Listings
 pub mod Locked
+pub mod Locks
 pub mod Overs
 pub mod Parents
 pub mod Printing

@@ -12,3 +12,4 @@ pub mod Flags
 pub mod Listed
 pub mod Load
 pub mod Loaded
+pub mod Locks
