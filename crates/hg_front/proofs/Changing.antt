@@ -3,7 +3,7 @@ use Rattle.std.proofs.Common.{ℕ, ◌≡◌, ◌||◌, Bool, true, false, cond,
 use Rattle.std.specs.Prelude.{codes, is_some}
 use Rattle.std.specs.List.{find, list_any}
 use Rattle.std.specs.Str.{bytes_eq}
-use Rattle.hg_words.specs.Command.{has_file_words}
+use Rattle.hg_words.specs.Located.{has_file_words}
 use Rattle.hg_session.specs.Change.{changing_named, changing_of, is_dashed}
 use Rattle.hg_front.specs.Marks.{has}
 use Rattle.hg_front.specs.declared.marks.Mark.TheVariants as a_mark

@@ -3,7 +3,7 @@
 ghost use Rattle.std.specs.Prelude.{◌≡◌, ◌||◌, ◌⊎◌, Err, IfErr, IfOk, Ok, false, if◌then◌else◌, is_some, not, true};
 ghost use Rattle.std.specs.Option.{option_map_or};
 ghost use Rattle.hg_report.specs.declared.fault.Fault.TheVariants as a_fault;
-ghost use Rattle.hg_words.specs.Command as commands;
+ghost use Rattle.hg_words.specs.Located as commands;
 
 use crate::further::say;
 use hg_base::Words;

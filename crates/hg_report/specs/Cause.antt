@@ -5,6 +5,8 @@ use Rattle.hg_listing.specs.declared.fault.StatusFault.{StatusFault}
 use Rattle.hg_listing.specs.declared.fault.StatusFault.TheVariants as a_status_fault
 use Rattle.hg_ops.specs.declared.refusal.OpFault.{OpFault}
 use Rattle.hg_ops.specs.declared.refusal.OpFault.TheVariants as an_op_fault
+use Rattle.hg_words.specs.declared.fault.WordsFault.{WordsFault}
+use Rattle.hg_words.specs.declared.fault.WordsFault.TheVariants as a_words_fault
 use Rattle.hg_report.specs.declared.fault.Fault.{Fault}
 use Rattle.hg_report.specs.declared.fault.Fault.TheVariants as a_fault
 
@@ -32,3 +34,10 @@ of_encode an_encode_fault.IdsSpent = a_fault.IdsSpent
 abbrev pub of_op : OpFault → Fault
 of_op an_op_fault.OutOfMemory = a_fault.OutOfMemory
 of_op an_op_fault.TreeFailed = a_fault.TreeFailed
+
+abbrev pub of_words : WordsFault → Fault
+of_words a_words_fault.OutOfMemory = a_fault.OutOfMemory
+of_words a_words_fault.NoCommand = a_fault.NoCommand
+of_words a_words_fault.UnknownCommand = a_fault.UnknownCommand
+of_words a_words_fault.Usage = a_fault.Usage
+of_words (a_words_fault.BadNode word) = a_fault.BadNode word

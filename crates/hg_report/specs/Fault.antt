@@ -44,6 +44,10 @@ at_ignore_line line what = codes ".hgignore line " ++ (decimal line ++ (codes ":
 abbrev pub words_of : Fault → List ℕ
 words_of a_fault.OutOfMemory = codes "out of memory"
 words_of a_fault.NotBuilt = codes "not built yet"
+words_of a_fault.NoCommand = codes "no command"
+words_of a_fault.UnknownCommand = codes "unknown command"
+words_of a_fault.Usage = codes "wrong arguments"
+words_of (a_fault.BadNode word) = codes "argument " ++ (decimal word ++ codes " is not a node")
 words_of (a_fault.Docket fault) = docket_words fault
 words_of (a_fault.Node fault) = node_words fault
 words_of (a_fault.DataGone ids) = codes "dirstate data gone:" ++ flat_map (λ id. 32 ∷ id) ids

@@ -6,6 +6,7 @@ use hg_docket::{DocketFault, Idents};
 use hg_image::NodeFault;
 use hg_listing::StatusFault;
 use hg_ops::OpFault;
+use hg_words::WordsFault;
 use std::alloc::{AllocError, AllocFailed};
 
 /// Why a command ended without doing what it was asked for.
@@ -15,6 +16,14 @@ pub enum Fault {
     OutOfMemory,
     /// What was asked for isn't built yet.
     NotBuilt,
+    /// There are no words.
+    NoCommand,
+    /// The first word names no command.
+    UnknownCommand,
+    /// The words behind the name of the command aren't those that it takes.
+    Usage,
+    /// The word of this place behind the name, from 1 and without the flags, isn't a node in 40 hexadecimal digits.
+    BadNode { word: u32 },
     /// `.hg/dirstate` is damaged.
     Docket(DocketFault),
     /// The data file that `.hg/dirstate` names is damaged.
@@ -165,6 +174,23 @@ impl From<OpFault> for Fault {
         match fault {
             OpFault::OutOfMemory => Fault::OutOfMemory,
             OpFault::TreeFailed => Fault::TreeFailed,
+        }
+    }
+}
+
+impl From<WordsFault> for Fault {
+    ghost use Rattle.std.specs.Prelude.{◌≡◌};
+    ghost use Rattle.hg_report.specs.Cause.{of_words};
+
+    ghost from_gives = { λ f e. e ≡ of_words f };
+
+    fn from(fault: WordsFault) -> Fault {
+        match fault {
+            WordsFault::OutOfMemory => Fault::OutOfMemory,
+            WordsFault::NoCommand => Fault::NoCommand,
+            WordsFault::UnknownCommand => Fault::UnknownCommand,
+            WordsFault::Usage => Fault::Usage,
+            WordsFault::BadNode { word } => Fault::BadNode { word },
         }
     }
 }

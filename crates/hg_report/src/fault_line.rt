@@ -111,12 +111,22 @@ fn data_size_text(alloc: Global, size: u64) -> Result<String, OutOfMemory>
     Ok(format!(in alloc; "dirstate data would have {size} bytes")?)
 }
 
+fn argument_text(alloc: Global, word: u32) -> Result<String, OutOfMemory>
+    ensures { IfOk result (λ text. string_bytes text ≡ codes "argument " ++ (decimal word ++ codes " is not a node")) }
+{
+    Ok(format!(in alloc; "argument {word} is not a node")?)
+}
+
 fn put_words(alloc: Global, line: &mut Vec<u8>, fault: &Fault) -> Result<(), OutOfMemory>
     ensures { OnOk result (line.new.items ≡ line.old.items ++ words_of fault.now) }
 {
     match fault {
         Fault::OutOfMemory => put(line, "out of memory"),
         Fault::NotBuilt => put(line, "not built yet"),
+        Fault::NoCommand => put(line, "no command"),
+        Fault::UnknownCommand => put(line, "unknown command"),
+        Fault::Usage => put(line, "wrong arguments"),
+        Fault::BadNode { word } => put(line, argument_text(alloc, *word)?.as_str()),
         Fault::Docket(fault) => put(line, docket_text(alloc, fault)?.as_str()),
         Fault::Node(fault) => put(line, node_text(alloc, fault)?.as_str()),
         Fault::DataGone { ids } => {

@@ -3,7 +3,7 @@ use Rattle.std.proofs.Common.{ℕ, ◌≡◌, ◌+◌, ◌<◌, Bool, true, fals
 use Rattle.std.specs.List.{slice_get}
 use Rattle.std.proofs.lemmas.List.{at_drop_more, map-id}
 use Rattle.std.proofs.lemmas.Option.{get_or_from_slice_get}
-use Rattle.hg_words.specs.Command.{has_file_words, located, placed, takes_files}
+use Rattle.hg_words.specs.Located.{has_file_words, located, placed, takes_files}
 
 -- what a word becomes behind a command
 abbrev pub behind : List ℕ → Bool → List ℕ → List ℕ

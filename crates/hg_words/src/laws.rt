@@ -2,7 +2,7 @@
 
 ghost use Rattle.std.specs.Prelude.{◌≡◌, ◌≤◌, ◌+◌, ◌++◌, ◌∷◌, [], IsTrue, ℕ, List, Some, false, length};
 ghost use Rattle.hg_base.specs.PathText.{components, is_path};
-ghost use Rattle.hg_words.specs.Command.{has_file_words, located};
+ghost use Rattle.hg_words.specs.Located.{has_file_words, located};
 ghost use Rattle.hg_words.specs.Told.{from_folder, led};
 
 /// At the root a path is told by itself.

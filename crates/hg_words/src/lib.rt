@@ -24,10 +24,18 @@
 //! ```
 #![tactic(auto)]
 
-mod command;
+mod fault;
+mod flags;
 mod folder;
+mod given;
 mod laws;
+mod locating;
+mod reading;
 
-pub use command::{has_file_words, located};
+pub use fault::WordsFault;
+pub use flags::StatusFlags;
 pub use folder::from_folder;
+pub use given::Command;
 pub use laws::{located_without_files, path_at_root, path_below, path_in_folder, path_leads};
+pub use locating::{has_file_words, located};
+pub use reading::read;

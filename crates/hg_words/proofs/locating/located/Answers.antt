@@ -1,8 +1,8 @@
 use Rattle.std.proofs.Common.{◌≡◌, ℕ, List, ◌∷◌, [], ◌++◌, drop, map, ◌∙◌, ap}
-use Rattle.hg_words.specs.Command as commands
-use Rattle.hg_words.specs.Command.{takes_files}
+use Rattle.hg_words.specs.Located as commands
+use Rattle.hg_words.specs.Located.{takes_files}
 use Rattle.hg_words.proofs.Commands.{behind, begun, one_on}
-use Rattle.hg_words.proofs.command.located.Goals as goal
+use Rattle.hg_words.proofs.locating.located.Goals as goal
 
 pub loop-i-init : goal.loop-i-init
 loop-i-init c =

@@ -1,7 +1,7 @@
 //! The words of a whole command.
 
 ghost use Rattle.std.specs.Prelude.{◌≡◌, ◌<◌, IfOk, if◌then◌else◌, length};
-ghost use Rattle.hg_words.specs.Command as commands;
+ghost use Rattle.hg_words.specs.Located as commands;
 
 use crate::folder::from_folder;
 use hg_base::{OutOfMemory, Text, Words};

@@ -1,7 +1,7 @@
 use Rattle.std.proofs.Common.{◌≡◌, ◌++◌, drop, map}
-use Rattle.hg_words.specs.Command as commands
+use Rattle.hg_words.specs.Located as commands
 use Rattle.hg_words.proofs.Commands.{behind}
-use Rattle.hg_words.proofs.command.located.Given as goal
+use Rattle.hg_words.proofs.locating.located.Given as goal
 
 -- with what is left, the words so far are all
 abbrev pub invariant-loop-i : goal.invariant-loop-i
