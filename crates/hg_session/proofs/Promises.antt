@@ -13,16 +13,15 @@ use Rattle.hg_report.specs.declared.fault.Fault.TheVariants as a_fault
 use Rattle.hg_save.proofs.Loads.{last_within, unstepped_found}
 use Rattle.hg_save.specs.Loads.{Try, files_at}
 use Rattle.hg_save.specs.Record.{id_in, reading}
-use Rattle.hg_session.proofs.Commands.{not_without}
+use Rattle.hg_session.proofs.Looks.{not_without}
 use Rattle.hg_session.proofs.Crashes.{crash_safe, lasting}
-use Rattle.hg_session.proofs.Readings.{unstepped_refuses}
+use Rattle.hg_session.proofs.Readings.{unreadable_now}
 use Rattle.hg_session.specs.Acts.{Makes}
 use Rattle.hg_session.specs.Call.{Call, Count, Fails, Saved, Serves, Watched}
 use Rattle.hg_session.specs.Change.{FailsOrUnwritten, Fits, FitsFirst, IsDone, IsEarly, IsLocked, IsMade, IsReadFirst, IsReadSome, IsSafe, IsUnlooked, MayFollowWriting, MetChanging, MetLocking, NoneOurs, Stretch, id_read, makes_in, up_to}
 use Rattle.hg_session.specs.Changed.{IsExpectedChange, IsMadeOf, IsPartlyTold, IsUnwrittenUnless, OnlyLooks, RanChange, TellsFault, status_of}
-use Rattle.hg_session.specs.Command.{IsFaultOrMemory, IsSilent, TellsLine}
-use Rattle.hg_session.specs.Listed.{LoadMet}
-use Rattle.hg_session.specs.Loaded.{IsRefused}
+use Rattle.hg_session.specs.Put.{IsFaultOrMemory, IsSilent, TellsLine}
+use Rattle.hg_session.specs.Loaded.{IsRefused, LoadMet}
 use Rattle.hg_session.specs.declared.acting.Changing.{Changing}
 use Rattle.hg_session.specs.declared.acting.Changing.TheVariants as a_change
 use Rattle.hg_session.specs.declared.read_fault.ReadFault.{ReadFault}
@@ -32,6 +31,7 @@ use Rattle.hg_shelf.specs.Images.{Course, Goes}
 use Rattle.hg_shelf.specs.Polite.{Undisturbed}
 use Rattle.hg_stream.specs.Stream.{Grown, GrownByFront}
 use Rattle.hg_tree.specs.History as tree
+use Rattle.hg_words.specs.declared.given.Command.{Command}
 
 -- ---- where nobody else steps
 
@@ -93,13 +93,6 @@ module _ (Does : Makes) (copy : Watched tree.History) (a b : Course) (before aft
     fits = elim (done.fits own.told) [ inl same ↦ inl same | inr fits ↦ inr (fits_own done.made fits) ];
   }
 
-  refused_own : (fault : ReadFault) → b.history.last ≡ a.history.last → LoadMet fault files → (tries : List Try) × IsRefused fault (map (λ tried. id_in there) tries) (reading there)
-  refused_own fault still met = let m = met own.told in (m.0, unstepped_refuses a.history b.history m.0 fault past still m.1)
-
-  all_same : (id : List ℕ) (tries : List Try) → AllByRecursion (λ other. other ≡ id) (map (λ tried. id) tries)
-  all_same id [] = tt
-  all_same id (one ∷ more) = (refl, all_same id more)
-
   -- a fault that can't be met once something was written
   still_by : (fault : Fault) → (MayFollowWriting (Some fault) → ⊥) → IsSafe Does saved (Some fault) → b.history.last ≡ a.history.last
   still_by fault never (inl none) = none_own a.history b.history b.history.last own past.later (omega arith) none.none
@@ -113,12 +106,11 @@ module _ (Does : Makes) (copy : Watched tree.History) (a b : Course) (before aft
   pub met_own : (fault : Fault) → IsSafe Does saved (Some fault) → MetChanging Does copy files fault → Serves copy → Serves files → IsExpectedChange Does there (Some fault)
   met_own a_fault.OutOfMemory safe met p q = tt
   met_own (a_fault.Docket fault) safe met p q =
-      (refused_own (a_read.Docket fault) (still_by (a_fault.Docket fault) (apart (a_fault.Docket fault) (λ is. cc is) (λ is. cc is) (λ is. cc is)) safe) met).1
+      unreadable_now files past (still_by (a_fault.Docket fault) (apart (a_fault.Docket fault) (λ is. cc is) (λ is. cc is) (λ is. cc is)) safe) own.told (a_read.Docket fault) met q
   met_own (a_fault.Node fault) safe met p q =
-      (refused_own (a_read.Node fault) (still_by (a_fault.Node fault) (apart (a_fault.Node fault) (λ is. cc is) (λ is. cc is) (λ is. cc is)) safe) met).1
+      unreadable_now files past (still_by (a_fault.Node fault) (apart (a_fault.Node fault) (λ is. cc is) (λ is. cc is) (λ is. cc is)) safe) own.told (a_read.Node fault) met q
   met_own (a_fault.DataGone ids) safe met p q =
-      let m = refused_own (a_read.DataGone ids) (still_by (a_fault.DataGone ids) (apart (a_fault.DataGone ids) (λ is. cc is) (λ is. cc is) (λ is. cc is)) safe) met in
-      (m.1.0, subst (AllByRecursion (λ id. id ≡ id_in there)) (sym m.1.1) (all_same (id_in there) m.0))
+      unreadable_now files past (still_by (a_fault.DataGone ids) (apart (a_fault.DataGone ids) (λ is. cc is) (λ is. cc is) (λ is. cc is)) safe) own.told (a_read.DataGone ids) met q
   met_own (a_fault.TooLarge size) safe met p q = record {
     made = met.made;
     lines = met.lines;
@@ -154,12 +146,12 @@ locking_told Does copy device locks fault (inr (held, rose)) = ap has_line held
 line_of_told : (Does : Makes) (call : Call) (fault : Fault) → has_line fault ≡ true → TellsLine call.err.old call.err.new call.err.before call.err.after fault → TellsFault Does call fault
 line_of_told Does call fault told line = subst (λ (h : Bool). MatchBool h (TellsLine call.err.old call.err.new call.err.before call.err.after fault) (IsPartlyTold Does call)) (sym told) line
 
-module _ (command : Changing) (words : List (List ℕ)) (copy : Watched tree.History) (a b : Course) (before after : ℕ) (locks oversize : Count) (out err : Watched (Option (List ℕ)))
+module _ (command : Changing) (words : List (List ℕ)) (copy : Watched tree.History) (a b : Course) (before after : ℕ) (locks oversize : Count) (called : Command) (out err : Watched (Option (List ℕ)))
     (silent : IsSilent out) (uncounted : oversize.after ≡ oversize.before) (looks : OnlyLooks copy) (unlooked : command ≡ a_change.Forget → IsUnlooked copy)
     (behind : IsUnlooked copy ⊎ IsReadSome (record { old = a.history; new = b.history; before = before; after = after })) (kept : Goes a b) where
   abbrev call : Call
   call = record {
-    words = words;
+    command = called;
     looked = record { tree = copy; shelf = record { old = a.history; new = b.history; before = before; after = after }; oversize = oversize };
     saved = record { old = a; new = b };
     locks = locks;
@@ -211,7 +203,7 @@ module _ (command : Changing) (words : List (List ℕ)) (copy : Watched tree.His
 
   pub ran_done : LockedBy None → (status : ℕ) (stretch : Stretch a.history b.history) (lines : List ℕ) (done : IsDone Does call.looked.shelf call.saved stretch.from stretch.to lines) → Grown err.old err.new lines → status ≡ status_of lines
       → (Undisturbed a b → IsSafe Does call.saved None) → copy.after ≡ copy.before → after ≡ before → err.after ≡ err.before → (locks.before < locks.after → ⊥) → (copy.before < copy.after → ⊥)
-      → RanChange command call status None
+      → RanChange command words call status None
   ran_done locked status stretch lines done grown is safe calm_tree calm_shelf calm_err unheld well = record {
     stepped = λ none. record { stretch = stretch; lines = lines; done = done; told = grown; ends = is; lasts = λ calm keep. lasting a b kept calm keep done.is.loaded done.made stretch (done.kept calm) };
     safe = safe;
@@ -241,7 +233,7 @@ module _ (command : Changing) (words : List (List ℕ)) (copy : Watched tree.His
 
   -- the error stream failed while the refused words were told
   pub ran_untold : LockedBy None → (stretch : Stretch a.history b.history) (lines : List ℕ) (done : IsDone Does call.looked.shelf call.saved stretch.from stretch.to lines) → GrownByFront err.old err.new lines → Fails err → after ≡ before
-      → (Undisturbed a b → IsSafe Does call.saved None) → (locks.before < locks.after → ⊥) → (copy.before < copy.after → ⊥) → (status : ℕ) → RanChange command call status (Some a_fault.ErrFailed)
+      → (Undisturbed a b → IsSafe Does call.saved None) → (locks.before < locks.after → ⊥) → (copy.before < copy.after → ⊥) → (status : ℕ) → RanChange command words call status (Some a_fault.ErrFailed)
   ran_untold locked stretch lines done grown failed calm_shelf safe unheld well status = record {
     stepped = λ none. absurd (cc none);
     safe = λ calm. safe_untold (safe calm);
@@ -300,9 +292,9 @@ module _ (command : Changing) (words : List (List ℕ)) (copy : Watched tree.His
 
   ran_fault : (status : ℕ) (fault answered : Fault) → LockedBy (Some fault) → (answered ≡ fault) ⊎ (answered ≡ a_fault.OutOfMemory) → MetLocking Does copy call.looked.shelf locks fault
       → (Undisturbed a b → IsSafe Does call.saved (Some fault)) → FailsOrUnwritten a.history b.history fault → (locks.before < locks.after → fault ≡ a_fault.Held) → (copy.before < copy.after → fault ≡ a_fault.TreeFailed) → (IsEarly fault → IsUnlooked copy)
-      → TellsLine err.old err.new err.before err.after answered → RanChange command call status (Some answered)
+      → TellsLine err.old err.new err.before err.after answered → RanChange command words call status (Some answered)
   ran_fault status fault answered locked (inl same) met safe written held failed early line =
-      subst (λ (f : Fault). TellsLine err.old err.new err.before err.after f → RanChange command call status (Some f)) (sym same) (λ told. record {
+      subst (λ (f : Fault). TellsLine err.old err.new err.before err.after f → RanChange command words call status (Some f)) (sym same) (λ told. record {
         stepped = λ none. absurd (cc none);
         safe = safe;
         crash = λ calm keep first. crash_safe a b kept calm keep Does first (Some fault) (safe calm);
@@ -328,7 +320,7 @@ module _ (command : Changing) (words : List (List ℕ)) (copy : Watched tree.His
         locked = locked;
       }) line
   ran_fault status fault answered locked (inr memory) met safe written held failed early line =
-      subst (λ (f : Fault). TellsLine err.old err.new err.before err.after f → RanChange command call status (Some f)) (sym memory) (λ told. record {
+      subst (λ (f : Fault). TellsLine err.old err.new err.before err.after f → RanChange command words call status (Some f)) (sym memory) (λ told. record {
         stepped = λ none. absurd (cc none);
         safe = λ calm. safe_any fault (safe calm);
         crash = λ calm keep first. crash_safe a b kept calm keep Does first (Some a_fault.OutOfMemory) (safe_any fault (safe calm));
@@ -356,7 +348,7 @@ module _ (command : Changing) (words : List (List ℕ)) (copy : Watched tree.His
 
   pub ran_failed : (status : ℕ) (fault : Fault) (answered : Option Fault) → LockedBy (Some fault) → IsFaultOrMemory answered fault → MetLocking Does copy call.looked.shelf locks fault
       → (Undisturbed a b → IsSafe Does call.saved (Some fault)) → FailsOrUnwritten a.history b.history fault → (locks.before < locks.after → fault ≡ a_fault.Held) → (copy.before < copy.after → fault ≡ a_fault.TreeFailed) → (IsEarly fault → IsUnlooked copy)
-      → IfSome answered (λ f. TellsLine err.old err.new err.before err.after f) → RanChange command call status answered
+      → IfSome answered (λ f. TellsLine err.old err.new err.before err.after f) → RanChange command words call status answered
   ran_failed status fault None locked is met safe written held failed early line = not_without None fault is refl
   ran_failed status fault (Some f) locked (inl same) met safe written held failed early line = ran_fault status fault f locked (inl (cc same)) met safe written held failed early line
   ran_failed status fault (Some f) locked (inr memory) met safe written held failed early line = ran_fault status fault f locked (inr (cc memory)) met safe written held failed early line

@@ -1,9 +1,9 @@
 -- What holds of the words so far, and of the call whenever it ends.
-use Rattle.std.proofs.Common.{ℕ, ◌≡◌, ◌+◌, ◌-◌, ◌<◌, ◌≤◌, Bool, true, false, List, [], ◌∷◌, ◌++◌, take, drop, get_or, Option, Some, inl, inr, refl, sym, ap, ◌∙◌, subst, arith, true≢false}
-use Rattle.std.specs.Prelude.{IsTrue, length}
+use Rattle.std.proofs.Common.{ℕ, ◌≡◌, ◌+◌, Bool, true, false, List, [], ◌∷◌, ◌++◌, take, get_or, Option, Some, inl, inr, refl, sym, ap, ◌∙◌, subst, true≢false}
+use Rattle.std.specs.Prelude.{IsTrue}
 use Rattle.std.specs.List.{slice_get}
 use Rattle.std.proofs.lemmas.Bool.{cases_Bool}
-use Rattle.std.proofs.lemmas.List.{get_or-drop, length-drop, take_more}
+use Rattle.std.proofs.lemmas.List.{take_more}
 use Rattle.std.proofs.lemmas.Option.{get_or_from_slice_get, slice_get_within}
 use Rattle.hg_entry.specs.Table.{Table}
 use Rattle.hg_mixed.specs.Edits.{IsOfSameImage, IsSame, Marks}
@@ -22,15 +22,9 @@ use Rattle.hg_tree.proofs.Spans.{passes_same, passes_trans}
 -- ---- the words so far
 
 -- one word more
-word_more : (words : List (List ℕ)) (i : ℕ) (word : List ℕ) → 1 ≤ i → slice_get words i ≡ Some word → take (i + 1 - 1) (drop 1 words) ≡ take (i - 1) (drop 1 words) ++ word ∷ []
-word_more words i word from is =
-    let below : i < length words = slice_get_within words i word is in
-    let next : i + 1 - 1 ≡ i - 1 + 1 = omega (arith, from) in
-    let here : 1 + (i - 1) ≡ i = omega (arith, from) in
-    let one : get_or (drop 1 words) (i - 1) word ≡ word = get_or-drop 1 words (i - 1) word ∙ ap (λ (n : ℕ). get_or words n word) here ∙ get_or_from_slice_get words i word word is in
-    ap (λ (n : ℕ). take n (drop 1 words)) next
-    ∙ take_more (drop 1 words) (i - 1) word (omega (arith, from, below, length-drop 1 words))
-    ∙ ap (λ (w : List ℕ). take (i - 1) (drop 1 words) ++ w ∷ []) one
+word_more : (words : List (List ℕ)) (i : ℕ) (word : List ℕ) → slice_get words i ≡ Some word → take (i + 1) words ≡ take i words ++ word ∷ []
+word_more words i word is =
+    take_more words i word (slice_get_within words i word is) ∙ ap (λ (w : List ℕ). take i words ++ w ∷ []) (get_or_from_slice_get words i word word is)
 
 -- ---- what a call leaves, however it ends
 
@@ -107,8 +101,8 @@ module _ (command : Changing) (start mid at : History) (old between new : Held) 
 
 -- the place of the next word, and the lines behind its own
 pub goes_on_at : (command : Changing) (start at : History) (words : List (List ℕ)) (i : ℕ) (word : List ℕ) (old new : Held) (lines more : List ℕ) (before after : ℕ)
-    → 1 ≤ i → slice_get words i ≡ Some word → more ≡ lines → SoFar command start at (take (i - 1) (drop 1 words) ++ word ∷ []) old new lines before after
-    → SoFar command start at (take (i + 1 - 1) (drop 1 words)) old new more before after
-goes_on_at command start at words i word old new lines more before after from is put so_far =
-    subst (λ (l : List ℕ). SoFar command start at (take (i + 1 - 1) (drop 1 words)) old new l before after) (sym put)
-    (subst (λ (w : List (List ℕ)). SoFar command start at w old new lines before after) (sym (word_more words i word from is)) so_far)
+    → slice_get words i ≡ Some word → more ≡ lines → SoFar command start at (take i words ++ word ∷ []) old new lines before after
+    → SoFar command start at (take (i + 1) words) old new more before after
+goes_on_at command start at words i word old new lines more before after is put so_far =
+    subst (λ (l : List ℕ). SoFar command start at (take (i + 1) words) old new l before after) (sym put)
+    (subst (λ (w : List (List ℕ)). SoFar command start at w old new lines before after) (sym (word_more words i word is)) so_far)

@@ -1,7 +1,5 @@
 -- What a command that changes the record answers and leaves, and why.
 use Rattle.std.specs.Prelude.{ℕ, ◌≡◌, ◌⊎◌, ◌≤◌, ◌<◌, ◌^◌, Bool, true, false, if◌then◌else◌, List, [], ◌∷◌, drop, take, Option, Some, None, Result, Ok, Err, IsTrue, codes, is_some}
-use Rattle.std.specs.List.{list_any}
-use Rattle.std.specs.Str.{bytes_eq}
 use Rattle.hg_append.specs.Encoded.{IsTooLarge}
 use Rattle.hg_append.specs.Layout.{size_of}
 use Rattle.hg_append.specs.Tree.{IsTreeOf, Tree}
@@ -18,36 +16,15 @@ use Rattle.hg_save.specs.Record.{data_name, id_in, reading}
 use Rattle.hg_save.specs.Saved.{IsLatest, KeepsOthers, ReadsAsBeforeOr}
 use Rattle.hg_session.specs.Acts.{IsActed, Makes}
 use Rattle.hg_session.specs.Call.{Call, Count, Fails, Saved, Watched}
-use Rattle.hg_session.specs.Command.{IsFaultOrMemory}
-use Rattle.hg_session.specs.Debug.{IsRead}
-use Rattle.hg_session.specs.Listed.{LoadMet}
+use Rattle.hg_session.specs.Loaded.{IsRead, LoadMet}
 use Rattle.hg_session.specs.Locks.{NotReturned, NotTaken, Refused, Returned, TakenAt}
+use Rattle.hg_session.specs.Put.{IsFaultOrMemory}
 use Rattle.hg_session.specs.declared.acting.Changing.{Changing}
-use Rattle.hg_session.specs.declared.acting.Changing.TheVariants as a_change
 use Rattle.hg_session.specs.declared.read_fault.ReadFault.TheVariants as a_read
 use Rattle.hg_shelf.specs.History as shelf
 use Rattle.hg_shelf.specs.Images.{Course, scene}
 use Rattle.hg_shelf.specs.Polite.{Undisturbed}
 use Rattle.hg_tree.specs.History as tree
-
--- ---- the words
-
--- a word that begins with a dash
-abbrev pub is_dashed : List ℕ → Bool
-is_dashed word = bytes_eq (take 1 word) (codes "-")
-
-abbrev pub changing_named : List ℕ → Option Changing
-changing_named name = if bytes_eq name (codes "add") then Some a_change.Add else (if bytes_eq name (codes "forget") then Some a_change.Forget else None)
-
--- the command that changes the record, where file words follow its name, none of which begins with a dash
-abbrev pub changing_of : List (List ℕ) → Option Changing
-changing_of [] = None
-changing_of (name ∷ []) = None
-changing_of (name ∷ word ∷ words) = if list_any is_dashed (word ∷ words) then None else changing_named name
-
--- the file words
-abbrev pub files_of : List (List ℕ) → List (List ℕ)
-files_of words = drop 1 words
 
 -- ---- what the words make of the record
 
@@ -214,8 +191,8 @@ abbrev pub MetLocking : Makes → Watched tree.History → Watched shelf.History
 MetLocking Does copy files locks fault = MetChanging Does copy files fault ⊎ ((fault ≡ a_fault.Held) × Rose locks.before locks.after)
 
 -- what a call makes of the record
-abbrev pub makes_in : Changing → Call → Makes
-makes_in command call = IsActed command (files_of call.words) call.looked.tree call.looked.shelf
+abbrev pub makes_in : Changing → List (List ℕ) → Call → Makes
+makes_in command words call = IsActed command words call.looked.tree call.looked.shelf
 
 -- or an error stream that failed while the refused words were told
 abbrev pub ChangeCause : Makes → Call → Fault → Type 0

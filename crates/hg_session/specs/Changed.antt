@@ -1,11 +1,9 @@
 -- What the commands that change the record promise.
 use Rattle.std.specs.Prelude.{ℕ, Bool, true, false, ◌≡◌, ◌⊎◌, ◌<◌, List, [], ◌∷◌, Option, Some, None, Ok, Err, IsTrue, IfSome, IsSomeAnd, MatchBool, is_some}
-use Rattle.std.specs.List.{AllByRecursion}
 use Rattle.hg_append.specs.Encoded.{IsTooLarge}
 use Rattle.hg_base.specs.Fault.{IsSteady}
 use Rattle.hg_docket.specs.Number.{next_name}
 use Rattle.hg_entry.specs.Table.{Table}
-use Rattle.hg_image.specs.Reading as a_record_fault
 use Rattle.hg_mixed.specs.Edits.{IsSame}
 use Rattle.hg_mixed.specs.Held.{Held, table}
 use Rattle.hg_report.specs.Fault.{has_line}
@@ -17,7 +15,8 @@ use Rattle.hg_save.specs.Saved.{IsLatest}
 use Rattle.hg_session.specs.Acts.{Makes}
 use Rattle.hg_session.specs.Call.{Call, Fails, Serves, Watched}
 use Rattle.hg_session.specs.Change.{ChangeCause, Fits, IsDone, IsEarly, IsLocked, IsReadSome, IsSafe, IsUnlooked, IsUnwritten, Stretch, makes_in}
-use Rattle.hg_session.specs.Command.{IsFaultOrMemory, IsSilent, TellsLine}
+use Rattle.hg_session.specs.Loaded.{IsUnreadable}
+use Rattle.hg_session.specs.Put.{IsFaultOrMemory, IsSilent, TellsLine}
 use Rattle.hg_session.specs.Crash.{IsCrashSafe, IsLasting}
 use Rattle.hg_session.specs.Listed.{IsOwn}
 use Rattle.hg_session.specs.declared.acting.Changing.{Changing}
@@ -106,43 +105,39 @@ pub record IsSpentFor (Does : Makes) (files : shelf.Files) : Type 0 where
 -- the answer where the files stand so, nobody else steps, no device fails and no lock is refused; want of memory may come at any time
 abbrev pub IsExpectedChange : Makes → shelf.Files → Option Fault → Type 0
 IsExpectedChange Does files None = CanBeDone Does files
-IsExpectedChange Does files (Some a_fault.OutOfMemory) = Unit {0}
-IsExpectedChange Does files (Some (a_fault.Docket fault)) = reading files ≡ Some (Err (a_record_fault.Docket fault))
-IsExpectedChange Does files (Some (a_fault.Node fault)) = reading files ≡ Some (Err (a_record_fault.Node fault))
-IsExpectedChange Does files (Some (a_fault.DataGone ids)) = (reading files ≡ None) × AllByRecursion (λ id. id ≡ id_in files) ids
 IsExpectedChange Does files (Some (a_fault.TooLarge size)) = IsTooLargeFor Does files size
 IsExpectedChange Does files (Some a_fault.IdsSpent) = IsSpentFor Does files
-IsExpectedChange Does files (Some fault) = ⊥
+IsExpectedChange Does files (Some fault) = IsUnreadable files fault
 
 -- ---- the command
 
 -- what a command that changes the record did that ended with this status and this fault, or with none
-pub record RanChange (command : Changing) (call : Call) (status : ℕ) (fault : Option Fault) : Type 0 where
+pub record RanChange (command : Changing) (words : List (List ℕ)) (call : Call) (status : ℕ) (fault : Option Fault) : Type 0 where
   -- without a fault each word did what it says to the record that was read, the refused ones were told, and the rest is recorded
-  pub stepped : fault ≡ None → IsStepped (makes_in command call) call status
+  pub stepped : fault ≡ None → IsStepped (makes_in command words call) call status
   -- whatever the answer, at each moment of the call a crash leaves the record as it was or as it is after, and so do reads
-  pub safe : Undisturbed call.saved.old call.saved.new → IsSafe (makes_in command call) call.saved fault
+  pub safe : Undisturbed call.saved.old call.saved.new → IsSafe (makes_in command words call) call.saved fault
   -- and where others keep to how a record is published, also before the lock was got and behind it: at each moment since the call's start a crash
   -- leaves a record of what it might have left then, of what the call published, or of what others published since
   pub crash : (calm : Undisturbed call.saved.old call.saved.new) → KeepsRecords shelf.others call.saved.new call.saved.old.history.last → IsLatest (last_scene call.saved.old)
-      → IsCrashSafe (makes_in command call) call.saved fault (safe calm)
+      → IsCrashSafe (makes_in command words call) call.saved fault (safe calm)
   -- after a fault that comes before a publication nothing is written, whatever others do
   pub unwritten : IfSome fault (IsUnwrittenUnless call)
   -- each fault comes only for its cause
-  pub cause : IfSome fault (ChangeCause (makes_in command call) call)
+  pub cause : IfSome fault (ChangeCause (makes_in command words call) call)
   -- a lock that was refused is told as such
   pub held : call.locks.before < call.locks.after → IsFaultOrMemory fault a_fault.Held
   -- and so is a tree that failed, whatever else failed behind it
   pub tree : call.looked.tree.before < call.looked.tree.after → IsFaultOrMemory fault a_fault.TreeFailed
   -- where nobody else steps, no count rises and no lock is refused, the answer is the expected one, or there was no memory
   pub complete : IsOwn call.looked → Serves call.looked.tree → Serves call.looked.shelf → Serves call.err → IsSteady call.locks.before call.locks.after
-      → IsExpectedChange (makes_in command call) (shelf.now call.looked.shelf.old).files fault
+      → IsExpectedChange (makes_in command words call) (shelf.now call.looked.shelf.old).files fault
   -- where a device failed there is a fault, and another one than of the error stream where the shelf did
   pub calm_tree : fault ≡ None → call.looked.tree.after ≡ call.looked.tree.before
   pub calm_shelf : (fault ≡ None) ⊎ (fault ≡ Some a_fault.ErrFailed) → call.looked.shelf.after ≡ call.looked.shelf.before
   pub calm_err : fault ≡ None → call.err.after ≡ call.err.before
   -- what stands on the error stream after a fault; nothing is printed, and no regexp compiled
-  pub told : IfSome fault (TellsFault (makes_in command call) call)
+  pub told : IfSome fault (TellsFault (makes_in command words call) call)
   pub silent : IsSilent call.out
   pub uncounted : call.looked.oversize.after ≡ call.looked.oversize.before
   pub looks : OnlyLooks call.looked.tree
@@ -154,4 +149,4 @@ pub record RanChange (command : Changing) (call : Call) (status : ℕ) (fault : 
   -- what was so far stays
   pub kept : Goes call.saved.old call.saved.new
   -- the lock was called for once, also where nothing was to be changed
-  pub locked : IsLocked (makes_in command call) call.looked.tree call.looked.shelf call.saved call.locks fault
+  pub locked : IsLocked (makes_in command words call) call.looked.tree call.looked.shelf call.saved call.locks fault

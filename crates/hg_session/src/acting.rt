@@ -1,6 +1,6 @@
 //! The words of a command that changes the record, one after another.
 
-ghost use Rattle.std.specs.Prelude.{◌≡◌, ◌<◌, ◌++◌, ◌⊎◌, Err, IfErr, IfOk, IsTrue, OnOk, drop, false, true};
+ghost use Rattle.std.specs.Prelude.{◌≡◌, ◌<◌, ◌++◌, ◌⊎◌, Err, IfErr, IfOk, IsTrue, OnOk, false, true};
 ghost use Rattle.hg_base.specs.Fault.{HasCause};
 ghost use Rattle.hg_mixed.specs.Edits.{IsOfSameImage, IsSame, Marks};
 ghost use Rattle.hg_mixed.specs.Held.{table};
@@ -79,7 +79,7 @@ fn put_refused(
     }
 }
 
-/// Does what a command says for each word behind the first, in order, and answers the lines of those that were refused.
+/// Does what a command says for each word, in order, and answers the lines of those that were refused.
 pub(crate) fn act<T: Tree>(
     alloc: Global,
     command: Changing,
@@ -93,7 +93,7 @@ pub(crate) fn act<T: Tree>(
         result
         (λ lines. IsActed
         command
-        (drop 1 words.now)
+        words.now
         (record { old = T.history tree.old; new = T.history tree.new; before = T.faults tree.old; after = T.faults tree.new })
         files
         (table mixed.old)
@@ -114,7 +114,7 @@ pub(crate) fn act<T: Tree>(
     ensures failed { T.faults tree.old < T.faults tree.new → result ≡ Err a_fault.TreeFailed }
 {
     let mut lines = Vec::new(alloc);
-    for i in 1..words.len() {
+    for i in 0..words.len() {
         let word = words.at(i).as_str();
         let refused = step(command, word, mixed, tree)?;
         put_refused(alloc, command, word, &refused, &mut lines)?;

@@ -10,7 +10,7 @@ ghost use Rattle.hg_save.specs.Loads.{Try};
 ghost use Rattle.hg_save.specs.Saved.{Stands};
 ghost use Rattle.hg_session.specs.Acts.{IsActed};
 ghost use Rattle.hg_session.specs.Anew.{CanWrite, IsOpened, IsRecorded, LoadsOrRefuses, MetWriting, WritesOnly};
-ghost use Rattle.hg_session.specs.Change.{FailsOrUnwritten, IsDone, IsEarly, IsReadSome, IsSafeHeld, MetChanging, files_of};
+ghost use Rattle.hg_session.specs.Change.{FailsOrUnwritten, IsDone, IsEarly, IsReadSome, IsSafeHeld, MetChanging};
 ghost use Rattle.hg_session.specs.Changed.{OnlyLooks};
 ghost use Rattle.hg_session.specs.Loaded.{NodesFind};
 ghost use Rattle.hg_session.specs.declared.acting.Changing.TheVariants as a_command;
@@ -114,7 +114,7 @@ pub(crate) fn change_locked<T: Tree, S: Shelf>(
         (λ lines. IsDone
         (IsActed
         command
-        (files_of words.now)
+        words.now
         (record { old = T.history tree.old; new = T.history tree.new; before = T.faults tree.old; after = T.faults tree.new })
         (record { old = S.history shelf.old; new = S.history shelf.new; before = S.faults shelf.old; after = S.faults shelf.new }))
         (record { old = S.history shelf.old; new = S.history shelf.new; before = S.faults shelf.old; after = S.faults shelf.new })
@@ -127,7 +127,7 @@ pub(crate) fn change_locked<T: Tree, S: Shelf>(
         (MetChanging
         (IsActed
         command
-        (files_of words.now)
+        words.now
         (record { old = T.history tree.old; new = T.history tree.new; before = T.faults tree.old; after = T.faults tree.new })
         (record { old = S.history shelf.old; new = S.history shelf.new; before = S.faults shelf.old; after = S.faults shelf.new }))
         (record { old = T.history tree.old; new = T.history tree.new; before = T.faults tree.old; after = T.faults tree.new })
@@ -136,7 +136,7 @@ pub(crate) fn change_locked<T: Tree, S: Shelf>(
         → IsSafeHeld
         (IsActed
         command
-        (files_of words.now)
+        words.now
         (record { old = T.history tree.old; new = T.history tree.new; before = T.faults tree.old; after = T.faults tree.new })
         (record { old = S.history shelf.old; new = S.history shelf.new; before = S.faults shelf.old; after = S.faults shelf.new }))
         (record { old = course (S.history shelf.old) (S.images shelf.old); new = course (S.history shelf.new) (S.images shelf.new) })

@@ -4,14 +4,15 @@ ghost use Rattle.std.specs.Prelude.{◌≡◌, ◌⊎◌, ◌<◌, List, Option,
 ghost use Rattle.std.specs.Result.{result_err};
 ghost use Rattle.hg_report.specs.declared.fault.Fault.TheVariants as a_fault;
 ghost use Rattle.hg_session.specs.Acts.{IsActed};
-ghost use Rattle.hg_session.specs.Call.{Count, Watched};
-ghost use Rattle.hg_session.specs.Change.{FailsOrUnwritten, IsDone, IsEarly, IsLocked, IsReadSome, IsSafe, MetLocking, Stretch, files_of, once_freed};
+ghost use Rattle.hg_session.specs.Call.{Count, Sink};
+ghost use Rattle.hg_session.specs.Change.{FailsOrUnwritten, IsDone, IsEarly, IsLocked, IsReadSome, IsSafe, MetLocking, Stretch, once_freed};
 ghost use Rattle.hg_session.specs.Changed as changed_is;
 ghost use Rattle.hg_session.specs.Changed.{OnlyLooks, RanChange};
-ghost use Rattle.hg_session.specs.Command.{IsSilent};
+ghost use Rattle.hg_session.specs.Put.{IsSilent};
 ghost use Rattle.hg_session.specs.declared.acting.Changing.TheVariants as a_command;
 ghost use Rattle.hg_shelf.specs.Images.{Goes, course};
 ghost use Rattle.hg_shelf.specs.Polite.{Undisturbed};
+ghost use Rattle.hg_words.specs.declared.given.Command.{Command};
 
 use crate::acting::Changing;
 use crate::changing::change_locked;
@@ -49,7 +50,7 @@ fn change<T: Tree, S: Shelf>(
         (λ lines. (stretch : Stretch (S.history shelf.old) (S.history shelf.new)) × IsDone
         (IsActed
         command
-        (files_of words.now)
+        words.now
         (record { old = T.history tree.old; new = T.history tree.new; before = T.faults tree.old; after = T.faults tree.new })
         (record { old = S.history shelf.old; new = S.history shelf.new; before = S.faults shelf.old; after = S.faults shelf.new }))
         (record { old = S.history shelf.old; new = S.history shelf.new; before = S.faults shelf.old; after = S.faults shelf.new })
@@ -62,7 +63,7 @@ fn change<T: Tree, S: Shelf>(
         (MetLocking
         (IsActed
         command
-        (files_of words.now)
+        words.now
         (record { old = T.history tree.old; new = T.history tree.new; before = T.faults tree.old; after = T.faults tree.new })
         (record { old = S.history shelf.old; new = S.history shelf.new; before = S.faults shelf.old; after = S.faults shelf.new }))
         (record { old = T.history tree.old; new = T.history tree.new; before = T.faults tree.old; after = T.faults tree.new })
@@ -72,7 +73,7 @@ fn change<T: Tree, S: Shelf>(
         → IsSafe
         (IsActed
         command
-        (files_of words.now)
+        words.now
         (record { old = T.history tree.old; new = T.history tree.new; before = T.faults tree.old; after = T.faults tree.new })
         (record { old = S.history shelf.old; new = S.history shelf.new; before = S.faults shelf.old; after = S.faults shelf.new }))
         (record { old = course (S.history shelf.old) (S.images shelf.old); new = course (S.history shelf.new) (S.images shelf.new) })
@@ -91,7 +92,7 @@ fn change<T: Tree, S: Shelf>(
     ensures locked { IsLocked
         (IsActed
         command
-        (files_of words.now)
+        words.now
         (record { old = T.history tree.old; new = T.history tree.new; before = T.faults tree.old; after = T.faults tree.new })
         (record { old = S.history shelf.old; new = S.history shelf.new; before = S.faults shelf.old; after = S.faults shelf.new }))
         (record { old = T.history tree.old; new = T.history tree.new; before = T.faults tree.old; after = T.faults tree.new })
@@ -128,11 +129,12 @@ pub(crate) fn change_record<T: Tree, S: Shelf, E: Sink>(
     err: &mut E,
 ) -> Outcome
     // `RanChange` in specs/Changed.antt, whatever else a call has that isn't touched.
-    ensures ran { (out : Watched (Option (List ℕ))) (oversize : Count) → IsSilent out → oversize.after ≡ oversize.before
+    ensures ran { (called : Command) (out : Sink) (oversize : Count) → IsSilent out → oversize.after ≡ oversize.before
         → RanChange
         command
+        words.now
         (record {
-          words = words.now;
+          command = called;
           looked =
               record {
                 tree = record { old = T.history tree.old; new = T.history tree.new; before = T.faults tree.old; after = T.faults tree.new };

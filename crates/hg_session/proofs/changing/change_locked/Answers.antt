@@ -3,7 +3,6 @@ use Rattle.std.proofs.Common.{Some, None, inl, inr, ap}
 use Rattle.std.proofs.lemmas.Result.{err_from_is_err_and}
 use Rattle.hg_session.specs.Acts.{IsActed, Makes}
 use Rattle.hg_session.specs.Call.{Watched}
-use Rattle.hg_session.specs.Change.{files_of}
 use Rattle.hg_session.proofs.Changes.{done_by, met_acting, met_opened, met_read, met_writing, read_some, safe_by, stands}
 use Rattle.hg_session.proofs.Locked.{unwritten, unwritten_unless}
 use Rattle.hg_docket.specs.Docket.{docket_of}
@@ -37,7 +36,7 @@ returns-in_err-save-clause-met g c =
     let d : Course = course (g.S.Shelf.history c.save.new.shelf) (g.S.Shelf.images c.save.new.shelf) in
     let copy : Watched tree.History = record { old = g.T.Tree.history c.args.tree.now; new = g.T.Tree.history c.act.new.tree; before = g.T.Tree.faults c.args.tree.now; after = g.T.Tree.faults c.act.new.tree } in
     let files : Watched shelf.History = record { old = a.history; new = d.history; before = g.S.Shelf.faults c.args.shelf.now; after = g.S.Shelf.faults c.save.new.shelf } in
-    let Does : Makes = IsActed c.args.command (files_of c.args.words.now) copy files in
+    let Does : Makes = IsActed c.args.command c.args.words.now copy files in
     let acted = c.in_ok-lines.ensures.acts files c.in_ok-table.ensures.2.unchanged in
     rw (p.1, p.2)
     (met_writing a b d c.in_ok-loaded.ensures.passes c.in_err-save.ensures.kept c.in_ok-loaded.loaded c.in_ok-loaded.ensures.whole c.in_ok-loaded.ensures.found c.in_ok-table.ensures.0 c.in_ok-table.ensures.1
@@ -52,7 +51,7 @@ returns-in_err-save-clause-safe g c = λ calm.
     let d : Course = course (g.S.Shelf.history c.save.new.shelf) (g.S.Shelf.images c.save.new.shelf) in
     let copy : Watched tree.History = record { old = g.T.Tree.history c.args.tree.now; new = g.T.Tree.history c.act.new.tree; before = g.T.Tree.faults c.args.tree.now; after = g.T.Tree.faults c.act.new.tree } in
     let files : Watched shelf.History = record { old = a.history; new = d.history; before = g.S.Shelf.faults c.args.shelf.now; after = g.S.Shelf.faults c.save.new.shelf } in
-    let Does : Makes = IsActed c.args.command (files_of c.args.words.now) copy files in
+    let Does : Makes = IsActed c.args.command c.args.words.now copy files in
     let acted = c.in_ok-lines.ensures.acts files c.in_ok-table.ensures.2.unchanged in
     rw (p.1, p.2)
     (safe_by a b d c.in_ok-loaded.ensures.passes c.in_err-save.ensures.kept c.in_ok-loaded.loaded c.in_ok-loaded.ensures.whole c.in_ok-loaded.ensures.found c.in_ok-table.ensures.0 c.in_ok-table.ensures.1
@@ -102,7 +101,7 @@ returns-clause-done g c =
     let d : Course = course (g.S.Shelf.history c.save.new.shelf) (g.S.Shelf.images c.save.new.shelf) in
     let copy : Watched tree.History = record { old = g.T.Tree.history c.args.tree.now; new = g.T.Tree.history c.act.new.tree; before = g.T.Tree.faults c.args.tree.now; after = g.T.Tree.faults c.act.new.tree } in
     let files : Watched shelf.History = record { old = a.history; new = d.history; before = g.S.Shelf.faults c.args.shelf.now; after = g.S.Shelf.faults c.save.new.shelf } in
-    let Does : Makes = IsActed c.args.command (files_of c.args.words.now) copy files in
+    let Does : Makes = IsActed c.args.command c.args.words.now copy files in
     let acted = c.in_ok-lines.ensures.acts files c.in_ok-table.ensures.2.unchanged in
     done_by a b d c.in_ok-loaded.ensures.passes c.in_ok-save.ensures.kept c.in_ok-loaded.loaded c.in_ok-loaded.ensures.whole c.in_ok-loaded.ensures.found c.in_ok-table.ensures.0 c.in_ok-table.ensures.1
     Does c.in_ok-table.table c.act.new.mixed c.in_ok-table.ensures.2 c.in_ok-lines.ensures.image c.in_ok-lines.lines.items acted
@@ -117,7 +116,7 @@ returns-clause-safe g c = λ calm.
     let d : Course = course (g.S.Shelf.history c.save.new.shelf) (g.S.Shelf.images c.save.new.shelf) in
     let copy : Watched tree.History = record { old = g.T.Tree.history c.args.tree.now; new = g.T.Tree.history c.act.new.tree; before = g.T.Tree.faults c.args.tree.now; after = g.T.Tree.faults c.act.new.tree } in
     let files : Watched shelf.History = record { old = a.history; new = d.history; before = g.S.Shelf.faults c.args.shelf.now; after = g.S.Shelf.faults c.save.new.shelf } in
-    let Does : Makes = IsActed c.args.command (files_of c.args.words.now) copy files in
+    let Does : Makes = IsActed c.args.command c.args.words.now copy files in
     let acted = c.in_ok-lines.ensures.acts files c.in_ok-table.ensures.2.unchanged in
     safe_by a b d c.in_ok-loaded.ensures.passes c.in_ok-save.ensures.kept c.in_ok-loaded.loaded c.in_ok-loaded.ensures.whole c.in_ok-loaded.ensures.found c.in_ok-table.ensures.0 c.in_ok-table.ensures.1
     Does c.in_ok-table.table c.act.new.mixed c.in_ok-table.ensures.2 c.in_ok-lines.ensures.image c.in_ok-lines.lines.items acted

@@ -5,7 +5,6 @@ use Rattle.hg_session.proofs.Freed.{once_done, once_locked, once_met, once_safe,
 use Rattle.hg_session.proofs.Locks.{not_taken_by, noted_taken, refused_by, taken_by}
 use Rattle.hg_session.proofs.Widening.{read_some_wide}
 use Rattle.hg_session.specs.Call.{Watched}
-use Rattle.hg_session.specs.Change.{files_of}
 use Rattle.hg_session.specs.Locks.{TakenAt}
 use Rattle.hg_shelf.specs.Images.{Course, course}
 use Rattle.hg_shelf.specs.Lock.{IsNoted}
@@ -29,7 +28,7 @@ returns-in-Ok-true-clause-done g c =
     (c.unlock-freed.ensures.noted (c.change_locked-done.ensures.kept.past.told ∙ c.lock.ensures.kept.past.told ∙ told)) in
     rw c.first_fault.ensures
     (once_done a b x d c.lock.ensures.waits c.unlock-freed.ensures.waits c.lock.ensures.kept c.change_locked-done.ensures.kept c.unlock-freed.ensures.kept noted c.change_locked-done.ensures.uncalled taken
-    _ _ (acted_over c.args.command _ _ (files_of c.args.words.now) copy) copy (g.S.Shelf.faults c.args.shelf.now) (g.S.Shelf.faults c.lock.new.self) (g.S.Shelf.faults c.change_locked-done.new.shelf) (g.S.Shelf.faults c.unlock-freed.new.self)
+    _ _ (acted_over c.args.command _ _ c.args.words.now copy) copy (g.S.Shelf.faults c.args.shelf.now) (g.S.Shelf.faults c.lock.new.self) (g.S.Shelf.faults c.change_locked-done.new.shelf) (g.S.Shelf.faults c.unlock-freed.new.self)
     c.change_locked-done.result c.unlock-freed.result c.change_locked-done.ensures.done)
 
 pub returns-in-Ok-true-clause-met : goal.returns-in-Ok-true-clause-met
@@ -47,7 +46,7 @@ returns-in-Ok-true-clause-met g c =
     (c.unlock-freed.ensures.noted (c.change_locked-done.ensures.kept.past.told ∙ c.lock.ensures.kept.past.told ∙ told)) in
     rw c.first_fault.ensures
     (once_met a b x d c.lock.ensures.waits c.unlock-freed.ensures.waits c.lock.ensures.kept c.change_locked-done.ensures.kept c.unlock-freed.ensures.kept noted c.change_locked-done.ensures.uncalled taken
-    _ _ (acted_over c.args.command _ _ (files_of c.args.words.now) copy) copy (g.S.Shelf.faults c.args.shelf.now) (g.S.Shelf.faults c.lock.new.self) (g.S.Shelf.faults c.change_locked-done.new.shelf) (g.S.Shelf.faults c.unlock-freed.new.self)
+    _ _ (acted_over c.args.command _ _ c.args.words.now copy) copy (g.S.Shelf.faults c.args.shelf.now) (g.S.Shelf.faults c.lock.new.self) (g.S.Shelf.faults c.change_locked-done.new.shelf) (g.S.Shelf.faults c.unlock-freed.new.self)
     _ c.change_locked-done.result c.unlock-freed.result c.in-Ok-true.ensures.cause.quiet c.change_locked-done.ensures.later c.change_locked-done.ensures.met c.unlock-freed.ensures.cause)
 
 pub returns-in-Ok-true-clause-safe : goal.returns-in-Ok-true-clause-safe
@@ -65,7 +64,7 @@ returns-in-Ok-true-clause-safe g c = λ calm.
     (c.unlock-freed.ensures.noted (c.change_locked-done.ensures.kept.past.told ∙ c.lock.ensures.kept.past.told ∙ told)) in
     rw c.first_fault.ensures
     (once_safe a b x d c.lock.ensures.waits c.unlock-freed.ensures.waits c.lock.ensures.kept c.change_locked-done.ensures.kept c.unlock-freed.ensures.kept noted c.change_locked-done.ensures.uncalled taken
-    _ _ (acted_over c.args.command _ _ (files_of c.args.words.now) copy) copy (g.S.Shelf.faults c.args.shelf.now) (g.S.Shelf.faults c.lock.new.self) (g.S.Shelf.faults c.change_locked-done.new.shelf) (g.S.Shelf.faults c.unlock-freed.new.self)
+    _ _ (acted_over c.args.command _ _ c.args.words.now copy) copy (g.S.Shelf.faults c.args.shelf.now) (g.S.Shelf.faults c.lock.new.self) (g.S.Shelf.faults c.change_locked-done.new.shelf) (g.S.Shelf.faults c.unlock-freed.new.self)
     c.change_locked-done.result c.unlock-freed.result c.change_locked-done.ensures.safe calm)
 
 pub returns-in-Ok-false-clause-unwritten : goal.returns-in-Ok-false-clause-unwritten
@@ -128,7 +127,7 @@ returns-in-Ok-true-clause-locked g c =
     let counted = taken_same _ _ _ _ c.in-Ok-true.field-0 c.in-Ok-true.field-0-test c.in-Ok-true.ensures.locks in
     rw c.first_fault.ensures
     (once_locked a b x d c.lock.ensures.waits c.unlock-freed.ensures.waits c.lock.ensures.kept c.change_locked-done.ensures.kept c.unlock-freed.ensures.kept noted c.change_locked-done.ensures.uncalled taken
-    _ _ (acted_over c.args.command _ _ (files_of c.args.words.now) copy) copy (g.S.Shelf.faults c.args.shelf.now) (g.S.Shelf.faults c.lock.new.self) (g.S.Shelf.faults c.change_locked-done.new.shelf) (g.S.Shelf.faults c.unlock-freed.new.self)
+    _ _ (acted_over c.args.command _ _ c.args.words.now copy) copy (g.S.Shelf.faults c.args.shelf.now) (g.S.Shelf.faults c.lock.new.self) (g.S.Shelf.faults c.change_locked-done.new.shelf) (g.S.Shelf.faults c.unlock-freed.new.self)
     (record { before = g.S.Shelf.held c.args.shelf.now; after = g.S.Shelf.held c.unlock-freed.new.self }) c.change_locked-done.result c.unlock-freed.result c.in-Ok-true.ensures.cause.quiet c.change_locked-done.ensures.later
     (c.unlock-freed.ensures.held ∙ c.change_locked-done.ensures.locks ∙ counted)
     c.change_locked-done.ensures.done c.change_locked-done.ensures.met c.unlock-freed.ensures.cause c.unlock-freed.ensures.unlocks c.unlock-freed.ensures.noted)
