@@ -7,6 +7,7 @@ pub mod Expectations
 pub mod Freed
 pub mod Listings
 pub mod Locked
+pub mod Locks
 pub mod Looks
 pub mod Overs
 pub mod Parents

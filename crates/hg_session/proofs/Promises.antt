@@ -18,8 +18,8 @@ use Rattle.hg_session.proofs.Crashes.{crash_safe, lasting}
 use Rattle.hg_session.proofs.Readings.{unreadable_now}
 use Rattle.hg_session.specs.Acts.{Makes}
 use Rattle.hg_session.specs.Call.{Call, Count, Fails, Saved, Serves, Watched}
-use Rattle.hg_session.specs.Change.{FailsOrUnwritten, Fits, FitsFirst, IsDone, IsEarly, IsFreed, IsMade, IsReadFirst, IsReadSome, IsSafe, MayFollowWriting, MetChanging, MetLocking, NoneOurs, Stretch, id_read, makes_in, up_to}
-use Rattle.hg_session.specs.Changed.{IsExpectedChange, IsMadeOf, IsPartlyTold, IsUnlooked, IsUnwrittenUnless, OnlyLooks, RanChange, TellsFault, status_of}
+use Rattle.hg_session.specs.Change.{FailsOrUnwritten, Fits, FitsFirst, IsDone, IsEarly, IsLocked, IsMade, IsReadFirst, IsReadSome, IsSafe, IsUnlooked, MayFollowWriting, MetChanging, MetLocking, NoneOurs, Stretch, id_read, makes_in, up_to}
+use Rattle.hg_session.specs.Changed.{IsExpectedChange, IsMadeOf, IsPartlyTold, IsUnwrittenUnless, OnlyLooks, RanChange, TellsFault, status_of}
 use Rattle.hg_session.specs.Put.{IsFaultOrMemory, IsSilent, TellsLine}
 use Rattle.hg_session.specs.Loaded.{IsRefused, LoadMet}
 use Rattle.hg_session.specs.declared.acting.Changing.{Changing}
@@ -162,21 +162,49 @@ module _ (command : Changing) (words : List (List ℕ)) (copy : Watched tree.His
   abbrev Does : Makes
   Does = makes_in command words call
 
-  -- the lock is given back, or that failed, where this is the fault
-  abbrev pub FreesFor : Option Fault → Type 0
-  FreesFor fault = IsFreed Does call.looked.shelf call.saved fault
+  -- what came of the lock, where this is the fault
+  abbrev pub LockedBy : Option Fault → Type 0
+  LockedBy fault = IsLocked Does copy call.looked.shelf call.saved locks fault
 
   -- so it is where another fault is told, or none
-  frees_as : (first told : Option Fault) → (told ≡ Some a_fault.ShelfFailed → first ≡ Some a_fault.ShelfFailed) → FreesFor first → FreesFor told
-  frees_as first told only freed = λ held. elim (freed held) [
-    | inl was ↦ inl was
-    | inr is ↦ inr (record { failed = is.failed; alone = λ one same. is.alone one (only same) })
-  ]
+  locked_as : (first told : Option Fault) → ((fault : Fault) → IsFaultOrMemory first fault → IsFaultOrMemory told fault) → LockedBy first → LockedBy told
+  locked_as first told same (inl is) = inl (record {
+    told = is.told;
+    ours = is.ours;
+    counted = is.counted;
+    unwritten = is.unwritten;
+    unlooked = is.unlooked;
+    answer = same a_fault.Held is.answer;
+  })
+  locked_as first told same (inr (inl is)) = inr (inl (record {
+    told = is.told;
+    ours = is.ours;
+    uncounted = is.uncounted;
+    failed = is.failed;
+    unwritten = is.unwritten;
+    unlooked = is.unlooked;
+    answer = same a_fault.ShelfFailed is.answer;
+  }))
+  locked_as first told same (inr (inr (inl is))) = inr (inr (inl is))
+  locked_as first told same (inr (inr (inr is))) = inr (inr (inr (record {
+    told = is.told;
+    uncounted = is.uncounted;
+    failed = is.failed;
+    first =
+        elim is.first [
+          | inl done ↦ inl (same a_fault.ShelfFailed done.0, done.1, done.2, done.3)
+          | inr met ↦ inr (met.0, same met.0 met.1, met.2)
+        ];
+  })))
 
-  pub ran_done : FreesFor None → (status : ℕ) (stretch : Stretch a.history b.history) (lines : List ℕ) (done : IsDone Does call.looked.shelf call.saved stretch.from stretch.to lines) → Grown err.old err.new lines → status ≡ status_of lines
+  -- where there is none there was none
+  never_none : {Q : Type 0} (fault : Fault) → IsFaultOrMemory None fault → Q
+  never_none fault is = not_without None fault is refl
+
+  pub ran_done : LockedBy None → (status : ℕ) (stretch : Stretch a.history b.history) (lines : List ℕ) (done : IsDone Does call.looked.shelf call.saved stretch.from stretch.to lines) → Grown err.old err.new lines → status ≡ status_of lines
       → (Undisturbed a b → IsSafe Does call.saved None) → copy.after ≡ copy.before → after ≡ before → err.after ≡ err.before → (locks.before < locks.after → ⊥) → (copy.before < copy.after → ⊥)
       → RanChange command words call status None
-  ran_done freed status stretch lines done grown is safe calm_tree calm_shelf calm_err unheld well = record {
+  ran_done locked status stretch lines done grown is safe calm_tree calm_shelf calm_err unheld well = record {
     stepped = λ none. record { stretch = stretch; lines = lines; done = done; told = grown; ends = is; lasts = λ calm keep. lasting a b kept calm keep done.is.loaded done.made stretch (done.kept calm) };
     safe = safe;
     crash = λ calm keep first. crash_safe a b kept calm keep Does first None (safe calm);
@@ -196,7 +224,7 @@ module _ (command : Changing) (words : List (List ℕ)) (copy : Watched tree.His
     early = λ never. absurd never;
     unlooked = unlooked;
     kept = kept;
-    freed = freed;
+    locked = locked;
   }
 
   safe_untold : IsSafe Does call.saved None → IsSafe Does call.saved (Some a_fault.ErrFailed)
@@ -204,9 +232,9 @@ module _ (command : Changing) (words : List (List ℕ)) (copy : Watched tree.His
   safe_untold (inr (may, is)) = inr (inr (inl refl), is)
 
   -- the error stream failed while the refused words were told
-  pub ran_untold : FreesFor None → (stretch : Stretch a.history b.history) (lines : List ℕ) (done : IsDone Does call.looked.shelf call.saved stretch.from stretch.to lines) → GrownByFront err.old err.new lines → Fails err → after ≡ before
+  pub ran_untold : LockedBy None → (stretch : Stretch a.history b.history) (lines : List ℕ) (done : IsDone Does call.looked.shelf call.saved stretch.from stretch.to lines) → GrownByFront err.old err.new lines → Fails err → after ≡ before
       → (Undisturbed a b → IsSafe Does call.saved None) → (locks.before < locks.after → ⊥) → (copy.before < copy.after → ⊥) → (status : ℕ) → RanChange command words call status (Some a_fault.ErrFailed)
-  ran_untold freed stretch lines done grown failed calm_shelf safe unheld well status = record {
+  ran_untold locked stretch lines done grown failed calm_shelf safe unheld well status = record {
     stepped = λ none. absurd (cc none);
     safe = λ calm. safe_untold (safe calm);
     crash = λ calm keep first. crash_safe a b kept calm keep Does first (Some a_fault.ErrFailed) (safe_untold (safe calm));
@@ -226,7 +254,7 @@ module _ (command : Changing) (words : List (List ℕ)) (copy : Watched tree.His
     early = λ never. absurd never;
     unlooked = unlooked;
     kept = kept;
-    freed = frees_as None (Some a_fault.ErrFailed) (λ is. absurd (cc is)) freed;
+    locked = locked_as None (Some a_fault.ErrFailed) (λ fault is. never_none fault is) locked;
   }
 
   safe_any : (fault : Fault) → IsSafe Does call.saved (Some fault) → IsSafe Does call.saved (Some a_fault.OutOfMemory)
@@ -262,10 +290,10 @@ module _ (command : Changing) (words : List (List ℕ)) (copy : Watched tree.His
   unless_memory fault met (inl is) = inr (inl (shelf_fails fault is met, inr refl))
   unless_memory fault met (inr none) = inr (inr none)
 
-  ran_fault : (status : ℕ) (fault answered : Fault) → FreesFor (Some fault) → (answered ≡ fault) ⊎ (answered ≡ a_fault.OutOfMemory) → MetLocking Does copy call.looked.shelf locks fault
+  ran_fault : (status : ℕ) (fault answered : Fault) → LockedBy (Some fault) → (answered ≡ fault) ⊎ (answered ≡ a_fault.OutOfMemory) → MetLocking Does copy call.looked.shelf locks fault
       → (Undisturbed a b → IsSafe Does call.saved (Some fault)) → FailsOrUnwritten a.history b.history fault → (locks.before < locks.after → fault ≡ a_fault.Held) → (copy.before < copy.after → fault ≡ a_fault.TreeFailed) → (IsEarly fault → IsUnlooked copy)
       → TellsLine err.old err.new err.before err.after answered → RanChange command words call status (Some answered)
-  ran_fault status fault answered freed (inl same) met safe written held failed early line =
+  ran_fault status fault answered locked (inl same) met safe written held failed early line =
       subst (λ (f : Fault). TellsLine err.old err.new err.before err.after f → RanChange command words call status (Some f)) (sym same) (λ told. record {
         stepped = λ none. absurd (cc none);
         safe = safe;
@@ -289,9 +317,9 @@ module _ (command : Changing) (words : List (List ℕ)) (copy : Watched tree.His
         early = early;
         unlooked = unlooked;
         kept = kept;
-        freed = freed;
+        locked = locked;
       }) line
-  ran_fault status fault answered freed (inr memory) met safe written held failed early line =
+  ran_fault status fault answered locked (inr memory) met safe written held failed early line =
       subst (λ (f : Fault). TellsLine err.old err.new err.before err.after f → RanChange command words call status (Some f)) (sym memory) (λ told. record {
         stepped = λ none. absurd (cc none);
         safe = λ calm. safe_any fault (safe calm);
@@ -315,12 +343,12 @@ module _ (command : Changing) (words : List (List ℕ)) (copy : Watched tree.His
         early = λ never. absurd never;
         unlooked = unlooked;
         kept = kept;
-        freed = frees_as (Some fault) (Some a_fault.OutOfMemory) (λ is. absurd (cc is)) freed;
+        locked = locked_as (Some fault) (Some a_fault.OutOfMemory) (λ met is. inr refl) locked;
       }) line
 
-  pub ran_failed : (status : ℕ) (fault : Fault) (answered : Option Fault) → FreesFor (Some fault) → IsFaultOrMemory answered fault → MetLocking Does copy call.looked.shelf locks fault
+  pub ran_failed : (status : ℕ) (fault : Fault) (answered : Option Fault) → LockedBy (Some fault) → IsFaultOrMemory answered fault → MetLocking Does copy call.looked.shelf locks fault
       → (Undisturbed a b → IsSafe Does call.saved (Some fault)) → FailsOrUnwritten a.history b.history fault → (locks.before < locks.after → fault ≡ a_fault.Held) → (copy.before < copy.after → fault ≡ a_fault.TreeFailed) → (IsEarly fault → IsUnlooked copy)
       → IfSome answered (λ f. TellsLine err.old err.new err.before err.after f) → RanChange command words call status answered
-  ran_failed status fault None freed is met safe written held failed early line = not_without None fault is refl
-  ran_failed status fault (Some f) freed (inl same) met safe written held failed early line = ran_fault status fault f freed (inl (cc same)) met safe written held failed early line
-  ran_failed status fault (Some f) freed (inr memory) met safe written held failed early line = ran_fault status fault f freed (inr (cc memory)) met safe written held failed early line
+  ran_failed status fault None locked is met safe written held failed early line = not_without None fault is refl
+  ran_failed status fault (Some f) locked (inl same) met safe written held failed early line = ran_fault status fault f locked (inl (cc same)) met safe written held failed early line
+  ran_failed status fault (Some f) locked (inr memory) met safe written held failed early line = ran_fault status fault f locked (inr (cc memory)) met safe written held failed early line

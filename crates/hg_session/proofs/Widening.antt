@@ -12,12 +12,13 @@ use Rattle.hg_save.proofs.Loads.{found_longer, last_within, tries_longer}
 use Rattle.hg_save.proofs.Published.{keeps_longer}
 use Rattle.hg_save.specs.Loads.{IsTry, Tries, Try, found_by, id_by}
 use Rattle.hg_save.specs.Record.{data_name, id_in, reading}
-use Rattle.hg_save.specs.Saved.{IsLatest, KeepsOthers, ReadsAsBeforeOr, name_after}
+use Rattle.hg_save.specs.Saved.{IsLatest, KeepsOthers, ReadsAsBeforeOr, name_after, used_in}
 use Rattle.hg_session.specs.Acts.{Makes}
 use Rattle.hg_session.specs.Call.{Watched}
 use Rattle.hg_session.specs.Change.{Fits, FitsFirst, IsDone, IsKept, IsMade, IsPublished, IsReadFirst, IsSafe, IsSafeHeld, IsUnwritten, MetChanging, NoneOurs, Stretch, id_read, up_to}
 use Rattle.hg_session.specs.Loaded.{LoadMet}
 use Rattle.hg_session.specs.Loaded.{IsRefused}
+use Rattle.hg_session.specs.Locks.{TakenAt}
 use Rattle.hg_session.specs.declared.read_fault.ReadFault.{ReadFault}
 use Rattle.hg_session.specs.declared.read_fault.ReadFault.TheVariants as a_read
 use Rattle.hg_session.proofs.Locked.{none_within}
@@ -31,6 +32,7 @@ use Rattle.hg_tree.specs.History as tree
 latest_same : (a b : Scene) → Remains a b → Remains b a → IsLatest a → IsLatest b
 latest_same a b to back is = record {
   latest = λ c left n named. is.latest c (to.left c left) n (ap (λ (f : Files). name_after n (id_in f)) (sym to.shown) ∙ named);
+  used = λ c left named. subst (λ (f : Files). used_in c ≤ used_in f) (sym to.shown) (is.used c (to.left c left) (named ∙ ap id_in to.shown));
 }
 
 reads_same : (a b : Scene) (table : Option (Result Table RecordFault)) (c : Files) → Remains b a → ReadsAsBeforeOr a table c → ReadsAsBeforeOr b table c
@@ -75,7 +77,8 @@ ids_longer old mid new (one ∷ more) past within = λ i. id_in ((past.stay one.
 
 -- ---- a call that takes the lock, changes the record and gives the lock back
 
-module _ (a b c d : Course) (lock : Waits a.history b.history) (unlock : Waits c.history d.history) (p : Goes a b) (q : Goes b c) (r : Goes c d) where
+module _ (a b c d : Course) (lock : Waits a.history b.history) (unlock : Waits c.history d.history) (p : Goes a b) (q : Goes b c) (r : Goes c d)
+    (taken : IsTrue a.history.told → TakenAt a.history d.history b.history.last c.history.last) where
   pub later : a.history.last ≤ b.history.last
   later = p.past.later
 
@@ -111,6 +114,7 @@ module _ (a b c d : Course) (lock : Waits a.history b.history) (unlock : Waits c
     end = r.past.later;
     before = none_wide b.history.last q.past.later (none_within c.history b.history.last);
     behind = none_behind c.history.last (none_within c.history c.history.last);
+    taken = taken;
   }
 
   -- a moment of the change, seen from the end

@@ -1,5 +1,5 @@
 -- What happened in a call: each device before and after it.
-use Rattle.std.specs.Prelude.{ℕ, ◌≡◌, ◌+◌, ◌<◌, ◌-◌, ◌^◌, List, Option}
+use Rattle.std.specs.Prelude.{ℕ, List, Option}
 use Rattle.hg_base.specs.Fault.{IsSteady, Rose}
 use Rattle.hg_shelf.specs.History as shelf
 use Rattle.hg_shelf.specs.Images.{Course}
@@ -16,10 +16,6 @@ pub record Watched {ℓ} (Told : Type ℓ) : Type ℓ where
 -- its count of failures rose
 abbrev pub Fails {ℓ} : {Told : Type ℓ} → Watched Told → Type 0
 Fails device = Rose device.before device.after
-
--- its count of failures rose by one, and doesn't stand at its end, so one call alone failed
-abbrev pub FailsOnce {ℓ} : {Told : Type ℓ} → Watched Told → Type 0
-FailsOnce device = (device.after ≡ device.before + 1) × (device.after < 2 ^ 64 - 1)
 
 -- it never failed
 abbrev pub Serves {ℓ} : {Told : Type ℓ} → Watched Told → Type 0

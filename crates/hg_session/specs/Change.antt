@@ -15,8 +15,10 @@ use Rattle.hg_save.specs.Others.{KeepsRecords}
 use Rattle.hg_save.specs.Record.{data_name, id_in, reading}
 use Rattle.hg_save.specs.Saved.{IsLatest, KeepsOthers, ReadsAsBeforeOr}
 use Rattle.hg_session.specs.Acts.{IsActed, Makes}
-use Rattle.hg_session.specs.Call.{Call, Count, Fails, FailsOnce, Saved, Watched}
+use Rattle.hg_session.specs.Call.{Call, Count, Fails, Saved, Watched}
 use Rattle.hg_session.specs.Loaded.{IsRead, LoadMet}
+use Rattle.hg_session.specs.Locks.{NotReturned, NotTaken, Refused, Returned, TakenAt}
+use Rattle.hg_session.specs.Put.{IsFaultOrMemory}
 use Rattle.hg_session.specs.declared.acting.Changing.{Changing}
 use Rattle.hg_session.specs.declared.read_fault.ReadFault.TheVariants as a_read
 use Rattle.hg_shelf.specs.History as shelf
@@ -52,7 +54,7 @@ pub record IsMade (Does : Makes) (files : Watched shelf.History) (made : Table) 
   pub read : IsTrue files.old.told → IsReadFirst files.old files.new loaded
   pub does : Does loaded made lines changed
 
--- a stretch of a call from where the caller got the lock to where it gave it back; outside it the caller makes no step
+-- a stretch of a call from where the caller took the lock to where it gave it back; outside it the caller makes no step
 pub record Stretch (old new : shelf.History) : Type 0 where
   pub from : ℕ
   pub to : ℕ
@@ -61,6 +63,7 @@ pub record Stretch (old new : shelf.History) : Type 0 where
   pub end : to ≤ new.last
   pub before : NoneOurs new old.last from
   pub behind : NoneOurs new to new.last
+  pub taken : IsTrue old.told → TakenAt old new from to
 
 -- the caller wrote nothing
 pub record IsUnwritten (old new : shelf.History) : Type 0 where
@@ -209,14 +212,50 @@ abbrev pub IsSafeHeld : Makes → Saved → Option Fault → Type 0
 IsSafeHeld Does saved fault =
     IsUnwritten saved.old.history saved.new.history ⊎ (MayFollowWriting fault × IsPublished Does saved.new saved.old.history.last saved.new.history.last)
 
--- a call below `.hg` failed; where no other one did, and that is the fault, the change was done: it was giving the lock back that failed
-pub record IsStuck (Does : Makes) (files : Watched shelf.History) (saved : Saved) (fault : Option Fault) : Type 0 where
-  pub failed : Fails files
-  pub alone : FailsOnce files → fault ≡ Some a_fault.ShelfFailed → (stretch : Stretch saved.old.history saved.new.history) × (lines : List ℕ) × IsDone Does files saved stretch.from stretch.to lines
+-- ---- the lock
 
--- the lock is held at the end only where it was at the start, or a call below `.hg` failed; where one alone did, as `IsStuck` says
-abbrev pub IsFreed : Makes → Watched shelf.History → Saved → Option Fault → Type 0
-IsFreed Does files saved fault = IsTrue saved.new.history.ours → IsTrue saved.old.history.ours ⊎ IsStuck Does files saved fault
+-- the tree isn't asked at all: what it tells and its count of failures stay
+pub record IsUnlooked (copy : Watched tree.History) : Type 0 where
+  pub same : copy.new ≡ copy.old
+  pub count : copy.after ≡ copy.before
+
+-- the lock was refused, which is counted, and nothing else was done
+pub record WasRefused (copy : Watched tree.History) (files : Watched shelf.History) (locks : Count) (fault : Option Fault) : Type 0 where
+  pub told : IsTrue files.old.told → Refused files.old files.new
+  pub ours : files.new.ours ≡ files.old.ours
+  pub counted : Rose locks.before locks.after
+  pub unwritten : IsUnwritten files.old files.new
+  pub unlooked : IsUnlooked copy
+  pub answer : IsFaultOrMemory fault a_fault.Held
+
+-- taking it failed, and nothing else was done
+pub record WasNotTaken (copy : Watched tree.History) (files : Watched shelf.History) (locks : Count) (fault : Option Fault) : Type 0 where
+  pub told : IsTrue files.old.told → NotTaken files.old files.new
+  pub ours : files.new.ours ≡ files.old.ours
+  pub uncounted : locks.after ≡ locks.before
+  pub failed : Fails files
+  pub unwritten : IsUnwritten files.old files.new
+  pub unlooked : IsUnlooked copy
+  pub answer : IsFaultOrMemory fault a_fault.ShelfFailed
+
+-- it was taken and given back, after a fault too
+pub record WasReturned (files : Watched shelf.History) (locks : Count) : Type 0 where
+  pub told : IsTrue files.old.told → Returned files.old files.new
+  pub ours : files.new.ours ≡ false
+  pub uncounted : locks.after ≡ locks.before
+
+-- it was taken, and giving it back failed, behind a change that was done, or behind a first fault
+pub record WasNotReturned (Does : Makes) (copy : Watched tree.History) (files : Watched shelf.History) (saved : Saved) (locks : Count) (fault : Option Fault) : Type 0 where
+  pub told : IsTrue files.old.told → NotReturned files.old files.new
+  pub uncounted : locks.after ≡ locks.before
+  pub failed : Fails files
+  pub first : (IsFaultOrMemory fault a_fault.ShelfFailed × (stretch : Stretch saved.old.history saved.new.history) × (lines : List ℕ) × IsDone Does files saved stretch.from stretch.to lines)
+      ⊎ ((met : Fault) × IsFaultOrMemory fault met × MetChanging Does copy files met)
+
+-- the lock was called for once, and one of these came of it
+abbrev pub IsLocked : Makes → Watched tree.History → Watched shelf.History → Saved → Count → Option Fault → Type 0
+IsLocked Does copy files saved locks fault =
+    WasRefused copy files locks fault ⊎ (WasNotTaken copy files locks fault ⊎ (WasReturned files locks ⊎ WasNotReturned Does copy files saved locks fault))
 
 -- what is answered once the lock was given back, or couldn't be: the first fault
 abbrev pub once_freed : {A U E : Type 0} → Result A Fault → Result U E → Result A Fault

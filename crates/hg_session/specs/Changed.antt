@@ -14,7 +14,7 @@ use Rattle.hg_save.specs.Record.{id_in, reading}
 use Rattle.hg_save.specs.Saved.{IsLatest}
 use Rattle.hg_session.specs.Acts.{Makes}
 use Rattle.hg_session.specs.Call.{Call, Fails, Serves, Watched}
-use Rattle.hg_session.specs.Change.{ChangeCause, Fits, IsDone, IsEarly, IsFreed, IsReadSome, IsSafe, IsUnwritten, Stretch, makes_in}
+use Rattle.hg_session.specs.Change.{ChangeCause, Fits, IsDone, IsEarly, IsLocked, IsReadSome, IsSafe, IsUnlooked, IsUnwritten, Stretch, makes_in}
 use Rattle.hg_session.specs.Loaded.{IsUnreadable}
 use Rattle.hg_session.specs.Put.{IsFaultOrMemory, IsSilent, TellsLine}
 use Rattle.hg_session.specs.Crash.{IsCrashSafe, IsLasting}
@@ -68,11 +68,6 @@ IsUnwrittenUnless call fault =
 pub record OnlyLooks (copy : Watched tree.History) : Type 0 where
   pub passes : tree.Passes copy.old copy.new
   pub asked : IsTrue copy.old.told → copy.new.asked ≡ copy.old.asked
-
--- the tree isn't asked at all: what it tells and its count of failures stay
-pub record IsUnlooked (copy : Watched tree.History) : Type 0 where
-  pub same : copy.new ≡ copy.old
-  pub count : copy.after ≡ copy.before
 
 -- ---- what has to be answered
 
@@ -151,6 +146,7 @@ pub record RanChange (command : Changing) (words : List (List ℕ)) (call : Call
   pub early : IsSomeAnd fault IsEarly → IsUnlooked call.looked.tree
   -- where files are forgotten the tree isn't asked
   pub unlooked : command ≡ a_change.Forget → IsUnlooked call.looked.tree
-  -- what was so far stays, and the lock is held behind it only as `IsFreed` says
+  -- what was so far stays
   pub kept : Goes call.saved.old call.saved.new
-  pub freed : IsFreed (makes_in command words call) call.looked.shelf call.saved fault
+  -- the lock was called for once, also where nothing was to be changed
+  pub locked : IsLocked (makes_in command words call) call.looked.tree call.looked.shelf call.saved call.locks fault

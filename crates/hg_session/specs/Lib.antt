@@ -12,6 +12,7 @@ pub mod Flags
 pub mod Listed
 pub mod Load
 pub mod Loaded
+pub mod Locks
 pub mod Look
 pub mod Put
 pub mod Status

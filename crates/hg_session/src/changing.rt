@@ -87,6 +87,7 @@ fn save<S: Shelf>(
     ensures later { S.faults shelf.old ≤ S.faults shelf.new }
     ensures kept { Goes (course (S.history shelf.old) (S.images shelf.old)) (course (S.history shelf.new) (S.images shelf.new)) }
     ensures ours { (S.history shelf.new).ours ≡ (S.history shelf.old).ours }
+    ensures uncalled { (S.history shelf.new).locks ≡ (S.history shelf.old).locks }
     ensures locks { S.held shelf.new ≡ S.held shelf.old }
 {
     if !table.changed() {
@@ -152,6 +153,7 @@ pub(crate) fn change_locked<T: Tree, S: Shelf>(
     ensures later { S.faults shelf.old ≤ S.faults shelf.new }
     ensures kept { Goes (course (S.history shelf.old) (S.images shelf.old)) (course (S.history shelf.new) (S.images shelf.new)) }
     ensures ours { (S.history shelf.new).ours ≡ (S.history shelf.old).ours }
+    ensures uncalled { (S.history shelf.new).locks ≡ (S.history shelf.old).locks }
     ensures locks { S.held shelf.new ≡ S.held shelf.old }
 {
     let loaded = read(alloc, shelf)?;

@@ -5,7 +5,7 @@ ghost use Rattle.std.specs.Result.{result_err};
 ghost use Rattle.hg_report.specs.declared.fault.Fault.TheVariants as a_fault;
 ghost use Rattle.hg_session.specs.Acts.{IsActed};
 ghost use Rattle.hg_session.specs.Call.{Count, Sink};
-ghost use Rattle.hg_session.specs.Change.{FailsOrUnwritten, IsDone, IsEarly, IsFreed, IsReadSome, IsSafe, MetLocking, Stretch, once_freed};
+ghost use Rattle.hg_session.specs.Change.{FailsOrUnwritten, IsDone, IsEarly, IsLocked, IsReadSome, IsSafe, MetLocking, Stretch, once_freed};
 ghost use Rattle.hg_session.specs.Changed as changed_is;
 ghost use Rattle.hg_session.specs.Changed.{OnlyLooks, RanChange};
 ghost use Rattle.hg_session.specs.Put.{IsSilent};
@@ -89,14 +89,16 @@ fn change<T: Tree, S: Shelf>(
     ensures calm_tree { OnOk result (T.faults tree.new ≡ T.faults tree.old) }
     ensures calm_shelf { OnOk result (S.faults shelf.new ≡ S.faults shelf.old) }
     ensures kept { Goes (course (S.history shelf.old) (S.images shelf.old)) (course (S.history shelf.new) (S.images shelf.new)) }
-    ensures freed { IsFreed
+    ensures locked { IsLocked
         (IsActed
         command
         words.now
         (record { old = T.history tree.old; new = T.history tree.new; before = T.faults tree.old; after = T.faults tree.new })
         (record { old = S.history shelf.old; new = S.history shelf.new; before = S.faults shelf.old; after = S.faults shelf.new }))
+        (record { old = T.history tree.old; new = T.history tree.new; before = T.faults tree.old; after = T.faults tree.new })
         (record { old = S.history shelf.old; new = S.history shelf.new; before = S.faults shelf.old; after = S.faults shelf.new })
         (record { old = course (S.history shelf.old) (S.images shelf.old); new = course (S.history shelf.new) (S.images shelf.new) })
+        (record { before = S.held shelf.old; after = S.held shelf.new })
         (result_err result) }
 {
     match shelf.lock() {
