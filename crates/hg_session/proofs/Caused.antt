@@ -9,9 +9,10 @@ use Rattle.hg_report.specs.declared.fault.Fault.TheVariants as a_fault
 use Rattle.hg_session.specs.Answered.{IsAnswered, Ran}
 use Rattle.hg_session.specs.Call.{Call, Count, Looked, Saved, Sink, Watched}
 use Rattle.hg_session.specs.Cause.{CommandCause}
-use Rattle.hg_session.specs.Change.{ChangeCause, MetChanging, makes_in}
+use Rattle.hg_session.specs.Change.{ChangeCause, IsUnwritten, MetChanging, makes_in}
 use Rattle.hg_session.specs.Changed.{RanChange}
 use Rattle.hg_session.specs.Commands.{changing_of, files_of}
+use Rattle.hg_session.specs.Crash.{published_in}
 use Rattle.hg_session.specs.Debug.{DoesRecord, IsLeftAlone, record_look}
 use Rattle.hg_session.specs.Flags.{wanted_of}
 use Rattle.hg_session.specs.Listed.{AsksOwn, ListingCause}
@@ -26,6 +27,7 @@ use Rattle.hg_session.specs.declared.list_fault.ListFault.{ListFault}
 use Rattle.hg_session.specs.declared.list_fault.ListFault.TheVariants as a_list
 use Rattle.hg_session.specs.declared.read_fault.ReadFault.{ReadFault}
 use Rattle.hg_session.specs.declared.read_fault.ReadFault.TheVariants as a_read
+use Rattle.hg_session.proofs.Crashes.{crash_unwritten}
 use Rattle.hg_session.proofs.Expectations.{status_by}
 use Rattle.hg_session.proofs.Looks.{calm_by, from_well, joined, looks_by}
 use Rattle.hg_session.proofs.Readings.{was_loaded}
@@ -105,13 +107,15 @@ looked_status : (code : ℕ) (fault : Option Fault) → MatchOption fault (code 
 looked_status code None is = inl is
 looked_status code (Some fault) is = is
 
-pub answered_looked : (call : Call) (code : ℕ) (fault : Option Fault) → Ran call.command call code fault → IsLook call code fault → IfSome fault (CommandCause call) → IsAnswered call code fault
-answered_looked call code fault ran look cause = record {
+pub answered_looked : (call : Call) (code : ℕ) (fault : Option Fault) → Ran call.command call code fault → IsLook call code fault → IfSome fault (CommandCause call) → IsUnwritten call.saved.old.history call.saved.new.history
+    → IsAnswered call code fault
+answered_looked call code fault ran look cause none = record {
   ran = ran;
   look = λ _. look;
   cause = cause;
   calm = look.calm;
   kept = look.only.kept;
+  crash = λ calm keep first. (None, crash_unwritten call.saved.old call.saved.new look.only.kept calm keep none first, λ is. refl);
   status = looked_status code fault look.status;
 }
 
@@ -124,6 +128,7 @@ answered_changed call code fault command is changed ran status = record {
   calm = λ none.
       record { tree = changed.calm_tree none; shelf = changed.calm_shelf (inl none); regexps = changed.uncounted; out = changed.silent.count; err = changed.calm_err none };
   kept = changed.kept;
+  crash = λ calm keep first. (published_in (makes_in command (files_of call.command) call) call.saved fault (changed.safe calm), changed.crash calm keep first, λ other. absurd (cc (is, other)));
   status = status;
 }
 
@@ -143,9 +148,9 @@ answered_forget command files call code fault is same changed status =
 
 -- a status, from what it did and what was told behind it
 pub answered_status : (command : Command) (flags : StatusFlags) (looked : Looked) (saved : Saved) (locks : Count) (out mid tail : Sink) (bytes : tail.old ≡ mid.new) (count : tail.before ≡ mid.after)
-    (done : Result Unit Fault) (code : ℕ) (fault : Option Fault) → command ≡ a_command.Status flags → DoesStatus flags looked out mid done → OnlyReads looked.shelf saved locks → EndsAs tail done code fault
+    (done : Result Unit Fault) (code : ℕ) (fault : Option Fault) → command ≡ a_command.Status flags → DoesStatus flags looked out mid done → OnlyReads looked.shelf saved locks → IsUnwritten saved.old.history saved.new.history → EndsAs tail done code fault
     → IsAnswered (record { command = command; looked = looked; saved = saved; locks = locks; out = out; err = joined mid tail bytes count }) code fault
-answered_status command flags looked saved locks out mid tail bytes count done code fault is does only ends =
+answered_status command flags looked saved locks out mid tail bytes count done code fault is does only none ends =
     let call : Call = record { command = command; looked = looked; saved = saved; locks = locks; out = out; err = joined mid tail bytes count } in
     let looks : Looks (status_look flags looked) out (joined mid tail bytes count) fault =
     looks_by mid tail bytes count (status_look flags looked) out (a_list.Read a_read.OutOfMemory, refl, tt) done code fault does.shows ends in
@@ -153,21 +158,21 @@ answered_status command flags looked saved locks out mid tail bytes count done c
     status_by flags call does.tree only.passes fault looks does.asked (λ none. from_well mid tail bytes count (AsksOwn looked (wanted_of flags)) done code fault ends does.asked_own none) in
     answered_looked call code fault (subst (λ (c : Command). Ran c call code fault) (sym is) ran)
     (record { only = only; calm = calm_by mid tail bytes count looked out done code fault ends does.calm; status = ends.status })
-    (status_cause call flags is fault looks)
+    (status_cause call flags is fault looks) none
 
 -- the command that prints the record
 pub answered_record : (command : Command) (copy : Watched tree.History) (files : Watched shelf.History) (oversize : Count) (saved : Saved) (locks : Count) (out mid tail : Sink) (bytes : tail.old ≡ mid.new)
     (count : tail.before ≡ mid.after) (done : Result Unit Fault) (code : ℕ) (fault : Option Fault) → command ≡ a_command.DebugDirstate → IsLeftAlone copy → oversize.after ≡ oversize.before → IsSilent mid
-    → DoesRecord files out done → OnlyReads files saved locks → EndsAs tail done code fault
+    → DoesRecord files out done → OnlyReads files saved locks → IsUnwritten saved.old.history saved.new.history → EndsAs tail done code fault
     → IsAnswered (record { command = command; looked = record { tree = copy; shelf = files; oversize = oversize }; saved = saved; locks = locks; out = out; err = joined mid tail bytes count }) code fault
-answered_record command copy files oversize saved locks out mid tail bytes count done code fault is alone uncounted silent does only ends =
+answered_record command copy files oversize saved locks out mid tail bytes count done code fault is alone uncounted silent does only none ends =
     let looked : Looked = record { tree = copy; shelf = files; oversize = oversize } in
     let call : Call = record { command = command; looked = looked; saved = saved; locks = locks; out = out; err = joined mid tail bytes count } in
     let looks : Looks (record_look files) out (joined mid tail bytes count) fault =
     looks_by mid tail bytes count (record_look files) out (a_read.OutOfMemory, refl, tt) done code fault (does.shows mid silent) ends in
     answered_looked call code fault (subst (λ (c : Command). Ran c call code fault) (sym is) (record_by call only.passes fault looks alone uncounted))
     (record { only = only; calm = calm_by mid tail bytes count looked out done code fault ends (calm_all done does.calm_shelf does.calm_out); status = ends.status })
-    (record_cause call fault looks)
+    (record_cause call fault looks) none
   where
     calm_all : (done : Result Unit Fault) → OnOk done (files.after ≡ files.before) → OnOk done (out.after ≡ out.before) → OnOk done (IsCalm (record { tree = copy; shelf = files; oversize = oversize }) out mid)
     calm_all (Ok u) calm_shelf calm_out = record { tree = alone.count; shelf = calm_shelf; regexps = uncounted; out = calm_out; err = silent.count }

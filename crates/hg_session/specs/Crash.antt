@@ -1,5 +1,5 @@
--- What a crash may leave at each moment of a call that changes the record, also where others publish before or behind the change.
-use Rattle.std.specs.Prelude.{ℕ, ◌≡◌, ◌⊎◌, ◌≤◌, Option, Some, Result, Ok}
+-- What a crash may leave at each moment of a call, also where others publish before or behind its change.
+use Rattle.std.specs.Prelude.{ℕ, ◌≡◌, ◌⊎◌, ◌≤◌, Option, Some, None, Result, Ok, IsSomeAnd}
 use Rattle.std.proofs.Common.{inl, inr}
 use Rattle.hg_entry.specs.Table.{Table}
 use Rattle.hg_image.specs.Reading.{RecordFault}
@@ -22,19 +22,22 @@ MightBeLeft s recorded = (d : Files) × s.leaves d × (recorded ≡ reading d)
 abbrev pub LeavesSound : Scene → Type 0
 LeavesSound s = (c : Files) → s.leaves c → IsSound (reading c)
 
--- the call published this record
-abbrev pub IsOwnRecord : (Does : Makes) (saved : Saved) (fault : Option Fault) → IsSafe Does saved fault
-    → Option (Result Table RecordFault) → Type 0
-IsOwnRecord Does saved fault (inl none) recorded = ⊥
-IsOwnRecord Does saved fault (inr (may, is)) recorded = recorded ≡ Some (Ok is.is.found)
+-- the table that a change published, where it published one
+abbrev pub published_in : (Does : Makes) (saved : Saved) (fault : Option Fault) → IsSafe Does saved fault → Option Table
+published_in Does saved fault (inl none) = None
+published_in Does saved fault (inr (may, is)) = Some is.is.found
 
--- at each moment from the call's start to its end, whatever a crash leaves records what it might have left at the start, what the call published, or
+-- that is what is recorded
+abbrev pub IsOwnRecord : Option Table → Option (Result Table RecordFault) → Type 0
+IsOwnRecord own recorded = IsSomeAnd own (λ table. recorded ≡ Some (Ok table))
+
+-- at each moment from the call's start to its end, whatever a crash leaves records what it might have left at the start, what the call published (own), or
 -- what others published since the start; it is sound where that at the start was; each step of the call keeps to how a record is published, as those
 -- of others do, so that this can be said beside another call; and no docket that a crash might leave at the end is ahead of the one that stands, so
 -- that it can be said of the next one
-pub record IsCrashSafe (Does : Makes) (saved : Saved) (fault : Option Fault) (safe : IsSafe Does saved fault) : Type 0 where
+pub record IsCrashSafe (own : Option Table) (saved : Saved) : Type 0 where
   pub each : (k : ℕ) (c : Files) → saved.old.history.last ≤ k → k ≤ saved.new.history.last → (scene saved.new k).leaves c
-      → MightBeLeft (last_scene saved.old) (reading c) ⊎ (IsOwnRecord Does saved fault safe (reading c) ⊎ WasPublished saved.new saved.old.history.last k (reading c))
+      → MightBeLeft (last_scene saved.old) (reading c) ⊎ (IsOwnRecord own (reading c) ⊎ WasPublished saved.new saved.old.history.last k (reading c))
   pub sound : LeavesSound (last_scene saved.old) → (k : ℕ) → saved.old.history.last ≤ k → k ≤ saved.new.history.last → LeavesSound (scene saved.new k)
   pub orderly : KeepsRecords us saved.new saved.old.history.last
   pub latest : IsLatest (last_scene saved.new)

@@ -3,17 +3,18 @@ use Rattle.std.proofs.Common.{ap, refl, sym, subst}
 use Rattle.hg_session.specs.Answered.{Ran}
 use Rattle.hg_session.specs.Commands.{changing_of}
 use Rattle.hg_session.proofs.Caused.{answered_add, answered_forget, answered_record, answered_status}
+use Rattle.hg_session.proofs.Locked.{unwritten}
 use Rattle.hg_session.proofs.choosing.command.Goals as goal
 
 pub returns-in-Status : goal.returns-in-Status
 returns-in-Status g c =
-    answered_status c.args.command.now c.in-Status.flags _ _ _ _ _ _ refl refl c.status-done.result c.ended.result.status c.ended.result.fault c.in-Status.is c.status-done.ensures.does c.status-done.ensures.only c.ended.ensures
+    answered_status c.args.command.now c.in-Status.flags _ _ _ _ _ _ refl refl c.status-done.result c.ended.result.status c.ended.result.fault c.in-Status.is c.status-done.ensures.does c.status-done.ensures.only (unwritten _ _ c.status-done.ensures.only.passes) c.ended.ensures
 
 pub returns-in-DebugDirstate : goal.returns-in-DebugDirstate
 returns-in-DebugDirstate g c =
     answered_record c.args.command.now _ _ _ _ _ _ (record { old = g.E.Sink.bytes c.args.err.now; new = g.E.Sink.bytes c.args.err.now; before = g.E.Sink.faults c.args.err.now; after = g.E.Sink.faults c.args.err.now }) _ refl refl
     c.print_record-done.result c.ended-in-DebugDirstate.result.status c.ended-in-DebugDirstate.result.fault c.in-DebugDirstate.is
-    (record { history = refl; count = refl }) refl (record { bytes = refl; count = refl }) c.print_record-done.ensures.does c.print_record-done.ensures.only c.ended-in-DebugDirstate.ensures
+    (record { history = refl; count = refl }) refl (record { bytes = refl; count = refl }) c.print_record-done.ensures.does c.print_record-done.ensures.only (unwritten _ _ c.print_record-done.ensures.only.passes) c.ended-in-DebugDirstate.ensures
 
 pub returns-in-Add : goal.returns-in-Add
 returns-in-Add g c =
