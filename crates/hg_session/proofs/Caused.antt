@@ -107,15 +107,14 @@ looked_status : (code : ℕ) (fault : Option Fault) → MatchOption fault (code 
 looked_status code None is = inl is
 looked_status code (Some fault) is = is
 
-pub answered_looked : (call : Call) (code : ℕ) (fault : Option Fault) → Ran call.command call code fault → IsLook call code fault → IfSome fault (CommandCause call) → IsUnwritten call.saved.old.history call.saved.new.history
-    → IsAnswered call code fault
-answered_looked call code fault ran look cause none = record {
+pub answered_looked : (call : Call) (code : ℕ) (fault : Option Fault) → Ran call.command call code fault → IsLook call code fault → IfSome fault (CommandCause call) → IsAnswered call code fault
+answered_looked call code fault ran look cause = record {
   ran = ran;
   look = λ _. look;
   cause = cause;
   calm = look.calm;
   kept = look.only.kept;
-  crash = λ calm keep first. (None, crash_unwritten call.saved.old call.saved.new look.only.kept calm keep none first, λ is. refl);
+  crash = λ calm keep first. (None, look.crash calm keep first);
   status = looked_status code fault look.status;
 }
 
@@ -128,7 +127,7 @@ answered_changed call code fault command is changed ran status = record {
   calm = λ none.
       record { tree = changed.calm_tree none; shelf = changed.calm_shelf (inl none); regexps = changed.uncounted; out = changed.silent.count; err = changed.calm_err none };
   kept = changed.kept;
-  crash = λ calm keep first. (published_in (makes_in command (files_of call.command) call) call.saved fault (changed.safe calm), changed.crash calm keep first, λ other. absurd (cc (is, other)));
+  crash = λ calm keep first. (published_in (makes_in command (files_of call.command) call) call.saved fault (changed.safe calm), changed.crash calm keep first);
   status = status;
 }
 
@@ -157,8 +156,8 @@ answered_status command flags looked saved locks out mid tail bytes count done c
     let ran : RanStatus flags call fault =
     status_by flags call does.tree only.passes fault looks does.asked (λ none. from_well mid tail bytes count (AsksOwn looked (wanted_of flags)) done code fault ends does.asked_own none) in
     answered_looked call code fault (subst (λ (c : Command). Ran c call code fault) (sym is) ran)
-    (record { only = only; calm = calm_by mid tail bytes count looked out done code fault ends does.calm; status = ends.status })
-    (status_cause call flags is fault looks) none
+    (record { only = only; crash = λ calm keep first. crash_unwritten saved.old saved.new only.kept calm keep none first; calm = calm_by mid tail bytes count looked out done code fault ends does.calm; status = ends.status })
+    (status_cause call flags is fault looks)
 
 -- the command that prints the record
 pub answered_record : (command : Command) (copy : Watched tree.History) (files : Watched shelf.History) (oversize : Count) (saved : Saved) (locks : Count) (out mid tail : Sink) (bytes : tail.old ≡ mid.new)
@@ -171,8 +170,8 @@ answered_record command copy files oversize saved locks out mid tail bytes count
     let looks : Looks (record_look files) out (joined mid tail bytes count) fault =
     looks_by mid tail bytes count (record_look files) out (a_read.OutOfMemory, refl, tt) done code fault (does.shows mid silent) ends in
     answered_looked call code fault (subst (λ (c : Command). Ran c call code fault) (sym is) (record_by call only.passes fault looks alone uncounted))
-    (record { only = only; calm = calm_by mid tail bytes count looked out done code fault ends (calm_all done does.calm_shelf does.calm_out); status = ends.status })
-    (record_cause call fault looks) none
+    (record { only = only; crash = λ calm keep first. crash_unwritten saved.old saved.new only.kept calm keep none first; calm = calm_by mid tail bytes count looked out done code fault ends (calm_all done does.calm_shelf does.calm_out); status = ends.status })
+    (record_cause call fault looks)
   where
     calm_all : (done : Result Unit Fault) → OnOk done (files.after ≡ files.before) → OnOk done (out.after ≡ out.before) → OnOk done (IsCalm (record { tree = copy; shelf = files; oversize = oversize }) out mid)
     calm_all (Ok u) calm_shelf calm_out = record { tree = alone.count; shelf = calm_shelf; regexps = uncounted; out = calm_out; err = silent.count }

@@ -11,8 +11,9 @@ use Rattle.hg_save.specs.Saved.{IsLatest}
 use Rattle.hg_session.specs.Acts.{Makes}
 use Rattle.hg_session.specs.Call.{Saved}
 use Rattle.hg_session.specs.Change.{IsKept, IsSafe, IsUnwritten}
-use Rattle.hg_shelf.specs.History.{Files, us}
+use Rattle.hg_shelf.specs.History.{Files, others, us}
 use Rattle.hg_shelf.specs.Images.{Scene, last_scene, scene}
+use Rattle.hg_shelf.specs.Polite.{Undisturbed}
 
 -- a crash might have left this record
 abbrev pub MightBeLeft : Scene → Option (Result Table RecordFault) → Type 0
@@ -41,6 +42,11 @@ pub record IsCrashSafe (own : Option Table) (saved : Saved) : Type 0 where
   pub sound : LeavesSound (last_scene saved.old) → (k : ℕ) → saved.old.history.last ≤ k → k ≤ saved.new.history.last → LeavesSound (scene saved.new k)
   pub orderly : KeepsRecords us saved.new saved.old.history.last
   pub latest : IsLatest (last_scene saved.new)
+
+-- where others keep to how a record is published, and no docket that a crash might have left at the start was ahead of the one that stood
+abbrev pub IsSafeFromCrashes : Saved → Type 0
+IsSafeFromCrashes saved =
+    Undisturbed saved.old saved.new → KeepsRecords others saved.new saved.old.history.last → IsLatest (last_scene saved.old) → (own : Option Table) × IsCrashSafe own saved
 
 -- from a moment to the call's end, whatever a crash leaves records what was made, or what others published since
 pub record Lasts (saved : Saved) (to : ℕ) (found : Table) : Type 0 where
