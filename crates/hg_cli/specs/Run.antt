@@ -33,7 +33,7 @@ pub record IsUnread (words : List (List ℕ)) (looked : Looked) (saved : Saved) 
 abbrev pub IsRun : List (List ℕ) → Looked → Saved → Count → Sink → Sink → ℕ → Option Fault → Type 0
 IsRun words looked saved locks out err code fault =
     ((command : Command) × (command_of words ≡ Ok command)
-        × IsAnswered (record { command = command; looked = looked; saved = saved; locks = locks; out = out; err = err }) code fault)
+    × IsAnswered (record { command = command; looked = looked; saved = saved; locks = locks; out = out; err = err }) code fault)
     ⊎ IsUnread words looked saved locks out err code fault
 
 -- ---- lists of runs, each over the files that the one before it left

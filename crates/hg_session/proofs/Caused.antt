@@ -1,17 +1,17 @@
 -- The cause of a fault in the table of all commands, from the stage at which a command met it; and the whole answer of a call.
-use Rattle.std.proofs.Common.{ℕ, ◌≡◌, List, Option, Some, None, Result, Ok, Err, IfSome, OnOk, refl, sym, ap, ◌∙◌, subst, inl, inr}
+use Rattle.std.proofs.Common.{ℕ, ◌≡◌, false, List, Option, Some, None, Result, Ok, Err, IfSome, OnOk, refl, sym, ap, ◌∙◌, subst, inl, inr}
 use Rattle.std.specs.Option.{MatchOption}
 use Rattle.std.specs.Prelude.{◌⊎◌}
 use Rattle.hg_base.specs.Fault.{Rose}
 use Rattle.hg_listing.specs.declared.fault.StatusFault.TheVariants as a_status
 use Rattle.hg_report.specs.declared.fault.Fault.{Fault}
 use Rattle.hg_report.specs.declared.fault.Fault.TheVariants as a_fault
-use Rattle.hg_session.specs.Answered.{IsAnswered, Ran}
+use Rattle.hg_session.specs.Answered.{IsAnswered, IsUnbuilt, Ran}
 use Rattle.hg_session.specs.Call.{Call, Count, Looked, Saved, Sink, Watched}
 use Rattle.hg_session.specs.Cause.{CommandCause}
 use Rattle.hg_session.specs.Change.{ChangeCause, IsUnwritten, MetChanging, makes_in}
 use Rattle.hg_session.specs.Changed.{RanChange}
-use Rattle.hg_session.specs.Commands.{changing_of, files_of}
+use Rattle.hg_session.specs.Commands.{changing_of, files_of, is_built}
 use Rattle.hg_session.specs.Crash.{published_in}
 use Rattle.hg_session.specs.Debug.{DoesRecord, IsLeftAlone, record_look}
 use Rattle.hg_session.specs.Flags.{wanted_of}
@@ -19,7 +19,7 @@ use Rattle.hg_session.specs.Listed.{AsksOwn, ListingCause}
 use Rattle.hg_session.specs.Load.{of_list, of_read}
 use Rattle.hg_session.specs.Loaded.{MetReading}
 use Rattle.hg_session.specs.Look.{EndsAs, IsCalm, IsLook, IsOutFault, LeavesAt, Looks, OnlyReads, Stage, at_first, at_printing, at_telling}
-use Rattle.hg_session.specs.Put.{IsSilent, Tells}
+use Rattle.hg_session.specs.Put.{IsFaultOrMemory, IsSilent, Tells}
 use Rattle.hg_session.specs.Status.{DoesStatus, RanStatus, status_look}
 use Rattle.hg_session.specs.declared.acting.Changing.{Changing}
 use Rattle.hg_session.specs.declared.acting.Changing.TheVariants as a_change
@@ -29,7 +29,7 @@ use Rattle.hg_session.specs.declared.read_fault.ReadFault.{ReadFault}
 use Rattle.hg_session.specs.declared.read_fault.ReadFault.TheVariants as a_read
 use Rattle.hg_session.proofs.Crashes.{crash_unwritten}
 use Rattle.hg_session.proofs.Expectations.{status_by}
-use Rattle.hg_session.proofs.Looks.{calm_by, from_well, joined, looks_by}
+use Rattle.hg_session.proofs.Looks.{calm_by, from_well, joined, looks_by, not_without}
 use Rattle.hg_session.proofs.Readings.{was_loaded}
 use Rattle.hg_session.proofs.Records.{record_by}
 use Rattle.hg_shelf.specs.History as shelf
@@ -176,3 +176,36 @@ answered_record command copy files oversize saved locks out mid tail bytes count
     calm_all : (done : Result Unit Fault) → OnOk done (files.after ≡ files.before) → OnOk done (out.after ≡ out.before) → OnOk done (IsCalm (record { tree = copy; shelf = files; oversize = oversize }) out mid)
     calm_all (Ok u) calm_shelf calm_out = record { tree = alone.count; shelf = calm_shelf; regexps = uncounted; out = calm_out; err = silent.count }
     calm_all (Err fault) calm_shelf calm_out = tt
+
+-- ---- a command that isn't built
+
+module _ (call : Call) (code : ℕ) (fault : Option Fault) (unbuilt : IsUnbuilt call fault) where
+  ran_other : (command : Command) → ((flags : StatusFlags) → command ≡ a_command.Status flags → ⊥) → ((files : List (List ℕ)) → command ≡ a_command.Add files → ⊥)
+      → ((files : List (List ℕ)) → command ≡ a_command.Forget files → ⊥) → (command ≡ a_command.DebugDirstate → ⊥) → Ran command call code fault × (is_built command ≡ false)
+  ran_other (a_command.Status flags) status add forget debug = absurd (status flags refl)
+  ran_other (a_command.Add files) status add forget debug = absurd (add files refl)
+  ran_other (a_command.Forget files) status add forget debug = absurd (forget files refl)
+  ran_other a_command.DebugDirstate status add forget debug = absurd (debug refl)
+  ran_other command status add forget debug = (unbuilt, refl)
+
+  unbuilt_cause : (answered : Option Fault) → IsFaultOrMemory answered a_fault.NotBuilt → is_built call.command ≡ false → IfSome answered (CommandCause call)
+  unbuilt_cause answered (inl same) is = subst (λ (f : Option Fault). IfSome f (CommandCause call)) (sym same) is
+  unbuilt_cause answered (inr memory) is = subst (λ (f : Option Fault). IfSome f (CommandCause call)) (sym memory) tt
+
+  status_failed : (answered : Option Fault) → IsFaultOrMemory answered a_fault.NotBuilt → code ≡ 255 → MatchOption answered (code ≡ 0) (λ f. code ≡ 255)
+  status_failed answered (inl same) is = subst (λ (f : Option Fault). MatchOption f (code ≡ 0) (λ f. code ≡ 255)) (sym same) is
+  status_failed answered (inr memory) is = subst (λ (f : Option Fault). MatchOption f (code ≡ 0) (λ f. code ≡ 255)) (sym memory) is
+
+  pub answered_unbuilt : ((flags : StatusFlags) → call.command ≡ a_command.Status flags → ⊥) → ((files : List (List ℕ)) → call.command ≡ a_command.Add files → ⊥)
+      → ((files : List (List ℕ)) → call.command ≡ a_command.Forget files → ⊥) → (call.command ≡ a_command.DebugDirstate → ⊥) → shelf.Passes call.looked.shelf.old call.looked.shelf.new → code ≡ 255
+      → IsAnswered call code fault
+  answered_unbuilt status add forget debug passes is =
+      let ran = ran_other call.command status add forget debug in
+      answered_looked call code fault ran.0
+      (record {
+        only = record { passes = passes; kept = unbuilt.idle.kept; held = unbuilt.idle.held };
+        crash = λ calm keep first. crash_unwritten call.saved.old call.saved.new unbuilt.idle.kept calm keep unbuilt.idle.unwritten first;
+        calm = λ none. not_without fault a_fault.NotBuilt unbuilt.answered none;
+        status = status_failed fault unbuilt.answered is;
+      })
+      (unbuilt_cause fault unbuilt.answered ran.1)

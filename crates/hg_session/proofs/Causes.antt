@@ -1,12 +1,10 @@
 -- A fault of a status: what was met behind the load was met in the call, and where nobody else steps what the first parent has stands there.
-use Rattle.std.proofs.Common.{ℕ, ◌≡◌, ◌<◌, ◌≤◌, Bool, true, false, cond, List, [], length, take, Option, Some, None, option_map, Result, Ok, Err, IsTrue, refl, sym, ap, ◌∙◌, subst, arith, le-ltb}
+use Rattle.std.proofs.Common.{ℕ, ◌≡◌, ◌<◌, ◌≤◌, Bool, false, cond, List, [], length, take, Option, Some, None, Result, Ok, Err, IsTrue, sym, ap, ◌∙◌, subst, arith, le-ltb}
 use Rattle.std.proofs.lemmas.Bool.{lt-ltb}
 use Rattle.std.proofs.Math.Seq.{take-length}
 use Rattle.hg_base.specs.declared.id.Id20.{Id20}
 use Rattle.hg_base.specs.declared.stat.Stat.{Stat}
-use Rattle.hg_base.specs.declared.time.Time.{Time}
 use Rattle.hg_compare.specs.Alike.{contents_name, is_alike}
-use Rattle.hg_compare.specs.Tracked.{is_file_or_link}
 use Rattle.hg_flat.specs.Met.{LacksContents, Met, NeedsManifest, Shows, Status, WasRead}
 use Rattle.hg_flat.specs.Parent.{Asking, IsAsked, WasAsked, manifest_at}
 use Rattle.hg_listing.specs.declared.fault.StatusFault.{StatusFault}
@@ -17,14 +15,10 @@ use Rattle.hg_manifest.specs.Plain.{is_null, most, plain_name}
 use Rattle.hg_manifest.specs.Rows.{Rows, manifest_of}
 use Rattle.hg_manifest.specs.declared.fault.ManifestFault.{ManifestFault}
 use Rattle.hg_manifest.specs.declared.fault.ManifestFault.TheVariants as a_manifest_fault
-use Rattle.hg_manifest.specs.declared.row.FileRow.{FileRow}
 use Rattle.hg_shelf.specs.History as shelf
 use Rattle.hg_shelf.specs.Reads.{size_of}
 use Rattle.hg_tree.specs.History as tree
-use Rattle.hg_tree.specs.Moment.{Moment, stat_at, stat_of}
-use Rattle.hg_tree.specs.declared.thing.Placed.{Placed}
-use Rattle.hg_tree.specs.declared.thing.Thing.{Thing}
-use Rattle.hg_tree.specs.declared.thing.Thing.TheVariants as a_thing
+use Rattle.hg_tree.specs.Moment.{Moment, stat_at}
 
 -- ---- over a longer call
 

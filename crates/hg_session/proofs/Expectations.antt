@@ -1,5 +1,5 @@
 -- What is expected of a status where nobody else steps, and what it did, from how it ended.
-use Rattle.std.proofs.Common.{ℕ, ◌≡◌, ◌≤◌, length, true, List, [], ◌++◌, Option, Some, None, Ok, Err, IsTrue, IfSome, refl, sym, ap, ◌∙◌, subst, inl, inr}
+use Rattle.std.proofs.Common.{ℕ, ◌≡◌, ◌≤◌, length, true, List, [], Option, Some, None, Ok, Err, IsTrue, IfSome, refl, sym, ◌∙◌, subst, inl, inr}
 use Rattle.std.proofs.lemmas.List.{append-nil}
 use Rattle.std.specs.Str.{IsUtf8, IsValidUpTo}
 use Rattle.hg_base.proofs.Faults.{steady_not_rose}
@@ -37,7 +37,7 @@ use Rattle.hg_session.specs.Listed.{AsksLittle, AsksOwn, IsAskedAt, IsListable, 
 use Rattle.hg_session.specs.Load.{of_list, of_read}
 use Rattle.hg_session.specs.Loaded.{IsLoaded, IsUnreadable}
 use Rattle.hg_session.specs.Look.{LeavesAt, Look, Looks, Stage, at_first, at_printing, at_telling}
-use Rattle.hg_session.specs.Put.{LeavesFront, Puts, PutsFront, Tells}
+use Rattle.hg_session.specs.Put.{LeavesFront, Tells}
 use Rattle.hg_session.specs.Status.{HasBadManifest, HasBadPatterns, IsExpected, IsFullText, IsReady, IsRowsText, LacksContents, RanStatus, status_look}
 use Rattle.hg_session.specs.declared.list_fault.ListFault.{ListFault}
 use Rattle.hg_session.specs.declared.list_fault.ListFault.TheVariants as a_list

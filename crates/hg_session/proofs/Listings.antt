@@ -1,5 +1,5 @@
 -- What a listing answers, from what its parts answer.
-use Rattle.std.proofs.Common.{ℕ, ◌≡◌, Bool, true, List, [], Ok, Err, IsTrue, refl, sym, ap, ◌∙◌, subst, inr}
+use Rattle.std.proofs.Common.{ℕ, ◌≡◌, Bool, true, List, [], Err, IsTrue, refl, sym, ap, ◌∙◌, subst, inr}
 use Rattle.std.specs.Prelude.{MatchBool}
 use Rattle.hg_base.specs.declared.id.Id20.{Id20}
 use Rattle.hg_entry.specs.Table.{Table, flat_of}
@@ -120,7 +120,7 @@ module _ (looked : Looked) (wanted : Wanted) (behind : shelf.History) (flat : pl
       inr (table, loaded, by_table (λ f i. AsksAll wanted (asked_by wanted f) (IsListedDir wanted looked.tree.old looked.tree.new) looked.tree.old looked.tree.new) (asks told))
 
   pub asks_own : (tree.IsOurs looked.tree.old looked.tree.new
-          → AsksBehind (pattern_reads wanted (tree.now looked.tree.old)) (asked_by wanted flat) (IsListedDir wanted looked.tree.old looked.tree.new) looked.tree.old looked.tree.new) → AsksOwn looked wanted
+      → AsksBehind (pattern_reads wanted (tree.now looked.tree.old)) (asked_by wanted flat) (IsListedDir wanted looked.tree.old looked.tree.new) looked.tree.old looked.tree.new) → AsksOwn looked wanted
   asks_own asks own = (
     table,
     loaded,

@@ -1,13 +1,12 @@
 -- How a command ends that only looks, from what it did and what is told behind it.
-use Rattle.std.proofs.Common.{ℕ, ◌≡◌, Bool, true, false, List, Option, Some, None, Result, Ok, Err, IfSome, OnOk, refl, sym, ap, ◌∙◌, subst, inl, inr, true≢false}
-use Rattle.std.specs.Prelude.{◌⊎◌}
+use Rattle.std.proofs.Common.{ℕ, ◌≡◌, true, false, List, Option, Some, None, Result, Ok, Err, IfSome, OnOk, refl, sym, ap, ◌∙◌, subst, inl, inr, true≢false}
 use Rattle.hg_report.specs.Fault.{has_line}
 use Rattle.hg_report.specs.declared.fault.Fault.{Fault}
 use Rattle.hg_report.specs.declared.fault.Fault.TheVariants as a_fault
 use Rattle.hg_base.specs.Fault.{Rose}
 use Rattle.hg_stream.specs.Stream.{GrownByFront}
 use Rattle.hg_session.specs.Call.{Looked, Sink}
-use Rattle.hg_session.specs.Look.{EndsAs, IsCalm, IsShown, IsUntold, LeavesAt, Look, Looks, Shows, Stage, at_first, at_printing, at_telling}
+use Rattle.hg_session.specs.Look.{EndsAs, IsCalm, IsUntold, LeavesAt, Look, Looks, Shows, Stage, at_first, at_printing, at_telling}
 use Rattle.hg_session.specs.Put.{IsFaultOrMemory, IsSilent, Puts, PutsFront, Tells, TellsLine}
 
 pub not_without : {Q : Type 0} (answered : Option Fault) (fault : Fault) → IsFaultOrMemory answered fault → answered ≡ None → Q

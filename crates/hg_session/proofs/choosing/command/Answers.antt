@@ -1,9 +1,10 @@
 -- The answer of a call, by its command.
-use Rattle.std.proofs.Common.{ap, refl, sym, subst}
-use Rattle.hg_session.specs.Answered.{Ran}
-use Rattle.hg_session.specs.Commands.{changing_of}
-use Rattle.hg_session.proofs.Caused.{answered_add, answered_forget, answered_record, answered_status}
-use Rattle.hg_session.proofs.Locked.{unwritten}
+use Rattle.std.proofs.Common.{refl}
+use Rattle.hg_session.proofs.Caused.{answered_add, answered_forget, answered_record, answered_status, answered_unbuilt}
+use Rattle.hg_session.proofs.Locked.{unwritten, unwritten_here}
+use Rattle.hg_shelf.proofs.Histories.{passes_same}
+use Rattle.hg_shelf.proofs.Scenes.{goes_same}
+use Rattle.hg_shelf.specs.Images.{course}
 use Rattle.hg_session.proofs.choosing.command.Goals as goal
 
 pub returns-in-Status : goal.returns-in-Status
@@ -25,3 +26,22 @@ pub returns-in-Forget : goal.returns-in-Forget
 returns-in-Forget g c =
     answered_forget c.args.command.now c.in-Forget.files _ c.change_record-in-Forget.result.status c.change_record-in-Forget.result.fault c.in-Forget.is refl
     (c.change_record-in-Forget.ensures.ran c.args.command.now _ _ (record { bytes = refl; count = refl }) refl) c.change_record-in-Forget.ensures.status
+
+pub returns-in_default : goal.returns-in_default
+returns-in_default g c =
+    answered_unbuilt _ c.failed.result.status c.failed.result.fault
+    (record {
+      answered = c.failed.ensures.fault;
+      told = c.failed.ensures.told;
+      idle = record {
+        copy = record { history = refl; count = refl };
+        files = refl;
+        files_count = refl;
+        kept = goes_same (course (g.S.Shelf.history c.args.shelf.now) (g.S.Shelf.images c.args.shelf.now));
+        unwritten = unwritten_here (g.S.Shelf.history c.args.shelf.now);
+        held = refl;
+        regexps = refl;
+        silent = record { bytes = refl; count = refl };
+      };
+    })
+    c.in_default.not-Status c.in_default.not-Add c.in_default.not-Forget c.in_default.not-DebugDirstate (passes_same (g.S.Shelf.history c.args.shelf.now)) c.failed.ensures.status
