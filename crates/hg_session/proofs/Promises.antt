@@ -160,7 +160,7 @@ module _ (command : Changing) (words : List (List ℕ)) (copy : Watched tree.His
   }
 
   abbrev Does : Makes
-  Does = makes_in command call
+  Does = makes_in command words call
 
   -- what came of the lock, where this is the fault
   abbrev pub LockedBy : Option Fault → Type 0
