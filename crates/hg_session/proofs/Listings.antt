@@ -108,7 +108,7 @@ module _ (looked : Looked) (wanted : Wanted) (behind : shelf.History) (flat : pl
       inr (table, loaded, by_table (λ f i. AsksAll wanted (Compared f) (IsListedDir wanted looked.tree.old looked.tree.new) looked.tree.old looked.tree.new) (asks told))
 
   pub asks_own : (tree.IsOurs looked.tree.old looked.tree.new
-          → AsksBehind (pattern_reads wanted (tree.now looked.tree.old)) (Compared flat) (IsListedDir wanted looked.tree.old looked.tree.new) looked.tree.old looked.tree.new) → AsksOwn looked wanted
+      → AsksBehind (pattern_reads wanted (tree.now looked.tree.old)) (Compared flat) (IsListedDir wanted looked.tree.old looked.tree.new) looked.tree.old looked.tree.new) → AsksOwn looked wanted
   asks_own asks own = (
     table,
     loaded,

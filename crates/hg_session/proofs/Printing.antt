@@ -70,12 +70,15 @@ module _ (flags : StatusFlags) (looked : Looked) (out err : Sink) where
       tree = lists.tree;
       shows = record {
         done = tt;
-        left = (at_printing, (
-          lists.listable,
-          record { text = text; is = record { rows = listed.rows; listing = lists.still; is = is }; put = grown; failed = failed },
-          inl refl,
-          record { told = refl; silent = silent },
-        ));
+        left = (
+          at_printing,
+          (
+            lists.listable,
+            record { text = text; is = record { rows = listed.rows; listing = lists.still; is = is }; put = grown; failed = failed },
+            inl refl,
+            record { told = refl; silent = silent },
+          ),
+        );
       };
       asked = lists.asked;
       asked_own = tt;
@@ -88,13 +91,16 @@ module _ (flags : StatusFlags) (looked : Looked) (out err : Sink) where
         tree = lists.tree;
         shows = record {
           done = tt;
-          left = (at_telling, (
-            tt,
-            lists.listable,
-            record { text = text; is = record { rows = listed.rows; listing = lists.still; is = is }; put = printed },
-            record { text = lines; is = record { warnings = listed.warnings; are = lists.warns; is = warns }; put = begun; failed = failed },
-            refl,
-          ));
+          left = (
+            at_telling,
+            (
+              tt,
+              lists.listable,
+              record { text = text; is = record { rows = listed.rows; listing = lists.still; is = is }; put = printed },
+              record { text = lines; is = record { warnings = listed.warnings; are = lists.warns; is = warns }; put = begun; failed = failed },
+              refl,
+            ),
+          );
         };
         asked = lists.asked;
         asked_own = tt;

@@ -58,7 +58,14 @@ pub fn command<T: Tree, S: Shelf, G: Regexps, O: Sink, E: Sink>(
             ended(alloc, done, err)
         }
         Command::Add { files } => change_record(alloc, Changing::Add, files, tree, shelf, err),
-        Command::Forget { files } => change_record(alloc, Changing::Forget, files, tree, shelf, err),
+        Command::Forget { files } => change_record(
+            alloc,
+            Changing::Forget,
+            files,
+            tree,
+            shelf,
+            err,
+        ),
         _ => failed(alloc, Fault::NotBuilt, err),
     }
 }

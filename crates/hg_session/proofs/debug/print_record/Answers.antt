@@ -14,11 +14,14 @@ returns-in_err-text-clause-does g c =
     rw (p.1, p.2) record {
       shows = λ err silent. record {
         done = tt;
-        left = (at_first, (
-          (c.in_err-text.field-0.0, refl, met_reading IsBytesOf _ c.in_err-text.field-0.0 c.in_err-text.ensures.found c.in_err-text.ensures.cause.rose),
-          record { bytes = refl; count = refl },
-          record { told = read_told c.in_err-text.field-0.0; silent = silent },
-        ));
+        left = (
+          at_first,
+          (
+            (c.in_err-text.field-0.0, refl, met_reading IsBytesOf _ c.in_err-text.field-0.0 c.in_err-text.ensures.found c.in_err-text.ensures.cause.rose),
+            record { bytes = refl; count = refl },
+            record { told = read_told c.in_err-text.field-0.0; silent = silent },
+          ),
+        );
       };
       calm_shelf = tt;
       calm_out = tt;
@@ -33,17 +36,20 @@ returns-in-Err-clause-does g c =
     record {
       shows = λ err silent. record {
         done = tt;
-        left = (at_printing, (
-          (λ told. (l.0, l.1 told)),
-          record {
-            text = c.in_ok-text.text.items;
-            is = record { table = l.0; read = l.1; is = l.2 };
-            put = subst (λ (t : List ℕ). GrownByFront (g.O.Sink.bytes c.args.out.now) (g.O.Sink.bytes c.put_all.new.out) t) c.as_slice.ensures.value c.in-Err.ensures.prefix;
-            failed = c.in-Err.ensures.cause.rose tt;
-          },
-          inl refl,
-          record { told = refl; silent = silent },
-        ));
+        left = (
+          at_printing,
+          (
+            (λ told. (l.0, l.1 told)),
+            record {
+              text = c.in_ok-text.text.items;
+              is = record { table = l.0; read = l.1; is = l.2 };
+              put = subst (λ (t : List ℕ). GrownByFront (g.O.Sink.bytes c.args.out.now) (g.O.Sink.bytes c.put_all.new.out) t) c.as_slice.ensures.value c.in-Err.ensures.prefix;
+              failed = c.in-Err.ensures.cause.rose tt;
+            },
+            inl refl,
+            record { told = refl; silent = silent },
+          ),
+        );
       };
       calm_shelf = tt;
       calm_out = tt;
