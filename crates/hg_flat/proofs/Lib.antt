@@ -7,6 +7,7 @@ pub mod Asks
 pub mod Calls
 pub mod Faces
 pub mod Fullness
+pub mod Going
 pub mod Holding
 pub mod Ignoring
 pub mod Leaving
@@ -19,6 +20,7 @@ pub mod Refusing
 pub mod Rooms
 pub mod Spanning
 pub mod Steps
+pub mod Storing
 pub mod Tracking
 pub mod Unknowns
 pub mod Whole

@@ -12,6 +12,7 @@ ghost use Rattle.hg_listing.specs.Full.{wants};
 ghost use Rattle.hg_flat.specs.Listing.{AddsTracked, AsksRow, IsLeftRow, IsLetterFor, is_file_or_link_kind, marked_letter, row_under, rows_under, wants_bytes, wants_tracked};
 ghost use Rattle.hg_flat.specs.Met.{Status};
 ghost use Rattle.hg_flat.specs.Parent.{Asking, WasAsked};
+ghost use Rattle.hg_flat.specs.Stored.{AsksStore};
 
 use crate::comparing::compared_letter;
 use crate::kept::FlatRow;
@@ -89,6 +90,8 @@ fn letter_there<T: Tree, S: Shelf>(
     ensures goes { OnOk
         result
         ((s : Status) → Goes (upto s (T.history tree.old) (S.history shelf.old)) parent.old
+        → AsksRow wanted kept.now s.asks
+        → (IsTrue (T.history tree.old).told → stat_at (trees.now (T.history tree.old)) kept.now.path ≡ Some there.now)
         → Goes (upto s (T.history tree.new) (S.history shelf.new)) parent.new) }
     ensures found { IfOk
         result
@@ -122,6 +125,13 @@ fn letter_there<T: Tree, S: Shelf>(
         → (IsTrue (T.history tree.old).told → stat_at (trees.now (T.history tree.old)) kept.now.path ≡ Some there.now)
         → (WasAsked asks (T.history tree.old) (T.history tree.new) kept.now.path → ⊥)
         → shelf.new ≡ shelf.old }
+    ensures store { IfErr
+        result
+        (λ fault. (s : Status) → Goes (upto s (T.history tree.old) (S.history shelf.old)) parent.old
+        → AsksRow wanted kept.now s.asks
+        → (IsTrue (T.history tree.old).told → stat_at (trees.now (T.history tree.old)) kept.now.path ≡ Some there.now)
+        → IsTrue s.shelf_old.told
+        → AsksStore (upto s (T.history tree.new) (S.history shelf.new))) }
     ensures cause { HasStatusCause (T.faults tree.old) (T.faults tree.new) result }
     ensures cause_shelf { HasShelfCause (S.faults shelf.old) (S.faults shelf.new) result }
 {
@@ -151,6 +161,7 @@ fn find_letter<T: Tree, S: Shelf>(
     ensures goes { OnOk
         result
         ((s : Status) → Goes (upto s (T.history tree.old) (S.history shelf.old)) parent.old
+        → AsksRow wanted kept.now s.asks
         → Goes (upto s (T.history tree.new) (S.history shelf.new)) parent.new) }
     ensures found { IfOk
         result
@@ -180,6 +191,12 @@ fn find_letter<T: Tree, S: Shelf>(
     ensures unasked { (asks : Asking) → AsksRow wanted kept.now asks
         → (WasAsked asks (T.history tree.old) (T.history tree.new) kept.now.path → ⊥)
         → shelf.new ≡ shelf.old }
+    ensures store { IfErr
+        result
+        (λ fault. (s : Status) → Goes (upto s (T.history tree.old) (S.history shelf.old)) parent.old
+        → AsksRow wanted kept.now s.asks
+        → IsTrue s.shelf_old.told
+        → AsksStore (upto s (T.history tree.new) (S.history shelf.new))) }
     ensures cause { HasStatusCause (T.faults tree.old) (T.faults tree.new) result }
     ensures cause_shelf { HasShelfCause (S.faults shelf.old) (S.faults shelf.new) result }
 {
@@ -260,6 +277,7 @@ pub(crate) fn add_tracked<T: Tree, S: Shelf>(
     ensures goes { OnOk
         result
         ((s : Status) → Goes (upto s (T.history tree.old) (S.history shelf.old)) parent.old
+        → AsksRow wanted kept.now s.asks
         → Goes (upto s (T.history tree.new) (S.history shelf.new)) parent.new) }
     ensures row { OnOk
         result
@@ -290,6 +308,12 @@ pub(crate) fn add_tracked<T: Tree, S: Shelf>(
     ensures unasked { (asks : Asking) → AsksRow wanted kept.now asks
         → (WasAsked asks (T.history tree.old) (T.history tree.new) kept.now.path → ⊥)
         → shelf.new ≡ shelf.old }
+    ensures store { IfErr
+        result
+        (λ fault. (s : Status) → Goes (upto s (T.history tree.old) (S.history shelf.old)) parent.old
+        → AsksRow wanted kept.now s.asks
+        → IsTrue s.shelf_old.told
+        → AsksStore (upto s (T.history tree.new) (S.history shelf.new))) }
     ensures cause { HasStatusCause (T.faults tree.old) (T.faults tree.new) result }
     ensures cause_shelf { HasShelfCause (S.faults shelf.old) (S.faults shelf.new) result }
 {

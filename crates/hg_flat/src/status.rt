@@ -14,6 +14,7 @@ ghost use Rattle.hg_flat.specs.Met.{Met};
 ghost use Rattle.hg_flat.specs.Parent.{IsAsked, IsLeft, IsServed, WasAsked, asked_by, parent_rows};
 ghost use Rattle.hg_flat.specs.Patterns.{CountsOversize, HadPatterns, Warns, ignored_at, is_of_parent, needs_patterns};
 ghost use Rattle.hg_flat.specs.Listing.{AddsTracked, Gives, IsEntered, IsLeftRow, IsUnknownIn, Lists};
+ghost use Rattle.hg_flat.specs.Stored.{AsksStore};
 ghost use Rattle.hg_flat.specs.Shown.{flat_in, kept_of};
 
 use crate::flat::Flat;
@@ -79,6 +80,17 @@ fn add_each<T: Tree, S: Shelf>(
         (T.history tree.new) }
     ensures unasked { ((path : List ℕ) → WasAsked (asked_by wanted (flat_in flat.now)) (T.history tree.old) (T.history tree.new) path → ⊥)
         → shelf.new ≡ shelf.old }
+    ensures store { IsTrue (S.history shelf.old).told
+        → AsksStore
+        (record {
+          wanted = wanted;
+          asks = asked_by wanted (flat_in flat.now);
+          id = p1.now;
+          tree_old = T.history tree.old;
+          tree_new = T.history tree.new;
+          shelf_old = S.history shelf.old;
+          shelf_new = S.history shelf.new;
+        }) }
     ensures cause { HasStatusCause (T.faults tree.old) (T.faults tree.new) result }
     ensures cause_shelf { HasShelfCause (S.faults shelf.old) (S.faults shelf.new) result }
 {
@@ -243,9 +255,23 @@ pub fn plain_status<T: Tree, S: Shelf, G: Regexps>(
         (IsListedDir wanted (T.history tree.old) (T.history tree.new))
         (T.history tree.old)
         (T.history tree.new)) }
-    // Where no path is compared, the files below `.hg` aren't asked, and where no patterns are needed, no regexp is compiled.
+    // Where no path is compared, the files below `.hg` aren't asked.
     ensures unasked { ((path : List ℕ) → WasAsked (asked_by wanted (flat_in flat.now)) (T.history tree.old) (T.history tree.new) path → ⊥)
         → shelf.new ≡ shelf.old }
+    // They are asked for the manifest of the parent once at most, its size and then its bytes, and behind it only for contents that its rows of such
+    // paths name.
+    ensures asked_store { IsTrue (S.history shelf.old).told
+        → AsksStore
+        (record {
+          wanted = wanted;
+          asks = asked_by wanted (flat_in flat.now);
+          id = p1.now;
+          tree_old = T.history tree.old;
+          tree_new = T.history tree.new;
+          shelf_old = S.history shelf.old;
+          shelf_new = S.history shelf.new;
+        }) }
+    // Where no patterns are needed, no regexp is compiled.
     ensures uncompiled { needs_patterns wanted ≡ false → regexps.new ≡ regexps.old }
     ensures cause { HasStatusCause (T.faults tree.old) (T.faults tree.new) result }
     ensures cause_shelf { HasShelfCause (S.faults shelf.old) (S.faults shelf.new) result }

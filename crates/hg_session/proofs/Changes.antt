@@ -23,10 +23,11 @@ use Rattle.hg_save.specs.declared.load_fault.LoadFault.{LoadFault}
 use Rattle.hg_save.specs.declared.loaded.Loaded.{Loaded}
 use Rattle.hg_save.proofs.Loads.{found_longer, last_within, tries_longer}
 use Rattle.hg_save.proofs.Published.{keeps_front}
+use Rattle.hg_save.proofs.Spans.{files_front}
 use Rattle.hg_session.specs.Acts.{Makes}
 use Rattle.hg_session.specs.Anew.{CanWrite, IsOpened, IsOverwritten, IsRecorded, LoadsOrRefuses, MetWriting, WritesOnly}
 use Rattle.hg_session.specs.Call.{Fails, Watched}
-use Rattle.hg_session.specs.Change.{FitsFirst, IsDone, IsKept, IsMade, IsPublished, IsReadFirst, IsReadSome, IsSafeHeld, IsUnwritten, MetChanging, up_to}
+use Rattle.hg_session.specs.Change.{FitsFirst, IsDone, IsKept, IsMade, IsPublished, IsReadFirst, IsReadSome, IsSafeHeld, IsUnwritten, IsWritten, MetChanging, up_to}
 use Rattle.hg_session.specs.Load.{by_load, of_read}
 use Rattle.hg_session.specs.Loaded.{NodesFind, Refuses}
 use Rattle.hg_session.specs.declared.read_fault.ReadFault.{ReadFault}
@@ -248,6 +249,7 @@ module _ (a b c : Course) (passes : Passes a.history b.history) (goes : Goes b c
         others = others_over (id_in (scene c a.history.last).files) over.id (subst (λ (i : List ℕ). Leads (KeepsOthers i over.id) b c) (sym id_there) over.others);
         spared = spared_over (id_in (scene c a.history.last).files) over.id (subst (λ (i : List ℕ). Leads (KeepsOthers i over.id) b c) (sym id_there) over.others);
         orderly = λ latest. keeps_front us c a.history.last b.history.last (none_front a b c passes goes) (over.orderly (front_latest a b c ours passes goes calm latest));
+        keeping = files_front us c.history a.history.last b.history.last (none_front a b c passes goes) over.keeping;
         latest = λ latest. over.latest (front_latest a b c ours passes goes calm latest);
       }
 
@@ -256,7 +258,7 @@ module _ (a b c : Course) (passes : Passes a.history b.history) (goes : Goes b c
       safe_by fault (inl none) = inl (unwritten_then a b c passes goes none)
       safe_by fault (inr (follows, over)) = inr (follows, published_by over)
 
-      kept_written : IsRecorded made c → IsKept recorded (table made) (record { old = a; new = c }) a.history.last c.history.last
+      kept_written : IsRecorded made b c → IsKept recorded (table made) (record { old = a; new = c }) a.history.last c.history.last
       kept_written is = record {
         found = is.found;
         is = is.is;
@@ -265,6 +267,7 @@ module _ (a b c : Course) (passes : Passes a.history b.history) (goes : Goes b c
         gone =
             inl (λ some.
             subst (λ (id : List ℕ). (last_scene c).files (data_name id) ≡ None) (sym id_there) (is.gone (λ empty. some (id_there ∙ empty))));
+        bytes = inl (subst (λ (f : Files). IsWritten is.found f (last_scene c)) (end_remains a b c ours passes goes calm).shown is.bytes);
       }
 
       kept_still : c ≡ b → IsSame (table made) recorded → IsKept recorded (table made) (record { old = a; new = c }) a.history.last c.history.last
@@ -274,6 +277,7 @@ module _ (a b c : Course) (passes : Passes a.history b.history) (goes : Goes b c
         shown = subst (λ (x : Course). reading (last_scene x).files ≡ Some (Ok recorded)) (sym none) (ap reading (end_remains a b c ours passes goes calm).shown ∙ there);
         left = inr (same, unwritten_still none);
         gone = inr (unwritten_still none);
+        bytes = inr (unwritten_still none);
       }
 
     same_by : (made.changed ≡ false → IsSame (table made) (table opened)) → made.changed ≡ false → IsSame (table made) recorded
@@ -281,7 +285,7 @@ module _ (a b c : Course) (passes : Passes a.history b.history) (goes : Goes b c
 
     -- it was done, and what was made is recorded
     pub done_by : (before after : ℕ) → a.history.ours ≡ true → (made.changed ≡ false → IsSame (table made) (table opened))
-        → (made.changed ≡ true → CanWrite made) → (made.changed ≡ false → c ≡ b) → (Undisturbed a c → made.changed ≡ true → IsRecorded made c)
+        → (made.changed ≡ true → CanWrite made) → (made.changed ≡ false → c ≡ b) → (Undisturbed a c → made.changed ≡ true → IsRecorded made b c)
         → IsDone Does (record { old = a.history; new = c.history; before = before; after = after }) (record { old = a; new = c }) a.history.last c.history.last lines
     done_by before after ours stays can none records = record {
       made = table made;

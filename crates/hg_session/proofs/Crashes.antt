@@ -6,6 +6,7 @@ use Rattle.hg_image.specs.Reading.{RecordFault}
 use Rattle.hg_mixed.specs.Edits.{IsSame}
 use Rattle.hg_report.specs.declared.fault.Fault.{Fault}
 use Rattle.hg_save.proofs.Published.{keeps_front, keeps_later, latest_still, latest_until, left_until, published_earlier, published_later, published_sound}
+use Rattle.hg_save.proofs.Spans.{files_front}
 use Rattle.hg_save.specs.Others.{KeepsRecords, WasPublished}
 use Rattle.hg_save.specs.Record.{IsSound, reading}
 use Rattle.hg_save.specs.Saved.{IsLatest, ReadsAsBeforeOr}
@@ -114,12 +115,14 @@ module _ (a b : Course) (goes : Goes a b) (calm : Undisturbed a b) (keep : Keeps
           each = known;
           sound = λ sound k after within f left. known_sound (λ r. ⊥) (λ r never. absurd never) sound k within (reading f) (known k f after within left);
           orderly = record { each = λ k after before who. absurd (none.none k after before who) };
+          keeping = record { each = λ k after before who. absurd (none.none k after before who) };
           latest = latest_until b start calm.others keep b.history.last goes.past.later none.none (omega arith) first_there;
         }
     crash_safe fault (inr (may, is)) = record {
       each = known_each is;
       sound = λ sound k after within f left. known_sound (Own is) (λ r own. (is.is.found, own)) sound k within (reading f) (known_each is k f after within left);
       orderly = keeps_front us b start is.stretch.from is.stretch.before (is.is.orderly (latest_from is));
+      keeping = files_front us b.history start is.stretch.from is.stretch.before is.is.keeping;
       latest = latest_end is;
     }
 

@@ -10,12 +10,13 @@ use Rattle.hg_report.specs.declared.fault.Fault.{Fault}
 use Rattle.hg_report.specs.declared.fault.Fault.TheVariants as a_fault
 use Rattle.hg_save.proofs.Loads.{found_longer, last_within, tries_longer}
 use Rattle.hg_save.proofs.Published.{keeps_longer}
+use Rattle.hg_save.proofs.Spans.{files_longer}
 use Rattle.hg_save.specs.Loads.{IsTry, Tries, Try, found_by, id_by}
 use Rattle.hg_save.specs.Record.{data_name, id_in, reading}
-use Rattle.hg_save.specs.Saved.{IsLatest, KeepsOthers, ReadsAsBeforeOr, name_after, used_in}
+use Rattle.hg_save.specs.Saved.{IsExact, IsLatest, KeepsOthers, ReadsAsBeforeOr, name_after, used_in}
 use Rattle.hg_session.specs.Acts.{Makes}
 use Rattle.hg_session.specs.Call.{Watched}
-use Rattle.hg_session.specs.Change.{Fits, FitsFirst, IsDone, IsKept, IsMade, IsPublished, IsReadFirst, IsSafe, IsSafeHeld, IsUnwritten, MetChanging, NoneOurs, Stretch, id_read, up_to}
+use Rattle.hg_session.specs.Change.{Fits, FitsFirst, IsDone, IsKept, IsMade, IsPublished, IsReadFirst, IsSafe, IsSafeHeld, IsUnwritten, IsWritten, MetChanging, NoneOurs, Stretch, id_read, up_to}
 use Rattle.hg_session.specs.Loaded.{LoadMet}
 use Rattle.hg_session.specs.Loaded.{IsRefused}
 use Rattle.hg_session.specs.Locks.{TakenAt}
@@ -161,6 +162,17 @@ module _ (a b c d : Course) (lock : Waits a.history b.history) (unlock : Waits c
       subst (λ (f : Files). (scene d to).files (data_name (id_in f)) ≡ None) (sym (to_end from near).shown)
       (subst (λ (f : Files). f (data_name (id_in (scene c from).files)) ≡ None) (sym (to_end to far).shown) (gone (λ empty. some (ap id_in (to_end from near).shown ∙ empty))))
 
+  written_wide : (found : Table) (from to : ℕ) → from ≤ c.history.last → to ≤ c.history.last → IsWritten found (scene c from).files (scene c to) → IsWritten found (scene d from).files (scene d to)
+  written_wide found from to near far is =
+      subst (λ (f : Files). IsWritten found f (scene d to)) (sym (to_end from near).shown)
+      (record {
+        new = is.new;
+        over = is.over;
+        reads = is.reads;
+        shown = subst (IsExact is.new (scene c from).files) (sym (to_end to far).shown) is.shown;
+        left = λ f left. is.left f ((to_end to far).left f left);
+      })
+
   module _ (Part Whole : Makes) (wide : (old new : Table) (lines : List ℕ) (changed : Bool) → Part old new lines changed → Whole old new lines changed)
       (copy : Watched tree.History) (before after start end : ℕ) where
     abbrev part : Watched History
@@ -197,6 +209,11 @@ module _ (a b c d : Course) (lock : Waits a.history b.history) (unlock : Waits c
       gone =
           elim is.gone [
             | inl gone ↦ inl (gone_wide b.history.last c.history.last q.past.later (omega arith) gone)
+            | inr none ↦ inr (unwritten_wide none)
+          ];
+      bytes =
+          elim is.bytes [
+            | inl written ↦ inl (written_wide is.found b.history.last c.history.last q.past.later (omega arith) written)
             | inr none ↦ inr (unwritten_wide none)
           ];
     }
@@ -243,6 +260,7 @@ module _ (a b c d : Course) (lock : Waits a.history b.history) (unlock : Waits c
                 subst (λ (x : Files). KeepsOthers (id_in x) is.id was.0 f) (sym (to_end from near).shown) was.2,
               );
           orderly = λ first. keeps_longer us c d from r unlock.none (is.orderly (latest first));
+          keeping = files_longer us c.history d.history from r.past unlock.none is.keeping;
           latest = λ first. latest_same (scene c c.history.last) (scene d c.history.last) (to_end c.history.last (omega arith)) (from_end c.history.last (omega arith)) (is.latest (latest first));
         }
 

@@ -3,17 +3,19 @@ use Rattle.std.specs.Prelude.{ℕ, ◌≡◌, ◌⊎◌, ◌≤◌, ◌<◌, ◌
 use Rattle.hg_append.specs.Encoded.{IsTooLarge}
 use Rattle.hg_append.specs.Layout.{size_of}
 use Rattle.hg_append.specs.Tree.{IsTreeOf, Tree}
+use Rattle.hg_append.specs.declared.encoding.Encoded.{Encoded}
 use Rattle.hg_base.specs.Fault.{Rose}
 use Rattle.hg_docket.specs.Number.{next_name}
 use Rattle.hg_entry.specs.Table.{Table}
+use Rattle.hg_image.specs.Reading.{reading_of}
 use Rattle.hg_mixed.specs.Edits.{IsSame}
 use Rattle.hg_mixed.specs.Held.{Held, table}
 use Rattle.hg_report.specs.declared.fault.Fault.{Fault}
 use Rattle.hg_report.specs.declared.fault.Fault.TheVariants as a_fault
 use Rattle.hg_save.specs.Loads.{files_at}
-use Rattle.hg_save.specs.Others.{KeepsRecords}
-use Rattle.hg_save.specs.Record.{data_name, id_in, reading}
-use Rattle.hg_save.specs.Saved.{IsLatest, KeepsOthers, ReadsAsBeforeOr}
+use Rattle.hg_save.specs.Others.{KeepsFiles, KeepsRecords}
+use Rattle.hg_save.specs.Record.{data_name, docket_in, id_in, reading}
+use Rattle.hg_save.specs.Saved.{IsExact, IsLatest, IsOver, KeepsOthers, ReadsAsBeforeOr}
 use Rattle.hg_session.specs.Acts.{IsActed, Makes}
 use Rattle.hg_session.specs.Call.{Call, Count, Fails, Saved, Watched}
 use Rattle.hg_session.specs.Loaded.{IsRead, LoadMet}
@@ -22,7 +24,7 @@ use Rattle.hg_session.specs.Put.{IsFaultOrMemory}
 use Rattle.hg_session.specs.declared.acting.Changing.{Changing}
 use Rattle.hg_session.specs.declared.read_fault.ReadFault.TheVariants as a_read
 use Rattle.hg_shelf.specs.History as shelf
-use Rattle.hg_shelf.specs.Images.{Course, scene}
+use Rattle.hg_shelf.specs.Images.{Course, Scene, scene}
 use Rattle.hg_shelf.specs.Polite.{Undisturbed}
 use Rattle.hg_tree.specs.History as tree
 
@@ -95,8 +97,9 @@ pub record IsPublished (Does : Makes) (c : Course) (from to : ℕ) : Type 0 wher
   pub others : (k : ℕ) → from ≤ k → k ≤ to → KeepsOthers (id_in (scene c from).files) id (scene c from).files (scene c k).files
   pub spared : (k : ℕ) (f : shelf.Files) → from ≤ k → k ≤ to → (scene c k).leaves f
       → (d : shelf.Files) × (scene c from).leaves d × KeepsOthers (id_in (scene c from).files) id d f
-  -- each step of the caller's keeps to how a record is published
+  -- each step of the caller's keeps to how a record is published, and the data that dockets name
   pub orderly : IsLatest (scene c from) → KeepsRecords shelf.us c from
+  pub keeping : KeepsFiles shelf.us c.history from
   -- the next one finds its identifier free
   pub latest : IsLatest (scene c from) → IsLatest (scene c to)
 
@@ -104,6 +107,14 @@ pub record IsPublished (Does : Makes) (c : Course) (from to : ℕ) : Type 0 wher
 pub record Publishes (Does : Makes) (saved : Saved) : Type 0 where
   pub stretch : Stretch saved.old.history saved.new.history
   pub is : IsPublished Does saved.new stretch.from stretch.to
+
+-- reads show exactly the bytes of this table, written anew over these files under the next identifier, and a crash leaves exactly them
+pub record IsWritten (found : Table) (before : shelf.Files) (behind : Scene) : Type 0 where
+  pub new : Encoded
+  pub over : IsOver (docket_in before) new
+  pub reads : reading_of new.docket.items new.bytes.items ≡ Ok found
+  pub shown : IsExact new before behind.files
+  pub left : (f : shelf.Files) → behind.leaves f → IsExact new before f
 
 -- at the second of two moments reads show a record of this table, and so does whatever a crash leaves, unless nothing was to be published
 pub record IsKept (loaded made : Table) (saved : Saved) (from to : ℕ) : Type 0 where
@@ -114,6 +125,8 @@ pub record IsKept (loaded made : Table) (saved : Saved) (from to : ℕ) : Type 0
   -- and the data file that the docket named at the first is gone
   pub gone : ((id_in (scene saved.new from).files ≡ [] → ⊥) → (scene saved.new to).files (data_name (id_in (scene saved.new from).files)) ≡ None)
       ⊎ IsUnwritten saved.old.history saved.new.history
+  -- the new bytes stand there exactly, over what stood at the first
+  pub bytes : IsWritten found (scene saved.new from).files (scene saved.new to) ⊎ IsUnwritten saved.old.history saved.new.history
 
 -- a table can be written anew over the record in these files: an identifier is left, and it isn't too large
 pub record Fits (files : shelf.Files) (made : Table) : Type 0 where

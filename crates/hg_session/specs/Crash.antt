@@ -5,7 +5,7 @@ use Rattle.hg_entry.specs.Table.{Table}
 use Rattle.hg_image.specs.Reading.{RecordFault}
 use Rattle.hg_mixed.specs.Edits.{IsSame}
 use Rattle.hg_report.specs.declared.fault.Fault.{Fault}
-use Rattle.hg_save.specs.Others.{KeepsRecords, WasPublished}
+use Rattle.hg_save.specs.Others.{KeepsFiles, KeepsRecords, WasPublished}
 use Rattle.hg_save.specs.Record.{IsSound, reading}
 use Rattle.hg_save.specs.Saved.{IsLatest}
 use Rattle.hg_session.specs.Acts.{Makes}
@@ -34,13 +34,14 @@ IsOwnRecord own recorded = IsSomeAnd own (λ table. recorded ≡ Some (Ok table)
 
 -- at each moment from the call's start to its end, whatever a crash leaves records what it might have left at the start, what the call published (own), or
 -- what others published since the start; it is sound where that at the start was; each step of the call keeps to how a record is published, as those
--- of others do, so that this can be said beside another call; and no docket that a crash might leave at the end is ahead of the one that stands, so
+-- of others do, and keeps the data that dockets name, so that this can be said beside another call; and no docket that a crash might leave at the end is ahead of the one that stands, so
 -- that it can be said of the next one
 pub record IsCrashSafe (own : Option Table) (saved : Saved) : Type 0 where
   pub each : (k : ℕ) (c : Files) → saved.old.history.last ≤ k → k ≤ saved.new.history.last → (scene saved.new k).leaves c
       → MightBeLeft (last_scene saved.old) (reading c) ⊎ (IsOwnRecord own (reading c) ⊎ WasPublished saved.new saved.old.history.last k (reading c))
   pub sound : LeavesSound (last_scene saved.old) → (k : ℕ) → saved.old.history.last ≤ k → k ≤ saved.new.history.last → LeavesSound (scene saved.new k)
   pub orderly : KeepsRecords us saved.new saved.old.history.last
+  pub keeping : KeepsFiles us saved.new.history saved.old.history.last
   pub latest : IsLatest (last_scene saved.new)
 
 -- where others keep to how a record is published, and no docket that a crash might have left at the start was ahead of the one that stood

@@ -73,7 +73,11 @@ fn save<S: Shelf>(
     ensures still { table.now.changed ≡ false → shelf.new ≡ shelf.old }
     ensures fits { OnOk result (table.now.changed ≡ true → CanWrite table.now) }
     ensures recorded { Undisturbed (course (S.history shelf.old) (S.images shelf.old)) (course (S.history shelf.new) (S.images shelf.new))
-        → OnOk result (table.now.changed ≡ true → IsRecorded table.now (course (S.history shelf.new) (S.images shelf.new))) }
+        → Stands loaded.now.docket.items (last_scene (course (S.history shelf.old) (S.images shelf.old)))
+        → OnOk
+        result
+        (table.now.changed ≡ true
+        → IsRecorded table.now (course (S.history shelf.old) (S.images shelf.old)) (course (S.history shelf.new) (S.images shelf.new))) }
     ensures safe { Undisturbed (course (S.history shelf.old) (S.images shelf.old)) (course (S.history shelf.new) (S.images shelf.new))
         → Stands loaded.now.docket.items (last_scene (course (S.history shelf.old) (S.images shelf.old)))
         → WritesOnly

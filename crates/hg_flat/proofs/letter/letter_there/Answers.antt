@@ -8,7 +8,7 @@ use Rattle.hg_tree.specs.Moment.{Moment}
 use Rattle.hg_flat.specs.Course.{IsFound, MetBy, upto}
 use Rattle.hg_flat.specs.Listing.{IsLeftRow}
 use Rattle.hg_flat.specs.Parent.{WasAsked}
-use Rattle.hg_flat.proofs.Asking.{asked_now, asks_there}
+use Rattle.hg_flat.proofs.Asking.{asked_later, asked_now, asks_there}
 use Rattle.hg_flat.proofs.Asks.{reads_pieces}
 use Rattle.hg_flat.proofs.Faces.{stays_shown}
 use Rattle.hg_flat.proofs.Letters.{compared_by, found_marked, found_read, plain_there, there_is}
@@ -93,3 +93,31 @@ returns-clause-unasked g c = λ asks agrees shown never.
     absurd (never
     (asked_now asks old new c.args.kept.now.path c.compared_letter.ensures.tree_passes.past (asks_there c.args.wanted c.args.kept.now asks agrees compared)
     (λ told. there_is (trees.now old) c.args.kept.now.path c.args.there.now (shown told) ∙ plain.0)))
+
+pub returns-clause-goes : goal.returns-clause-goes
+returns-clause-goes g c = λ s goes agrees shown.
+    let old = g.T.Tree.history c.args.tree.now in
+    let new = g.T.Tree.history c.compared_letter.new.tree in
+    let plain = plain_there c.args.kept.now c.args.there.now c.requires (sym c.marked_letter.ensures ∙ c.in_default.is) in
+    let compared = compared_by c.args.wanted c.args.kept.now (sym c.wants_bytes.ensures ∙ c.if-not-wants_bytes.false) plain.1 in
+    c.in_ok-letter.ensures.goes s goes
+    (subst (WasAsked s.asks s.tree_old new) (sym c.as_ref.ensures)
+    (asked_later s.asks s.tree_old old new c.args.kept.now.path goes.tree.past
+    (asked_now s.asks old new c.args.kept.now.path c.compared_letter.ensures.tree_passes.past (asks_there c.args.wanted c.args.kept.now s.asks agrees compared)
+    (λ told. there_is (trees.now old) c.args.kept.now.path c.args.there.now (shown told) ∙ plain.0))))
+
+pub returns-in_err-letter-clause-store : goal.returns-in_err-letter-clause-store
+returns-in_err-letter-clause-store g c =
+    let p = err_from_is_err_and c.from_residual.result c.from_residual.ensures.1 in
+    let old = g.T.Tree.history c.args.tree.now in
+    let new = g.T.Tree.history c.compared_letter.new.tree in
+    let plain = plain_there c.args.kept.now c.args.there.now c.requires (sym c.marked_letter.ensures ∙ c.in_default.is) in
+    let compared = compared_by c.args.wanted c.args.kept.now (sym c.wants_bytes.ensures ∙ c.if-not-wants_bytes.false) plain.1 in
+    rw p.1
+    (λ s goes agrees shown told.
+    c.in_err-letter.ensures.store s goes
+    (subst (WasAsked s.asks s.tree_old new) (sym c.as_ref.ensures)
+    (asked_later s.asks s.tree_old old new c.args.kept.now.path goes.tree.past
+    (asked_now s.asks old new c.args.kept.now.path c.compared_letter.ensures.tree_passes.past (asks_there c.args.wanted c.args.kept.now s.asks agrees compared)
+    (λ told. there_is (trees.now old) c.args.kept.now.path c.args.there.now (shown told) ∙ plain.0))))
+    told)

@@ -6,6 +6,7 @@ use Rattle.hg_shelf.proofs.Scenes.{goes_trans}
 use Rattle.hg_flat.specs.Parent.{asked_by}
 use Rattle.hg_flat.specs.Shown.{flat_in}
 use Rattle.hg_flat.proofs.Asking.{asked_later, asked_longer, reads_on}
+use Rattle.hg_flat.proofs.Going.{goes_store}
 use Rattle.hg_flat.proofs.Leaving.{asks_same}
 use Rattle.hg_flat.proofs.Tracking.{tracked_more}
 use Rattle.hg_flat.proofs.status.add_each.Goals as goal
@@ -61,7 +62,7 @@ loop-kept-preserved g c =
             shelf_old = g.S.Shelf.history c.args.shelf.now;
             shelf_new = g.S.Shelf.history c.loop-kept.shelf;
           })
-          c.loop-kept.invariant.goes;
+          c.loop-kept.invariant.goes (asks_same c.args.flat.now c.args.wanted c.kept-item.result has);
       kept = goes_trans _ _ _ c.loop-kept.invariant.kept c.add_tracked.ensures.kept;
       held = c.add_tracked.ensures.held ∙ c.loop-kept.invariant.held;
       added =
@@ -95,3 +96,33 @@ loop-kept-preserved g c =
 
 pub returns-in_err-add_tracked-clause-kept : goal.returns-in_err-add_tracked-clause-kept
 returns-in_err-add_tracked-clause-kept g c = goes_trans _ _ _ c.loop-kept.invariant.kept c.add_tracked.ensures.kept
+
+pub returns-in_err-add_tracked-clause-store : goal.returns-in_err-add_tracked-clause-store
+returns-in_err-add_tracked-clause-store g c = λ told.
+    let below : c.loop-kept.kept-index < length c.args.flat.now.rows.items = rw c.deref-kept-items.ensures.value at c.loop-kept-test.true in
+    let has : Contains c.args.flat.now.rows.items c.kept-item.result = (c.loop-kept.kept-index, below, sym (rw c.deref-kept-items.ensures.value at c.kept-item.is)) in
+    c.in_err-add_tracked.ensures.store
+    (record {
+      wanted = c.args.wanted;
+      asks = asked_by c.args.wanted (flat_in c.args.flat.now);
+      id = c.args.p1.now;
+      tree_old = g.T.Tree.history c.args.tree.now;
+      tree_new = g.T.Tree.history c.loop-kept.tree;
+      shelf_old = g.S.Shelf.history c.args.shelf.now;
+      shelf_new = g.S.Shelf.history c.loop-kept.shelf;
+    })
+    c.loop-kept.invariant.goes (asks_same c.args.flat.now c.args.wanted c.kept-item.result has) told
+
+pub returns-clause-store : goal.returns-clause-store
+returns-clause-store g c = λ told.
+    goes_store
+    (record {
+      wanted = c.args.wanted;
+      asks = asked_by c.args.wanted (flat_in c.args.flat.now);
+      id = c.args.p1.now;
+      tree_old = g.T.Tree.history c.args.tree.now;
+      tree_new = g.T.Tree.history c.loop-kept.tree;
+      shelf_old = g.S.Shelf.history c.args.shelf.now;
+      shelf_new = g.S.Shelf.history c.loop-kept.shelf;
+    })
+    (g.T.Tree.history c.loop-kept.tree) (g.S.Shelf.history c.loop-kept.shelf) c.loop-kept.parent c.loop-kept.invariant.goes told

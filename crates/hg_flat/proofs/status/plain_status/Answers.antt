@@ -1,4 +1,4 @@
-use Rattle.std.proofs.Common.{List, [], ℕ, ◌≡◌, true, Option, None, is_some, ap, subst, ◌∙◌}
+use Rattle.std.proofs.Common.{List, [], ℕ, ◌≡◌, true, Option, None, is_some, refl, ap, subst, ◌∙◌}
 use Rattle.std.specs.Ordering.{eq_by_cmp}
 use Rattle.std.proofs.lemmas.List.Filters.{dedup_is}
 use Rattle.std.proofs.lemmas.Result.{err_from_is_err_and}
@@ -23,6 +23,7 @@ use Rattle.hg_flat.proofs.Holding.{holds_rows, named}
 use Rattle.hg_flat.proofs.Leaving.{left_all}
 use Rattle.hg_flat.proofs.Refusing.{had, is_kept, state_still, warns}
 use Rattle.hg_flat.proofs.Spanning.{counts_still, met_patterns, met_whole, not_parent}
+use Rattle.hg_flat.proofs.Storing.{store_longer, store_none}
 use Rattle.hg_flat.proofs.Whole.{Left, LeftRow, asks_start, lists_whole, row_left, tracked_whole}
 use Rattle.hg_flat.proofs.status.plain_status.Goals as goal
 
@@ -258,3 +259,73 @@ returns-clause-unasked g c = λ never.
     c.add_each.ensures.unasked
     (never_each (asked_by c.args.wanted (flat_in c.args.flat.now)) (g.T.Tree.history c.args.tree.now) (g.T.Tree.history c.read_patterns.new.tree) (g.T.Tree.history c.add_each.new.tree) (g.T.Tree.history c.add_others.new.tree)
     c.read_patterns.ensures.passes.past c.add_each.ensures.passes.past c.add_others.ensures.passes.past never)
+
+pub returns-in_err-ignore-clause-asked_store : goal.returns-in_err-ignore-clause-asked_store
+returns-in_err-ignore-clause-asked_store g c = λ told.
+    store_none
+    (record {
+      wanted = c.args.wanted;
+      asks = asked_by c.args.wanted (flat_in c.args.flat.now);
+      id = c.args.p1.now;
+      tree_old = g.T.Tree.history c.args.tree.now;
+      tree_new = g.T.Tree.history c.read_patterns.new.tree;
+      shelf_old = g.S.Shelf.history c.args.shelf.now;
+      shelf_new = g.S.Shelf.history c.args.shelf.now;
+    })
+    refl
+
+pub returns-in_err-add_each-clause-asked_store : goal.returns-in_err-add_each-clause-asked_store
+returns-in_err-add_each-clause-asked_store g c = λ told.
+    store_longer
+    (record {
+      wanted = c.args.wanted;
+      asks = asked_by c.args.wanted (flat_in c.args.flat.now);
+      id = c.args.p1.now;
+      tree_old = g.T.Tree.history c.read_patterns.new.tree;
+      tree_new = g.T.Tree.history c.add_each.new.tree;
+      shelf_old = g.S.Shelf.history c.args.shelf.now;
+      shelf_new = g.S.Shelf.history c.add_each.new.shelf;
+    })
+    (g.T.Tree.history c.args.tree.now) (g.T.Tree.history c.add_each.new.tree) c.read_patterns.ensures.passes.past c.add_each.ensures.passes.past (extends_same (g.T.Tree.history c.add_each.new.tree)) (c.add_each.ensures.store told)
+
+pub returns-in_err-add_others-clause-asked_store : goal.returns-in_err-add_others-clause-asked_store
+returns-in_err-add_others-clause-asked_store g c = λ told.
+    store_longer
+    (record {
+      wanted = c.args.wanted;
+      asks = asked_by c.args.wanted (flat_in c.args.flat.now);
+      id = c.args.p1.now;
+      tree_old = g.T.Tree.history c.read_patterns.new.tree;
+      tree_new = g.T.Tree.history c.add_each.new.tree;
+      shelf_old = g.S.Shelf.history c.args.shelf.now;
+      shelf_new = g.S.Shelf.history c.add_each.new.shelf;
+    })
+    (g.T.Tree.history c.args.tree.now) (g.T.Tree.history c.add_others.new.tree) c.read_patterns.ensures.passes.past c.add_each.ensures.passes.past c.add_others.ensures.passes.past (c.add_each.ensures.store told)
+
+pub returns-in_err-sort-clause-asked_store : goal.returns-in_err-sort-clause-asked_store
+returns-in_err-sort-clause-asked_store g c = λ told.
+    store_longer
+    (record {
+      wanted = c.args.wanted;
+      asks = asked_by c.args.wanted (flat_in c.args.flat.now);
+      id = c.args.p1.now;
+      tree_old = g.T.Tree.history c.read_patterns.new.tree;
+      tree_new = g.T.Tree.history c.add_each.new.tree;
+      shelf_old = g.S.Shelf.history c.args.shelf.now;
+      shelf_new = g.S.Shelf.history c.add_each.new.shelf;
+    })
+    (g.T.Tree.history c.args.tree.now) (g.T.Tree.history c.add_others.new.tree) c.read_patterns.ensures.passes.past c.add_each.ensures.passes.past c.add_others.ensures.passes.past (c.add_each.ensures.store told)
+
+pub returns-clause-asked_store : goal.returns-clause-asked_store
+returns-clause-asked_store g c = λ told.
+    store_longer
+    (record {
+      wanted = c.args.wanted;
+      asks = asked_by c.args.wanted (flat_in c.args.flat.now);
+      id = c.args.p1.now;
+      tree_old = g.T.Tree.history c.read_patterns.new.tree;
+      tree_new = g.T.Tree.history c.add_each.new.tree;
+      shelf_old = g.S.Shelf.history c.args.shelf.now;
+      shelf_new = g.S.Shelf.history c.add_each.new.shelf;
+    })
+    (g.T.Tree.history c.args.tree.now) (g.T.Tree.history c.add_others.new.tree) c.read_patterns.ensures.passes.past c.add_each.ensures.passes.past c.add_others.ensures.passes.past (c.add_each.ensures.store told)

@@ -107,7 +107,10 @@ returns-clause-done g c =
     Does c.in_ok-table.table c.act.new.mixed c.in_ok-table.ensures.2 c.in_ok-lines.ensures.image c.in_ok-lines.lines.items acted
     (g.S.Shelf.faults c.args.shelf.now) (g.S.Shelf.faults c.save.new.shelf) c.requires acted.same c.in_ok-save.ensures.fits
     (λ none. ap (λ s. course (g.S.Shelf.history s) (g.S.Shelf.images s)) (c.in_ok-save.ensures.still none))
-    (λ calm. c.in_ok-save.ensures.recorded (second_part a b d c.in_ok-loaded.ensures.kept calm))
+    (λ calm. c.in_ok-save.ensures.recorded (second_part a b d c.in_ok-loaded.ensures.kept calm)
+    (stands a b d c.in_ok-loaded.ensures.passes c.in_ok-save.ensures.kept c.in_ok-loaded.loaded c.in_ok-loaded.ensures.whole c.in_ok-loaded.ensures.found c.in_ok-table.ensures.0 c.in_ok-table.ensures.1
+    Does c.in_ok-table.table c.act.new.mixed c.in_ok-table.ensures.2 c.in_ok-lines.ensures.image c.in_ok-lines.lines.items acted
+    c.requires calm))
 
 pub returns-clause-safe : goal.returns-clause-safe
 returns-clause-safe g c = λ calm.
