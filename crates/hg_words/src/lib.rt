@@ -32,6 +32,7 @@ mod given;
 mod laws;
 mod locating;
 mod reading;
+mod spelling;
 
 pub use fault::WordsFault;
 pub use flags::StatusFlags;
