@@ -1,5 +1,4 @@
 pub mod Clapped
 pub mod Command
 pub mod Given
-pub mod Located
 pub mod Told

@@ -52,13 +52,7 @@ impl Command {
             Command::Add { files } => files.at(i),
             Command::Forget { files } => files.at(i),
             Command::Remove { files, .. } => files.at(i),
-            Command::Copy { source, target } => {
-                if i == 0 {
-                    source
-                } else {
-                    target
-                }
-            }
+            Command::Copy { source, target } => { if i == 0 { source } else { target } }
             _ => unreachable!(),
         }
     }
