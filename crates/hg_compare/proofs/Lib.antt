@@ -1,6 +1,7 @@
-pub mod Ascii
-pub mod Bytes
 pub mod Answering
+pub mod Ascii
+pub mod Asking
+pub mod Bytes
 pub mod Counting
 pub mod Deciding
 pub mod Moments

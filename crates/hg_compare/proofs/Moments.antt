@@ -1,5 +1,5 @@
 -- What was seen at the last moment of a part of a call was seen during the call.
-use Rattle.std.proofs.Common.{◌≡◌, ℕ, ◌<◌, [], ◌∷◌, inl, inr, Bool, true, false, not, List, length, take, Option, Some, Ok, refl, sym, ◌∙◌, subst, arith}
+use Rattle.std.proofs.Common.{◌≡◌, ℕ, ◌<◌, ◌⊎◌, [], ◌∷◌, ◌++◌, inl, inr, Bool, true, false, not, List, length, take, Option, Some, Ok, refl, sym, ◌∙◌, subst, arith}
 use Rattle.std.proofs.lemmas.List.{append-nil, length-take}
 use Rattle.std.proofs.lemmas.Slice.Eq.{bytes_eq-Decides}
 use Rattle.std.specs.Str.{bytes_eq}
@@ -8,8 +8,7 @@ use Rattle.hg_base.specs.declared.id.Id20.{Id20}
 use Rattle.hg_shelf.specs.History as shelf
 use Rattle.hg_tree.specs.History as tree
 use Rattle.hg_tree.specs.Moment.{Moment, bytes_at}
-use Rattle.hg_tree.specs.declared.asked.Asked.TheVariants as an_ask
-use Rattle.hg_compare.specs.Pieces.{ReadsOnce, TakesMine, TakesTheirs}
+use Rattle.hg_compare.specs.Pieces.{Once, TakesMine, TakesTheirs}
 use Rattle.hg_compare.specs.Seen.{Compared, HasPiece, Holds, SeesPiece, Shows}
 
 -- the working copy was so at the last moment
@@ -54,10 +53,10 @@ pieces_same c place width mine theirs pieces same = subst (λ (xs : List ℕ). S
 pub shorter : (n : ℕ) (xs : List ℕ) (width : ℕ) → n < width → length (take n xs) < width
 shorter n xs width less = let long = length-take n xs in omega (arith, less, long)
 
--- a read that was noted, or that failed and found no memory to be
-pub read_once : (answered : Bool) (path : List ℕ) (old new : tree.History) → tree.Asks answered (an_ask.Read path ∷ []) old new → ReadsOnce path old new
-read_once answered path old new (inl is) = record { times = 1; few = omega arith; asked = is }
-read_once answered path old new (inr both) = record { times = 0; few = omega arith; asked = both.1 ∙ sym (append-nil old.asked) }
+-- a call that was noted, or that failed and found no memory to be
+pub asked_once : {A : Type 0} (answered : Bool) (ask : A) (old new : List A) → (new ≡ old ++ ask ∷ []) ⊎ ((answered ≡ false) × (new ≡ old)) → Once ask old new
+asked_once answered ask old new (inl is) = record { times = 1; few = omega arith; asked = is }
+asked_once answered ask old new (inr both) = record { times = 0; few = omega arith; asked = both.1 ∙ sym (append-nil old) }
 
-pub read_never : (path : List ℕ) (h : tree.History) → ReadsOnce path h h
-read_never path h = record { times = 0; few = omega arith; asked = sym (append-nil h.asked) }
+pub asked_never : {A : Type 0} (ask : A) (list : List A) → Once ask list list
+asked_never ask list = record { times = 0; few = omega arith; asked = sym (append-nil list) }

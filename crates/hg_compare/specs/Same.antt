@@ -1,11 +1,12 @@
 -- What a comparison of a path with a row of the first parent answers.
-use Rattle.std.specs.Prelude.{ℕ, ◌≡◌, ◌+◌, ◌*◌, ◌<◌, ◌⊎◌, Bool, true, false, List, ◌++◌, replicate, Option, Some, None, Result, Ok, Err, IsTrue}
+use Rattle.std.specs.Prelude.{ℕ, ◌≡◌, ◌+◌, ◌*◌, ◌<◌, ◌⊎◌, Bool, true, false, List, ◌∷◌, ◌++◌, replicate, Option, Some, None, Result, Ok, Err, IsTrue}
 use Rattle.hg_base.specs.declared.stat.Stat.{Stat}
 use Rattle.hg_manifest.specs.declared.row.FileRow.{FileRow}
 use Rattle.hg_tree.specs.History.{History, now}
 use Rattle.hg_tree.specs.Moment.{bytes_at, stat_at}
 use Rattle.hg_tree.specs.Still.{Keeps}
 use Rattle.hg_tree.specs.declared.asked.Asked.TheVariants as an_ask
+use Rattle.hg_shelf.specs.declared.asked.Asked.TheVariants as a_shelf_ask
 use Rattle.hg_compare.specs.Alike.{Settles, is_alike}
 use Rattle.hg_compare.specs.Seen.{Compared, HasOtherSize, HasSize, Holds, SeesNothing, SeesOther, SeesSame}
 use Rattle.hg_compare.specs.Tracked.{ParentRow}
@@ -36,11 +37,35 @@ Compares c row before (Err (a_fault.NoContents id)) = (is_alike row before ≡ t
 Compares c row before (Err a_fault.TreeFailed) = is_alike row before ≡ true
 Compares c row before (Err a_fault.ShelfFailed) = is_alike row before ≡ true
 
--- the path was read piece by piece, and in no more pieces than so many bytes have
-pub record Reads (size : ℕ) (path : List ℕ) (old new : History) : Type 0 where
+-- the bytes have to be looked at: kind and executable bit are the row's, and the contents had the size of the first look
+abbrev pub IsNeeded : Compared → FileRow → Stat → Type 0
+IsNeeded c row before = (is_alike row before ≡ true) × HasSize c before.size
+
+-- so many bytes were asked for piece by piece, in no more pieces than they have
+pub record InPieces {A : Type 0} (size : ℕ) (ask : A) (old new : List A) : Type 0 where
   pub pieces : ℕ
   pub few : 65536 * pieces < size + 65536
-  pub asked : new.asked ≡ old.asked ++ replicate pieces (an_ask.Read path)
+  pub asked : new ≡ old ++ replicate pieces ask
+
+-- the path was read so, and nothing else
+abbrev pub Reads : ℕ → List ℕ → History → History → Type 0
+Reads size path old new = InPieces size (an_ask.Read path) old.asked new.asked
+
+-- the size of the contents was asked for, and behind it the contents piece by piece, where they had the size of the first look
+pub record AsksContents (c : Compared) (size : ℕ) : Type 0 where
+  pub pieces : ℕ
+  pub few : 65536 * pieces < size + 65536
+  pub sized : (pieces ≡ 0) ⊎ HasSize c size
+  pub asked : c.shelf_new.asked ≡ c.shelf_old.asked ++ a_shelf_ask.Size c.name ∷ replicate pieces (a_shelf_ask.Read c.name)
+
+-- a shelf that failed may not have noted that it was asked
+abbrev pub AsksOrFails : Compared → ℕ → Result Looked CompareFault → Type 0
+AsksOrFails c size result = ((result ≡ Err a_fault.ShelfFailed) × (c.shelf_new.asked ≡ c.shelf_old.asked)) ⊎ AsksContents c size
+
+-- what was asked of the shelf: nothing where kind or executable bit are others
+abbrev pub AsksShelf : Compared → FileRow → Stat → Result Looked CompareFault → Type 0
+AsksShelf c row before result =
+    ((is_alike row before ≡ false) × (c.shelf_new.asked ≡ c.shelf_old.asked)) ⊎ ((is_alike row before ≡ true) × AsksOrFails c before.size result)
 
 -- the row of the first parent with the contents that a file holds
 abbrev pub parent_row : FileRow → Option (List ℕ) → ParentRow

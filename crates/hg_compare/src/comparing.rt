@@ -1,14 +1,16 @@
 //! Comparing a path with a row of the first parent.
 
-ghost use Rattle.std.specs.Prelude.{◌≡◌, true, false, IsTrue, IfErr, Ok, Option, Some, length, ℕ, List};
+ghost use Rattle.std.specs.Prelude.{◌≡◌, ◌⊎◌, true, false, IsTrue, IfErr, Ok, Option, Some, length, ℕ, List};
 ghost use Rattle.hg_compare.specs.Alike.{contents_name, is_alike};
-ghost use Rattle.hg_compare.specs.Pieces.{ComparesBytes, CountsShelf, CountsTree, LooksAgain, Sizes};
-ghost use Rattle.hg_compare.specs.Same.{Compares, Decides, Reads, StaysShown, parent_row};
+ghost use Rattle.hg_compare.specs.Pieces.{AsksSize, ComparesBytes, CountsShelf, CountsTree, LooksAgain, ReadsTheirs, Sizes};
+ghost use Rattle.hg_compare.specs.Same.{AsksOrFails, AsksShelf, Compares, Decides, IsNeeded, Reads, StaysShown, parent_row};
+ghost use Rattle.hg_compare.specs.Seen.{HasSize};
 ghost use Rattle.hg_compare.specs.Tracked.{is_unchanged};
 ghost use Rattle.hg_compare.specs.declared.fault.CompareFault.TheVariants as a_fault;
 ghost use Rattle.hg_compare.specs.declared.looked.Looked.TheVariants as a_look;
 ghost use Rattle.hg_manifest.specs.Load.{Stays};
 ghost use Rattle.hg_shelf.specs.History as shelves;
+ghost use Rattle.hg_shelf.specs.Images.{Goes, course};
 ghost use Rattle.hg_tree.specs.History as trees;
 ghost use Rattle.hg_tree.specs.Moment.{stat_at};
 
@@ -26,6 +28,8 @@ use hg_tree::Tree;
 // Whether the contents have so many bytes.
 fn has_size<S: Shelf>(shelf: &mut S, name: &str, id: Id20, size: u64) -> Result<bool, CompareFault>
     ensures passes { shelves.Passes (S.history shelf.old) (S.history shelf.new) }
+    ensures kept { Goes (course (S.history shelf.old) (S.images shelf.old)) (course (S.history shelf.new) (S.images shelf.new)) }
+    ensures held { S.held shelf.new ≡ S.held shelf.old }
     ensures found { (path : List ℕ) (tree : trees.History) → Sizes
         (record {
           path = path;
@@ -38,6 +42,7 @@ fn has_size<S: Shelf>(shelf: &mut S, name: &str, id: Id20, size: u64) -> Result<
         id
         size
         result }
+    ensures asked { IsTrue (S.history shelf.old).told → AsksSize name.now (S.history shelf.old) (S.history shelf.new) result }
     ensures kind { IfErr result (λ fault. fault ≡ a_fault.TreeFailed → ⊥) }
     ensures count { CountsShelf (S.faults shelf.old) (S.faults shelf.new) result }
 {
@@ -63,6 +68,8 @@ fn same_bytes<T: Tree, S: Shelf>(
     requires theirs { length theirs.old ≡ 65536 }
     ensures tree_passes { trees.Passes (T.history tree.old) (T.history tree.new) }
     ensures shelf_passes { shelves.Passes (S.history shelf.old) (S.history shelf.new) }
+    ensures kept { Goes (course (S.history shelf.old) (S.images shelf.old)) (course (S.history shelf.new) (S.images shelf.new)) }
+    ensures held { S.held shelf.new ≡ S.held shelf.old }
     ensures found { ComparesBytes
         (record {
           path = path.entry.text.now;
@@ -75,6 +82,7 @@ fn same_bytes<T: Tree, S: Shelf>(
         id
         size
         result }
+    ensures shelf_asked { IsTrue (S.history shelf.old).told → ReadsTheirs size name.now (S.history shelf.old) (S.history shelf.new) }
     ensures asked { IsTrue (T.history tree.old).told → Reads size path.entry.text.now (T.history tree.old) (T.history tree.new) }
     ensures tree_count { CountsTree (T.faults tree.old) (T.faults tree.new) result }
     ensures shelf_count { CountsShelf (S.faults shelf.old) (S.faults shelf.new) result }
@@ -136,6 +144,8 @@ fn compare<T: Tree, S: Shelf>(
     requires theirs { length theirs.old ≡ 65536 }
     ensures tree_passes { trees.Passes (T.history tree.old) (T.history tree.new) }
     ensures shelf_passes { shelves.Passes (S.history shelf.old) (S.history shelf.new) }
+    ensures kept { Goes (course (S.history shelf.old) (S.images shelf.old)) (course (S.history shelf.new) (S.images shelf.new)) }
+    ensures held { S.held shelf.new ≡ S.held shelf.old }
     ensures compared { Compares
         (record {
           path = path.entry.text.now;
@@ -148,7 +158,30 @@ fn compare<T: Tree, S: Shelf>(
         row.now
         before.now
         result }
+    ensures needed { (tree.new ≡ tree.old)
+        ⊎ HasSize
+        (record {
+          path = path.entry.text.now;
+          name = name.now;
+          tree_old = T.history tree.old;
+          tree_new = T.history tree.new;
+          shelf_old = S.history shelf.old;
+          shelf_new = S.history shelf.new;
+        })
+        before.now.size }
     ensures asked { IsTrue (T.history tree.old).told → Reads before.now.size path.entry.text.now (T.history tree.old) (T.history tree.new) }
+    ensures shelf_asked { IsTrue (S.history shelf.old).told
+        → AsksOrFails
+        (record {
+          path = path.entry.text.now;
+          name = name.now;
+          tree_old = T.history tree.old;
+          tree_new = T.history tree.new;
+          shelf_old = S.history shelf.old;
+          shelf_new = S.history shelf.new;
+        })
+        before.now.size
+        result }
     ensures tree_count { CountsTree (T.faults tree.old) (T.faults tree.new) result }
     ensures shelf_count { CountsShelf (S.faults shelf.old) (S.faults shelf.new) result }
 {
@@ -178,6 +211,8 @@ pub fn same<T: Tree, S: Shelf>(
 ) -> Result<Looked, CompareFault>
     ensures tree_passes { trees.Passes (T.history tree.old) (T.history tree.new) }
     ensures shelf_passes { shelves.Passes (S.history shelf.old) (S.history shelf.new) }
+    ensures kept { Goes (course (S.history shelf.old) (S.images shelf.old)) (course (S.history shelf.new) (S.images shelf.new)) }
+    ensures held { S.held shelf.new ≡ S.held shelf.old }
     // What was seen, each at a moment of the call.
     ensures compared { Compares
         (record {
@@ -192,7 +227,33 @@ pub fn same<T: Tree, S: Shelf>(
         before.now
         result }
     ensures unlike { is_alike row.now before.now ≡ false → (result ≡ Ok a_look.Differs) × (tree.new ≡ tree.old) × (shelf.new ≡ shelf.old) }
+    // The working copy isn't asked, nor looked at again, but where kind and executable bit are the row's and the contents had the size of the first look.
+    ensures needed { (tree.new ≡ tree.old)
+        ⊎ IsNeeded
+        (record {
+          path = path.entry.text.now;
+          name = contents_name row.now.id.0;
+          tree_old = T.history tree.old;
+          tree_new = T.history tree.new;
+          shelf_old = S.history shelf.old;
+          shelf_new = S.history shelf.new;
+        })
+        row.now
+        before.now }
     ensures asked { IsTrue (T.history tree.old).told → Reads before.now.size path.entry.text.now (T.history tree.old) (T.history tree.new) }
+    ensures shelf_asked { IsTrue (S.history shelf.old).told
+        → AsksShelf
+        (record {
+          path = path.entry.text.now;
+          name = contents_name row.now.id.0;
+          tree_old = T.history tree.old;
+          tree_new = T.history tree.new;
+          shelf_old = S.history shelf.old;
+          shelf_new = S.history shelf.new;
+        })
+        row.now
+        before.now
+        result }
     // Where nothing changes meanwhile, whether the thing equals the row.
     ensures decided { (file : Option (List ℕ)) → IsTrue (T.history tree.old).told
         → IsTrue (S.history shelf.old).told

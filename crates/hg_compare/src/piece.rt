@@ -1,8 +1,9 @@
 //! One piece of the bytes that are compared.
 
 ghost use Rattle.std.specs.Prelude.{◌≡◌, IsTrue, length};
-ghost use Rattle.hg_compare.specs.Pieces.{ComparesPiece, CountsShelf, CountsTree, ReadsOnce, TakesMine, TakesTheirs};
+ghost use Rattle.hg_compare.specs.Pieces.{ComparesPiece, CountsShelf, CountsTree, ReadsOnce, ReadsTheirsOnce, TakesMine, TakesTheirs};
 ghost use Rattle.hg_shelf.specs.History as shelves;
+ghost use Rattle.hg_shelf.specs.Images.{Goes, course};
 ghost use Rattle.hg_tree.specs.History as trees;
 
 use crate::fault::CompareFault;
@@ -31,6 +32,9 @@ fn read_theirs<S: Shelf>(
     room: &mut [u8],
 ) -> Result<usize, CompareFault>
     ensures passes { shelves.Passes (S.history shelf.old) (S.history shelf.new) }
+    ensures kept { Goes (course (S.history shelf.old) (S.images shelf.old)) (course (S.history shelf.new) (S.images shelf.new)) }
+    ensures held { S.held shelf.new ≡ S.held shelf.old }
+    ensures asked { IsTrue (S.history shelf.old).told → ReadsTheirsOnce name.now (S.history shelf.old) (S.history shelf.new) }
     ensures found { TakesTheirs (S.history shelf.new) name.now id place (length room.old) room.new result }
     ensures count { CountsShelf (S.faults shelf.old) (S.faults shelf.new) result }
 {
@@ -74,6 +78,8 @@ pub(crate) fn same_piece<T: Tree, S: Shelf>(
     requires { length mine.old ≡ length theirs.old }
     ensures tree_passes { trees.Passes (T.history tree.old) (T.history tree.new) }
     ensures shelf_passes { shelves.Passes (S.history shelf.old) (S.history shelf.new) }
+    ensures kept { Goes (course (S.history shelf.old) (S.images shelf.old)) (course (S.history shelf.new) (S.images shelf.new)) }
+    ensures held { S.held shelf.new ≡ S.held shelf.old }
     ensures found { ComparesPiece
         (record {
           path = path.entry.text.now;
@@ -87,6 +93,7 @@ pub(crate) fn same_piece<T: Tree, S: Shelf>(
         place
         (length mine.old)
         result }
+    ensures shelf_asked { IsTrue (S.history shelf.old).told → ReadsTheirsOnce name.now (S.history shelf.old) (S.history shelf.new) }
     ensures asked { IsTrue (T.history tree.old).told → ReadsOnce path.entry.text.now (T.history tree.old) (T.history tree.new) }
     ensures tree_count { CountsTree (T.faults tree.old) (T.faults tree.new) result }
     ensures shelf_count { CountsShelf (S.faults shelf.old) (S.faults shelf.new) result }

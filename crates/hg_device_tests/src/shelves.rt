@@ -1,7 +1,7 @@
 //! Files below `.hg` in memory: what calls answer, and what a crash leaves.
 use hg_base::{Blob, Failed, Got, Text};
 use hg_case_tests::{Play, agree, bytes, number, print, word};
-use hg_shelf::{MemShelf, Outside, Shelf};
+use hg_shelf::{Asked, MemShelf, Outside, Shelf};
 use std::alloc::Global;
 use std::string::String;
 use std::test::Fail;
@@ -131,6 +131,20 @@ fn counted(shelf: &MemShelf, answer: &mut String) -> Result<(), Fail> {
     Ok(())
 }
 
+// What was asked, and what the calls of the lock came to at which moments.
+fn tell(shelf: &MemShelf, answer: &mut String) -> Result<(), Fail> {
+    for ask in shelf.asked() {
+        match ask {
+            Asked::Size { name } => write!(answer, " size {}", name.as_str())?,
+            Asked::Read { name } => write!(answer, " read {}", name.as_str())?,
+        }
+    }
+    for call in shelf.locks() {
+        write!(answer, " {:?} at {}", call.answer, call.moment)?;
+    }
+    Ok(())
+}
+
 fn done(alloc: Global, shelf: &mut MemShelf, step: &str, answer: &mut String) -> Result<(), Fail> {
     match word(step, 0) {
         "place" => place(alloc, shelf, step),
@@ -146,6 +160,7 @@ fn done(alloc: Global, shelf: &mut MemShelf, step: &str, answer: &mut String) ->
         "show" => show(shelf, word(step, 1), answer),
         "lock" => locked(shelf, answer),
         "calls" => counted(shelf, answer),
+        "tell" => tell(shelf, answer),
         _ => changed(shelf, step, answer),
     }
 }
@@ -268,4 +283,20 @@ due 1 place one abc; due 2 remove one; due 2 place two ab; fail 2; size one; siz
 #[test]
 fn takes_the_lock_and_lets_others_act(rt: HostRuntime) -> Result<(), Fail> {
     agree::<Shelves>(rt.alloc(), "", LOCKS)
+}
+
+// Only sizes and reads are told by their names, and calls of the lock with the last moment at their end.
+const TELLS: &str = r"
+tell =>
+mute size one; mute read two 0; mute size one; tell => size one read two size one
+fail 0; fail 1; mute size one; mute read one 0; tell => size one read one
+mute write one 0 a; mute sync one; mute rename one two; mute sync_names; mute remove two; tell =>
+mute lock; mute write one 0 a; mute unlock; tell => Taken at 0 GivenBack at 1
+hold true; mute lock; hold false; mute lock; tell => Refused at 0 Taken at 0
+due 1 place one a; fail 0; fail 2; mute lock; mute lock; mute unlock; tell => NotTaken at 0 Taken at 1 NotGivenBack at 1
+";
+
+#[test]
+fn tells_its_calls(rt: HostRuntime) -> Result<(), Fail> {
+    agree::<Shelves>(rt.alloc(), "", TELLS)
 }

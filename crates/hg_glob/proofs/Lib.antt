@@ -1,12 +1,15 @@
 pub mod Bits
 pub mod Bounding
 pub mod Bounds
+pub mod Classes
 pub mod Columns
+pub mod Constructs
 pub mod Dead
 pub mod Edges
 pub mod Ends
 pub mod Far
 pub mod Faults
+pub mod Grown
 pub mod Lines
 pub mod Literal
 pub mod Masks
@@ -15,6 +18,7 @@ pub mod Passes
 pub mod Places
 pub mod Reordered
 pub mod Rows
+pub mod Spellable
 pub mod Spelled
 pub mod Sums
 pub mod Sweeps

@@ -9,4 +9,5 @@ pub mod Placed
 pub mod Reach
 pub mod Refusal
 pub mod Row
+pub mod Syntax
 pub mod Trail

@@ -1,4 +1,4 @@
--- How the characters of a text spell a glob: the parts of the text, and the glob that they make.
+-- How a text is read as a glob, from left to right: its parts, and the glob that they make. Which text spells which glob, by rules, is said in `Syntax`.
 use Rattle.std.specs.Prelude.{ℕ, ◌≡◌, Result, IfOk, ◌+◌, ◌-◌, zero, suc, if◌then◌else◌, Bool, true, false, ◌&&◌, List, [], ◌∷◌, ◌++◌, take, drop, Option, Some, None, option_map, ◌==◌, nat_lt, position}
 use Rattle.hg_glob.specs.Pattern.{Span, Pattern, Choices, empty, literal, one, listed, star, any, slashes, braces, last, choice}
 use Rattle.hg_glob.specs.declared.part.Part.{Part}

@@ -23,9 +23,11 @@
 //! Glob::read(alloc, "{a");          // Err(GlobFault::Unbalanced { at: 0 })
 //! ```
 //!
-//! `Glob` is the type that is asked; contracts see its text. A `Subject` is a text that was read once, for many globs. `Globs` are many globs that are asked together; contracts see them as a list. What a glob is and which texts stand in it is said in `specs/Pattern.antt`, how a
-//! text spells one in `specs/Part.antt`, why a text is none in `specs/Refusal.antt`, and where a glob line stands in a path in
-//! `specs/Line.antt`, of many in `specs/Many.antt`.
+//! `Glob` is the type that is asked; contracts see its text. A `Subject` is a text that was read once, for many globs. `Globs` are many
+//! globs that are asked together; contracts see them as a list. What a glob is and which texts stand in it is said in
+//! `specs/Pattern.antt`, which text spells which glob, by a rule for each line of the table, in `specs/Syntax.antt`, how a text is read
+//! in `specs/Part.antt`, why a text is none in `specs/Refusal.antt`, and where a glob line stands in a path in `specs/Line.antt`, of many
+//! in `specs/Many.antt`. That what is read is what the rules say, and all that they say, are laws.
 //!
 //! A text is read from its end, with one mark for each part: whether the end that was read is accepted from that part on. A character
 //! more in front gives the next row of marks in one pass over the parts, in place; the mark of the first part answers for every
@@ -47,6 +49,7 @@ mod fault;
 mod fork;
 mod glob;
 mod globs;
+mod laws;
 mod mark;
 mod matching;
 mod ordering;
@@ -65,6 +68,7 @@ mod words;
 pub use fault::GlobFault;
 pub use glob::Glob;
 pub use globs::{GlobLine, Globs};
+pub use laws::{is_spelled, one_glob, refused_for_length};
 pub use subject::Subject;
 
 #[cfg(test)]

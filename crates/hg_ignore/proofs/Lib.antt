@@ -3,6 +3,7 @@ pub mod Compiled
 pub mod Globs
 pub mod Lines
 pub mod Sourced
+pub mod Staying
 pub mod Steps
 pub mod Texts
 pub mod Union

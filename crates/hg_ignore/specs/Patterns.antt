@@ -1,16 +1,18 @@
 -- What a layer above may say of ignore patterns, beside `Ignored`, `Hash`, `Texts`, `Ignore`, `IgnoreFiles` and the type `Piece` of `State`: where a
--- state was read, that nothing is wrong with it, its warnings, that nobody touches its files, which reads it takes, and what patterns are refused
--- for. What is promised above cites nothing else of this crate but its own types, and of the contracts of `Matcher` the names `state_asked` and
+-- state was read, that nothing is wrong with it, its warnings, that nobody touches its files, which reads it takes, what patterns are refused
+-- for, and that states are told apart by their hashes. What is promised above cites nothing else of this crate but its own types, and of the contracts of `Matcher` the names `state_asked` and
 -- `DirIgnored`; so a text that names further files changes this module, and no word above it.
 use Rattle.std.specs.Prelude.{ℕ, ◌≡◌, ◌⊎◌, ◌≤◌, ◌<◌, ◌+◌, true, List, length, None, IsTrue, IsSomeAnd}
+use Rattle.std.specs.List.{Contains}
 use Rattle.std.specs.Str.{IsUtf8, IsValidUpTo}
+use Rattle.sha1.specs.Sha1.{sha1}
 use Rattle.hg_tree.specs.History.{History, now}
 use Rattle.hg_tree.specs.Moment.{Moment}
 use Rattle.hg_tree.specs.Still.{KeepsFace}
 use Rattle.hg_tree.specs.declared.asked.Asked.{Asked}
 use Rattle.hg_ignore.specs.Line.{lines_of}
 use Rattle.hg_ignore.specs.Source.{AreTexts, FileDuring, ReadDuring, has_file, reads_of, text_at, the_read}
-use Rattle.hg_ignore.specs.State.{Ignore, Piece, ignore_file, items_of, state_of}
+use Rattle.hg_ignore.specs.State.{Hash, Ignore, Piece, Texts, ignore_file, items_of, state_of}
 use Rattle.hg_ignore.specs.Taking.{HasLineCause, first_fault, warnings_of}
 use Rattle.hg_ignore.specs.declared.fault.IgnoreFault.{IgnoreFault}
 use Rattle.hg_ignore.specs.declared.fault.IgnoreFault.TheVariants as a_fault
@@ -121,3 +123,14 @@ RefusesPatterns moment (a_fault.BadGlob line) = RefusesLines moment (a_fault.Bad
 RefusesPatterns moment (a_fault.BadRegexp line) = RefusesLines moment (a_fault.BadRegexp line)
 RefusesPatterns moment (a_fault.RegexpTooBig line) = RefusesLines moment (a_fault.RegexpTooBig line)
 RefusesPatterns moment (a_fault.BadInclude line) = RefusesLines moment (a_fault.BadInclude line)
+
+-- ---- that states are told apart by their hashes
+
+-- the text of a file in a state that reads of the history may give; a state without files has none
+abbrev pub MayHold : History → List ℕ → Type 0
+MayHold h text = (state : List Piece) × Texts h state × (piece : Piece) × Contains state piece × (text ≡ piece.text)
+
+-- no two different texts that the history may give share a SHA-1, and no two different states that it may give share a hash
+pub record Apart (h : History) : Type 0 where
+  pub texts : (a b : List ℕ) → MayHold h a → MayHold h b → sha1 a ≡ sha1 b → a ≡ b
+  pub states : (a b : List Piece) → Texts h a → Texts h b → Hash a ≡ Hash b → a ≡ b

@@ -7,7 +7,6 @@ ghost use Rattle.hg_glob.specs.Many.{SomeStands};
 ghost use Rattle.hg_tree.specs.History.{IsOurs, Passes, now};
 ghost use Rattle.hg_ignore.specs.declared.fault.IgnoreFault.TheVariants as a_fault;
 ghost use Rattle.hg_ignore.specs.Asked.{state_asked};
-ghost use Rattle.hg_ignore.specs.Kept.{LawOfIgnored};
 ghost use Rattle.hg_ignore.specs.Line.{lines_of};
 ghost use Rattle.hg_ignore.specs.Source.{AreTexts, AsksOnce, AsksRight, HasBytesCause, HasTextCause, ReadDuring, reads_of};
 ghost use Rattle.hg_ignore.specs.State as states;
@@ -217,8 +216,3 @@ impl Ignore {
         self.warnings
     }
 }
-
-/// The law of a listing: a path is ignored where its directory is, or where a line matches the path itself.
-pub fn ignored_with_directory()
-    ensures { LawOfIgnored }
-{}

@@ -31,6 +31,7 @@
 mod distinct;
 mod fault;
 mod ignore;
+mod laws;
 mod matcher;
 mod normal;
 mod reading;
@@ -43,7 +44,8 @@ mod text;
 mod warnings;
 
 pub use fault::IgnoreFault;
-pub use ignore::{Ignore, ignored_with_directory};
+pub use ignore::Ignore;
+pub use laws::{apart_before, ignored_below, ignored_with_directory, still_read};
 pub use matcher::Matcher;
 pub use regexps::{Builds, RegexpFault, Regexps};
 pub use warnings::{Warning, Warnings};

@@ -1,10 +1,12 @@
 -- What a load answers, by the moments of the shelf during the call.
-use Rattle.std.specs.Prelude.{ℕ, ◌≡◌, ◌≤◌, ◌<◌, if◌then◌else◌, List, [], length, take, Option, Some, None, Result, Ok, Err, IsTrue, nat_lt}
+use Rattle.std.specs.Prelude.{ℕ, ◌≡◌, ◌≤◌, ◌<◌, if◌then◌else◌, List, [], ◌∷◌, length, take, Option, Some, None, Result, Ok, Err, IsTrue, nat_lt}
 use Rattle.hg_base.specs.Fault.{Rose}
 use Rattle.hg_base.specs.declared.id.Id20.{Id20}
 use Rattle.hg_shelf.specs.History.{History}
 use Rattle.hg_shelf.specs.Reads.{size_of}
-use Rattle.hg_manifest.specs.Plain.{is_null, most}
+use Rattle.hg_shelf.specs.declared.asked.Asked.{Asked}
+use Rattle.hg_shelf.specs.declared.asked.Asked.TheVariants as an_ask
+use Rattle.hg_manifest.specs.Plain.{is_null, most, plain_name}
 use Rattle.hg_manifest.specs.Rows.{Rows, manifest_of}
 use Rattle.hg_manifest.specs.declared.fault.ManifestFault.{ManifestFault}
 use Rattle.hg_manifest.specs.declared.fault.ManifestFault.TheVariants as a_fault
@@ -75,3 +77,11 @@ manifest_in id file = if is_null id.0 then Ok [] else file_manifest id file
 -- a file is the same at every moment of a call
 abbrev pub Stays : History → History → List ℕ → Option (List ℕ) → Type 0
 Stays old new name file = (k : ℕ) → During old new k → file_at new name k ≡ file
+
+-- what the load of a file asks for: its size, then its bytes
+abbrev pub file_asks : List ℕ → List Asked
+file_asks name = an_ask.Size name ∷ an_ask.Read name ∷ []
+
+-- what the load of an identifier's manifest asks for; the null parent needs no file
+abbrev pub asks_of : Id20 → List Asked
+asks_of id = if is_null id.0 then [] else file_asks (plain_name id.0)

@@ -1,13 +1,16 @@
 //! Loading a manifest from the plain store.
 
-ghost use Rattle.std.specs.Prelude.{◌≡◌, ◌≤◌, ◌<◌, [], true, false, Ok, Option, ℕ, List, IsTrue, IfOk, IfErr, OnOk, length, string_bytes};
+ghost use Rattle.std.specs.Prelude.{◌≡◌, ◌≤◌, ◌<◌, [], ◌∷◌, true, false, Ok, Option, ℕ, List, IsTrue, IfOk, IfErr, OnOk, length, string_bytes};
 ghost use Rattle.hg_base.specs.Fault.{HasCause, IsSteady};
 ghost use Rattle.hg_manifest.specs.Kept.{Answers};
-ghost use Rattle.hg_manifest.specs.Load.{Finds, IsCounted, manifest_in, Stays, Was};
+ghost use Rattle.hg_manifest.specs.Load.{Finds, IsCounted, Stays, Was, asks_of, file_asks, manifest_in};
 ghost use Rattle.hg_manifest.specs.Loaded.{Sizes, Takes};
 ghost use Rattle.hg_manifest.specs.Plain.{is_null, most, plain_name};
 ghost use Rattle.hg_manifest.specs.declared.fault.ManifestFault.TheVariants as a_fault;
+ghost use Rattle.hg_shelf.specs.Asks.{AsksInOrder};
 ghost use Rattle.hg_shelf.specs.History.{Passes};
+ghost use Rattle.hg_shelf.specs.Images.{Goes, course};
+ghost use Rattle.hg_shelf.specs.declared.asked.Asked.TheVariants as an_ask;
 
 use crate::fault::ManifestFault;
 use crate::manifest::Manifest;
@@ -38,6 +41,9 @@ fn name_of(alloc: Global, id: &Id20) -> Result<String, OutOfMemory>
 // The size of the file, where it is there and not too large.
 fn ask_size<S: Shelf>(shelf: &mut S, name: &str, id: &Id20) -> Result<u64, ManifestFault>
     ensures passes { Passes (S.history shelf.old) (S.history shelf.new) }
+    ensures kept { Goes (course (S.history shelf.old) (S.images shelf.old)) (course (S.history shelf.new) (S.images shelf.new)) }
+    ensures held { S.held shelf.new ≡ S.held shelf.old }
+    ensures asked { IsTrue (S.history shelf.old).told → AsksInOrder (an_ask.Size name.now ∷ []) (S.history shelf.old) (S.history shelf.new) result }
     ensures found { Sizes (S.history shelf.old) (S.history shelf.new) name.now id.now result }
     ensures cause { HasCause (S.faults shelf.old) (S.faults shelf.new) result (λ e. e ≡ a_fault.Failed) }
     ensures still { IfErr result (λ e. (e ≡ a_fault.Failed → ⊥) → S.faults shelf.new ≡ S.faults shelf.old) }
@@ -63,6 +69,9 @@ fn take_bytes<S: Shelf>(
 ) -> Result<Vec<u8>, ManifestFault>
     requires { size ≤ most }
     ensures passes { Passes (S.history shelf.old) (S.history shelf.new) }
+    ensures kept { Goes (course (S.history shelf.old) (S.images shelf.old)) (course (S.history shelf.new) (S.images shelf.new)) }
+    ensures held { S.held shelf.new ≡ S.held shelf.old }
+    ensures asked { IsTrue (S.history shelf.old).told → AsksInOrder (an_ask.Read name.now ∷ []) (S.history shelf.old) (S.history shelf.new) result }
     ensures found { Takes (S.history shelf.old) (S.history shelf.new) name.now id.now size result }
     ensures cause { HasCause (S.faults shelf.old) (S.faults shelf.new) result (λ e. e ≡ a_fault.Failed) }
     ensures still { IfErr result (λ e. (e ≡ a_fault.Failed → ⊥) → S.faults shelf.new ≡ S.faults shelf.old) }
@@ -81,6 +90,9 @@ fn take_bytes<S: Shelf>(
 // The manifest of a parent that isn't null.
 fn load_file<S: Shelf>(alloc: Global, shelf: &mut S, id: &Id20) -> Result<Manifest, ManifestFault>
     ensures passes { Passes (S.history shelf.old) (S.history shelf.new) }
+    ensures kept { Goes (course (S.history shelf.old) (S.images shelf.old)) (course (S.history shelf.new) (S.images shelf.new)) }
+    ensures held { S.held shelf.new ≡ S.held shelf.old }
+    ensures asked { IsTrue (S.history shelf.old).told → AsksInOrder (file_asks (plain_name id.now.0)) (S.history shelf.old) (S.history shelf.new) result }
     ensures found { Finds (S.history shelf.old) (S.history shelf.new) (plain_name id.now.0) id.now result }
     ensures cause { HasCause (S.faults shelf.old) (S.faults shelf.new) result (λ e. e ≡ a_fault.Failed) }
     ensures counted { IsCounted (S.faults shelf.old) (S.faults shelf.new) result }
@@ -105,6 +117,9 @@ impl Manifest {
         ensures null { IsTrue (is_null id.now.0) → result ≡ Ok [] }
         ensures unasked { IsTrue (is_null id.now.0) → shelf.new ≡ shelf.old }
         ensures passes { Passes (S.history shelf.old) (S.history shelf.new) }
+        ensures kept { Goes (course (S.history shelf.old) (S.images shelf.old)) (course (S.history shelf.new) (S.images shelf.new)) }
+        ensures held { S.held shelf.new ≡ S.held shelf.old }
+        ensures asked { IsTrue (S.history shelf.old).told → AsksInOrder (asks_of id.now) (S.history shelf.old) (S.history shelf.new) result }
         ensures found { is_null id.now.0 ≡ false → Finds (S.history shelf.old) (S.history shelf.new) (plain_name id.now.0) id.now result }
         ensures cause { HasCause (S.faults shelf.old) (S.faults shelf.new) result (λ e. e ≡ a_fault.Failed) }
         ensures counted { IsCounted (S.faults shelf.old) (S.faults shelf.new) result }

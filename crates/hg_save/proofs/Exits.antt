@@ -7,11 +7,13 @@ use Rattle.hg_shelf.specs.Images.{Course, Goes, last_scene}
 use Rattle.hg_shelf.specs.Polite.{Undisturbed}
 use Rattle.hg_shelf.specs.Rules.{Perhaps, moved, without}
 use Rattle.hg_shelf.proofs.Scenes.{first_part, goes_trans, second_part}
-use Rattle.hg_save.specs.Leads.{ButFor, IsDone, IsWhole, Leads}
+use Rattle.hg_save.specs.Leads.{ButFor, Clears, IsDone, IsWhole, Leads}
 use Rattle.hg_save.specs.Record.{data_name, id_in}
-use Rattle.hg_save.specs.Saved.{IsFree, IsLatest, IsOver, KeepsOthers, LeavesOnly, Records, ShowsOnly, Stands, new_docket, published}
+use Rattle.hg_save.specs.Saved.{HoldsExactly, IsFree, IsLatest, IsOver, KeepsOthers, LeavesOnly, Records, ShowsOnly, Stands, new_docket, published}
+use Rattle.hg_save.proofs.Exact.{holds_exactly}
+use Rattle.hg_save.proofs.Kept.{KeepsOld, leads_gone, old_one, old_three, old_two, only_four, only_old}
 use Rattle.hg_save.proofs.Names.{never_itself}
-use Rattle.hg_save.proofs.Stages.{Puts, cleared_records, done_left, done_shown, latest_cleared, latest_spared, latest_swapped, only_cleared, only_four, only_one, only_spared, only_swapped, only_three, only_two, ready_left, ready_shown, shown_one, shown_two, shows_cleared, shows_spared, shows_swapped, spared_one, spared_two}
+use Rattle.hg_save.proofs.Stages.{Puts, cleared_records, done_left, done_shown, latest_cleared, latest_spared, latest_swapped, only_cleared, only_spared, only_swapped, ready_left, ready_shown, shown_one, shown_two, shows_cleared, shows_spared, shows_swapped, spared_one, spared_two}
 
 -- ---- a call in parts
 
@@ -26,7 +28,7 @@ module _ (loaded : List ℕ) (new : Encoded) (over : IsOver loaded new) (a b : C
     crash_one calm free = only_spared loaded new over a free b (spared_one loaded new over a b (one calm))
 
     pub others_one : Undisturbed a b → Leads (KeepsOthers (docket_of loaded).id new.id) a b
-    others_one calm = only_one (docket_of loaded).id new.id apart a b (one calm)
+    others_one calm = only_old (docket_of loaded).id new.id apart a b (old_one (docket_of loaded).id new.id apart a b (one calm))
 
     pub latest_one : Undisturbed a b → Stands loaded (last_scene a) → IsLatest (last_scene a) → IsLatest (last_scene b)
     latest_one calm stands latest = latest_spared loaded new over a stands latest b first.past.later (shown_one loaded new over a b (one calm)) (spared_one loaded new over a b (one calm))
@@ -40,7 +42,7 @@ module _ (loaded : List ℕ) (new : Encoded) (over : IsOver loaded new) (a b : C
     crash_two calm free = only_spared loaded new over a free c (spared_two loaded new over a b c first second (one (first_part a b c second calm)) (two (second_part a b c first calm)))
 
     pub others_two : Undisturbed a c → Leads (KeepsOthers (docket_of loaded).id new.id) a c
-    others_two calm = only_two (docket_of loaded).id new.id apart a b c first second (one (first_part a b c second calm)) (two (second_part a b c first calm))
+    others_two calm = only_old (docket_of loaded).id new.id apart a c (old_two (docket_of loaded).id new.id apart a b c first second (one (first_part a b c second calm)) (two (second_part a b c first calm)))
 
     pub latest_two : Undisturbed a c → Stands loaded (last_scene a) → IsLatest (last_scene a) → IsLatest (last_scene c)
     latest_two calm stands latest =
@@ -85,15 +87,21 @@ module _ (loaded : List ℕ) (new : Encoded) (over : IsOver loaded new) (a b : C
         (ready_shown loaded new over a b c second (one (calm_one calm)) (two (calm_two calm)))
         (three (calm_three calm) (there calm)) (wholly (calm_three calm) (there calm))
 
+    old_kept : (Undisturbed c d → IsSome ((last_scene c).files new_docket) → Leads (Perhaps (moved new_docket (codes "dirstate"))) c d) → Undisturbed a d → Leads (KeepsOld (docket_of loaded).id new.id) a d
+    old_kept three calm =
+        old_three (docket_of loaded).id new.id apart a c d (goes_trans a b c first second) third
+        (old_two (docket_of loaded).id new.id apart a b c first second (one (calm_one calm)).leads (two (calm_two calm)).leads) (three (calm_three calm) (there calm))
+
     pub others_three : (Undisturbed c d → IsSome ((last_scene c).files new_docket) → Leads (Perhaps (moved new_docket (codes "dirstate"))) c d) → Undisturbed a d → Leads (KeepsOthers (docket_of loaded).id new.id) a d
-    others_three three calm =
-        only_three (docket_of loaded).id new.id apart a c d (goes_trans a b c first second) third
-        (only_two (docket_of loaded).id new.id apart a b c first second (one (calm_one calm)).leads (two (calm_two calm)).leads) (three (calm_three calm) (there calm))
+    others_three three calm = only_old (docket_of loaded).id new.id apart a d (old_kept three calm)
 
     -- the docket has its place, and the old data file goes
     module _ (three : Undisturbed c d → IsSome ((last_scene c).files new_docket) → Leads (Perhaps (moved new_docket (codes "dirstate"))) c d)
         (done : Undisturbed c d → IsSome ((last_scene c).files new_docket) → IsDone (moved new_docket (codes "dirstate")) c d)
-        (z : Course) (fourth : Goes d z) (four : Undisturbed d z → Leads (Perhaps (without (data_name (docket_of loaded).id))) d z) where
+        (z : Course) (fourth : Goes d z) (gone : Undisturbed d z → Leads (Clears (docket_of loaded).id) d z) where
+      four : Undisturbed d z → Leads (Perhaps (without (data_name (docket_of loaded).id))) d z
+      four calm = leads_gone (docket_of loaded).id d z (gone calm)
+
       calm_front : Undisturbed a z → Undisturbed a d
       calm_front calm = first_part a d z fourth calm
 
@@ -114,6 +122,10 @@ module _ (loaded : List ℕ) (new : Encoded) (over : IsOver loaded new) (a b : C
           (done_left loaded new over a c d (ready_left loaded new over a b c second (one (calm_one (calm_front calm))) (two (calm_two (calm_front calm)))) (is_done (calm_front calm)))
           (done_shown loaded new over a c d (ready_shown loaded new over a b c second (one (calm_one (calm_front calm))) (two (calm_two (calm_front calm)))) (is_done (calm_front calm))) (four (calm_four calm))
 
+      pub exact_four : Undisturbed a z → HoldsExactly new a z
+      exact_four calm =
+          holds_exactly loaded new over a b c first second (one (calm_one (calm_front calm))) (two (calm_two (calm_front calm))) d z fourth (is_done (calm_front calm)) (four (calm_four calm))
+
       pub left_four : Undisturbed a z → (id_in (last_scene a).files ≡ new.id → ⊥) → ShowsOnly a z (published new)
       left_four calm unnamed =
           shows_cleared loaded new over a unnamed d z fourth (left_three three (calm_front calm) unnamed)
@@ -121,7 +133,9 @@ module _ (loaded : List ℕ) (new : Encoded) (over : IsOver loaded new) (a b : C
 
       pub others_four : Undisturbed a z → Leads (KeepsOthers (docket_of loaded).id new.id) a z
       others_four calm =
-          only_four (docket_of loaded).id new.id apart a d z (goes_trans a c d (goes_trans a b c first second) third) fourth (others_three three (calm_front calm)) (four (calm_four calm))
+          only_four loaded new over apart a d z (goes_trans a c d (goes_trans a b c first second) third) fourth (old_kept three (calm_front calm))
+          (done_left loaded new over a c d (ready_left loaded new over a b c second (one (calm_one (calm_front calm))) (two (calm_two (calm_front calm)))) (is_done (calm_front calm)))
+          (done_shown loaded new over a c d (ready_shown loaded new over a b c second (one (calm_one (calm_front calm))) (two (calm_two (calm_front calm)))) (is_done (calm_front calm))) (gone (calm_four calm))
 
       pub latest_four : Undisturbed a z → Stands loaded (last_scene a) → IsLatest (last_scene a) → IsLatest (last_scene z)
       latest_four calm stands latest =

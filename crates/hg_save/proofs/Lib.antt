@@ -1,5 +1,9 @@
+pub mod Asking
 pub mod Encodings
+pub mod Exact
 pub mod Exits
+pub mod Keeping
+pub mod Kept
 pub mod Loads
 pub mod Names
 pub mod Orderly
@@ -8,5 +12,6 @@ pub mod Own
 pub mod Parts
 pub mod Published
 pub mod Readings
+pub mod Spans
 pub mod Stages
 pub mod Tails

@@ -1,8 +1,9 @@
 -- What a load finds, from what its reads find.
 use Rattle.std.proofs.Common.{ℕ, ◌≡◌, ◌<◌, ◌≤◌, ◌==◌, Bool, true, false, cond, min, List, [], ◌∷◌, ◌++◌, map, length, take, drop, Vec, Global, Option, Some, None, option_map, Result, Ok, Err, codes, refl, sym, ap, ◌∙◌, subst, inl, inr, ◌⊎◌, arith}
 use Rattle.std.specs.List.{AllByRecursion}
+use Rattle.std.specs.Result.{IfOk}
 use Rattle.std.proofs.Math.Seq.{take-append_seam}
-use Rattle.std.proofs.lemmas.List.{length-take, take-append-le, take-take, take_min}
+use Rattle.std.proofs.lemmas.List.{length-take, take-append-le, take-take, take_all, take_min}
 use Rattle.std.proofs.lemmas.Bool.{cases_eq}
 use Rattle.hg_base.specs.declared.stat.Got.TheVariants as a_got
 use Rattle.hg_docket.specs.Docket.{Contents, docket_of, docket_refusal}
@@ -19,7 +20,7 @@ use Rattle.hg_shelf.proofs.Histories.{extends_trans}
 use Rattle.hg_shelf.specs.Rules.{content}
 use Rattle.hg_save.proofs.Tails.{front_same, short_of}
 use Rattle.hg_save.specs.Record.{data_in, data_name, docket_in, id_in, named_reading, needed_in, record_in}
-use Rattle.hg_save.specs.Loads.{Answers, Covers, DataFinds, DataFindsDuring, During, FileFinds, FileFindsDuring, FrontFinds, IsTry, IsUnread, Loads, NamedFinds, Tries, Try, bytes_of, files_at, found_by, id_by}
+use Rattle.hg_save.specs.Loads.{Answers, Covers, DataFinds, DataFindsDuring, During, FileFinds, FileFindsDuring, FrontFinds, IsTry, IsUnread, Loads, NamedFinds, ReadsAsOf, ReadsUsed, Tries, Try, bytes_of, files_at, found_by, id_by}
 use Rattle.hg_save.specs.declared.load_fault.LoadFault.{LoadFault}
 use Rattle.hg_save.specs.declared.load_fault.LoadFault.TheVariants as a_fault
 use Rattle.hg_save.specs.declared.loaded.Loaded.{Loaded}
@@ -43,13 +44,23 @@ docket_read files old new n room reads = docket_front (files (codes "dirstate"))
 
 -- ---- the data file
 
+-- a file that had fewer bytes than are used, and has more by now
+record IsCut (used : ℕ) (a b nodes : List ℕ) : Type 0 where
+  pub many : length nodes ≡ length a
+  pub short : length a < used
+  pub front : nodes ≡ take (length a) b
+
 cover_by : (used n : ℕ) (a b nodes : List ℕ) → n ≡ min (min (length a) used) (length b) → nodes ≡ take n b → (n ≡ min used (length b)) ⊎ (n ≡ min used (length b) → ⊥)
-    → Covers used nodes b ⊎ ((length nodes ≡ length a) × (length a < used))
-cover_by used n a b nodes count is (inl whole) = inl (inl (is ∙ ap (λ (k : ℕ). take k b) whole ∙ take_min used b))
-cover_by used n a b nodes count is (inr part) = inr (ap length is ∙ omega (arith, length-take n b, count, part), omega (arith, count, part))
+    → (nodes ≡ take used b) ⊎ IsCut used a b nodes
+cover_by used n a b nodes count is (inl whole) = inl (is ∙ ap (λ (k : ℕ). take k b) whole ∙ take_min used b)
+cover_by used n a b nodes count is (inr part) = inr (record {
+  many = ap length is ∙ omega (arith, length-take n b, count, part);
+  short = omega (arith, count, part);
+  front = is ∙ ap (λ (k : ℕ). take k b) (omega (arith, count, part));
+})
 
 -- the size that was asked and the bytes that were read later cover the file at one of the two moments
-cover : (used n : ℕ) (a b nodes : List ℕ) → n ≡ min (min (length a) used) (length b) → nodes ≡ take n b → Covers used nodes b ⊎ ((length nodes ≡ length a) × (length a < used))
+cover : (used n : ℕ) (a b nodes : List ℕ) → n ≡ min (min (length a) used) (length b) → nodes ≡ take n b → (nodes ≡ take used b) ⊎ IsCut used a b nodes
 cover used n a b nodes count is = cover_by used n a b nodes count is (cases_eq n (min used (length b)))
 
 during_last : (old new : History) → Extends old new → During old new new.last
@@ -72,7 +83,7 @@ pub gone_sized : (old new : History) (id name : List ℕ) (used : ℕ) (fault : 
 gone_sized old new id name used fault passes named size is = record {
   at = new.last;
   file = during_last old new passes.past;
-  finds = subst (λ (f : LoadFault). FileFinds id used (Err f) (files_at new new.last (data_name id))) (sym is) (refl, ap (now new).files (sym named) ∙ size_none ((now new).files name) size);
+  finds = subst (λ (f : LoadFault). FileFinds new new.last id used (Err f) (files_at new new.last (data_name id))) (sym is) (refl, ap (now new).files (sym named) ∙ size_none ((now new).files name) size);
 }
 
 -- memory or the shelf failed
@@ -82,22 +93,33 @@ file_free old new id used fault past free = record {
   file = during_last old new past;
   finds =
       elim free [
-        | inl memory ↦ subst (λ (f : LoadFault). FileFinds id used (Err f) (files_at new new.last (data_name id))) (sym memory) tt
-        | inr failed ↦ subst (λ (f : LoadFault). FileFinds id used (Err f) (files_at new new.last (data_name id))) (sym failed) tt
+        | inl memory ↦ subst (λ (f : LoadFault). FileFinds new new.last id used (Err f) (files_at new new.last (data_name id))) (sym memory) tt
+        | inr failed ↦ subst (λ (f : LoadFault). FileFinds new new.last id used (Err f) (files_at new new.last (data_name id))) (sym failed) tt
       ];
 }
 
 read_by : (old mid new : History) (id : List ℕ) (used : ℕ) (a b nodes : List ℕ) → Passes old mid → Passes mid new → (now mid).files (data_name id) ≡ Some a → (now new).files (data_name id) ≡ Some b
-    → Covers used nodes b ⊎ ((length nodes ≡ length a) × (length a < used)) → FileFindsDuring old new id used (Ok nodes)
-read_by old mid new id used a b nodes first second sized there (inl covers) = record {
+    → (nodes ≡ take used b) ⊎ IsCut used a b nodes → FileFindsDuring old new id used (Ok nodes)
+read_by old mid new id used a b nodes first second sized there (inl whole) = record {
   at = new.last;
   file = during_last old new (extends_trans old mid new first.past second.past);
-  finds = subst (FileFinds id used (Ok nodes)) (sym there) covers;
+  finds = subst (FileFinds new new.last id used (Ok nodes)) (sym there) (inl whole);
 }
-read_by old mid new id used a b nodes first second sized there (inr short) = record {
+read_by old mid new id used a b nodes first second sized there (inr cut) = record {
   at = mid.last;
   file = record { from = first.past.later; to = second.past.later };
-  finds = subst (FileFinds id used (Ok nodes)) (sym (ap (λ (f : Files). f (data_name id)) (second.past.stay mid.last (omega arith)).shown ∙ sized)) (inr short);
+  finds =
+      subst (FileFinds new mid.last id used (Ok nodes)) (sym (ap (λ (f : Files). f (data_name id)) (second.past.stay mid.last (omega arith)).shown ∙ sized))
+      (inr (record {
+        short = cut.short;
+        many = cut.many;
+        at = new.last;
+        since = second.past.later;
+        upto = omega arith;
+        later = b;
+        there = there;
+        front = cut.front;
+      }));
 }
 
 -- what is cut off a vector whose front was read
@@ -138,10 +160,10 @@ file_rest old mid new id name used size want result first second named sized is 
 
 -- ---- what the bytes lead to
 
-covers_same : (d : Contents) (nodes bytes : List ℕ) → Covers d.used nodes bytes → data_reading d nodes ≡ data_reading d bytes
-covers_same d nodes bytes (inl is) = ap (data_reading d) is ∙ front_same d bytes
-covers_same d nodes bytes (inr (len, short)) =
-    short_of d nodes (omega (arith, len, short)) ∙ ap (λ (n : ℕ). Err (a_node.DataShort n d.used)) len ∙ sym (short_of d bytes short)
+covers_same : (h : History) (at : ℕ) (d : Contents) (nodes bytes : List ℕ) → Covers h at d.id d.used nodes bytes → data_reading d nodes ≡ data_reading d bytes
+covers_same h at d nodes bytes (inl is) = ap (data_reading d) is ∙ front_same d bytes
+covers_same h at d nodes bytes (inr is) =
+    short_of d nodes (omega (arith, is.many, is.short)) ∙ ap (λ (n : ℕ). Err (a_node.DataShort n d.used)) is.many ∙ sym (short_of d bytes is.short)
 
 -- ---- the data file that a docket names
 
@@ -151,24 +173,31 @@ unused h d none = record {
   at = h.last;
   file = record { from = omega arith; to = omega arith };
   finds = subst (λ (b : Bool). DataFinds d (Ok []) (cond b (Some []) (files_at h h.last (data_name d.id)))) (sym none) refl;
+  nodes = subst (λ (b : Bool). ReadsUsed h h.last d [] (cond b (Some []) (files_at h h.last (data_name d.id)))) (sym none) (inl (sym (take_all d.used [] (omega arith))));
 }
 
-data_by : (d : Contents) (result : Result (List ℕ) LoadFault) (file : Option (List ℕ)) → FileFinds d.id d.used result file → DataFinds d result file
-data_by d (Ok nodes) None finds = absurd finds
-data_by d (Ok nodes) (Some bytes) finds = covers_same d nodes bytes finds
-data_by d (Err fault) file finds = finds
+data_by : (h : History) (at : ℕ) (d : Contents) (result : Result (List ℕ) LoadFault) (file : Option (List ℕ)) → FileFinds h at d.id d.used result file → DataFinds d result file
+data_by h at d (Ok nodes) None finds = absurd finds
+data_by h at d (Ok nodes) (Some bytes) finds = covers_same h at d nodes bytes finds
+data_by h at d (Err fault) file finds = finds
+
+nodes_by : (h : History) (at : ℕ) (d : Contents) (result : Result (List ℕ) LoadFault) (file : Option (List ℕ)) → FileFinds h at d.id d.used result file → IfOk result (λ nodes. ReadsUsed h at d nodes file)
+nodes_by h at d (Ok nodes) None finds = absurd finds
+nodes_by h at d (Ok nodes) (Some bytes) finds = finds
+nodes_by h at d (Err fault) file finds = tt
 
 -- where some are
 pub used : (old new : History) (d : Contents) (id : List ℕ) (result : Result (List ℕ) LoadFault) → (d.used == 0) ≡ false → id ≡ d.id → FileFindsDuring old new id d.used result → DataFindsDuring old new d result
-used old new d id result some same finds = record {
-  at = finds.at;
-  file = finds.file;
-  finds =
-      subst (DataFinds d result)
-      (sym (ap (λ (b : Bool). cond b (Some []) (files_at new finds.at (data_name d.id))) some))
-      (data_by d result (files_at new finds.at (data_name d.id))
-      (subst (λ (n : List ℕ). FileFinds n d.used result (files_at new finds.at (data_name n))) same finds.finds));
-}
+used old new d id result some same finds =
+    let there : data_in d (files_at new finds.at) ≡ files_at new finds.at (data_name d.id) = ap (λ (b : Bool). cond b (Some []) (files_at new finds.at (data_name d.id))) some in
+    let found : FileFinds new finds.at d.id d.used result (files_at new finds.at (data_name d.id)) =
+    subst (λ (n : List ℕ). FileFinds new finds.at n d.used result (files_at new finds.at (data_name n))) same finds.finds in
+    record {
+      at = finds.at;
+      file = finds.file;
+      finds = subst (DataFinds d result) (sym there) (data_by new finds.at d result (files_at new finds.at (data_name d.id)) found);
+      nodes = subst (λ (file : Option (List ℕ)). IfOk result (λ nodes. ReadsUsed new finds.at d nodes file)) (sym there) (nodes_by new finds.at d result (files_at new finds.at (data_name d.id)) found);
+    }
 
 -- ---- by the docket's bytes
 
@@ -190,6 +219,7 @@ named_fault h bytes fault is = record {
   at = h.last;
   file = record { from = omega arith; to = omega arith };
   answer = named_refused bytes (files_at h h.last) fault is;
+  nodes = tt;
 }
 
 unread_by : (bytes : List ℕ) (d : Contents) (fault : LoadFault) (file : Option (List ℕ)) → IsUnread d.id fault file → Answers (Err fault) bytes (d.id ∷ []) (option_map (λ nodes. of_data (data_reading d nodes)) file)
@@ -211,11 +241,12 @@ named_unread old new bytes d fault sound is finds = record {
   at = finds.at;
   file = finds.file;
   answer = named_by bytes (files_at new finds.at) d fault sound is (unread_by bytes d fault (data_in d (files_at new finds.at)) finds.finds);
+  nodes = tt;
 }
 
 -- there was no memory for what was read
 pub named_memory : (old new : History) (bytes : List ℕ) → Extends old new → NamedFinds old new bytes (Err a_fault.OutOfMemory)
-named_memory old new bytes past = record { at = new.last; file = during_last old new past; answer = tt }
+named_memory old new bytes past = record { at = new.last; file = during_last old new past; answer = tt; nodes = tt }
 
 read_of : (d : Contents) (nodes : List ℕ) (file : Option (List ℕ)) → DataFinds d (Ok nodes) file → option_map (λ nodes. of_data (data_reading d nodes)) file ≡ Some (of_data (data_reading d nodes))
 read_of d nodes None finds = absurd finds
@@ -237,16 +268,19 @@ named_read old new bytes nodes d loaded sound is finds docket kept = record {
         named_sound bytes (files_at new finds.at) d sound is ∙ read_of d nodes (data_in d (files_at new finds.at)) finds.finds
         ∙ ap (λ (r : Result Table RecordFault). Some r) (sound_read bytes nodes d sound is ∙ (λ i. reading_of (sym docket i) (sym kept i)));
   };
+  nodes = subst (ReadsAsOf new finds.at (docket_of bytes)) (sym kept) (subst (λ (c : Contents). ReadsAsOf new finds.at c nodes) is finds.nodes);
 }
 
 -- ---- the whole load
 
 -- a load by one try
-one_try : (old new : History) (tried : Try) (result : Result Loaded LoadFault) → IsTry old new tried → Answers result (docket_in (files_at new tried.docket)) (id_by new tried ∷ []) (found_by new tried) → Loads old new (tried ∷ []) result
-one_try old new tried result within answer =
+one_try : (old new : History) (tried : Try) (result : Result Loaded LoadFault) → IsTry old new tried → Answers result (docket_in (files_at new tried.docket)) (id_by new tried ∷ []) (found_by new tried)
+    → IfOk result (λ loaded. ReadsAsOf new tried.file (docket_of (docket_in (files_at new tried.docket))) loaded.nodes.items) → Loads old new (tried ∷ []) result
+one_try old new tried result within answer nodes =
     record {
       tried = record { earlier = []; last = tried; whole = refl; few = omega arith; within = (within, tt); order = tt; gone = tt };
       answer = answer;
+      nodes = nodes;
     }
 
 -- the docket was read, and then the rest
@@ -262,7 +296,8 @@ loaded old mid new bytes result first second is finds =
             file = record { from = omega (arith, first.past.later, finds.file.from); to = finds.file.to };
             order = finds.file.from;
           })
-          (subst (λ (l : List ℕ). Answers result l ((docket_of l).id ∷ []) (named_reading l (files_at new finds.at))) same finds.answer),
+          (subst (λ (l : List ℕ). Answers result l ((docket_of l).id ∷ []) (named_reading l (files_at new finds.at))) same finds.answer)
+          (subst (λ (l : List ℕ). IfOk result (λ loaded. ReadsAsOf new finds.at (docket_of l) loaded.nodes.items)) same finds.nodes),
     )
 
 -- the docket could not be read
@@ -272,7 +307,8 @@ unloaded old new fault passes failed =
       tried,
       one_try old new tried (Err fault)
           (record { docket = during_last old new passes.past; file = during_last old new passes.past; order = omega arith })
-          (subst (λ (f : LoadFault). Answers (Err f) (docket_in (files_at new new.last)) (id_by new tried ∷ []) (found_by new tried)) (sym failed) tt),
+          (subst (λ (f : LoadFault). Answers (Err f) (docket_in (files_at new new.last)) (id_by new tried ∷ []) (found_by new tried)) (sym failed) tt)
+          tt,
     )
 
 -- ---- where the shelf made no step

@@ -120,6 +120,9 @@ read_id id bytes is = by (is_name bytes) is where
   by true is = cc is
   by false is = absurd (cc is)
 
+pub some_id : (bytes : List ℕ) (t : Bool) → t ≡ (length bytes == 0) → t ≡ false → bytes ≡ [] → ⊥
+some_id bytes t is test none = cc (sym test ∙ is ∙ ap (λ (l : List ℕ). length l == 0) none)
+
 pub empty_id : (bytes : List ℕ) (t : Bool) → t ≡ (length bytes == 0) → t ≡ true → bytes ≡ []
 empty_id [] t is test = refl
 empty_id (b ∷ bytes) t is test = absurd (cc (sym test ∙ is ∙ not_zero (length (b ∷ bytes)) (omega arith)))

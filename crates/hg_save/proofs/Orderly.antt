@@ -1,20 +1,21 @@
 -- Each step of a publication keeps to what is asked of others.
-use Rattle.std.proofs.Common.{◌≡◌, ℕ, ◌+◌, ◌≤◌, List, take, codes, IsSome, is_some, Option, Some, refl, sym, ap, ◌∙◌, subst, arith, inl, inr, ◌⊎◌}
+use Rattle.std.proofs.Common.{◌≡◌, ℕ, ◌+◌, ◌≤◌, List, length, codes, IsSome, is_some, Some, refl, sym, ap, ◌∙◌, subst, arith, inl, inr, ◌⊎◌}
 use Rattle.hg_append.specs.declared.encoding.Encoded.{Encoded}
 use Rattle.hg_docket.specs.Docket.{docket_of}
 use Rattle.hg_shelf.specs.History.{Files, us}
 use Rattle.hg_shelf.specs.Images.{Course, Goes, Remains, Scene, last_scene, scene}
 use Rattle.hg_shelf.specs.Polite.{Undisturbed}
-use Rattle.hg_shelf.specs.Rules.{Perhaps, content, moved, without}
+use Rattle.hg_shelf.specs.Rules.{Perhaps, moved, without}
 use Rattle.hg_shelf.proofs.Scenes.{goes_same, goes_trans, first_part, second_part}
-use Rattle.hg_save.specs.Leads.{ButFor, FirstBy, IsDone, Leads, OnceBy, OwnSteps, StepBy}
+use Rattle.hg_save.specs.Leads.{ButFor, Clears, FirstBy, IsDone, Leads, OnceBy, OwnSteps, StepBy}
 use Rattle.hg_save.specs.Others.{IsOrderly, IsPublication, KeepsRecords, RecordsAs}
 use Rattle.hg_save.specs.Record.{IsSound, data_name, docket_in, id_in, reading}
-use Rattle.hg_save.specs.Saved.{IsFree, IsLatest, IsOver, Stands, name_after, new_docket, published}
-use Rattle.hg_save.proofs.Names.{docket_not_data, docket_not_new, never_itself, next_free, next_other}
+use Rattle.hg_save.specs.Saved.{IsFree, IsLatest, IsOver, Stands, name_after, new_docket, published, used_in}
+use Rattle.hg_save.proofs.Names.{never_itself, next_free, next_other}
+use Rattle.hg_save.proofs.Kept.{leads_gone, perhaps_gone, steps_weaker}
 use Rattle.hg_save.proofs.Own.{steps_on}
 use Rattle.hg_save.proofs.Published.{latest_still}
-use Rattle.hg_save.proofs.Readings.{Holds, IsReady, Spares, id_published, moved_ready, reads_published, same_id, same_reading, spared, spared_id, without_old}
+use Rattle.hg_save.proofs.Readings.{Holds, IsReady, Spares, id_published, moved_ready, reads_published, same_docket, same_id, same_reading, spared, spared_docket, spared_id, used_published, without_old}
 use Rattle.hg_save.proofs.Stages.{Each, Puts, Spared, cleared_each, done_left, not_after_new, ready_left, ready_shown, shown_two, spared_one, spared_two}
 
 -- ---- one step
@@ -42,12 +43,6 @@ orderly_along x y u v there back behind step =
 
 -- ---- a write beside the docket
 
-same_docket : (old new : Files) → new (codes "dirstate") ≡ old (codes "dirstate") → docket_in new ≡ docket_in old
-same_docket old new same = ap (λ (file : Option (List ℕ)). take 512 (content file)) same
-
-spared_docket : (id : List ℕ) (old new : Files) → Spares id old new → docket_in new ≡ docket_in old
-spared_docket id old new same = same_docket old new (same (codes "dirstate") (docket_not_data id) docket_not_new)
-
 spared_orderly : (id : List ℕ) (x y : Scene) → IsFree id x → StepBy (Spares id) x y → IsOrderly x y
 spared_orderly id x y free step =
     kept_orderly x y (spared_docket id x.files y.files step.shown) (λ c is.
@@ -64,6 +59,7 @@ module _ (loaded : List ℕ) (new : Encoded) (over : IsOver loaded new) where
     pub beside : (f : Files) → s.leaves f → f new_docket ≡ s.files new_docket
     pub stands : id_in s.files ≡ (docket_of loaded).id
     pub none : (f : Files) → s.leaves f → (n : ℕ) → name_after n new.id ≡ Some (id_in f) → ⊥
+    pub free : IsFree new.id s
 
   module _ (s x y : Scene) (set : IsSet s) (step : FirstBy s (moved new_docket (codes "dirstate")) x y) where
     holds : Holds new y.files
@@ -95,6 +91,10 @@ module _ (loaded : List ℕ) (new : Encoded) (over : IsOver loaded new) where
     named_by d f is (inr moves) n after =
         never_itself n new.id (after ∙ ap (λ (id : List ℕ). Some id) (id_published loaded new f over (moved_ready new d f (set.ready d (step.since.left d is)) moves)))
 
+    used_by : (d f : Files) → x.leaves d → Perhaps (moved new_docket (codes "dirstate")) d f → id_in f ≡ new.id → used_in f ≡ length new.bytes.items
+    used_by d f is (inl same) named = absurd (set.free.free d (step.since.left d is) (sym (same_id d f (same (codes "dirstate"))) ∙ named))
+    used_by d f is (inr moves) named = used_published loaded new f over (moved_ready new d f (set.ready d (step.since.left d is)) moves)
+
     moved_orderly : IsSound (published new) → IsOrderly x y
     moved_orderly sound = record {
       left = λ f is. let was = step.left f is in left_by was.0 f was.1 was.2;
@@ -103,6 +103,11 @@ module _ (loaded : List ℕ) (new : Encoded) (over : IsOver loaded new) where
         latest = λ f is n after.
             let was = step.left f is in
             named_by was.0 f was.1 was.2 n (ap (name_after n) (sym (id_published loaded new y.files over holds)) ∙ after);
+        used = λ f is named.
+            let was = step.left f is in
+            let left : used_in f ≡ length new.bytes.items = used_by was.0 f was.1 was.2 (named ∙ id_published loaded new y.files over holds) in
+            let there : used_in y.files ≡ length new.bytes.items = used_published loaded new y.files over holds in
+            omega (arith, left, there);
       };
     }
 
@@ -167,6 +172,7 @@ module _ (loaded : List ℕ) (new : Encoded) (over : IsOver loaded new) where
           none = λ f is n after.
               let was = each c.history.last f later (omega arith) is in
               not_after_new loaded new over a stands latest was.0 was.1 n (after ∙ ap (λ (id : List ℕ). Some id) (spared_id new.id was.0 f was.2));
+          free = free_at c each c.history.last later (omega arith);
         }
 
   swapped_steps : (c d : Course) → IsSet (last_scene c) → IsSound (published new) → OwnSteps (OnceBy (last_scene c) (moved new_docket (codes "dirstate"))) c d → OwnSteps IsOrderly c d
@@ -231,7 +237,7 @@ module _ (loaded : List ℕ) (new : Encoded) (over : IsOver loaded new) (a b : C
 
       -- the docket has its place, and the old data file goes
       module _ (done : Undisturbed c d → IsSome ((last_scene c).files new_docket) → IsDone (moved new_docket (codes "dirstate")) c d) (z : Course) (fourth : Goes d z)
-          (leads : Undisturbed d z → Leads (Perhaps (without (data_name (docket_of loaded).id))) d z) (four : Undisturbed d z → OwnSteps (StepBy (Perhaps (without (data_name (docket_of loaded).id)))) d z) where
+          (leads : Undisturbed d z → Leads (Clears (docket_of loaded).id) d z) (four : Undisturbed d z → OwnSteps (StepBy (Clears (docket_of loaded).id)) d z) where
         calm_front : Undisturbed a z → Undisturbed a d
         calm_front calm = first_part a d z fourth calm
 
@@ -244,4 +250,5 @@ module _ (loaded : List ℕ) (new : Encoded) (over : IsOver loaded new) (a b : C
         pub orderly_four : Undisturbed a z → Stands loaded (last_scene a) → IsLatest (last_scene a) → IsSound (published new) → KeepsRecords us z a.history.last
         orderly_four calm stands latest sound =
             keeps a z (steps_on IsOrderly a d z orderly_along (steps_three (calm_front calm) stands latest sound) fourth
-            (cleared_steps loaded new over d z (cleared_each loaded new over a d z (held (calm_front calm)) (leads (calm_four calm))) (four (calm_four calm))))
+            (cleared_steps loaded new over d z (cleared_each loaded new over a d z (held (calm_front calm)) (leads_gone (docket_of loaded).id d z (leads (calm_four calm))))
+            (steps_weaker (Clears (docket_of loaded).id) (Perhaps (without (data_name (docket_of loaded).id))) (perhaps_gone (docket_of loaded).id) d z (four (calm_four calm)))))

@@ -1,5 +1,5 @@
 -- What a load found where others keep the data that dockets name.
-use Rattle.std.proofs.Common.{ℕ, ◌≡◌, ◌<◌, ◌==◌, cond, List, [], Option, Some, None, option_map, Result, Ok, Err, refl, sym, ap, ◌∙◌, inl, inr, ◌⊎◌, arith}
+use Rattle.std.proofs.Common.{ℕ, ◌≡◌, ◌<◌, ◌==◌, cond, List, [], Option, Some, None, option_map, Result, Ok, Err, refl, sym, ap, ◌∙◌, subst, inl, inr, ◌⊎◌, arith}
 use Rattle.std.proofs.lemmas.Bool.{cases_eq}
 use Rattle.hg_docket.specs.Docket.{Contents, docket_of, docket_refusal}
 use Rattle.hg_docket.specs.declared.fault.DocketFault.{DocketFault}
@@ -11,8 +11,8 @@ use Rattle.hg_image.specs.declared.fault.NodeFault.{NodeFault}
 use Rattle.hg_shelf.specs.History.{Files, History}
 use Rattle.hg_save.proofs.Loads.{last_within, named_refused, named_sound}
 use Rattle.hg_save.proofs.Tails.{front_same}
-use Rattle.hg_save.specs.Loads.{Loads, Try, files_at, found_by}
-use Rattle.hg_save.specs.Others.{KeepData, KeepsFront, UsesData, WasRecorded, named_file}
+use Rattle.hg_save.specs.Loads.{Loads, ReadsUsed, Try, files_at, found_by}
+use Rattle.hg_save.specs.Others.{HasFront, IsFrontOf, KeepData, KeepsFront, UsesData, WasLoaded, WasRecorded, named_file}
 use Rattle.hg_save.specs.Record.{data_in, data_name, docket_in, named_reading}
 use Rattle.hg_save.specs.declared.load_fault.LoadFault.{LoadFault}
 use Rattle.hg_save.specs.declared.load_fault.LoadFault.TheVariants as a_fault
@@ -72,6 +72,46 @@ was_recorded old new tries result recorded keep load is =
 -- a load found the record of one moment
 pub one_record : (old new : History) (tries : List Try) (loaded : Loaded) → KeepData new old.last → Loads old new tries (Ok loaded) → WasRecorded old new (reading_of loaded.docket.items loaded.nodes.items)
 one_record old new tries loaded keep load = was_recorded old new tries (Ok loaded) (reading_of loaded.docket.items loaded.nodes.items) keep load load.answer.reading
+
+-- ---- the bytes
+
+-- where a file keeps the bytes that are used, those that were read stood at its front before
+exact_kept : (h : History) (at : ℕ) (d : Contents) (nodes : List ℕ) (old now : Option (List ℕ)) → HasFront d.used old → KeepsFront d.used old now → ReadsUsed h at d nodes now → IsFrontOf old d.used nodes
+exact_kept h at d nodes old None has keeps reads = absurd reads
+exact_kept h at d nodes None (Some now) has keeps reads = absurd has
+exact_kept h at d nodes (Some old) (Some now) has keeps (inl is) = is ∙ keeps.2
+exact_kept h at d nodes (Some old) (Some now) has keeps (inr cut) = absurd (omega (arith, cut.short, keeps.1))
+
+exact_none : (h : History) (at : ℕ) (d : Contents) (nodes : List ℕ) → d.used ≡ 0 → ReadsUsed h at d nodes (Some []) → IsFrontOf (Some []) d.used nodes
+exact_none h at d nodes none (inl is) = is
+exact_none h at d nodes none (inr cut) = absurd (omega (arith, cut.short, none))
+
+exact_by : (h : History) (at : ℕ) (d : Contents) (nodes : List ℕ) (early late : Files) → (0 < d.used → HasFront d.used (early (data_name d.id))) → (0 < d.used → KeepsFront d.used (early (data_name d.id)) (late (data_name d.id)))
+    → (d.used ≡ 0) ⊎ (d.used ≡ 0 → ⊥) → ReadsUsed h at d nodes (data_in d late) → IsFrontOf (data_in d early) d.used nodes
+exact_by h at d nodes early late has keeps (inl none) reads =
+    subst (λ (file : Option (List ℕ)). IsFrontOf file d.used nodes) (sym (unused_in d early none)) (exact_none h at d nodes none (subst (ReadsUsed h at d nodes) (unused_in d late none) reads))
+exact_by h at d nodes early late has keeps (inr some) reads =
+    let uses : 0 < d.used = omega (arith, some) in
+    subst (λ (file : Option (List ℕ)). IsFrontOf file d.used nodes) (sym (used_in d early uses))
+    (exact_kept h at d nodes (early (data_name d.id)) (late (data_name d.id)) (has uses) (keeps uses) (subst (ReadsUsed h at d nodes) (used_in d late uses) reads))
+
+-- a load found the bytes of one moment
+pub one_load : (old new : History) (tries : List Try) (loaded : Loaded) → KeepData new old.last → Loads old new tries (Ok loaded) → docket_refusal loaded.docket.items ≡ None → WasLoaded old new loaded
+one_load old new tries loaded keep load sound =
+    let tried : Try = load.tried.last in
+    let within = last_within old new tries load.tried in
+    let bytes : List ℕ = docket_in (files_at new tried.docket) in
+    let whole : docket_refusal bytes ≡ None = ap docket_refusal (sym load.answer.docket) ∙ sound in
+    record {
+      at = tried.docket;
+      during = within.docket;
+      docket = sym load.answer.docket;
+      nodes =
+          subst (λ (l : List ℕ). IsFrontOf (data_in (docket_of l) (files_at new tried.docket)) (docket_of l).used loaded.nodes.items) (sym load.answer.docket)
+          (exact_by new tried.file (docket_of bytes) loaded.nodes.items (files_at new tried.docket) (files_at new tried.file)
+          (λ uses. keep.there tried.docket within.docket.from within.docket.to (record { sound = whole; uses = uses }))
+          (λ uses. keep.kept tried.docket tried.file within.docket.from within.order within.file.to (record { sound = whole; uses = uses })) (cases_eq (docket_of bytes).used 0) load.nodes);
+    }
 
 -- ---- a docket's fault
 

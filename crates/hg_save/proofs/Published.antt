@@ -12,7 +12,7 @@ use Rattle.hg_shelf.specs.Polite.{OthersOnlyRead}
 use Rattle.hg_docket.specs.Docket.{docket_of}
 use Rattle.hg_save.specs.Others.{IsOrderly, IsPublication, KeepsRecords, RecordsAs, WasPublished}
 use Rattle.hg_save.specs.Record.{IsSound, docket_in, id_in, reading}
-use Rattle.hg_save.specs.Saved.{IsLatest, name_after}
+use Rattle.hg_save.specs.Saved.{IsLatest, name_after, used_in}
 
 -- what was published by a moment was by a later one
 pub published_later : (c : Course) (start early late : ℕ) (r : Option (Result Table RecordFault)) → early ≤ late → WasPublished c start early r → WasPublished c start late r
@@ -44,6 +44,7 @@ keeps_later by c from start order keep = record { each = λ k after before who. 
 pub latest_still : (a b : Scene) → Remains a b → IsLatest a → IsLatest b
 latest_still a b still is = record {
   latest = λ c left n named. is.latest c (still.left c left) n (ap (λ (f : Files). name_after n (id_in f)) (sym still.shown) ∙ named);
+  used = λ c left named. subst (λ (f : Files). used_in c ≤ used_in f) (sym still.shown) (is.used c (still.left c left) (named ∙ ap id_in still.shown));
 }
 
 -- a step between scenes that are the same keeps to the same
@@ -106,6 +107,15 @@ latest_orderly a b step is = elim (fresh_or_same a b) [
           is.latest was.0 was.1 n
           (ap (λ (d : List ℕ). name_after n (docket_of d).id) (sym same) ∙ named ∙ ap (λ (d : List ℕ). Some (docket_of d).id) was.2.docket)
       | inr new ↦ new.0 same
+    ];
+    used = λ c left named. elim (step.left c left) [
+      | inl was ↦
+          let first : id_in was.0 ≡ id_in a.files = sym (ap (λ (d : List ℕ). (docket_of d).id) was.2.docket) ∙ named ∙ ap (λ (d : List ℕ). (docket_of d).id) same in
+          let most : used_in was.0 ≤ used_in a.files = is.used was.0 was.1 first in
+          let left_used : used_in c ≡ used_in was.0 = ap (λ (d : List ℕ). (docket_of d).used) was.2.docket in
+          let there : used_in b.files ≡ used_in a.files = ap (λ (d : List ℕ). (docket_of d).used) same in
+          omega (arith, most, left_used, there)
+      | inr new ↦ absurd (new.0 same)
     ];
   }
 ]

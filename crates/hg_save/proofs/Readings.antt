@@ -9,7 +9,7 @@ use Rattle.hg_image.specs.Reading.{data_reading, docket_reading, of_data, readin
 use Rattle.hg_shelf.specs.History.{Files}
 use Rattle.hg_shelf.specs.Rules.{Perhaps, Surely, content, moved, without}
 use Rattle.hg_save.specs.Record.{data_in, data_name, docket_in, id_in, named_reading, needed_in, reading}
-use Rattle.hg_save.specs.Saved.{IsOver, new_docket, published}
+use Rattle.hg_save.specs.Saved.{IsOver, new_docket, published, used_in}
 use Rattle.hg_save.proofs.Names.{data_not_new, docket_not_data, docket_not_new, next_len, next_other, one_data, others_apart}
 use Rattle.hg_save.proofs.Tails.{Followed, followed, front_same}
 
@@ -101,6 +101,21 @@ id_published loaded new f over holds =
     let shown : docket_in f ≡ docket ++ tail = ap (λ (file : Option (List ℕ)). take 512 (content file)) holds.docket.1 ∙ cut_docket docket holds.docket.0 over.few in
     let some : 0 < length docket = some_docket docket new.id over.named (next_len (docket_of loaded).id new.id over.next) in
     ap (λ (bytes : List ℕ). (docket_of bytes).id) shown ∙ ap (λ (c : Contents). c.id) (followed docket tail over.whole some).same ∙ over.named
+
+-- the used bytes that it names
+pub used_published : (loaded : List ℕ) (new : Encoded) (f : Files) → IsOver loaded new → Holds new f → used_in f ≡ length new.bytes.items
+used_published loaded new f over holds =
+    let docket : List ℕ = new.docket.items in
+    let tail : List ℕ = take (512 - length docket) holds.docket.0 in
+    let shown : docket_in f ≡ docket ++ tail = ap (λ (file : Option (List ℕ)). take 512 (content file)) holds.docket.1 ∙ cut_docket docket holds.docket.0 over.few in
+    let some : 0 < length docket = some_docket docket new.id over.named (next_len (docket_of loaded).id new.id over.next) in
+    ap (λ (bytes : List ℕ). (docket_of bytes).used) shown ∙ ap (λ (c : Contents). c.used) (followed docket tail over.whole some).same ∙ over.used
+
+pub same_docket : (old new : Files) → new (codes "dirstate") ≡ old (codes "dirstate") → docket_in new ≡ docket_in old
+same_docket old new same = ap (λ (file : Option (List ℕ)). take 512 (content file)) same
+
+pub spared_docket : (id : List ℕ) (old new : Files) → Spares id old new → docket_in new ≡ docket_in old
+spared_docket id old new same = same_docket old new (same (codes "dirstate") (docket_not_data id) docket_not_new)
 
 pub spared_id : (id : List ℕ) (old new : Files) → Spares id old new → id_in new ≡ id_in old
 spared_id id old new same = ap (λ (file : Option (List ℕ)). (docket_of (take 512 (content file))).id) (same (codes "dirstate") (docket_not_data id) docket_not_new)

@@ -1,19 +1,17 @@
 -- What a publication has led to after each of its parts.
-use Rattle.std.proofs.Common.{◌≡◌, ℕ, suc, ◌+◌, ◌-◌, ◌≤◌, Bool, cond, List, ◌++◌, length, take, drop, replicate, codes, refl, sym, ap, ◌∙◌, subst, arith, Option, Some, None, Result, Ok, Err, inl, inr, ◌⊎◌}
+use Rattle.std.proofs.Common.{◌≡◌, ℕ, suc, ◌+◌, ◌-◌, ◌≤◌, List, ◌++◌, length, take, drop, replicate, codes, refl, sym, ap, ◌∙◌, subst, arith, Option, Some, Result, Ok, Err, inl, inr, ◌⊎◌}
 use Rattle.std.specs.Result.{OnErr, OnOk}
-use Rattle.std.specs.Str.{bytes_eq}
 use Rattle.std.proofs.lemmas.Bool.{cases_lt}
 use Rattle.hg_append.specs.declared.encoding.Encoded.{Encoded}
 use Rattle.hg_docket.specs.Docket.{docket_of}
 use Rattle.hg_shelf.specs.History.{Files}
 use Rattle.hg_shelf.specs.Images.{Course, Goes, last_scene, scene}
 use Rattle.hg_shelf.specs.Rules.{Perhaps, content, moved, overwritten, without}
-use Rattle.hg_shelf.specs.Torn.{same_name}
 use Rattle.hg_save.specs.Leads.{ButFor, IsDone, IsSure, IsWhole, Leads}
-use Rattle.hg_save.specs.Record.{data_name, id_in, reading}
-use Rattle.hg_save.specs.Saved.{IsFree, IsLatest, IsOver, KeepsOthers, LeavesOnly, ReadsAsBeforeOr, Records, ShowsOnly, Stands, name_after, new_docket, published}
-use Rattle.hg_save.proofs.Names.{data_not_new, docket_not_data, later_still, never_itself, one_data, others_apart}
-use Rattle.hg_save.proofs.Readings.{Begins, Holds, IsReady, Spares, id_published, moved_ready, reads_published, same_id, same_reading, spared, spared_id, without_old}
+use Rattle.hg_save.specs.Record.{data_name, docket_in, id_in, reading}
+use Rattle.hg_save.specs.Saved.{IsFree, IsLatest, IsOver, LeavesOnly, ReadsAsBeforeOr, Records, ShowsOnly, Stands, name_after, new_docket, published, used_in}
+use Rattle.hg_save.proofs.Names.{data_not_new, later_still, never_itself}
+use Rattle.hg_save.proofs.Readings.{Begins, Holds, IsReady, Spares, id_published, moved_ready, reads_published, same_id, same_reading, spared, spared_docket, spared_id, used_published, without_old}
 
 -- ---- moments of a call
 
@@ -21,7 +19,7 @@ use Rattle.hg_save.proofs.Readings.{Begins, Holds, IsReady, Spares, id_published
 abbrev pub Each : Course → Course → (Files → Type 0) → Type 0
 Each old new P = (k : ℕ) (f : Files) → old.history.last ≤ k → k ≤ new.history.last → (scene new k).leaves f → P f
 
-each_on : (a b c : Course) (P : Files → Type 0) → Each a b P → Goes b c → Each b c P → Each a c P
+pub each_on : (a b c : Course) (P : Files → Type 0) → Each a b P → Goes b c → Each b c P → Each a c P
 each_on a b c P first goes second = λ k f after before is. elim (cases_lt b.history.last k) [
   | inl late ↦ second k f (omega (arith, late)) before is
   | inr early ↦ first k f after early ((goes.kept k early).left f is)
@@ -31,7 +29,7 @@ each_on a b c P first goes second = λ k f after before is. elim (cases_lt b.his
 abbrev pub EachShown : Course → Course → (Files → Type 0) → Type 0
 EachShown old new P = (k : ℕ) → old.history.last ≤ k → k ≤ new.history.last → P (scene new k).files
 
-shown_on : (a b c : Course) (P : Files → Type 0) → EachShown a b P → Goes b c → EachShown b c P → EachShown a c P
+pub shown_on : (a b c : Course) (P : Files → Type 0) → EachShown a b P → Goes b c → EachShown b c P → EachShown a c P
 shown_on a b c P first goes second = λ k after before. elim (cases_lt b.history.last k) [
   | inl late ↦ second k (omega (arith, late)) before
   | inr early ↦ subst P (sym (goes.kept k early).shown) (first k after early)
@@ -61,7 +59,7 @@ front_is old bytes =
     let all : 0 + length bytes ≡ length bytes = omega arith in
     ap (λ (n : ℕ). take 0 old ++ replicate n 0 ++ bytes ++ drop (0 + length bytes) old) none ∙ ap (λ (n : ℕ). bytes ++ drop n old) all
 
-begins_by : (old bytes : List ℕ) (place : ℕ) (file : Option (List ℕ)) → place ≡ 0 → file ≡ Some (overwritten old place bytes) → Begins bytes file
+pub begins_by : (old bytes : List ℕ) (place : ℕ) (file : Option (List ℕ)) → place ≡ 0 → file ≡ Some (overwritten old place bytes) → Begins bytes file
 begins_by old bytes place file front is = (drop (length bytes) old, is ∙ ap (λ (n : ℕ). Some (overwritten old n bytes)) front ∙ ap (λ (l : List ℕ). Some l) (front_is old bytes))
 
 -- ---- the parts
@@ -182,30 +180,51 @@ module _ (loaded : List ℕ) (new : Encoded) (over : IsOver loaded new) (a : Cou
   pub not_after_new : (d : Files) → (last_scene a).leaves d → (n : ℕ) → name_after n new.id ≡ Some (id_in d) → ⊥
   not_after_new d is n after = not_after d is (suc n) (later_still n (docket_of loaded).id new.id (id_in d) over.next after)
 
-  pub latest_by : (x : Course) → id_in (last_scene x).files ≡ (docket_of loaded).id → ((f : Files) → (last_scene x).leaves f → (d : Files) × (last_scene a).leaves d × (id_in f ≡ id_in d)) → IsLatest (last_scene x)
-  latest_by x shown each = record {
-    latest = λ f is n after.
-        let was = each f is in
-        not_after was.0 was.1 n (ap (name_after n) (sym shown) ∙ after ∙ ap (λ (id : List ℕ). Some id) was.2);
-  }
+  pub latest_by : (x : Course) → docket_in (last_scene x).files ≡ loaded → ((f : Files) → (last_scene x).leaves f → (d : Files) × (last_scene a).leaves d × (docket_in f ≡ docket_in d)) → IsLatest (last_scene x)
+  latest_by x shown each =
+      let id : id_in (last_scene x).files ≡ (docket_of loaded).id = ap (λ (bytes : List ℕ). (docket_of bytes).id) shown in
+      record {
+        latest = λ f is n after.
+            let was = each f is in
+            not_after was.0 was.1 n (ap (name_after n) (sym id) ∙ after ∙ ap (λ (bytes : List ℕ). Some (docket_of bytes).id) was.2);
+        used = λ f is named.
+            let was = each f is in
+            let first : id_in was.0 ≡ id_in (last_scene a).files = sym (ap (λ (bytes : List ℕ). (docket_of bytes).id) was.2) ∙ named ∙ id ∙ sym (ap (λ (bytes : List ℕ). (docket_of bytes).id) stands) in
+            let most : used_in was.0 ≤ used_in (last_scene a).files = latest.used was.0 was.1 first in
+            let left : used_in f ≡ used_in was.0 = ap (λ (bytes : List ℕ). (docket_of bytes).used) was.2 in
+            let there : used_in (last_scene x).files ≡ used_in (last_scene a).files = ap (λ (bytes : List ℕ). (docket_of bytes).used) (shown ∙ sym stands) in
+            omega (arith, most, left, there);
+      }
 
   pub latest_spared : (x : Course) → a.history.last ≤ x.history.last → EachShown a x (Spares new.id (last_scene a).files) → Each a x (λ f. (d : Files) × (last_scene a).leaves d × Spares new.id d f) → IsLatest (last_scene x)
   latest_spared x later shown each =
-      latest_by x (spared_id new.id (last_scene a).files (last_scene x).files (shown x.history.last later (omega arith)) ∙ ap (λ (bytes : List ℕ). (docket_of bytes).id) stands)
-      (λ f is. let was = each x.history.last f later (omega arith) is in (was.0, was.1, spared_id new.id was.0 f was.2))
+      latest_by x (spared_docket new.id (last_scene a).files (last_scene x).files (shown x.history.last later (omega arith)) ∙ stands)
+      (λ f is. let was = each x.history.last f later (omega arith) is in (was.0, was.1, spared_docket new.id was.0 f was.2))
 
   pub latest_swapped : (c d : Course) → Goes a c → Goes c d → EachShown a c (Spares new.id (last_scene a).files) → Each a c (λ f. (d : Files) × (last_scene a).leaves d × Spares new.id d f)
       → ((f : Files) → (last_scene c).leaves f → IsReady new f) → IsReady new (last_scene c).files → Leads (Perhaps (moved new_docket (codes "dirstate"))) c d → IsWhole (moved new_docket (codes "dirstate")) c d → IsLatest (last_scene d)
   latest_swapped c d start goes shown each ready ready_shown leads (inr still) =
       latest_by d
-      (ap id_in still.shown ∙ spared_id new.id (last_scene a).files (last_scene c).files (shown c.history.last start.past.later (omega arith)) ∙ ap (λ (bytes : List ℕ). (docket_of bytes).id) stands)
-      (λ f is. let was = each c.history.last f start.past.later (omega arith) (still.left f is) in (was.0, was.1, spared_id new.id was.0 f was.2))
+      (ap docket_in still.shown ∙ spared_docket new.id (last_scene a).files (last_scene c).files (shown c.history.last start.past.later (omega arith)) ∙ stands)
+      (λ f is. let was = each c.history.last f start.past.later (omega arith) (still.left f is) in (was.0, was.1, spared_docket new.id was.0 f was.2))
   latest_swapped c d start goes shown each ready ready_shown leads (inl moves) = record {
     latest = λ f is n after.
         let was = leads.left d.history.last f goes.past.later (omega arith) is in
         let now_new : id_in (last_scene d).files ≡ new.id = id_published loaded new (last_scene d).files over (moved_ready new (last_scene c).files (last_scene d).files ready_shown moves) in
         by was.0 f was.1 was.2 n (ap (name_after n) (sym now_new) ∙ after);
+    used = λ f is named.
+        let was = leads.left d.history.last f goes.past.later (omega arith) is in
+        let holds : Holds new (last_scene d).files = moved_ready new (last_scene c).files (last_scene d).files ready_shown moves in
+        let there : used_in (last_scene d).files ≡ length new.bytes.items = used_published loaded new (last_scene d).files over holds in
+        let left : used_in f ≡ length new.bytes.items = used_by was.0 f was.1 was.2 (named ∙ id_published loaded new (last_scene d).files over holds) in
+        omega (arith, there, left);
   } where
+    used_by : (e f : Files) → (last_scene c).leaves e → Perhaps (moved new_docket (codes "dirstate")) e f → id_in f ≡ new.id → used_in f ≡ length new.bytes.items
+    used_by e f is (inl same) named =
+        let was = each c.history.last e start.past.later (omega arith) is in
+        absurd (not_after was.0 was.1 0 (over.next ∙ ap (λ (id : List ℕ). Some id) (sym named ∙ same_id e f (same (codes "dirstate")) ∙ spared_id new.id was.0 e was.2)))
+    used_by e f is (inr done) named = used_published loaded new f over (moved_ready new e f (ready e is) done)
+
     by : (e f : Files) → (last_scene c).leaves e → Perhaps (moved new_docket (codes "dirstate")) e f → (n : ℕ) → name_after n new.id ≡ Some (id_in f) → ⊥
     by e f is (inl same) n after =
         let was = each c.history.last e start.past.later (omega arith) is in
@@ -218,65 +237,11 @@ module _ (loaded : List ℕ) (new : Encoded) (over : IsOver loaded new) (a : Cou
         let now_new : id_in (last_scene z).files ≡ new.id = id_published loaded new (last_scene z).files over (cleared_shown loaded new over a d z shown leads z.history.last goes.past.later (omega arith)) in
         let left_new : id_in f ≡ new.id = id_published loaded new f over (cleared_each loaded new over a d z holds leads z.history.last f goes.past.later (omega arith) is) in
         never_itself n new.id (ap (name_after n) (sym now_new) ∙ after ∙ ap (λ (id : List ℕ). Some id) left_new);
+    used = λ f is named.
+        let there : used_in (last_scene z).files ≡ length new.bytes.items = used_published loaded new (last_scene z).files over (cleared_shown loaded new over a d z shown leads z.history.last goes.past.later (omega arith)) in
+        let left : used_in f ≡ length new.bytes.items = used_published loaded new f over (cleared_each loaded new over a d z holds leads z.history.last f goes.past.later (omega arith) is) in
+        omega (arith, there, left);
   }
-
--- ---- no other file
-
-module _ (loaded id : List ℕ) (apart : loaded ≡ id → ⊥) where
-  keeps_data : (x y z : Option (List ℕ)) → (y ≡ x) ⊎ (y ≡ None) → (z ≡ y) ⊎ (z ≡ None) → (z ≡ x) ⊎ (z ≡ None)
-  keeps_data x y z first (inr gone) = inr gone
-  keeps_data x y z (inl was) (inl same) = inl (same ∙ was)
-  keeps_data x y z (inr gone) (inl same) = inr (same ∙ gone)
-
-  keeps_both : (x y z : Files) → KeepsOthers loaded id x y → KeepsOthers loaded id y z → KeepsOthers loaded id x z
-  keeps_both x y z first second = record {
-    others = λ at docket beside old nodes. second.others at docket beside old nodes ∙ first.others at docket beside old nodes;
-    named = keeps_data (x (data_name loaded)) (y (data_name loaded)) (z (data_name loaded)) first.named second.named;
-  }
-
-  keeps_file : (c d : Files) → ButFor (data_name id) c d → KeepsOthers loaded id c d
-  keeps_file c d same = record {
-    others = λ at docket beside old nodes. same at nodes;
-    named = inl (same (data_name loaded) (λ is. apart (one_data loaded id is)));
-  }
-
-  keeps_docket : (c d : Files) → ButFor new_docket c d → KeepsOthers loaded id c d
-  keeps_docket c d same = record {
-    others = λ at docket beside old nodes. same at beside;
-    named = inl (same (data_name loaded) (data_not_new loaded));
-  }
-
-  moved_at : (c d : Files) → ((at : List ℕ) → d at ≡ moved new_docket (codes "dirstate") c at) → (at : List ℕ) → (at ≡ codes "dirstate" → ⊥) → (at ≡ new_docket → ⊥) → d at ≡ c at
-  moved_at c d moves at docket beside =
-      moves at
-      ∙ ap (λ (t : Bool). cond t (c new_docket) (cond (bytes_eq new_docket at) None (c at))) (others_apart (codes "dirstate") at (λ is. docket (sym is)))
-      ∙ ap (λ (t : Bool). cond t None (c at)) (others_apart new_docket at (λ is. beside (sym is)))
-
-  keeps_moved : (c d : Files) → Perhaps (moved new_docket (codes "dirstate")) c d → KeepsOthers loaded id c d
-  keeps_moved c d (inl same) = record { others = λ at docket beside old nodes. same at; named = inl (same (data_name loaded)) }
-  keeps_moved c d (inr moves) = record {
-    others = λ at docket beside old nodes. moved_at c d moves at docket beside;
-    named = inl (moved_at c d moves (data_name loaded) (λ is. docket_not_data loaded (sym is)) (data_not_new loaded));
-  }
-
-  keeps_cleared : (c d : Files) → Perhaps (without (data_name loaded)) c d → KeepsOthers loaded id c d
-  keeps_cleared c d (inl same) = record { others = λ at docket beside old nodes. same at; named = inl (same (data_name loaded)) }
-  keeps_cleared c d (inr gone) = record {
-    others = λ at docket beside old nodes. gone at ∙ ap (λ (t : Bool). cond t None (c at)) (others_apart (data_name loaded) at (λ is. old (sym is)));
-    named = inr (gone (data_name loaded) ∙ ap (λ (t : Bool). cond t None (c (data_name loaded))) (same_name (data_name loaded)));
-  }
-
-  pub only_one : (a b : Course) → Leads (ButFor (data_name id)) a b → Leads (KeepsOthers loaded id) a b
-  only_one a b leads = leads_weaker a b (ButFor (data_name id)) (KeepsOthers loaded id) keeps_file leads
-
-  pub only_two : (a b c : Course) → Goes a b → Goes b c → Leads (ButFor (data_name id)) a b → Leads (ButFor new_docket) b c → Leads (KeepsOthers loaded id) a c
-  only_two a b c first second one two = leads_on a b c (KeepsOthers loaded id) keeps_both first second (only_one a b one) (leads_weaker b c (ButFor new_docket) (KeepsOthers loaded id) keeps_docket two)
-
-  pub only_three : (a c d : Course) → Goes a c → Goes c d → Leads (KeepsOthers loaded id) a c → Leads (Perhaps (moved new_docket (codes "dirstate"))) c d → Leads (KeepsOthers loaded id) a d
-  only_three a c d first second one two = leads_on a c d (KeepsOthers loaded id) keeps_both first second one (leads_weaker c d (Perhaps (moved new_docket (codes "dirstate"))) (KeepsOthers loaded id) keeps_moved two)
-
-  pub only_four : (a d z : Course) → Goes a d → Goes d z → Leads (KeepsOthers loaded id) a d → Leads (Perhaps (without (data_name loaded))) d z → Leads (KeepsOthers loaded id) a z
-  only_four a d z first second one two = leads_on a d z (KeepsOthers loaded id) keeps_both first second one (leads_weaker d z (Perhaps (without (data_name loaded))) (KeepsOthers loaded id) keeps_cleared two)
 
 -- where something holds in any case
 pub on_ok : {T E P : Type 0} (r : Result T E) → P → OnOk r P

@@ -1,12 +1,17 @@
 -- What a part of a publication changes: of what reads show, and of what a crash may leave.
-use Rattle.std.specs.Prelude.{ℕ, ◌≡◌, ◌≤◌, ◌<◌, ◌+◌, ◌⊎◌, List, Some}
+use Rattle.std.specs.Prelude.{ℕ, ◌≡◌, ◌≤◌, ◌<◌, ◌+◌, ◌⊎◌, List, [], Some}
 use Rattle.hg_shelf.specs.History.{Files, us}
 use Rattle.hg_shelf.specs.Images.{Course, Remains, Scene, last_scene, scene}
-use Rattle.hg_shelf.specs.Rules.{Perhaps, Surely}
+use Rattle.hg_shelf.specs.Rules.{Perhaps, Surely, without}
+use Rattle.hg_save.specs.Record.{data_name}
 
 -- no other file is changed
 abbrev pub ButFor : List ℕ → Files → Files → Type 0
 ButFor name old new = (at : List ℕ) → (at ≡ name → ⊥) → new at ≡ old at
+
+-- the data file with an identifier goes, where it is one, or nothing changes
+abbrev pub Clears : List ℕ → Files → Files → Type 0
+Clears id old new = ((at : List ℕ) → new at ≡ old at) ⊎ ((id ≡ [] → ⊥) × Surely (without (data_name id)) old new)
 
 -- what reads show at each moment since, and what a crash leaves, comes by a change from what was there at the start
 pub record Leads (change : Files → Files → Type 0) (old new : Course) : Type 0 where

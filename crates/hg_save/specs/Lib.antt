@@ -1,3 +1,4 @@
+pub mod Asked
 pub mod Leads
 pub mod Loads
 pub mod Others

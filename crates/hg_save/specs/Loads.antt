@@ -1,5 +1,5 @@
 -- What a load answers, by the moments of the shelf during the call.
-use Rattle.std.specs.Prelude.{ℕ, ◌≡◌, ◌⊎◌, ◌<◌, ◌≤◌, List, [], ◌∷◌, ◌++◌, map, take, length, min, Option, Some, None, Result, Ok, Err, Vec}
+use Rattle.std.specs.Prelude.{ℕ, ◌≡◌, ◌⊎◌, ◌<◌, ◌≤◌, List, [], ◌∷◌, ◌++◌, map, take, length, min, Option, Some, None, Result, Ok, Err, IfOk, Vec}
 use Rattle.std.specs.List.{AllByRecursion}
 use Rattle.std.specs.declared.alloc.Global.{Global}
 use Rattle.hg_docket.specs.Docket.{Contents, docket_of}
@@ -60,6 +60,30 @@ Answers (Err (a_fault.DataGone gone)) docket ids found = (found ≡ None) × (go
 Answers (Err a_fault.OutOfMemory) docket ids found = Unit {0}
 Answers (Err a_fault.Failed) docket ids found = Unit {0}
 
+-- a data file had fewer bytes than are used: as many as it had were read, as they stood at its front then or later
+pub record IsShort (h : History) (from : ℕ) (id : List ℕ) (used : ℕ) (nodes bytes : List ℕ) : Type 0 where
+  pub short : length bytes < used
+  pub many : length nodes ≡ length bytes
+  pub at : ℕ
+  pub since : from ≤ at
+  pub upto : at ≤ h.last
+  pub later : List ℕ
+  pub there : files_at h at (data_name id) ≡ Some later
+  pub front : nodes ≡ take (length bytes) later
+
+-- so many bytes of a data file were read as are used, or it had fewer
+abbrev pub Covers : History → ℕ → List ℕ → ℕ → List ℕ → List ℕ → Type 0
+Covers h at id used nodes bytes = (nodes ≡ take used bytes) ⊎ IsShort h at id used nodes bytes
+
+-- which bytes of a data file were read that a docket names
+abbrev pub ReadsUsed : History → ℕ → Contents → List ℕ → Option (List ℕ) → Type 0
+ReadsUsed h at docket nodes None = ⊥
+ReadsUsed h at docket nodes (Some bytes) = Covers h at docket.id docket.used nodes bytes
+
+-- which bytes of the data file a try read
+abbrev pub ReadsAsOf : History → ℕ → Contents → List ℕ → Type 0
+ReadsAsOf h at docket nodes = ReadsUsed h at docket nodes (data_in docket (files_at h at))
+
 -- the tries of a load, at most five: each but the last found the data file gone
 pub record Tries (old new : History) (tries : List Try) : Type 0 where
   pub earlier : List Try
@@ -70,10 +94,11 @@ pub record Tries (old new : History) (tries : List Try) : Type 0 where
   pub order : AreInOrder tries
   pub gone : AllByRecursion (λ tried. found_by new tried ≡ None) earlier
 
--- a load by these tries, whose answer is what the last one found
+-- a load by these tries, whose answer is what the last one found, with the bytes that it read
 pub record Loads (old new : History) (tries : List Try) (result : Result Loaded LoadFault) : Type 0 where
   pub tried : Tries old new tries
   pub answer : Answers result (docket_in (files_at new tried.last.docket)) (map (id_by new) tries) (found_by new tried.last)
+  pub nodes : IfOk result (λ loaded. ReadsAsOf new tried.last.file (docket_of (docket_in (files_at new tried.last.docket))) loaded.nodes.items)
 
 -- ---- the steps of one try
 
@@ -82,6 +107,7 @@ pub record NamedFinds (old new : History) (bytes : List ℕ) (result : Result Lo
   pub at : ℕ
   pub file : During old new at
   pub answer : Answers result bytes ((docket_of bytes).id ∷ []) (named_reading bytes (files_at new at))
+  pub nodes : IfOk result (λ loaded. ReadsAsOf new at (docket_of bytes) loaded.nodes.items)
 
 -- the bytes of an answer
 abbrev pub bytes_of : Result (Vec ℕ Global) LoadFault → Result (List ℕ) LoadFault
@@ -105,6 +131,7 @@ pub record DataFindsDuring (old new : History) (docket : Contents) (result : Res
   pub at : ℕ
   pub file : During old new at
   pub finds : DataFinds docket result (data_in docket (files_at new at))
+  pub nodes : IfOk result (λ nodes. ReadsAsOf new at docket nodes)
 
 -- so many bytes were read from the front of a data file, or it was absent
 abbrev pub FrontFinds : List ℕ → ℕ → Result (List ℕ) LoadFault → Option (List ℕ) → Type 0
@@ -112,17 +139,13 @@ FrontFinds id want (Ok nodes) None = ⊥
 FrontFinds id want (Ok nodes) (Some bytes) = nodes ≡ take (min want (length bytes)) bytes
 FrontFinds id want (Err fault) file = IsUnread id fault file
 
--- so many bytes of a file were read as are used, or the file has fewer
-abbrev pub Covers : ℕ → List ℕ → List ℕ → Type 0
-Covers used nodes bytes = (nodes ≡ take used bytes) ⊎ ((length nodes ≡ length bytes) × (length bytes < used))
-
 -- a data file was read, or was absent
-abbrev pub FileFinds : List ℕ → ℕ → Result (List ℕ) LoadFault → Option (List ℕ) → Type 0
-FileFinds id used (Ok nodes) None = ⊥
-FileFinds id used (Ok nodes) (Some bytes) = Covers used nodes bytes
-FileFinds id used (Err fault) file = IsUnread id fault file
+abbrev pub FileFinds : History → ℕ → List ℕ → ℕ → Result (List ℕ) LoadFault → Option (List ℕ) → Type 0
+FileFinds h at id used (Ok nodes) None = ⊥
+FileFinds h at id used (Ok nodes) (Some bytes) = Covers h at id used nodes bytes
+FileFinds h at id used (Err fault) file = IsUnread id fault file
 
 pub record FileFindsDuring (old new : History) (id : List ℕ) (used : ℕ) (result : Result (List ℕ) LoadFault) : Type 0 where
   pub at : ℕ
   pub file : During old new at
-  pub finds : FileFinds id used result (files_at new at (data_name id))
+  pub finds : FileFinds new at id used result (files_at new at (data_name id))

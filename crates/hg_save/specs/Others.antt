@@ -6,8 +6,9 @@ use Rattle.hg_image.specs.Reading.{RecordFault}
 use Rattle.hg_shelf.specs.History.{Files, History, Who, others}
 use Rattle.hg_shelf.specs.Images.{Course, Scene, scene}
 use Rattle.hg_save.specs.Loads.{During, files_at}
-use Rattle.hg_save.specs.Record.{IsSound, data_name, docket_in, reading}
-use Rattle.hg_save.specs.Saved.{IsLatest}
+use Rattle.hg_save.specs.Record.{IsSound, data_in, data_name, docket_in, id_in, reading}
+use Rattle.hg_save.specs.Saved.{IsLatest, name_after}
+use Rattle.hg_save.specs.declared.loaded.Loaded.{Loaded}
 
 -- a docket is sound, and uses bytes of its data file
 pub record UsesData (docket : List ℕ) : Type 0 where
@@ -38,11 +39,59 @@ pub record KeepData (h : History) (from : ℕ) : Type 0 where
   pub kept : (k m : ℕ) → from ≤ k → k ≤ m → m ≤ h.last → UsesData (docket_in (files_at h k))
       → KeepsFront (docket_of (docket_in (files_at h k))).used (named_file (docket_in (files_at h k)) (files_at h k)) (named_file (docket_in (files_at h k)) (files_at h m))
 
+-- ---- the same, said of single steps
+
+-- the data file that the standing docket names is there
+abbrev pub HasData : Files → Type 0
+HasData files = UsesData (docket_in files) → HasFront (docket_of (docket_in files)).used (named_file (docket_in files) files)
+
+-- so many bytes at the front of a file stay as long as it is there, where it has so many; an absent one stays away
+abbrev pub StaysFront : ℕ → Option (List ℕ) → Option (List ℕ) → Type 0
+StaysFront used old None = Unit {0}
+StaysFront used None (Some now) = ⊥
+StaysFront used (Some old) (Some now) = used ≤ length old → (used ≤ length now) × (take used now ≡ take used old)
+
+-- an identifier doesn't come after another
+abbrev pub IsNotAhead : List ℕ → List ℕ → Type 0
+IsNotAhead of id = (n : ℕ) → name_after n of ≡ Some id → ⊥
+
+-- a step keeps the data that dockets name: of each that isn't ahead of the standing one the used bytes stay as long as the file is there, the
+-- standing one's file is there as before, and what wasn't ahead of the standing one isn't ahead of the one that stands then
+pub record IsKeeping (before behind : Files) : Type 0 where
+  pub kept : (docket : List ℕ) → UsesData docket → IsNotAhead (id_in before) (docket_of docket).id
+      → StaysFront (docket_of docket).used (named_file docket before) (named_file docket behind)
+  pub there : HasData before → HasData behind
+  pub ahead : (id : List ℕ) → IsNotAhead (id_in before) id → IsNotAhead (id_in behind) id
+
+-- from a moment on each step of one keeps the data that dockets name
+pub record KeepsFiles (by : Who) (h : History) (from : ℕ) : Type 0 where
+  pub each : (k : ℕ) → from ≤ k → k < h.last → h.who k ≡ by → IsKeeping (files_at h k) (files_at h (k + 1))
+
+-- a step keeps the data of the dockets that have stood since a moment
+pub record KeepsStood (h : History) (from k : ℕ) : Type 0 where
+  pub kept : (j : ℕ) → from ≤ j → j ≤ k → UsesData (docket_in (files_at h j))
+      → StaysFront (docket_of (docket_in (files_at h j))).used (named_file (docket_in (files_at h j)) (files_at h k)) (named_file (docket_in (files_at h j)) (files_at h (k + 1)))
+  pub there : HasData (files_at h k) → HasData (files_at h (k + 1))
+
+-- ---- what was recorded
+
 -- the files of one moment of a call record this
 pub record WasRecorded (old new : History) (recorded : Result Table RecordFault) : Type 0 where
   pub at : ℕ
   pub during : During old new at
   pub reading : reading (files_at new at) ≡ Some recorded
+
+-- bytes are the first of a file, or all where it has fewer
+abbrev pub IsFrontOf : Option (List ℕ) → ℕ → List ℕ → Type 0
+IsFrontOf None used nodes = ⊥
+IsFrontOf (Some bytes) used nodes = nodes ≡ take used bytes
+
+-- what was loaded stood so at one moment of a call: the docket, and the used bytes of the data file that it names
+pub record WasLoaded (old new : History) (loaded : Loaded) : Type 0 where
+  pub at : ℕ
+  pub during : During old new at
+  pub docket : docket_in (files_at new at) ≡ loaded.docket.items
+  pub nodes : IsFrontOf (data_in (docket_of loaded.docket.items) (files_at new at)) (docket_of loaded.docket.items).used loaded.nodes.items
 
 -- ---- what others publish
 

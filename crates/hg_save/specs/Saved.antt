@@ -1,5 +1,5 @@
 -- What a publication leaves of the dirstate, at each moment and after a crash.
-use Rattle.std.specs.Prelude.{ℕ, zero, suc, ◌≡◌, ◌≤◌, ◌⊎◌, List, length, Option, Some, None, Result, codes}
+use Rattle.std.specs.Prelude.{ℕ, zero, suc, ◌≡◌, ◌≤◌, ◌⊎◌, List, [], length, Option, Some, None, Result, codes}
 use Rattle.std.specs.Option.{option_and_then}
 use Rattle.hg_append.specs.declared.encoding.Encoded.{Encoded}
 use Rattle.hg_docket.specs.Docket.{docket_of, docket_refusal}
@@ -8,6 +8,7 @@ use Rattle.hg_entry.specs.Table.{Table}
 use Rattle.hg_image.specs.Reading.{RecordFault, reading_of}
 use Rattle.hg_shelf.specs.History.{Files}
 use Rattle.hg_shelf.specs.Images.{Course, Scene, last_scene, scene}
+use Rattle.hg_shelf.specs.Rules.{content, overwritten}
 use Rattle.hg_save.specs.Record.{data_name, docket_in, id_in, reading}
 
 -- the docket is written under this name first
@@ -37,9 +38,14 @@ abbrev pub name_after : ℕ → List ℕ → Option (List ℕ)
 name_after zero id = next_name id
 name_after (suc n) id = option_and_then (name_after n) (next_name id)
 
--- no docket that a crash may leave names an identifier that comes after that of the docket that stands
+-- the bytes of its data file that the docket uses
+abbrev pub used_in : Files → ℕ
+used_in files = (docket_of (docket_in files)).used
+
+-- no docket that a crash may leave names an identifier that comes after that of the docket that stands, nor that one with more used bytes
 pub record IsLatest (s : Scene) : Type 0 where
   pub latest : (c : Files) → s.leaves c → (n : ℕ) → name_after n (id_in s.files) ≡ Some (id_in c) → ⊥
+  pub used : (c : Files) → s.leaves c → id_in c ≡ id_in s.files → used_in c ≤ used_in s.files
 
 -- the docket that stands is this one
 abbrev pub Stands : List ℕ → Scene → Type 0
@@ -62,8 +68,21 @@ pub record Records (c : Course) (table : Option (Result Table RecordFault)) : Ty
 pub record ShowsOnly (old new : Course) (table : Option (Result Table RecordFault)) : Type 0 where
   pub each : (k : ℕ) → old.history.last ≤ k → k ≤ new.history.last → (reading (scene new k).files ≡ reading (last_scene old).files) ⊎ (reading (scene new k).files ≡ table)
 
--- no file is changed but the docket, the one that is written first, and the data files with these identifiers; that of the loaded docket is as it was or
--- gone
+-- files hold exactly what was published over those of the start: the data file is as it was, overwritten at its place by the new bytes and by
+-- nothing else; so is the docket, which was written beside the old one first, where nothing stands any more; and it names the new data file
+pub record IsExact (new : Encoded) (start files : Files) : Type 0 where
+  pub file : files (data_name new.id) ≡ Some (overwritten (content (start (data_name new.id))) new.place new.bytes.items)
+  pub docket : files (codes "dirstate") ≡ Some (overwritten (content (start new_docket)) 0 new.docket.items)
+  pub beside : files new_docket ≡ None
+  pub named : id_in files ≡ new.id
+
+-- reads show exactly what was published over what they showed at the start, and so does whatever a crash leaves
+pub record HoldsExactly (encoded : Encoded) (old new : Course) : Type 0 where
+  pub shown : IsExact encoded (last_scene old).files (last_scene new).files
+  pub left : (c : Files) → (last_scene new).leaves c → IsExact encoded (last_scene old).files c
+
+-- no file is changed but the docket, the one that is written first, and the data files with these identifiers; that of the loaded docket is as it
+-- was or, where that docket names one and the docket names the new one by now, gone
 pub record KeepsOthers (loaded id : List ℕ) (old new : Files) : Type 0 where
   pub others : (at : List ℕ) → (at ≡ codes "dirstate" → ⊥) → (at ≡ new_docket → ⊥) → (at ≡ data_name loaded → ⊥) → (at ≡ data_name id → ⊥) → new at ≡ old at
-  pub named : (new (data_name loaded) ≡ old (data_name loaded)) ⊎ (new (data_name loaded) ≡ None)
+  pub named : (new (data_name loaded) ≡ old (data_name loaded)) ⊎ ((loaded ≡ [] → ⊥) × (new (data_name loaded) ≡ None) × (id_in new ≡ id))

@@ -1,19 +1,20 @@
 //! Laws of the definitions.
 
-ghost use Rattle.std.specs.Prelude.{◌≡◌, ℕ, Err, List, Ok};
+ghost use Rattle.std.specs.Prelude.{◌≡◌, ◌≤◌, ◌<◌, ◌+◌, ℕ, Err, IsTrue, List, None, Ok};
 ghost use Rattle.hg_append.specs.Encoded.{IsWritten, ReadsAs};
 ghost use Rattle.hg_append.specs.declared.encoding.Encoded.{Encoded};
-ghost use Rattle.hg_docket.specs.Docket.{docket_of};
+ghost use Rattle.hg_docket.specs.Docket.{docket_of, docket_refusal};
 ghost use Rattle.hg_docket.specs.declared.fault.DocketFault.{DocketFault};
 ghost use Rattle.hg_image.specs.Reading.{reading_of};
 ghost use Rattle.hg_image.specs.Reading as a_record_fault;
 ghost use Rattle.hg_mixed.specs.Held.{Held, table};
-ghost use Rattle.hg_save.specs.Loads.{Loads, Try};
-ghost use Rattle.hg_save.specs.Others.{KeepData, WasRecorded};
+ghost use Rattle.hg_save.specs.Loads.{files_at, Loads, Try};
+ghost use Rattle.hg_save.specs.Others.{HasData, IsKeeping, IsNotAhead, KeepData, KeepsFiles, KeepsStood, WasLoaded, WasRecorded};
+ghost use Rattle.hg_save.specs.Record.{id_in};
 ghost use Rattle.hg_save.specs.Saved.{IsOver};
 ghost use Rattle.hg_save.specs.declared.load_fault.LoadFault.TheVariants as a_fault;
 ghost use Rattle.hg_save.specs.declared.loaded.Loaded.{Loaded};
-ghost use Rattle.hg_shelf.specs.History.{History};
+ghost use Rattle.hg_shelf.specs.History.{History, Who};
 
 /// What a table is encoded as can be published over the record that the table was opened from.
 pub fn encoded_over()
@@ -25,7 +26,22 @@ pub fn encoded_over()
 pub fn one_moment()
     ensures found { (old new : History) (tries : List Try) (loaded : Loaded) → KeepData new old.last → Loads old new tries (Ok loaded)
         → WasRecorded old new (reading_of loaded.docket.items loaded.nodes.items) }
+    // So are the bytes that it loaded.
+    ensures bytes { (old new : History) (tries : List Try) (loaded : Loaded) → KeepData new old.last → Loads old new tries (Ok loaded)
+        → docket_refusal loaded.docket.items ≡ None → WasLoaded old new loaded }
     // A fault of the docket that it told stood at one moment, whatever others do.
     ensures fault { (old new : History) (tries : List Try) (fault : DocketFault) → Loads old new tries (Err (a_fault.Docket fault))
         → WasRecorded old new (Err (a_record_fault.Docket fault)) }
+{}
+
+/// Where each step keeps the data that dockets name, whoever made it, and the standing docket's is there at first, it is kept throughout: so
+/// publications beside each other keep to what is asked of others.
+pub fn data_kept()
+    ensures all { (h : History) (from : ℕ) → IsTrue h.told → HasData (files_at h from) → ((by : Who) → KeepsFiles by h from) → KeepData h from }
+    // It is enough that each keeps that of the dockets which have stood.
+    ensures stood { (h : History) (from : ℕ) → IsTrue h.told → HasData (files_at h from)
+        → ((k : ℕ) → from ≤ k → k < h.last → KeepsStood h from k) → KeepData h from }
+    // So does a step of this program where none of these is ahead of the one that stands.
+    ensures own { (h : History) (from k : ℕ) → IsKeeping (files_at h k) (files_at h (k + 1))
+        → ((j : ℕ) → from ≤ j → j ≤ k → IsNotAhead (id_in (files_at h k)) (id_in (files_at h j))) → KeepsStood h from k }
 {}

@@ -19,7 +19,7 @@ mod loading;
 mod saving;
 mod steps;
 
-pub use laws::{encoded_over, one_moment};
+pub use laws::{data_kept, encoded_over, one_moment};
 pub use load_fault::LoadFault;
 pub use loaded::Loaded;
 pub use loading::load;

@@ -1,6 +1,6 @@
 //! A record as it was loaded.
 
-ghost use Rattle.std.specs.Prelude.{◌≡◌, ◌≤◌, length, None, IfOk};
+ghost use Rattle.std.specs.Prelude.{◌≡◌, ◌≤◌, length, take, None, IfOk};
 ghost use Rattle.std.specs.Result.{result_map_both};
 ghost use Rattle.hg_docket.specs.Docket.{docket_of, docket_refusal, view};
 ghost use Rattle.hg_image.specs.Reading.{data_reading, table_in};
@@ -21,6 +21,8 @@ impl Loaded {
         requires few { length self.now.docket.items ≤ 512 }
         requires whole { docket_refusal self.now.docket.items ≡ None }
         ensures docket { IfOk result (λ i. view i.docket ≡ docket_of self.now.docket.items) }
+        // It looks at the used bytes alone.
+        ensures bytes { IfOk result (λ i. i.bytes.now ≡ take (docket_of self.now.docket.items).used self.now.nodes.items) }
         // It is the reading of the data file: the first fault, or the table of all that is recorded.
         ensures read { result_map_both table_in (λ fault. fault) result ≡ data_reading (docket_of self.now.docket.items) self.now.nodes.items }
     {

@@ -2,10 +2,13 @@
 
 ghost use Rattle.std.specs.Prelude.{◌≡◌, ◌≤◌, ◌∷◌, [], IsTrue, IfErr, IfOk, None, length, take};
 ghost use Rattle.hg_base.specs.Fault.{HasCause};
-ghost use Rattle.hg_docket.specs.Docket.{docket_refusal, view};
+ghost use Rattle.hg_docket.specs.Docket.{docket_of, docket_refusal, view};
 ghost use Rattle.hg_docket.specs.Name.{is_name};
+ghost use Rattle.hg_shelf.specs.Asks.{AsksInOrder};
 ghost use Rattle.hg_shelf.specs.History.{Passes, now};
 ghost use Rattle.hg_shelf.specs.Images.{Goes, course};
+ghost use Rattle.hg_shelf.specs.declared.asked.Asked.TheVariants as an_ask;
+ghost use Rattle.hg_save.specs.Asked.{AsksAsOf, data_asks, docket_ask, file_asks};
 ghost use Rattle.hg_save.specs.Record.{data_name, docket_in};
 ghost use Rattle.hg_save.specs.Loads.{bytes_of, DataFindsDuring, FileFindsDuring, FrontFinds, Loads, NamedFinds, Try};
 ghost use Rattle.hg_save.specs.declared.load_fault.LoadFault.TheVariants as a_fault;
@@ -29,6 +32,7 @@ fn read_docket<S: Shelf>(shelf: &mut S, buf: &mut [u8]) -> Result<usize, LoadFau
     ensures passes { Passes (S.history shelf.old) (S.history shelf.new) }
     ensures kept { Goes (course (S.history shelf.old) (S.images shelf.old)) (course (S.history shelf.new) (S.images shelf.new)) }
     ensures held { S.held shelf.new ≡ S.held shelf.old }
+    ensures asked { IsTrue (S.history shelf.old).told → AsksInOrder (docket_ask ∷ []) (S.history shelf.old) (S.history shelf.new) result }
     ensures most { IfOk result (λ n. n ≤ 512) }
     ensures found { IsTrue (S.history shelf.old).told → IfOk result (λ n. take n buf.new ≡ docket_in (now (S.history shelf.new)).files) }
     ensures cause { HasCause (S.faults shelf.old) (S.faults shelf.new) result (λ e. e ≡ a_fault.Failed) }
@@ -60,6 +64,7 @@ fn read_front<S: Shelf>(
     ensures passes { Passes (S.history shelf.old) (S.history shelf.new) }
     ensures kept { Goes (course (S.history shelf.old) (S.images shelf.old)) (course (S.history shelf.new) (S.images shelf.new)) }
     ensures held { S.held shelf.new ≡ S.held shelf.old }
+    ensures asked { IsTrue (S.history shelf.old).told → AsksInOrder (an_ask.Read (data_name id) ∷ []) (S.history shelf.old) (S.history shelf.new) result }
     ensures found { IsTrue (S.history shelf.old).told
         → FrontFinds id want (bytes_of result) ((now (S.history shelf.new)).files (data_name id)) }
     ensures cause { HasCause (S.faults shelf.old) (S.faults shelf.new) result (λ e. e ≡ a_fault.Failed) }
@@ -86,6 +91,7 @@ fn read_file<S: Shelf>(
     ensures passes { Passes (S.history shelf.old) (S.history shelf.new) }
     ensures kept { Goes (course (S.history shelf.old) (S.images shelf.old)) (course (S.history shelf.new) (S.images shelf.new)) }
     ensures held { S.held shelf.new ≡ S.held shelf.old }
+    ensures asked { IsTrue (S.history shelf.old).told → AsksInOrder (file_asks id) (S.history shelf.old) (S.history shelf.new) result }
     ensures found { IsTrue (S.history shelf.old).told
         → FileFindsDuring (S.history shelf.old) (S.history shelf.new) id used (bytes_of result) }
     ensures cause { HasCause (S.faults shelf.old) (S.faults shelf.new) result (λ e. e ≡ a_fault.Failed) }
@@ -107,6 +113,7 @@ fn read_data<S: Shelf>(
     ensures passes { Passes (S.history shelf.old) (S.history shelf.new) }
     ensures kept { Goes (course (S.history shelf.old) (S.images shelf.old)) (course (S.history shelf.new) (S.images shelf.new)) }
     ensures held { S.held shelf.new ≡ S.held shelf.old }
+    ensures asked { IsTrue (S.history shelf.old).told → AsksInOrder (data_asks (view docket.now)) (S.history shelf.old) (S.history shelf.new) result }
     ensures found { IsTrue (S.history shelf.old).told
         → DataFindsDuring (S.history shelf.old) (S.history shelf.new) (view docket.now) (bytes_of result) }
     ensures cause { HasCause (S.faults shelf.old) (S.faults shelf.new) result (λ e. e ≡ a_fault.Failed) }
@@ -126,6 +133,7 @@ fn load_named<S: Shelf>(alloc: Global, shelf: &mut S, bytes: &[u8]) -> Result<Lo
     ensures passes { Passes (S.history shelf.old) (S.history shelf.new) }
     ensures kept { Goes (course (S.history shelf.old) (S.images shelf.old)) (course (S.history shelf.new) (S.images shelf.new)) }
     ensures held { S.held shelf.new ≡ S.held shelf.old }
+    ensures asked { IsTrue (S.history shelf.old).told → AsksInOrder (data_asks (docket_of bytes.now)) (S.history shelf.old) (S.history shelf.new) result }
     ensures found { IsTrue (S.history shelf.old).told → NamedFinds (S.history shelf.old) (S.history shelf.new) bytes.now result }
     ensures few { IfOk result (λ l. length l.docket.items ≤ 512) }
     ensures whole { IfOk result (λ l. docket_refusal l.docket.items ≡ None) }
@@ -148,6 +156,7 @@ pub fn load<S: Shelf>(alloc: Global, shelf: &mut S) -> Result<Loaded, LoadFault>
     ensures passes { Passes (S.history shelf.old) (S.history shelf.new) }
     ensures kept { Goes (course (S.history shelf.old) (S.images shelf.old)) (course (S.history shelf.new) (S.images shelf.new)) }
     ensures held { S.held shelf.new ≡ S.held shelf.old }
+    ensures asked { IsTrue (S.history shelf.old).told → AsksAsOf (S.history shelf.old) (S.history shelf.new) result }
     ensures found { IsTrue (S.history shelf.old).told → ((tried : Try) × Loads (S.history shelf.old) (S.history shelf.new) (tried ∷ []) result) }
     // What was loaded has a sound docket.
     ensures few { IfOk result (λ l. length l.docket.items ≤ 512) }

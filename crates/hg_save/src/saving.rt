@@ -4,13 +4,13 @@ ghost use Rattle.std.specs.Prelude.{◌≡◌, ◌≤◌, ◌∷◌, [], length,
 ghost use Rattle.hg_base.specs.Fault.{HasCause};
 ghost use Rattle.hg_docket.specs.Docket.{docket_of, docket_refusal};
 ghost use Rattle.hg_shelf.specs.History.{us};
+ghost use Rattle.hg_shelf.specs.Asks.{AsksNothing};
 ghost use Rattle.hg_shelf.specs.Images.{Goes, course, last_scene};
 ghost use Rattle.hg_shelf.specs.Polite.{Undisturbed};
-ghost use Rattle.hg_shelf.specs.Rules.{Perhaps, without};
-ghost use Rattle.hg_save.specs.Leads.{Leads, OwnSteps, StepBy};
-ghost use Rattle.hg_save.specs.Others.{KeepsRecords};
+ghost use Rattle.hg_save.specs.Leads.{Clears, Leads, OwnSteps, StepBy};
+ghost use Rattle.hg_save.specs.Others.{KeepsFiles, KeepsRecords};
 ghost use Rattle.hg_save.specs.Record.{IsSound, data_name};
-ghost use Rattle.hg_save.specs.Saved.{IsFree, IsLatest, IsOver, KeepsOthers, LeavesOnly, Records, ShowsOnly, Stands, published};
+ghost use Rattle.hg_save.specs.Saved.{HoldsExactly, IsFree, IsLatest, IsOver, KeepsOthers, LeavesOnly, Records, ShowsOnly, Stands, published};
 
 use crate::loaded::Loaded;
 use crate::steps::{put, swap};
@@ -31,7 +31,7 @@ fn clear<S: Shelf>(shelf: &mut S, docket: &[u8]) -> Result<(), Failed>
     requires whole { docket_refusal docket.now ≡ None }
     ensures leads { Undisturbed (course (S.history shelf.old) (S.images shelf.old)) (course (S.history shelf.new) (S.images shelf.new))
         → Leads
-        (Perhaps (without (data_name (docket_of docket.now).id)))
+        (Clears (docket_of docket.now).id)
         (course (S.history shelf.old) (S.images shelf.old))
         (course (S.history shelf.new) (S.images shelf.new)) }
     ensures gone { Undisturbed (course (S.history shelf.old) (S.images shelf.old)) (course (S.history shelf.new) (S.images shelf.new))
@@ -42,11 +42,12 @@ fn clear<S: Shelf>(shelf: &mut S, docket: &[u8]) -> Result<(), Failed>
     // Each of its steps takes that file away, or nothing.
     ensures steps { Undisturbed (course (S.history shelf.old) (S.images shelf.old)) (course (S.history shelf.new) (S.images shelf.new))
         → OwnSteps
-        (StepBy (Perhaps (without (data_name (docket_of docket.now).id))))
+        (StepBy (Clears (docket_of docket.now).id))
         (course (S.history shelf.old) (S.images shelf.old))
         (course (S.history shelf.new) (S.images shelf.new)) }
     ensures kept { Goes (course (S.history shelf.old) (S.images shelf.old)) (course (S.history shelf.new) (S.images shelf.new)) }
     ensures ours { (S.history shelf.new).ours ≡ (S.history shelf.old).ours }
+    ensures unasked { AsksNothing (S.history shelf.old) (S.history shelf.new) }
     ensures held { S.held shelf.new ≡ S.held shelf.old }
     ensures cause { HasCause (S.faults shelf.old) (S.faults shelf.new) result (λ e. Unit {0}) }
 {
@@ -80,6 +81,14 @@ pub fn publish<S: Shelf>(shelf: &mut S, loaded: &Loaded, new: &Encoded) -> Resul
     // Where it succeeded, the new table is recorded, also after a crash.
     ensures sure { Undisturbed (course (S.history shelf.old) (S.images shelf.old)) (course (S.history shelf.new) (S.images shelf.new))
         → OnOk result (Records (course (S.history shelf.new) (S.images shelf.new)) (published new.now)) }
+    // Where it succeeded, the data file and the docket hold exactly the new bytes over what stood there, also after a crash.
+    ensures exact { Undisturbed (course (S.history shelf.old) (S.images shelf.old)) (course (S.history shelf.new) (S.images shelf.new))
+        → OnOk
+        result
+        (HoldsExactly
+        new.now
+        (course (S.history shelf.old) (S.images shelf.old))
+        (course (S.history shelf.new) (S.images shelf.new))) }
     // At each moment since the start reads show the record that they showed then, or the new table.
     ensures left { Undisturbed (course (S.history shelf.old) (S.images shelf.old)) (course (S.history shelf.new) (S.images shelf.new))
         → IsFree new.now.id (last_scene (course (S.history shelf.old) (S.images shelf.old)))
@@ -102,6 +111,10 @@ pub fn publish<S: Shelf>(shelf: &mut S, loaded: &Loaded, new: &Encoded) -> Resul
         → IsLatest (last_scene (course (S.history shelf.old) (S.images shelf.old)))
         → IsSound (published new.now)
         → KeepsRecords us (course (S.history shelf.new) (S.images shelf.new)) (S.history shelf.old).last }
+    // And each keeps the data that dockets name, the new one's too once it stands.
+    ensures keeping { Undisturbed (course (S.history shelf.old) (S.images shelf.old)) (course (S.history shelf.new) (S.images shelf.new))
+        → Stands loaded.now.docket.items (last_scene (course (S.history shelf.old) (S.images shelf.old)))
+        → KeepsFiles us (S.history shelf.new) (S.history shelf.old).last }
     // Where it succeeded, the old data file is gone.
     ensures gone { Undisturbed (course (S.history shelf.old) (S.images shelf.old)) (course (S.history shelf.new) (S.images shelf.new))
         → OnOk
@@ -110,6 +123,7 @@ pub fn publish<S: Shelf>(shelf: &mut S, loaded: &Loaded, new: &Encoded) -> Resul
         → (last_scene (course (S.history shelf.new) (S.images shelf.new))).files (data_name (docket_of loaded.now.docket.items).id) ≡ None) }
     ensures kept { Goes (course (S.history shelf.old) (S.images shelf.old)) (course (S.history shelf.new) (S.images shelf.new)) }
     ensures ours { (S.history shelf.new).ours ≡ (S.history shelf.old).ours }
+    ensures unasked { AsksNothing (S.history shelf.old) (S.history shelf.new) }
     ensures held { S.held shelf.new ≡ S.held shelf.old }
     ensures cause { HasCause (S.faults shelf.old) (S.faults shelf.new) result (λ e. Unit {0}) }
 {

@@ -3,6 +3,7 @@
 ghost use Rattle.std.specs.Prelude.{◌≡◌, [], IsTrue, IsSome, IfOk, IfErr, OnOk, OnErr, length, None, true, codes};
 ghost use Rattle.hg_base.specs.Fault.{HasCause};
 ghost use Rattle.hg_docket.specs.Docket.{docket_of, docket_refusal};
+ghost use Rattle.hg_shelf.specs.Asks.{AsksNothing};
 ghost use Rattle.hg_shelf.specs.Images.{Goes, course, last_scene};
 ghost use Rattle.hg_shelf.specs.Polite.{Undisturbed};
 ghost use Rattle.hg_shelf.specs.Rules.{Perhaps, content, moved, overwritten, without};
@@ -34,6 +35,7 @@ pub(crate) fn put<S: Shelf>(
         → OwnSteps (StepBy (ButFor name.now)) (course (S.history shelf.old) (S.images shelf.old)) (course (S.history shelf.new) (S.images shelf.new)) }
     ensures kept { Goes (course (S.history shelf.old) (S.images shelf.old)) (course (S.history shelf.new) (S.images shelf.new)) }
     ensures ours { (S.history shelf.new).ours ≡ (S.history shelf.old).ours }
+    ensures unasked { AsksNothing (S.history shelf.old) (S.history shelf.new) }
     ensures held { S.held shelf.new ≡ S.held shelf.old }
     ensures cause { HasCause (S.faults shelf.old) (S.faults shelf.new) result (λ e. Unit {0}) }
 {
@@ -65,6 +67,7 @@ pub(crate) fn swap<S: Shelf>(shelf: &mut S, from: &str, to: &str) -> Result<(), 
         (course (S.history shelf.new) (S.images shelf.new)) }
     ensures kept { Goes (course (S.history shelf.old) (S.images shelf.old)) (course (S.history shelf.new) (S.images shelf.new)) }
     ensures ours { (S.history shelf.new).ours ≡ (S.history shelf.old).ours }
+    ensures unasked { AsksNothing (S.history shelf.old) (S.history shelf.new) }
     ensures held { S.held shelf.new ≡ S.held shelf.old }
     ensures cause { HasCause (S.faults shelf.old) (S.faults shelf.new) result (λ e. Unit {0}) }
 {

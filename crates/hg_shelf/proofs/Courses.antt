@@ -5,8 +5,10 @@ use Rattle.std.proofs.lemmas.List.{append_assoc, length-append, take-append-le, 
 use Rattle.hg_base.specs.Calls.{Counted, failed}
 use Rattle.hg_shelf.specs.History.{Files, Extends, Passes, Waits, By, label, now, us}
 use Rattle.hg_shelf.specs.Images.{Scene, Remains, Goes, Acts, course}
-use Rattle.hg_shelf.specs.Memory.{Memory, Fails, after_call, after_due, after_own, before_call, by_us, coming, coming_of, empty, history_of, images_of, maker, maker_at, next, replayed}
+use Rattle.hg_shelf.specs.Memory.{Memory, Fails, Lacks, after_call, after_due, after_own, asking, before_call, by_us, coming, coming_of, empty, history_of, images_of, maker, maker_at, next, replayed}
 use Rattle.hg_shelf.specs.Sound.{IsSound, replayed_sound}
+use Rattle.hg_shelf.specs.declared.asked.Asked.{Asked}
+use Rattle.hg_shelf.specs.declared.asked.LockCall.{LockCall}
 use Rattle.hg_shelf.specs.declared.outside.Change.{Change}
 use Rattle.hg_shelf.specs.declared.outside.Due.{Due}
 use Rattle.hg_shelf.specs.declared.outside.Step.{Step}
@@ -110,8 +112,8 @@ module _ (old new : Memory) (grew : Grew old new) where
   steps_of = λ k from to. who_behind old new grew.more grew.grown k from
       ∙ grew.others (k - length old.changes) (omega (arith, from, to, longer old new grew.more grew.grown))
 
-  pub passes_of : new.ours ≡ old.ours → Passes (history_of old) (history_of new)
-  passes_of ours = record { past = extends_grown old new grew.more grew.grown; ours = ours; by_others = steps_of }
+  pub passes_of : new.ours ≡ old.ours → new.locks ≡ old.locks → Passes (history_of old) (history_of new)
+  passes_of ours locks = record { past = extends_grown old new grew.more grew.grown; ours = ours; locks = locks; by_others = steps_of }
 
   pub waits_of : Waits (history_of old) (history_of new)
   waits_of = record { past = extends_grown old new grew.more grew.grown; none = λ k from to is. us_apart old.ours (sym is ∙ steps_of k from to) }
@@ -184,30 +186,36 @@ pub record Went (old new : Memory) : Type 0 where
   pub grew : Grew old new
   pub ours : new.ours ≡ old.ours
   pub refusals : new.refusals ≡ old.refusals
+  pub locks : new.locks ≡ old.locks
 
-went_called : (old new : Memory) → new ≡ after_call old → Went old new
-went_called old new is = record { grew = grew_called old new (ap (λ (m : Memory). m.changes) is); ours = ap (λ (m : Memory). m.ours) is; refusals = ap (λ (m : Memory). m.refusals) is }
+pub went_lacks : (old new : Memory) → Lacks old new → Went old new
+went_lacks old new lacks = record {
+  grew = grew_failed old new (inr lacks);
+  ours = ap (λ (m : Memory). m.ours) lacks.state;
+  refusals = ap (λ (m : Memory). m.refusals) lacks.state;
+  locks = ap (λ (m : Memory). m.locks) lacks.state;
+}
 
 pub went_failed : (old new : Memory) → Fails old new → Went old new
 went_failed old new fails =
     elim fails [
-      | inl due ↦ record { grew = grew_failed old new (inl due); ours = ap (λ (m : Memory). m.ours) due.1; refusals = ap (λ (m : Memory). m.refusals) due.1 }
-      | inr lacks ↦ record { grew = grew_failed old new (inr lacks); ours = ap (λ (m : Memory). m.ours) lacks.state; refusals = ap (λ (m : Memory). m.refusals) lacks.state }
+      | inl due ↦ record {
+        grew = grew_failed old new (inl due);
+        ours = ap (λ (m : Memory). m.ours) due.1;
+        refusals = ap (λ (m : Memory). m.refusals) due.1;
+        locks = ap (λ (m : Memory). m.locks) due.1;
+      }
+      | inr lacks ↦ went_lacks old new lacks
     ]
 
 pub passes_failed : (old new : Memory) → Fails old new → Passes (history_of old) (history_of new)
-passes_failed old new fails = passes_of old new (grew_failed old new fails) (went_failed old new fails).ours
-
--- a call that only asks
-pub went : {T E : Type 0} (old new : Memory) (r : Result T E) → OnOk r (new ≡ after_call old) → OnErr r (Fails old new) → Went old new
-went old new (Ok x) is fails = went_called old new is
-went old new (Err e) is fails = went_failed old new fails
+passes_failed old new fails = let went = went_failed old new fails in passes_of old new went.grew went.ours went.locks
 
 -- what it found is so at the last moment
-pub found_of : {T E : Type 0} (old new : Memory) (r : Result T E) (P : Files → T → Type 0) → OnOk r (new ≡ after_call old)
+pub found_of : {T E : Type 0} (ask : Asked) (old new : Memory) (r : Result T E) (P : Files → T → Type 0) → OnOk r (new ≡ asking ask (after_call old))
     → IfOk r (P (now (history_of (after_due old))).files) → IfOk r (P (now (history_of new)).files)
-found_of old new (Ok x) P is found = subst (λ (m : Memory). P (now (history_of m)).files x) (sym is) found
-found_of old new (Err e) P is found = tt
+found_of ask old new (Ok x) P is found = subst (λ (m : Memory). P (now (history_of m)).files x) (sym is) found
+found_of ask old new (Err e) P is found = tt
 
 -- a call that does a step
 pub goes_acted : {T E : Type 0} (old new : Memory) (what : Step) (r : Result T E) → OnOk r (new ≡ after_own what old) → OnErr r (Fails old new)
@@ -223,19 +231,19 @@ pub refusals_acted : {T E : Type 0} (old new : Memory) (what : Step) (r : Result
 refusals_acted old new what (Ok x) is fails = refusals_own old new what is
 refusals_acted old new what (Err e) is fails = (went_failed old new fails).refusals
 
--- a call whose own step finds no memory, once what was due was made and the call was counted
-pub lacked : (old : Memory) (log was : List Change) (due : List Due) (calls was_calls : Counted) (away ours : Bool) (refusals : ℕ) → log ≡ was
+-- a call whose own step or whose note finds no memory, once what was due was made and the call was counted
+pub lacked : (old : Memory) (log was : List Change) (due : List Due) (calls was_calls : Counted) (away ours : Bool) (refusals : ℕ) (asked : List Asked) (locks was_locks : List LockCall) → log ≡ was → locks ≡ was_locks
     → calls ≡ record was_calls { faults = min (was_calls.faults + 1) (2 ^ 64 - 1) }
-    → record { changes = was; due = due; calls = was_calls; away = away; ours = ours; refusals = refusals } ≡ after_call old
-    → Fails old (record { changes = log; due = due; calls = calls; away = away; ours = ours; refusals = refusals })
-lacked old log was due calls was_calls away ours refusals same counted called =
+    → record { changes = was; due = due; calls = was_calls; away = away; ours = ours; refusals = refusals; asked = asked; locks = was_locks } ≡ after_call old
+    → Lacks old (record { changes = log; due = due; calls = calls; away = away; ours = ours; refusals = refusals; asked = asked; locks = locks })
+lacked old log was due calls was_calls away ours refusals asked locks was_locks same same_locks counted called =
     let whole : take (length (coming old)) (coming old) ≡ coming old = take_all (length (coming old)) (coming old) (omega arith) in
-    let first : record { changes = log; due = due; calls = calls; away = away; ours = ours; refusals = refusals }
-    ≡ record { changes = was; due = due; calls = record was_calls { faults = min (was_calls.faults + 1) (2 ^ 64 - 1) }; away = away; ours = ours; refusals = refusals } =
-    λ i. record { changes = same i; due = due; calls = counted i; away = away; ours = ours; refusals = refusals } in
-    inr (record {
+    let first : record { changes = log; due = due; calls = calls; away = away; ours = ours; refusals = refusals; asked = asked; locks = locks }
+    ≡ record { changes = was; due = due; calls = record was_calls { faults = min (was_calls.faults + 1) (2 ^ 64 - 1) }; away = away; ours = ours; refusals = refusals; asked = asked; locks = was_locks } =
+    λ i. record { changes = same i; due = due; calls = counted i; away = away; ours = ours; refusals = refusals; asked = asked; locks = same_locks i } in
+    record {
       some = length (coming old);
       state = first
           ∙ ap (λ (m : Memory). record m { calls = record m.calls { faults = min (m.calls.faults + 1) (2 ^ 64 - 1) } }) called
           ∙ ap (λ (l : List Change). record old { changes = old.changes ++ l; calls = failed old.calls }) (sym whole);
-    })
+    }

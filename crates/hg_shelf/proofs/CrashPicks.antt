@@ -83,3 +83,6 @@ module _ (call pick : ℕ) (memory left : Memory) (steps : List Step) (files : F
       ∙ picked_shown pick (steps_up_to call memory) (ne_eqb pick 0 (λ none. absurd (omega (arith, none, is)))) (eq-eqb pick 1 is)
       ∙ shown_is (up_to call memory.changes) empty
       ∙ sym (ap (λ (cs : List Change). (replayed cs empty).files) (front call memory.changes)))
+
+  pub is_kept : (pick ≡ 0 → ⊥) → (pick ≡ 1 → ⊥) → (name : List ℕ) → (now (history_of left)).files name ≡ kept 255 (steps_up_to call memory) empty.files name
+  is_kept none all name = ap (λ (f : Files). f name) (whole ∙ picked_kept pick (steps_up_to call memory) (ne_eqb pick 0 none) (ne_eqb pick 1 all))

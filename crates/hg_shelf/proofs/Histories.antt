@@ -21,12 +21,13 @@ extends_trans a b c p q = record {
 }
 
 pub passes_same : (h : History) → Passes h h
-passes_same h = record { past = extends_same h; ours = refl; by_others = λ k from to. absurd (omega (arith, from, to)) }
+passes_same h = record { past = extends_same h; ours = refl; locks = refl; by_others = λ k from to. absurd (omega (arith, from, to)) }
 
 pub passes_trans : (a b c : History) → Passes a b → Passes b c → Passes a c
 passes_trans a b c p q = record {
   past = extends_trans a b c p.past q.past;
   ours = q.ours ∙ p.ours;
+  locks = q.locks ∙ p.locks;
   by_others = λ k from to. elim (cases_lt k b.last) [
     | inl before ↦ q.past.who k before ∙ p.by_others k from before
     | inr behind ↦ q.by_others k behind to ∙ ap label p.ours

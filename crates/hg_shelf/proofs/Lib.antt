@@ -1,3 +1,5 @@
+pub mod Asking
+pub mod Asks
 pub mod Coming
 pub mod Courses
 pub mod CrashFiles

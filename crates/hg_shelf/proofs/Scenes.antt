@@ -1,7 +1,7 @@
 -- What is known of the last scene of a course, carried over the steps of the caller and of others.
-use Rattle.std.proofs.Common.{◌≡◌, ℕ, ◌+◌, ◌-◌, ◌<◌, ◌≤◌, zero, suc, List, Some, refl, sym, ap, ◌∙◌, subst, arith, inl, inr, ◌⊎◌, Bool, true, false}
+use Rattle.std.proofs.Common.{◌≡◌, ℕ, ◌+◌, ◌-◌, ◌≤◌, zero, suc, List, Some, refl, sym, ◌∙◌, subst, arith, inl, inr, ◌⊎◌, Bool, true}
 use Rattle.std.proofs.lemmas.Bool.{cases_lt}
-use Rattle.hg_shelf.specs.History.{Files, History, Extends, By, label, readers, us, Passes}
+use Rattle.hg_shelf.specs.History.{Files, By, label, readers, Passes}
 use Rattle.hg_shelf.specs.Images.{Course, Scene, Goes, Acts, Remains, last_scene, scene}
 use Rattle.hg_shelf.specs.Polite.{OthersOnlyRead, Undisturbed}
 use Rattle.hg_shelf.specs.Rules.{Changes, Syncs, SyncsNames}

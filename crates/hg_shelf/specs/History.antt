@@ -1,5 +1,7 @@
--- What happened to the files of a shelf: its moments, and who made the step from each to the next.
-use Rattle.std.specs.Prelude.{ℕ, ◌≡◌, ◌≤◌, ◌<◌, Bool, false, if◌then◌else◌, List, Option, None, IsTrue}
+-- What happened to the files of a shelf: its moments, who made the step from each to the next, and what the shelf was asked.
+use Rattle.std.specs.Prelude.{ℕ, ◌≡◌, ◌≤◌, ◌<◌, Bool, false, if◌then◌else◌, List, [], Option, None, IsTrue}
+use Rattle.hg_shelf.specs.declared.asked.Asked.{Asked}
+use Rattle.hg_shelf.specs.declared.asked.LockCall.{LockCall}
 
 -- a map from name to bytes
 abbrev pub Files : Type 0
@@ -22,6 +24,8 @@ pub record History : Type 0 where
   pub last : ℕ
   pub at : ℕ → Moment
   pub who : ℕ → Who  -- who made the step from a moment to the next
+  pub asked : List Asked  -- the sizes and the reads that were asked for
+  pub locks : List LockCall  -- the calls of the lock
 
 -- the last moment
 abbrev pub now : History → Moment
@@ -29,7 +33,7 @@ now h = h.at h.last
 
 -- the history of a shelf that tells nothing but whether the caller holds the lock
 abbrev pub untold : Bool → History
-untold ours = record { ours = ours; told = false; last = 0; at = λ k. record { files = λ name. None }; who = λ k. others }
+untold ours = record { ours = ours; told = false; last = 0; at = λ k. record { files = λ name. None }; who = λ k. others; asked = []; locks = [] }
 
 -- a moment stays as it was
 pub record Stays (old new : Moment) : Type 0 where
@@ -50,10 +54,11 @@ label ours = if ours then readers else others
 abbrev pub By : Who → History → ℕ → ℕ → Type 0
 By who h from to = (k : ℕ) → from ≤ k → k < to → h.who k ≡ who
 
--- the caller made no step, and its lock stays
+-- the caller made no step, its lock stays, and it didn't call for it
 pub record Passes (old new : History) : Type 0 where
   pub past : Extends old new
   pub ours : new.ours ≡ old.ours
+  pub locks : new.locks ≡ old.locks
   pub by_others : By (label old.ours) new old.last new.last
 
 -- the lock may have changed hands, and the caller made no step

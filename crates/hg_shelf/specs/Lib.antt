@@ -1,3 +1,4 @@
+pub mod Asks
 pub mod Crash
 pub mod History
 pub mod Images

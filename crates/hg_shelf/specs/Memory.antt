@@ -4,6 +4,9 @@ use Rattle.hg_base.specs.Calls.{Counted, answered, failed, is_due, unmade}
 use Rattle.hg_shelf.specs.History.{Files, History, Who, us, others, label}
 use Rattle.hg_shelf.specs.Images.{Images, Scene}
 use Rattle.hg_shelf.specs.Rules.{content, overwritten, TornAt, Surely, Perhaps, moved, without}
+use Rattle.hg_shelf.specs.declared.asked.Asked.{Asked}
+use Rattle.hg_shelf.specs.declared.asked.LockAnswer.{LockAnswer}
+use Rattle.hg_shelf.specs.declared.asked.LockCall.{LockCall}
 use Rattle.hg_shelf.specs.declared.outside.Change.{Change}
 use Rattle.hg_shelf.specs.declared.outside.Due.{Due}
 use Rattle.hg_shelf.specs.declared.outside.Outside.{Outside}
@@ -12,7 +15,7 @@ use Rattle.hg_shelf.specs.declared.outside.Step.{Step}
 use Rattle.hg_shelf.specs.declared.outside.Step.TheVariants as a_step
 
 -- what was changed, in order; what others are to change just before a call; the calls of the shelf; whether another holds the lock,
--- and whether the caller does; and how many locks were refused
+-- and whether the caller does; how many locks were refused; what was asked, and the calls of the lock
 pub record Memory : Type 0 where
   pub changes : List Change
   pub due : List Due
@@ -20,10 +23,12 @@ pub record Memory : Type 0 where
   pub away : Bool
   pub ours : Bool
   pub refusals : ℕ
+  pub asked : List Asked
+  pub locks : List LockCall
 
 -- a shelf of which no call was made yet, none is to fail, and whose lock is free
 abbrev pub fresh : Memory
-fresh = record { changes = []; due = []; calls = unmade; away = false; ours = false; refusals = 0 }
+fresh = record { changes = []; due = []; calls = unmade; away = false; ours = false; refusals = 0; asked = []; locks = [] }
 
 -- the files with one put in place of what had its name
 abbrev pub with_file : List ℕ → List ℕ → Files → Files
@@ -109,6 +114,8 @@ history_of memory = record {
   last = length memory.changes;
   at = λ k. record { files = (scene_at memory k).files };
   who = maker_at memory.changes;
+  asked = memory.asked;
+  locks = memory.locks;
 }
 
 abbrev pub images_of : Memory → ℕ → Images
@@ -167,3 +174,20 @@ pub record Lacks (old new : Memory) : Type 0 where
 -- what a call leaves that failed
 abbrev pub Fails : Memory → Memory → Type 0
 Fails old new = ((is_due old.calls ≡ true) × (new ≡ after_failure old)) ⊎ Lacks old new
+
+-- what was asked is noted, and what a call of the lock came to
+abbrev pub asking : Asked → Memory → Memory
+asking ask memory = record memory { asked = memory.asked ++ ask ∷ [] }
+
+abbrev pub locking : LockAnswer → Memory → Memory
+locking answer memory = record memory { locks = memory.locks ++ record { answer = answer; moment = length memory.changes } ∷ [] }
+
+-- what a call leaves that asked and failed: it is noted, unless there was no memory
+abbrev pub FailsAsking : Asked → Memory → Memory → Type 0
+FailsAsking ask old new = Fails (asking ask old) new ⊎ Lacks old new
+
+-- what a call of the lock leaves that failed: it is noted, unless there was no memory
+pub record FailsLocking (answer : LockAnswer) (old new : Memory) : Type 0 where
+  pub behind : Memory
+  pub failed : Fails old behind
+  pub noted : (new ≡ locking answer behind) ⊎ (new ≡ behind)

@@ -20,15 +20,18 @@
 //! ```
 #![tactic(auto)]
 
+mod asked;
 mod crash;
 mod due;
 mod files;
 mod log;
 mod memory;
+mod noting;
 mod outside;
 mod shelf;
 mod steps;
 
+pub use asked::{Asked, LockAnswer, LockCall};
 pub use memory::MemShelf;
 pub use outside::{Change, Due, Outside, Step};
 pub use shelf::Shelf;

@@ -4,14 +4,18 @@ ghost use Rattle.hg_base.specs.Calls.{fails_at, failed, is_due};
 ghost use Rattle.hg_base.specs.Fault.{HasCause, Rose};
 ghost use Rattle.hg_base.specs.Reads.{ReadsBytes, IsWithin};
 ghost use Rattle.hg_shelf.specs.History.{now};
-ghost use Rattle.hg_shelf.specs.Memory.{Fails, after_call, after_due, after_own, by_others, coming, fresh, history_of, images_of};
+ghost use Rattle.hg_shelf.specs.Memory.{Fails, FailsAsking, FailsLocking, after_call, after_due, after_own, asking, by_others, coming, fresh, history_of, images_of, locking};
 ghost use Rattle.hg_shelf.specs.Reads.{size_of};
 ghost use Rattle.hg_shelf.specs.Sound.{named_leaves, shown_named};
+ghost use Rattle.hg_shelf.specs.declared.asked.Asked.TheVariants as an_ask;
+ghost use Rattle.hg_shelf.specs.declared.asked.LockAnswer.TheVariants as an_answer;
 ghost use Rattle.hg_shelf.specs.declared.outside.Outside.TheVariants as a_change;
 ghost use Rattle.hg_shelf.specs.declared.outside.Step.TheVariants as a_step;
 
+use crate::asked::{Asked, LockAnswer, LockCall};
 use crate::due::make_due;
 use crate::log::Log;
+use crate::noting::{note_lock, note_read, note_size};
 use crate::outside::{Change, Due, Outside, Step};
 use crate::shelf::Shelf;
 use crate::steps::{placed, removed, renamed, synced, wrote};
@@ -29,6 +33,8 @@ pub struct MemShelf {
     away: bool,
     ours: bool,
     refusals: u64,
+    asked: Vec<Asked>,
+    locks: Vec<LockCall>,
 }
 
 impl Model for MemShelf {
@@ -36,7 +42,7 @@ impl Model for MemShelf {
 
     ghost Value = { Memory };
 
-    ghost view = { λ s. record { changes = s.log; due = s.due.items; calls = s.calls; away = s.away; ours = s.ours; refusals = s.refusals } };
+    ghost view = { λ s. record { changes = s.log; due = s.due.items; calls = s.calls; away = s.away; ours = s.ours; refusals = s.refusals; asked = s.asked.items; locks = s.locks.items } };
 }
 
 impl MemShelf {
@@ -52,6 +58,8 @@ impl MemShelf {
             away: false,
             ours: false,
             refusals: 0,
+            asked: Vec::new(alloc),
+            locks: Vec::new(alloc),
         })
     }
 
@@ -103,6 +111,20 @@ impl MemShelf {
         self.calls.made()
     }
 
+    /// What the shelf was asked so far, the first call first.
+    pub fn asked(&self) -> &[Asked]
+        ensures { result.now ≡ self.now.asked }
+    {
+        self.asked.as_slice()
+    }
+
+    /// The calls of its lock so far, the first one first.
+    pub fn locks(&self) -> &[LockCall]
+        ensures { result.now ≡ self.now.locks }
+    {
+        self.locks.as_slice()
+    }
+
     /// What was changed, in order.
     pub(crate) fn changes(&self) -> &[Change]
         ensures { result.now ≡ self.now.changes }
@@ -137,6 +159,68 @@ impl MemShelf {
                 Ok(call)
             }
             Err(_) => Err(fail_next(&mut self.calls)),
+        }
+    }
+
+    // Begins a call that asks for a size, which is noted, also where the call fails.
+    fn begin_size(&mut self, name: &str) -> Result<(), Failed>
+        ensures ok { OnOk result (self.new ≡ asking (an_ask.Size name.now) (after_call self.old)) }
+        ensures failed { OnErr result (FailsAsking (an_ask.Size name.now) self.old self.new) }
+        ensures due { IsTrue (is_due self.old.calls) → is_err result ≡ true }
+        ensures cause { HasCause self.old.calls.faults self.new.calls.faults result (λ e. Unit {0}) }
+    {
+        match note_size(self.alloc, &mut self.asked, name) {
+            Ok(()) => {
+                self.begin()?;
+                Ok(())
+            }
+            Err(_) => Err(fail_next(&mut self.calls)),
+        }
+    }
+
+    // Begins a call that asks for bytes, which is noted, also where the call fails.
+    fn begin_read(&mut self, name: &str) -> Result<(), Failed>
+        ensures ok { OnOk result (self.new ≡ asking (an_ask.Read name.now) (after_call self.old)) }
+        ensures failed { OnErr result (FailsAsking (an_ask.Read name.now) self.old self.new) }
+        ensures due { IsTrue (is_due self.old.calls) → is_err result ≡ true }
+        ensures cause { HasCause self.old.calls.faults self.new.calls.faults result (λ e. Unit {0}) }
+    {
+        match note_read(self.alloc, &mut self.asked, name) {
+            Ok(()) => {
+                self.begin()?;
+                Ok(())
+            }
+            Err(_) => Err(fail_next(&mut self.calls)),
+        }
+    }
+
+    // Begins a call of the lock. Where it fails that is noted, unless there is no memory.
+    fn begin_lock(&mut self, failing: LockAnswer) -> Result<(), Failed>
+        ensures ok { OnOk result (self.new ≡ after_call self.old) }
+        ensures failed { OnErr result (FailsLocking failing self.old self.new) }
+        ensures due { IsTrue (is_due self.old.calls) → is_err result ≡ true }
+        ensures cause { HasCause self.old.calls.faults self.new.calls.faults result (λ e. Unit {0}) }
+    {
+        match self.begin() {
+            Ok(_) => Ok(()),
+            Err(failed) => {
+                let _ = note_lock(&mut self.locks, failing, &self.log);
+                Err(failed)
+            }
+        }
+    }
+
+    // Does a call of the lock, which comes to this or fails. Without memory to note it it fails.
+    fn do_lock(&mut self, answer: LockAnswer, failing: LockAnswer) -> Result<(), Failed>
+        ensures ok { OnOk result (self.new ≡ locking answer (after_call self.old)) }
+        ensures failed { OnErr result (FailsLocking failing self.old self.new) }
+        ensures due { IsTrue (is_due self.old.calls) → is_err result ≡ true }
+        ensures cause { HasCause self.old.calls.faults self.new.calls.faults result (λ e. Unit {0}) }
+    {
+        self.begin_lock(failing)?;
+        match note_lock(&mut self.locks, answer, &self.log) {
+            Ok(()) => Ok(()),
+            Err(_) => Err(self.calls.fail()),
         }
     }
 
@@ -203,11 +287,10 @@ impl Shelf for MemShelf {
         ensures found { IfOk result (λ size. size ≡ size_of ((now (history_of (after_due self.old))).files name.now)) }
         ensures cause { HasCause self.old.calls.faults self.new.calls.faults result (λ e. Unit {0}) }
         ensures due { IsTrue (is_due self.old.calls) → is_err result ≡ true }
-        ensures alone { coming self.old ≡ [] → is_err result ≡ is_due self.old.calls }
-        ensures answered { OnOk result (self.new ≡ after_call self.old) }
-        ensures failed { OnErr result (Fails self.old self.new) }
+        ensures answered { OnOk result (self.new ≡ asking (an_ask.Size name.now) (after_call self.old)) }
+        ensures failed { OnErr result (FailsAsking (an_ask.Size name.now) self.old self.new) }
     {
-        self.begin()?;
+        self.begin_size(name)?;
         Ok(self.log.get(name).map(|bytes| bytes.len() as u64))
     }
 
@@ -216,11 +299,10 @@ impl Shelf for MemShelf {
         ensures fit { IfOk result (λ got. IsWithin (length buf.old) got) }
         ensures cause { HasCause self.old.calls.faults self.new.calls.faults result (λ e. Unit {0}) }
         ensures due { IsTrue (is_due self.old.calls) → is_err result ≡ true }
-        ensures alone { coming self.old ≡ [] → is_err result ≡ is_due self.old.calls }
-        ensures answered { OnOk result (self.new ≡ after_call self.old) }
-        ensures failed { OnErr result (Fails self.old self.new) }
+        ensures answered { OnOk result (self.new ≡ asking (an_ask.Read name.now) (after_call self.old)) }
+        ensures failed { OnErr result (FailsAsking (an_ask.Read name.now) self.old self.new) }
     {
-        self.begin()?;
+        self.begin_read(name)?;
         match self.log.get(name) {
             Some(bytes) => Ok(Got::Bytes(read_past(bytes, place, buf))),
             None => Ok(Got::Absent),
@@ -278,34 +360,33 @@ impl Shelf for MemShelf {
 
     fn lock(&mut self) -> Result<bool, Failed>
         ensures due { IsTrue (is_due self.old.calls) → is_err result ≡ true }
-        ensures alone { coming self.old ≡ [] → is_err result ≡ is_due self.old.calls }
         ensures taken { IfOk result (λ taken. taken ≡ not self.old.away) }
         ensures answered { IfOk
             result
             (λ taken. self.new
             ≡ (if taken
-            then record (after_call self.old) { ours = true }
-            else record (after_call self.old) { refusals = min (self.old.refusals + 1) (2 ^ 64 - 1) })) }
-        ensures failed { OnErr result (Fails self.old self.new) }
+            then record (locking an_answer.Taken (after_call self.old)) { ours = true }
+            else record (locking an_answer.Refused (after_call self.old)) { refusals = min (self.old.refusals + 1) (2 ^ 64 - 1) })) }
+        ensures failed { OnErr result (FailsLocking an_answer.NotTaken self.old self.new) }
         ensures cause { HasCause self.old.calls.faults self.new.calls.faults result (λ e. Unit {0}) }
     {
-        self.begin()?;
         if self.away {
+            self.do_lock(LockAnswer::Refused, LockAnswer::NotTaken)?;
             self.refusals = risen(self.refusals);
             return Ok(false);
         }
+        self.do_lock(LockAnswer::Taken, LockAnswer::NotTaken)?;
         self.ours = true;
         Ok(true)
     }
 
     fn unlock(&mut self) -> Result<(), Failed>
         ensures due { IsTrue (is_due self.old.calls) → is_err result ≡ true }
-        ensures alone { coming self.old ≡ [] → is_err result ≡ is_due self.old.calls }
-        ensures answered { OnOk result (self.new ≡ record (after_call self.old) { ours = false }) }
-        ensures failed { OnErr result (Fails self.old self.new) }
+        ensures answered { OnOk result (self.new ≡ record (locking an_answer.GivenBack (after_call self.old)) { ours = false }) }
+        ensures failed { OnErr result (FailsLocking an_answer.NotGivenBack self.old self.new) }
         ensures cause { HasCause self.old.calls.faults self.new.calls.faults result (λ e. Unit {0}) }
     {
-        self.begin()?;
+        self.do_lock(LockAnswer::GivenBack, LockAnswer::NotGivenBack)?;
         self.ours = false;
         Ok(())
     }

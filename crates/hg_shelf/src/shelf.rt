@@ -1,12 +1,14 @@
 // The trait of what holds the files below `.hg`.
-ghost use Rattle.std.specs.Prelude.{◌≡◌, ◌≤◌, ◌⊎◌, ℕ, length, IfOk, OnOk, OnErr, IsTrue};
+ghost use Rattle.std.specs.Prelude.{◌≡◌, ◌≤◌, ◌⊎◌, ◌∷◌, [], ℕ, length, IfOk, OnOk, OnErr, IsTrue, is_ok};
 ghost use Rattle.hg_base.specs.Fault.{HasCause};
 ghost use Rattle.hg_base.specs.Reads.{ReadsBytes, IsWithin};
+ghost use Rattle.hg_shelf.specs.Asks.{Asks, AsksNothing};
 ghost use Rattle.hg_shelf.specs.History.{History, Files, Passes, Waits, now};
 ghost use Rattle.hg_shelf.specs.Images.{Images, Goes, Acts, course};
-ghost use Rattle.hg_shelf.specs.Lock.{Locks, Unlocks};
+ghost use Rattle.hg_shelf.specs.Lock.{Locks, NotesLock, NotesUnlock, Unlocks};
 ghost use Rattle.hg_shelf.specs.Reads.{size_of};
 ghost use Rattle.hg_shelf.specs.Rules.{Writes, Tears, Syncs, SyncsNames, Renames, Removes};
+ghost use Rattle.hg_shelf.specs.declared.asked.Asked.TheVariants as an_ask;
 
 use hg_base::{Failed, Got};
 
@@ -15,7 +17,7 @@ use hg_base::{Failed, Got};
 /// Between two calls, and within one, others may change files. After a crash a file may have lost what no `sync` made sure, and a
 /// rename or a removal what no `sync_names` did; each call says what it adds to what a crash may leave. A crash frees the lock.
 pub trait Shelf {
-    // The moments so far, where they are told, and whether the caller holds the lock.
+    // The moments so far, and what was asked, where they are told; and whether the caller holds the lock.
     ghost history: { Self → History };
 
     // What a crash may leave at each moment.
@@ -31,6 +33,7 @@ pub trait Shelf {
     fn size(&mut self, name: &str) -> Result<Option<u64>, Failed>
         ensures passes { Passes (history self.old) (history self.new) }
         ensures kept { Goes (course (history self.old) (images self.old)) (course (history self.new) (images self.new)) }
+        ensures asked { IsTrue (history self.old).told → Asks (is_ok result) (an_ask.Size name.now ∷ []) (history self.old) (history self.new) }
         ensures found { IsTrue (history self.old).told
             → IfOk result (λ size. size ≡ size_of ((now (history self.new)).files name.now)) }
         ensures held { held self.new ≡ held self.old }
@@ -40,6 +43,7 @@ pub trait Shelf {
     fn read_at(&mut self, name: &str, place: u64, buf: &mut [u8]) -> Result<Got, Failed>
         ensures passes { Passes (history self.old) (history self.new) }
         ensures kept { Goes (course (history self.old) (images self.old)) (course (history self.new) (images self.new)) }
+        ensures asked { IsTrue (history self.old).told → Asks (is_ok result) (an_ask.Read name.now ∷ []) (history self.old) (history self.new) }
         ensures found { IsTrue (history self.old).told
             → IfOk result (λ got. ReadsBytes ((now (history self.new)).files name.now) place buf.old buf.new got) }
         ensures fit { IfOk result (λ got. IsWithin (length buf.old) got) }
@@ -66,6 +70,7 @@ pub trait Shelf {
             ⊎ Passes (history self.old) (history self.new)) }
         ensures kept { Goes (course (history self.old) (images self.old)) (course (history self.new) (images self.new)) }
         ensures ours { (history self.new).ours ≡ (history self.old).ours }
+        ensures unasked { AsksNothing (history self.old) (history self.new) }
         ensures held { held self.new ≡ held self.old }
         ensures cause { HasCause (faults self.old) (faults self.new) result (λ e. Unit {0}) };
 
@@ -78,6 +83,7 @@ pub trait Shelf {
         ensures unsynced { OnErr result (Passes (history self.old) (history self.new)) }
         ensures kept { Goes (course (history self.old) (images self.old)) (course (history self.new) (images self.new)) }
         ensures ours { (history self.new).ours ≡ (history self.old).ours }
+        ensures unasked { AsksNothing (history self.old) (history self.new) }
         ensures held { held self.new ≡ held self.old }
         ensures cause { HasCause (faults self.old) (faults self.new) result (λ e. Unit {0}) };
 
@@ -101,6 +107,7 @@ pub trait Shelf {
             ⊎ Passes (history self.old) (history self.new)) }
         ensures kept { Goes (course (history self.old) (images self.old)) (course (history self.new) (images self.new)) }
         ensures ours { (history self.new).ours ≡ (history self.old).ours }
+        ensures unasked { AsksNothing (history self.old) (history self.new) }
         ensures held { held self.new ≡ held self.old }
         ensures cause { HasCause (faults self.old) (faults self.new) result (λ e. Unit {0}) };
 
@@ -113,6 +120,7 @@ pub trait Shelf {
         ensures unsynced { OnErr result (Passes (history self.old) (history self.new)) }
         ensures kept { Goes (course (history self.old) (images self.old)) (course (history self.new) (images self.new)) }
         ensures ours { (history self.new).ours ≡ (history self.old).ours }
+        ensures unasked { AsksNothing (history self.old) (history self.new) }
         ensures held { held self.new ≡ held self.old }
         ensures cause { HasCause (faults self.old) (faults self.new) result (λ e. Unit {0}) };
 
@@ -129,6 +137,7 @@ pub trait Shelf {
             ⊎ Passes (history self.old) (history self.new)) }
         ensures kept { Goes (course (history self.old) (images self.old)) (course (history self.new) (images self.new)) }
         ensures ours { (history self.new).ours ≡ (history self.old).ours }
+        ensures unasked { AsksNothing (history self.old) (history self.new) }
         ensures held { held self.new ≡ held self.old }
         ensures cause { HasCause (faults self.old) (faults self.new) result (λ e. Unit {0}) };
 
@@ -136,6 +145,8 @@ pub trait Shelf {
     fn lock(&mut self) -> Result<bool, Failed>
         ensures waits { Waits (history self.old) (history self.new) }
         ensures kept { Goes (course (history self.old) (images self.old)) (course (history self.new) (images self.new)) }
+        ensures unasked { (history self.new).asked ≡ (history self.old).asked }
+        ensures noted { IsTrue (history self.old).told → NotesLock (history self.old) (history self.new) result }
         ensures locks { Locks (history self.old).ours (history self.new).ours (held self.old) (held self.new) result }
         ensures cause { HasCause (faults self.old) (faults self.new) result (λ e. Unit {0}) };
 
@@ -143,6 +154,8 @@ pub trait Shelf {
     fn unlock(&mut self) -> Result<(), Failed>
         ensures waits { Waits (history self.old) (history self.new) }
         ensures kept { Goes (course (history self.old) (images self.old)) (course (history self.new) (images self.new)) }
+        ensures unasked { (history self.new).asked ≡ (history self.old).asked }
+        ensures noted { IsTrue (history self.old).told → NotesUnlock (history self.old) (history self.new) result }
         ensures unlocks { Unlocks (history self.old).ours (history self.new).ours result }
         ensures held { held self.new ≡ held self.old }
         ensures cause { HasCause (faults self.old) (faults self.new) result (λ e. Unit {0}) };

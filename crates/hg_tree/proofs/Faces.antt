@@ -12,7 +12,7 @@ use Rattle.hg_tree.specs.declared.thing.Placed.{Placed}
 use Rattle.hg_tree.specs.Moment.{Moment, stat_at, stat_of}
 use Rattle.hg_tree.specs.History.{History}
 use Rattle.hg_base.specs.Times.{IsBefore, IsAtMost}
-use Rattle.hg_tree.specs.Honest.{Face, face, face_of, face_with, has_name, Shows, IsHonest, LawOfFaces, HonestPast}
+use Rattle.hg_tree.specs.Honest.{Face, face, face_of, face_with, has_name, Shows, IsHonest, LawOfFaces, HonestPast, StaysPast}
 use Rattle.hg_tree.proofs.Stable.{stable_face}
 
 -- a time before another, and that one not after a third
@@ -29,21 +29,24 @@ before_not_most a b (inl p) (inr q) = <ℤ_irrefl (subst (λ (s : ℤ). a.second
 before_not_most a b (inr p) (inl q) = <ℤ_irrefl (subst (λ (s : ℤ). s <ℤ a.seconds) (sym p.0) q)
 before_not_most a b (inr p) (inr q) = omega (arith, p.1, q.1)
 
-module _ (h : History) (honest : IsHonest h) (path : List ℕ) (time : Time) (j : ℕ) (shown : Shows (h.at j) path time) (past : IsBefore time (h.at j).clock) where
-  -- the time stays below the clock
-  below : (d i : ℕ) → i ≡ j + d → i ≤ h.last → IsBefore time (h.at i).clock
-  below zero i at within = subst (λ (n : ℕ). IsBefore time (h.at n).clock) (omega (arith, at)) past
-  below (suc d) i at within =
-      let earlier : IsBefore time (h.at (j + d)).clock = below d (j + d) refl (omega (arith, at, within)) in
-      subst (λ (n : ℕ). IsBefore time (h.at n).clock) (omega (arith, at))
-      (before_most time (h.at (j + d)).clock (h.at ((j + d) + 1)).clock earlier (honest.clocks (j + d) (omega (arith, at, within))))
+-- a time below the clock is below it any number of moments later
+pub still_past : (h : History) → IsHonest h → (time : Time) (j d i : ℕ) → i ≡ j + d → i ≤ h.last → IsBefore time (h.at j).clock → IsBefore time (h.at i).clock
+still_past h honest time j zero i at within past = subst (λ (n : ℕ). IsBefore time (h.at n).clock) (omega (arith, at)) past
+still_past h honest time j (suc d) i at within past =
+    let earlier : IsBefore time (h.at (j + d)).clock = still_past h honest time j d (j + d) refl (omega (arith, at, within)) past in
+    subst (λ (n : ℕ). IsBefore time (h.at n).clock) (omega (arith, at))
+    (before_most time (h.at (j + d)).clock (h.at ((j + d) + 1)).clock earlier (honest.clocks (j + d) (omega (arith, at, within))))
 
+pub stays_past : StaysPast
+stays_past h honest time j k order within past = still_past h honest time j (k - j) k (omega (arith, order)) within past
+
+module _ (h : History) (honest : IsHonest h) (path : List ℕ) (time : Time) (j : ℕ) (shown : Shows (h.at j) path time) (past : IsBefore time (h.at j).clock) where
   -- a moment that shows it has the face of the moment before
   back : (i : ℕ) → j ≤ i → i < h.last → Shows (h.at (i + 1)) path time → face (h.at i) path ≡ face (h.at (i + 1)) path
   back i from within shows =
       stable_face (face (h.at i) path) (face (h.at (i + 1)) path)
       (λ differs. elim (honest.faces i path time within differs shows) [
-        | inl late ↦ before_not_most time (h.at i).clock (below (i - j) i (omega (arith, from)) (omega (arith, within))) late
+        | inl late ↦ before_not_most time (h.at i).clock (stays_past h honest time j i from (omega (arith, within)) past) late
         | inr never ↦ never j from shown
       ])
 

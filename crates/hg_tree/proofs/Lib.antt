@@ -10,4 +10,5 @@ pub mod Shown
 pub mod Spans
 pub mod Stable
 pub mod Stillness
+pub mod Telling
 pub mod Times

@@ -48,6 +48,10 @@ pub record IsHonest (h : History) : Type 0 where
   pub faces : (k : ℕ) (path : List ℕ) (time : Time) → k < h.last → face (h.at k) path ≢ face (h.at (k + 1)) path → Shows (h.at (k + 1)) path time
       → IsAtMost (h.at k).clock time ⊎ ((i : ℕ) → i ≤ k → ¬ (Shows (h.at i) path time))
 
+-- a time below the clock stays below it
+abbrev pub StaysPast : Type 0
+StaysPast = (h : History) → IsHonest h → (time : Time) (j k : ℕ) → j ≤ k → k ≤ h.last → IsBefore time (h.at j).clock → IsBefore time (h.at k).clock
+
 -- where a path showed a time below the clock, and shows it at a later moment, it has one face at all moments from the one to the other
 abbrev pub LawOfFaces : Type 0
 LawOfFaces =

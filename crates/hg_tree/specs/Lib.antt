@@ -6,3 +6,4 @@ pub mod Memory
 pub mod Moment
 pub mod Parents
 pub mod Still
+pub mod Telling

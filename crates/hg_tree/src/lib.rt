@@ -16,7 +16,8 @@
 //! ```
 //!
 //! What the words of the contracts mean stands in `specs/`: `Moment.antt` for one moment, `History.antt` for many, `Still.antt` for what
-//! stays as it is while others change something else. Lemmas for the crates above are in `proofs/`: `Histories`, `Spans`, `Stillness`.
+//! stays as it is while others change something else. Lemmas for the crates above are in `proofs/`: `Histories`, `Spans`,
+//! `Stillness`, and of faces and times `Faces` and `Telling`.
 #![tactic(auto)]
 
 mod asked;
@@ -32,7 +33,7 @@ mod things;
 pub use asked::{Asked, Change, Outside};
 pub use device::Tree;
 pub use fault::TreeFault;
-pub use honest::{faces_stay, honest_past};
+pub use honest::{faces_are_listed, faces_stay, faces_tell, honest_past, stays_past};
 pub use memory::MemTree;
 pub use name::Name;
 pub use thing::{Placed, Thing};

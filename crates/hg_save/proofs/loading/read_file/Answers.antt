@@ -1,6 +1,10 @@
+use Rattle.std.proofs.Common.{true, [], ◌∷◌}
 use Rattle.std.proofs.Common.{◌∙◌}
 use Rattle.hg_shelf.proofs.Scenes.{goes_trans}
 use Rattle.hg_save.specs.Loads.{bytes_of}
+use Rattle.hg_shelf.proofs.Asks.{answered, front_first, order_next}
+use Rattle.hg_shelf.specs.declared.asked.Asked.TheVariants as an_ask
+use Rattle.hg_save.specs.Record.{data_name}
 use Rattle.hg_save.proofs.Loads.{file_rest, gone_sized}
 use Rattle.hg_save.proofs.loading.read_file.Goals as goal
 
@@ -17,3 +21,14 @@ returns-in-Ok-Some-clause-found g c = λ told.
 
 pub returns-in-Ok-Some-clause-kept : goal.returns-in-Ok-Some-clause-kept
 returns-in-Ok-Some-clause-kept g c = goes_trans _ _ _ c.size.ensures.kept c.read_front.ensures.kept
+
+pub returns-in-Ok-None-clause-asked : goal.returns-in-Ok-None-clause-asked
+returns-in-Ok-None-clause-asked g c = λ told.
+    front_first true (an_ask.Size (data_name c.args.id)) (an_ask.Read (data_name c.args.id) ∷ []) (g.S.Shelf.history c.args.shelf.now) (g.S.Shelf.history c.size.new.self)
+    (rw (c.as_str.ensures, c.of.ensures) at (c.in-Ok-None.ensures.asked told))
+
+pub returns-in-Ok-Some-clause-asked : goal.returns-in-Ok-Some-clause-asked
+returns-in-Ok-Some-clause-asked g c = λ told.
+    order_next (an_ask.Size (data_name c.args.id)) (an_ask.Read (data_name c.args.id) ∷ []) (g.S.Shelf.history c.args.shelf.now) (g.S.Shelf.history c.size.new.self) (g.S.Shelf.history c.read_front.new.shelf) c.read_front.result
+    (answered (an_ask.Size (data_name c.args.id) ∷ []) (g.S.Shelf.history c.args.shelf.now) (g.S.Shelf.history c.size.new.self) (rw (c.as_str.ensures, c.of.ensures) at (c.in-Ok-Some.ensures.asked told)))
+    (c.read_front.ensures.asked (c.size.ensures.passes.past.told ∙ told))

@@ -1,7 +1,10 @@
+use Rattle.std.proofs.Common.{true, false, []}
 use Rattle.std.proofs.Common.{◌∙◌, arith}
 use Rattle.std.proofs.lemmas.Result.{err_from_is_err_and}
 use Rattle.hg_shelf.specs.History.{now}
 use Rattle.hg_save.specs.Record.{data_name}
+use Rattle.hg_shelf.proofs.Asks.{front_first}
+use Rattle.hg_shelf.specs.declared.asked.Asked.TheVariants as an_ask
 use Rattle.hg_save.proofs.Loads.{cut_front, front_free, front_gone, front_read}
 use Rattle.hg_save.proofs.loading.read_front.Goals as goal
 
@@ -24,3 +27,13 @@ returns-in-Ok-Bytes-clause-found g c = λ told.
     (len ∙ c.in_ok-nodes.ensures.len)
     (rw (c.in-Ok-Bytes.field-0-is, c.as_str.ensures, c.of-name.ensures) at (c.in-Ok-Bytes.ensures.found told))
     (c.truncate.ensures.items ∙ cut_front c.in-Ok-Bytes.n c.in_ok-nodes.nodes.len c.read_at.new.buf _ (omega (arith, fits, len)) (omega (arith, fits, kept)))
+
+pub returns-in-Err-clause-asked : goal.returns-in-Err-clause-asked
+returns-in-Err-clause-asked g c = λ told.
+    front_first false (an_ask.Read (data_name c.args.id)) [] (g.S.Shelf.history c.args.shelf.now) (g.S.Shelf.history c.read_at.new.self)
+    (rw (c.as_str.ensures, c.of-name.ensures) at (c.in-Err.ensures.asked told))
+
+pub returns-in-Ok-Absent-clause-asked : goal.returns-in-Ok-Absent-clause-asked
+returns-in-Ok-Absent-clause-asked g c = λ told.
+    front_first true (an_ask.Read (data_name c.args.id)) [] (g.S.Shelf.history c.args.shelf.now) (g.S.Shelf.history c.read_at.new.self)
+    (rw (c.as_str.ensures, c.of-name.ensures) at (c.in-Ok-Absent.ensures.asked told))

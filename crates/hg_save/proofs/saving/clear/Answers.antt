@@ -1,19 +1,21 @@
-use Rattle.std.proofs.Common.{◌≡◌, ℕ, List, ap, sym, ◌∙◌, subst, None}
+use Rattle.std.proofs.Common.{◌≡◌, ℕ, List, refl, ap, sym, ◌∙◌, subst, None, inl}
 use Rattle.std.proofs.lemmas.Result.{on_ok_weaker}
 use Rattle.hg_docket.specs.Docket.{Contents, docket_of}
 use Rattle.hg_shelf.specs.Images.{course, last_scene}
 use Rattle.hg_shelf.specs.Rules.{Perhaps, without}
-use Rattle.hg_save.specs.Leads.{Leads, OwnSteps, StepBy}
+use Rattle.hg_save.specs.Leads.{Clears, Leads, OwnSteps, StepBy}
 use Rattle.hg_save.specs.Record.{data_name}
-use Rattle.hg_save.proofs.Names.{empty_id, read_id}
+use Rattle.hg_save.proofs.Kept.{goes_there, steps_weaker}
+use Rattle.hg_save.proofs.Names.{empty_id, read_id, some_id}
 use Rattle.hg_save.proofs.Own.{no_call, remove_steps}
-use Rattle.hg_save.proofs.Parts.{either, gone_from, perhaps_itself, remove_leads, remove_shown, unstepped}
+use Rattle.hg_save.proofs.Parts.{either, gone_from, remove_leads, remove_shown, unstepped}
+use Rattle.hg_save.proofs.Stages.{leads_weaker}
 use Rattle.hg_save.proofs.saving.clear.Goals as goal
 
 pub returns-then-is_empty-clause-leads : goal.returns-then-is_empty-clause-leads
 returns-then-is_empty-clause-leads g c = λ calm.
-    unstepped (Perhaps (without (data_name (docket_of c.args.docket.now).id))) (course (g.S.Shelf.history c.args.shelf.now) (g.S.Shelf.images c.args.shelf.now)) c.requires.held
-    (perhaps_itself (without (data_name (docket_of c.args.docket.now).id)))
+    unstepped (Clears (docket_of c.args.docket.now).id) (course (g.S.Shelf.history c.args.shelf.now) (g.S.Shelf.images c.args.shelf.now)) c.requires.held
+    (λ f. inl (λ at. refl))
 
 pub returns-then-is_empty-clause-gone : goal.returns-then-is_empty-clause-gone
 returns-then-is_empty-clause-gone g c = λ calm some.
@@ -22,10 +24,13 @@ returns-then-is_empty-clause-gone g c = λ calm some.
 pub returns-clause-leads : goal.returns-clause-leads
 returns-clause-leads g c = λ calm.
     let id = read_id c.in-Some.id c.in-Ok.docket.id.now c.in-Some.ensures ∙ ap (λ (d : Contents). d.id) c.in-Ok.ensures.fields in
-    subst (λ (name : List ℕ). Leads (Perhaps (without name)) (course (g.S.Shelf.history c.args.shelf.now) (g.S.Shelf.images c.args.shelf.now)) (course (g.S.Shelf.history c.remove.new.self) (g.S.Shelf.images c.remove.new.self)))
+    leads_weaker (course (g.S.Shelf.history c.args.shelf.now) (g.S.Shelf.images c.args.shelf.now)) (course (g.S.Shelf.history c.remove.new.self) (g.S.Shelf.images c.remove.new.self))
+    (Perhaps (without (data_name (docket_of c.args.docket.now).id))) (Clears (docket_of c.args.docket.now).id)
+    (goes_there (docket_of c.args.docket.now).id (λ none. some_id c.in-Ok.docket.id.now c.is_empty.result c.is_empty.ensures c.if-is_empty.false (ap (λ (d : Contents). d.id) c.in-Ok.ensures.fields ∙ none)))
+    (subst (λ (name : List ℕ). Leads (Perhaps (without name)) (course (g.S.Shelf.history c.args.shelf.now) (g.S.Shelf.images c.args.shelf.now)) (course (g.S.Shelf.history c.remove.new.self) (g.S.Shelf.images c.remove.new.self)))
     (c.as_str.ensures ∙ c.of.ensures ∙ ap data_name id)
     (remove_leads c.as_str.result.now (course (g.S.Shelf.history c.args.shelf.now) (g.S.Shelf.images c.args.shelf.now)) (course (g.S.Shelf.history c.remove.new.self) (g.S.Shelf.images c.remove.new.self))
-    c.requires.held c.remove.ensures.ours c.remove.ensures.kept calm (either c.remove.result (c.remove.ensures.removed calm.told) (c.remove.ensures.perhaps calm.told)))
+    c.requires.held c.remove.ensures.ours c.remove.ensures.kept calm (either c.remove.result (c.remove.ensures.removed calm.told) (c.remove.ensures.perhaps calm.told))))
 
 pub returns-clause-gone : goal.returns-clause-gone
 returns-clause-gone g c = λ calm.
@@ -39,12 +44,15 @@ returns-clause-gone g c = λ calm.
     (c.remove.ensures.removed calm.told)
 
 pub returns-then-is_empty-clause-steps : goal.returns-then-is_empty-clause-steps
-returns-then-is_empty-clause-steps g c = λ calm. no_call (StepBy (Perhaps (without (data_name (docket_of c.args.docket.now).id)))) (course (g.S.Shelf.history c.args.shelf.now) (g.S.Shelf.images c.args.shelf.now))
+returns-then-is_empty-clause-steps g c = λ calm. no_call (StepBy (Clears (docket_of c.args.docket.now).id)) (course (g.S.Shelf.history c.args.shelf.now) (g.S.Shelf.images c.args.shelf.now))
 
 pub returns-clause-steps : goal.returns-clause-steps
 returns-clause-steps g c = λ calm.
     let id = read_id c.in-Some.id c.in-Ok.docket.id.now c.in-Some.ensures ∙ ap (λ (d : Contents). d.id) c.in-Ok.ensures.fields in
-    subst (λ (name : List ℕ). OwnSteps (StepBy (Perhaps (without name))) (course (g.S.Shelf.history c.args.shelf.now) (g.S.Shelf.images c.args.shelf.now)) (course (g.S.Shelf.history c.remove.new.self) (g.S.Shelf.images c.remove.new.self)))
+    steps_weaker (Perhaps (without (data_name (docket_of c.args.docket.now).id))) (Clears (docket_of c.args.docket.now).id)
+    (goes_there (docket_of c.args.docket.now).id (λ none. some_id c.in-Ok.docket.id.now c.is_empty.result c.is_empty.ensures c.if-is_empty.false (ap (λ (d : Contents). d.id) c.in-Ok.ensures.fields ∙ none)))
+    (course (g.S.Shelf.history c.args.shelf.now) (g.S.Shelf.images c.args.shelf.now)) (course (g.S.Shelf.history c.remove.new.self) (g.S.Shelf.images c.remove.new.self))
+    (subst (λ (name : List ℕ). OwnSteps (StepBy (Perhaps (without name))) (course (g.S.Shelf.history c.args.shelf.now) (g.S.Shelf.images c.args.shelf.now)) (course (g.S.Shelf.history c.remove.new.self) (g.S.Shelf.images c.remove.new.self)))
     (c.as_str.ensures ∙ c.of.ensures ∙ ap data_name id)
     (remove_steps c.as_str.result.now (course (g.S.Shelf.history c.args.shelf.now) (g.S.Shelf.images c.args.shelf.now)) (course (g.S.Shelf.history c.remove.new.self) (g.S.Shelf.images c.remove.new.self))
-    c.requires.held (either c.remove.result (c.remove.ensures.removed calm.told) (c.remove.ensures.perhaps calm.told)))
+    c.requires.held (either c.remove.result (c.remove.ensures.removed calm.told) (c.remove.ensures.perhaps calm.told))))

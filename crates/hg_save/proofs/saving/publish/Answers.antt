@@ -3,7 +3,8 @@ use Rattle.std.proofs.lemmas.Result.{err_from_is_err_and}
 use Rattle.hg_shelf.specs.History.{now}
 use Rattle.hg_shelf.specs.Images.{course}
 use Rattle.hg_shelf.proofs.Scenes.{goes_trans, second_part}
-use Rattle.hg_save.proofs.Exits.{crash_four, crash_one, crash_three, crash_two, latest_four, latest_one, latest_three, latest_two, left_four, left_one, left_three, left_two, others_four, others_one, others_three, others_two, records_four}
+use Rattle.hg_save.proofs.Exits.{crash_four, crash_one, crash_three, crash_two, exact_four, latest_four, latest_one, latest_three, latest_two, left_four, left_one, left_three, left_two, others_four, others_one, others_three, others_two, records_four}
+use Rattle.hg_save.proofs.Keeping.{keep_four, keep_one, keep_three, keep_two}
 use Rattle.hg_save.proofs.Orderly.{orderly_four, orderly_one, orderly_three, orderly_two}
 use Rattle.hg_save.proofs.Stages.{on_ok}
 use Rattle.hg_save.proofs.saving.publish.Goals as goal
@@ -15,6 +16,10 @@ returns-in_err-put-clause-crash g c =
 
 pub returns-in_err-put-clause-sure : goal.returns-in_err-put-clause-sure
 returns-in_err-put-clause-sure g c = λ calm.
+    let p = err_from_is_err_and c.from_residual.result c.from_residual.ensures.1 in rw p.1 tt
+
+pub returns-in_err-put-clause-exact : goal.returns-in_err-put-clause-exact
+returns-in_err-put-clause-exact g c = λ calm.
     let p = err_from_is_err_and c.from_residual.result c.from_residual.ensures.1 in rw p.1 tt
 
 pub returns-in_err-put-clause-left : goal.returns-in_err-put-clause-left
@@ -30,6 +35,10 @@ returns-in_err-put-2-clause-crash g c =
 
 pub returns-in_err-put-2-clause-sure : goal.returns-in_err-put-2-clause-sure
 returns-in_err-put-2-clause-sure g c = λ calm.
+    let p = err_from_is_err_and c.from_residual-in_err-put-2.result c.from_residual-in_err-put-2.ensures.1 in rw p.1 tt
+
+pub returns-in_err-put-2-clause-exact : goal.returns-in_err-put-2-clause-exact
+returns-in_err-put-2-clause-exact g c = λ calm.
     let p = err_from_is_err_and c.from_residual-in_err-put-2.result c.from_residual-in_err-put-2.ensures.1 in rw p.1 tt
 
 pub returns-in_err-put-2-clause-left : goal.returns-in_err-put-2-clause-left
@@ -51,6 +60,10 @@ returns-in_err-swap-clause-crash g c =
 
 pub returns-in_err-swap-clause-sure : goal.returns-in_err-swap-clause-sure
 returns-in_err-swap-clause-sure g c = λ calm.
+    let p = err_from_is_err_and c.from_residual-in_err-swap.result c.from_residual-in_err-swap.ensures.1 in rw p.1 tt
+
+pub returns-in_err-swap-clause-exact : goal.returns-in_err-swap-clause-exact
+returns-in_err-swap-clause-exact g c = λ calm.
     let p = err_from_is_err_and c.from_residual-in_err-swap.result c.from_residual-in_err-swap.ensures.1 in rw p.1 tt
 
 pub returns-in_err-swap-clause-left : goal.returns-in_err-swap-clause-left
@@ -77,6 +90,15 @@ pub returns-clause-sure : goal.returns-clause-sure
 returns-clause-sure g c = λ calm.
     on_ok c.clear.result
     (records_four c.args.loaded.now.docket.items c.args.new.now c.requires.over (course (g.S.Shelf.history c.args.shelf.now) (g.S.Shelf.images c.args.shelf.now)) (course (g.S.Shelf.history c.put.new.shelf) (g.S.Shelf.images c.put.new.shelf)) c.in_ok-put.ensures.kept (course (g.S.Shelf.history c.put-2.new.shelf) (g.S.Shelf.images c.put-2.new.shelf)) c.in_ok-put-2.ensures.kept
+    (λ calm. record { leads = (rw (c.as_str.ensures, c.of-name.ensures) at c.in_ok-put.ensures.leads) calm; sure = (rw (c.as_str.ensures, c.of-name.ensures, c.as_slice.ensures.value) at c.in_ok-put.ensures.sure) calm })
+    (λ calm. record { leads = c.in_ok-put-2.ensures.leads calm; sure = (rw c.as_slice-2.ensures.value at c.in_ok-put-2.ensures.sure) calm })
+    (course (g.S.Shelf.history c.swap.new.shelf) (g.S.Shelf.images c.swap.new.shelf)) c.in_ok-swap.ensures.kept c.in_ok-swap.ensures.leads c.in_ok-swap.ensures.done
+    (course (g.S.Shelf.history c.clear.new.shelf) (g.S.Shelf.images c.clear.new.shelf)) c.clear.ensures.kept (rw c.as_slice-3.ensures.value at c.clear.ensures.leads) calm)
+
+pub returns-clause-exact : goal.returns-clause-exact
+returns-clause-exact g c = λ calm.
+    on_ok c.clear.result
+    (exact_four c.args.loaded.now.docket.items c.args.new.now c.requires.over (course (g.S.Shelf.history c.args.shelf.now) (g.S.Shelf.images c.args.shelf.now)) (course (g.S.Shelf.history c.put.new.shelf) (g.S.Shelf.images c.put.new.shelf)) c.in_ok-put.ensures.kept (course (g.S.Shelf.history c.put-2.new.shelf) (g.S.Shelf.images c.put-2.new.shelf)) c.in_ok-put-2.ensures.kept
     (λ calm. record { leads = (rw (c.as_str.ensures, c.of-name.ensures) at c.in_ok-put.ensures.leads) calm; sure = (rw (c.as_str.ensures, c.of-name.ensures, c.as_slice.ensures.value) at c.in_ok-put.ensures.sure) calm })
     (λ calm. record { leads = c.in_ok-put-2.ensures.leads calm; sure = (rw c.as_slice-2.ensures.value at c.in_ok-put-2.ensures.sure) calm })
     (course (g.S.Shelf.history c.swap.new.shelf) (g.S.Shelf.images c.swap.new.shelf)) c.in_ok-swap.ensures.kept c.in_ok-swap.ensures.leads c.in_ok-swap.ensures.done
@@ -173,6 +195,34 @@ returns-in_err-swap-clause-orderly g c =
 pub returns-clause-orderly : goal.returns-clause-orderly
 returns-clause-orderly g c =
     orderly_four c.args.loaded.now.docket.items c.args.new.now c.requires.over (course (g.S.Shelf.history c.args.shelf.now) (g.S.Shelf.images c.args.shelf.now)) (course (g.S.Shelf.history c.put.new.shelf) (g.S.Shelf.images c.put.new.shelf)) c.in_ok-put.ensures.kept (course (g.S.Shelf.history c.put-2.new.shelf) (g.S.Shelf.images c.put-2.new.shelf)) c.in_ok-put-2.ensures.kept
+    (rw (c.as_str.ensures, c.of-name.ensures) at c.in_ok-put.ensures.steps) c.in_ok-put-2.ensures.steps
+    (λ calm. record { leads = (rw (c.as_str.ensures, c.of-name.ensures) at c.in_ok-put.ensures.leads) calm; sure = (rw (c.as_str.ensures, c.of-name.ensures, c.as_slice.ensures.value) at c.in_ok-put.ensures.sure) calm })
+    (λ calm. record { leads = c.in_ok-put-2.ensures.leads calm; sure = (rw c.as_slice-2.ensures.value at c.in_ok-put-2.ensures.sure) calm })
+    (course (g.S.Shelf.history c.swap.new.shelf) (g.S.Shelf.images c.swap.new.shelf)) c.in_ok-swap.ensures.kept c.in_ok-swap.ensures.steps c.in_ok-swap.ensures.done
+    (course (g.S.Shelf.history c.clear.new.shelf) (g.S.Shelf.images c.clear.new.shelf)) c.clear.ensures.kept (rw c.as_slice-3.ensures.value at c.clear.ensures.leads) (rw c.as_slice-3.ensures.value at c.clear.ensures.steps)
+
+pub returns-in_err-put-clause-keeping : goal.returns-in_err-put-clause-keeping
+returns-in_err-put-clause-keeping g c =
+    keep_one c.args.loaded.now.docket.items c.args.new.now c.requires.over (course (g.S.Shelf.history c.args.shelf.now) (g.S.Shelf.images c.args.shelf.now)) (course (g.S.Shelf.history c.put.new.shelf) (g.S.Shelf.images c.put.new.shelf)) c.in_err-put.ensures.kept
+    (rw (c.as_str.ensures, c.of-name.ensures) at c.in_err-put.ensures.leads) (rw (c.as_str.ensures, c.of-name.ensures) at c.in_err-put.ensures.steps)
+
+pub returns-in_err-put-2-clause-keeping : goal.returns-in_err-put-2-clause-keeping
+returns-in_err-put-2-clause-keeping g c =
+    keep_two c.args.loaded.now.docket.items c.args.new.now c.requires.over (course (g.S.Shelf.history c.args.shelf.now) (g.S.Shelf.images c.args.shelf.now)) (course (g.S.Shelf.history c.put.new.shelf) (g.S.Shelf.images c.put.new.shelf)) c.in_ok-put.ensures.kept (course (g.S.Shelf.history c.put-2.new.shelf) (g.S.Shelf.images c.put-2.new.shelf)) c.in_err-put-2.ensures.kept
+    (rw (c.as_str.ensures, c.of-name.ensures) at c.in_ok-put.ensures.steps) c.in_err-put-2.ensures.steps
+    (rw (c.as_str.ensures, c.of-name.ensures) at c.in_ok-put.ensures.leads) c.in_err-put-2.ensures.leads
+
+pub returns-in_err-swap-clause-keeping : goal.returns-in_err-swap-clause-keeping
+returns-in_err-swap-clause-keeping g c =
+    keep_three c.args.loaded.now.docket.items c.args.new.now c.requires.over (course (g.S.Shelf.history c.args.shelf.now) (g.S.Shelf.images c.args.shelf.now)) (course (g.S.Shelf.history c.put.new.shelf) (g.S.Shelf.images c.put.new.shelf)) c.in_ok-put.ensures.kept (course (g.S.Shelf.history c.put-2.new.shelf) (g.S.Shelf.images c.put-2.new.shelf)) c.in_ok-put-2.ensures.kept
+    (rw (c.as_str.ensures, c.of-name.ensures) at c.in_ok-put.ensures.steps) c.in_ok-put-2.ensures.steps
+    (λ calm. record { leads = (rw (c.as_str.ensures, c.of-name.ensures) at c.in_ok-put.ensures.leads) calm; sure = (rw (c.as_str.ensures, c.of-name.ensures, c.as_slice.ensures.value) at c.in_ok-put.ensures.sure) calm })
+    (λ calm. record { leads = c.in_ok-put-2.ensures.leads calm; sure = (rw c.as_slice-2.ensures.value at c.in_ok-put-2.ensures.sure) calm })
+    (course (g.S.Shelf.history c.swap.new.shelf) (g.S.Shelf.images c.swap.new.shelf)) c.in_err-swap.ensures.kept c.in_err-swap.ensures.steps
+
+pub returns-clause-keeping : goal.returns-clause-keeping
+returns-clause-keeping g c =
+    keep_four c.args.loaded.now.docket.items c.args.new.now c.requires.over (course (g.S.Shelf.history c.args.shelf.now) (g.S.Shelf.images c.args.shelf.now)) (course (g.S.Shelf.history c.put.new.shelf) (g.S.Shelf.images c.put.new.shelf)) c.in_ok-put.ensures.kept (course (g.S.Shelf.history c.put-2.new.shelf) (g.S.Shelf.images c.put-2.new.shelf)) c.in_ok-put-2.ensures.kept
     (rw (c.as_str.ensures, c.of-name.ensures) at c.in_ok-put.ensures.steps) c.in_ok-put-2.ensures.steps
     (λ calm. record { leads = (rw (c.as_str.ensures, c.of-name.ensures) at c.in_ok-put.ensures.leads) calm; sure = (rw (c.as_str.ensures, c.of-name.ensures, c.as_slice.ensures.value) at c.in_ok-put.ensures.sure) calm })
     (λ calm. record { leads = c.in_ok-put-2.ensures.leads calm; sure = (rw c.as_slice-2.ensures.value at c.in_ok-put-2.ensures.sure) calm })

@@ -1,0 +1,30 @@
+-- What a load asks the shelf for: the docket, then the data file that it names.
+use Rattle.std.specs.Prelude.{ℕ, ◌≡◌, ◌==◌, if◌then◌else◌, List, [], ◌∷◌, Result, IfOk, codes}
+use Rattle.hg_docket.specs.Docket.{Contents, docket_of}
+use Rattle.hg_shelf.specs.Asks.{AsksInOrder}
+use Rattle.hg_shelf.specs.History.{History}
+use Rattle.hg_shelf.specs.declared.asked.Asked.{Asked}
+use Rattle.hg_shelf.specs.declared.asked.Asked.TheVariants as an_ask
+use Rattle.hg_save.specs.Loads.{During, files_at}
+use Rattle.hg_save.specs.Record.{data_name, docket_in}
+use Rattle.hg_save.specs.declared.load_fault.LoadFault.{LoadFault}
+use Rattle.hg_save.specs.declared.loaded.Loaded.{Loaded}
+
+-- the bytes of the docket
+abbrev pub docket_ask : Asked
+docket_ask = an_ask.Read (codes "dirstate")
+
+-- the size and the bytes of a data file
+abbrev pub file_asks : List ℕ → List Asked
+file_asks id = an_ask.Size (data_name id) ∷ an_ask.Read (data_name id) ∷ []
+
+-- those of the data file that a docket names, where it uses any
+abbrev pub data_asks : Contents → List Asked
+data_asks docket = if docket.used == 0 then [] else file_asks docket.id
+
+-- a load asks for the docket as it stood at a moment of the call and then for the data file that this one names, each once
+pub record AsksAsOf (old new : History) (result : Result Loaded LoadFault) : Type 0 where
+  pub at : ℕ
+  pub during : During old new at
+  pub asks : AsksInOrder (docket_ask ∷ data_asks (docket_of (docket_in (files_at new at)))) old new result
+  pub docket : IfOk result (λ loaded. loaded.docket.items ≡ docket_in (files_at new at))
