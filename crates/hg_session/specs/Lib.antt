@@ -5,10 +5,14 @@ pub mod Call
 pub mod Cause
 pub mod Change
 pub mod Changed
-pub mod Command
+pub mod Commands
 pub mod Crash
 pub mod Debug
 pub mod Flags
 pub mod Listed
 pub mod Load
 pub mod Loaded
+pub mod Locks
+pub mod Look
+pub mod Put
+pub mod Status

@@ -20,3 +20,9 @@ pub returns-clause-cause : goal.returns-clause-cause
 returns-clause-cause g c =
     cause_still IsBytesOf (g.S.Shelf.faults c.args.shelf.now) (g.S.Shelf.faults c.load.new.shelf) c.text_in.result (data_reading (docket_of c.in_ok-loaded.loaded.docket.items) c.in_ok-loaded.loaded.nodes.items)
     c.in_ok-loaded.ensures.cause.quiet c.text_in.ensures
+
+pub returns-in_err-loaded-clause-only : goal.returns-in_err-loaded-clause-only
+returns-in_err-loaded-clause-only g c = record { passes = c.load.ensures.passes; kept = c.load.ensures.kept; held = c.load.ensures.held }
+
+pub returns-clause-only : goal.returns-clause-only
+returns-clause-only g c = record { passes = c.load.ensures.passes; kept = c.load.ensures.kept; held = c.load.ensures.held }
