@@ -7,12 +7,15 @@ use Rattle.hg_tree.specs.History.{Extends, History, IsOurs, Passes, now}
 use Rattle.hg_tree.specs.Moment.{Moment}
 use Rattle.hg_tree.specs.declared.asked.Asked.{Asked}
 use Rattle.hg_tree.specs.declared.asked.Asked.TheVariants as an_ask
+use Rattle.hg_tree.proofs.Histories.{extends_same, extends_trans}
 use Rattle.hg_tree.proofs.Spans.{ours_first, passes_trans}
 use Rattle.hg_flat.specs.Asked.{AsksAll, AsksBehind, AsksFor, AsksReads, IsDirBelow, IsDirIn, IsListedDir, IsPatternsRead, IsTaken, IsVisibleDir, pattern_reads}
 use Rattle.hg_flat.specs.Course.{AsksPatterns}
 use Rattle.hg_flat.specs.Listing.{IsEntered}
+use Rattle.hg_flat.specs.Parent.{Asking, WasAsked}
 use Rattle.hg_flat.specs.Patterns.{needs_patterns}
 use Rattle.hg_listing.specs.declared.row.Wanted.{Wanted}
+use Rattle.hg_flat.proofs.Asking.{asked_later, asked_longer}
 use Rattle.hg_flat.proofs.Asks.{asks_none, below_later, reads_none}
 
 -- ---- the patterns
@@ -41,12 +44,13 @@ own_unneeded wanted h none = sym (ap (λ (b : Bool). h.asked ++ cond b (reads_at
 
 -- ---- all calls
 
-behind : (first : List Asked) (C : List ℕ → Type 0) (V W : Option (List ℕ) → Type 0) (a b c d : History) → b.asked ≡ a.asked ++ first → AsksReads C b c → AsksFor V c d → ((dir : Option (List ℕ)) → V dir → W dir) → AsksBehind first C W a d
-behind first C V W a b c d is reads lists weaker = record {
+behind : (first : List Asked) (asks : Asking) (V W : Option (List ℕ) → Type 0) (a b c d : History) → Extends a b → Extends b c → Extends c d → b.asked ≡ a.asked ++ first → AsksReads (WasAsked asks b c) b c
+    → AsksFor V c d → ((dir : Option (List ℕ)) → V dir → W dir) → AsksBehind first asks W a d
+behind first asks V W a b c d first_past second_past third_past is reads lists weaker = record {
   paths = reads.paths;
   dirs = lists.dirs;
   asked = lists.asked ∙ ap (λ (l : List Asked). l ++ map an_ask.List lists.dirs) (reads.asked ∙ ap (λ (l : List Asked). l ++ map an_ask.Read reads.paths) is);
-  compared = reads.compared;
+  compared = λ path has. asked_longer asks a c d path (extends_trans a b c first_past second_past) third_past (asked_later asks a b c path first_past (reads.compared path has));
   once = lists.once;
   within = λ dir has. weaker dir (lists.within dir has);
 }
@@ -64,7 +68,7 @@ taken_in wanted state old mid new moment dir (inl is) at unwanted = subst (IsTak
 taken_in wanted state old mid new moment dir (inr d) at unwanted =
     subst (IsTaken moment) (sym d.is) (subst (λ (s : List Piece). Ignored s d.path → ⊥) at (d.entered unwanted))
 
-module _ (wanted : Wanted) (C : List ℕ → Type 0) (state : List Piece) (old mid later new : History) (first : Passes old mid) (second : Passes mid later) (third : Passes later new)
+module _ (wanted : Wanted) (asks : Asking) (state : List Piece) (old mid later new : History) (first : Passes old mid) (second : Passes mid later) (third : Passes later new)
     (still : IsOurs old mid → needs_patterns wanted ≡ true → state ≡ Ignore (now old)) where
   -- what the listing goes into
   abbrev Entered : Option (List ℕ) → Type 0
@@ -79,28 +83,28 @@ module _ (wanted : Wanted) (C : List ℕ → Type 0) (state : List Piece) (old m
     ),
   )
 
-  pub all_asks : AsksPatterns wanted old mid → AsksReads C mid later → AsksFor Entered later new → AsksAll wanted C (IsListedDir wanted old new) old new
+  pub all_asks : AsksPatterns wanted old mid → AsksReads (WasAsked asks mid later) mid later → AsksFor Entered later new → AsksAll wanted asks (IsListedDir wanted old new) old new
   all_asks (first_asks, are, is) reads lists = (
     first_asks,
     read_longer wanted old mid new first_asks (passes_trans mid later new second third).past are,
-    behind first_asks C Entered (IsListedDir wanted old new) old mid later new is reads lists listed,
+    behind first_asks asks Entered (IsListedDir wanted old new) old mid later new first.past second.past third.past is reads lists listed,
   )
 
-  pub own_asks : mid.asked ≡ old.asked ++ pattern_reads wanted (now old) → AsksReads C mid later → AsksFor Entered later new → AsksBehind (pattern_reads wanted (now old)) C (IsListedDir wanted old new) old new
-  own_asks is reads lists = behind (pattern_reads wanted (now old)) C Entered (IsListedDir wanted old new) old mid later new is reads lists listed
+  pub own_asks : mid.asked ≡ old.asked ++ pattern_reads wanted (now old) → AsksReads (WasAsked asks mid later) mid later → AsksFor Entered later new → AsksBehind (pattern_reads wanted (now old)) asks (IsListedDir wanted old new) old new
+  own_asks is reads lists = behind (pattern_reads wanted (now old)) asks Entered (IsListedDir wanted old new) old mid later new first.past second.past third.past is reads lists listed
 
 -- a status that stops behind the patterns
-pub asks_first : (wanted : Wanted) (C : List ℕ → Type 0) (old new : History) → AsksPatterns wanted old new → AsksAll wanted C (IsListedDir wanted old new) old new
-asks_first wanted C old new (first, are, is) = (
+pub asks_first : (wanted : Wanted) (asks : Asking) (old new : History) → Extends old new → AsksPatterns wanted old new → AsksAll wanted asks (IsListedDir wanted old new) old new
+asks_first wanted asks old new past (first, are, is) = (
   first,
   are,
-  behind first C (IsListedDir wanted old new) (IsListedDir wanted old new) old new new new is (reads_none C new new refl) (asks_none (IsListedDir wanted old new) new new refl) (λ dir within. within),
+  behind first asks (IsListedDir wanted old new) (IsListedDir wanted old new) old new new new past (extends_same new) (extends_same new) is (reads_none (WasAsked asks new new) new new refl) (asks_none (IsListedDir wanted old new) new new refl) (λ dir within. within),
 )
 
 -- one that stops among the tracked paths
-pub asks_second : (wanted : Wanted) (C : List ℕ → Type 0) (old mid new : History) → Extends mid new → AsksPatterns wanted old mid → AsksReads C mid new → AsksAll wanted C (IsListedDir wanted old new) old new
-asks_second wanted C old mid new second (first, are, is) reads = (
+pub asks_second : (wanted : Wanted) (asks : Asking) (old mid new : History) → Extends old mid → Extends mid new → AsksPatterns wanted old mid → AsksReads (WasAsked asks mid new) mid new → AsksAll wanted asks (IsListedDir wanted old new) old new
+asks_second wanted asks old mid new past second (first, are, is) reads = (
   first,
   read_longer wanted old mid new first second are,
-  behind first C (IsListedDir wanted old new) (IsListedDir wanted old new) old mid new new is reads (asks_none (IsListedDir wanted old new) new new refl) (λ dir within. within),
+  behind first asks (IsListedDir wanted old new) (IsListedDir wanted old new) old mid new new past second (extends_same new) is reads (asks_none (IsListedDir wanted old new) new new refl) (λ dir within. within),
 )

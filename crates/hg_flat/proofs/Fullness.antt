@@ -4,6 +4,7 @@ use Rattle.std.specs.List.{AllByRecursion, Contains, IsDistinct, dedup}
 use Rattle.std.specs.List.Sorted.{IsPermutation, IsSorted, IsStrictlySortedBy}
 use Rattle.std.specs.Ordering.{eq_by_cmp}
 use Rattle.std.specs.Str.{bytes_eq}
+use Rattle.std.proofs.lemmas.Bool.{and_parts}
 use Rattle.std.proofs.lemmas.Slice.Eq.{bytes_eq-Decides}
 use Rattle.std.proofs.lemmas.List.Elements.{Contains-append_cases, Contains-append_left, Contains-append_right, Contains-push_cases}
 use Rattle.hg_base.specs.declared.id.Id20.{Id20}
@@ -15,10 +16,10 @@ use Rattle.hg_ignore.specs.State.{Ignore, Piece}
 use Rattle.hg_compare.specs.Tracked.{ParentRow, is_file_or_link, tracked_letter}
 use Rattle.hg_compare.specs.declared.letter.Letter.{Letter}
 use Rattle.hg_listing.specs.Full.{HasLetter, HasLetterBy, IsFull, IsFullFor, IsTold, wants}
-use Rattle.hg_flat.specs.Kept.{AreNamed, HaveOwnPaths, Kept, flat_from, source_of}
+use Rattle.hg_flat.specs.Kept.{AreNamed, HaveOwnPaths, Kept, KeptRows, flat_from, source_of}
 use Rattle.hg_flat.specs.Listing.{AddsTracked, ArePutFor, Gives, GivesLetter, IsPutFor, IsUnknownIn, IsUntrackedRow, Lists, letter_at, row_under, rows_under, untracked_row}
 use Rattle.hg_listing.specs.Order.{row_order, whole_order}
-use Rattle.hg_flat.specs.Parent.{IsAsked, IsServed, is_plain_entry, parent_rows}
+use Rattle.hg_flat.specs.Parent.{IsAsked, IsServed, asked_by, is_compared, is_plain_entry, parent_rows}
 use Rattle.hg_flat.specs.Patterns.{ignored_at, needs_patterns}
 use Rattle.hg_flat.specs.declared.kept.FlatRow.{FlatRow}
 use Rattle.hg_listing.specs.declared.row.Row.{Row}
@@ -28,7 +29,7 @@ use Rattle.hg_flat.proofs.Ignoring.{gives_needs, one_letter}
 use Rattle.hg_flat.proofs.Tracking.{from_put, in_put, under_has, under_one}
 
 -- these rows are what is kept, and no others
-pub record Holds (kept : Kept) (rows : List FlatRow) : Type 0 where
+pub record Holds (kept : KeptRows) (rows : List FlatRow) : Type 0 where
   pub found : (row : FlatRow) → Contains rows row → kept row.path ≡ Some row
   pub all : (path : List ℕ) (row : FlatRow) → kept path ≡ Some row → Contains rows row
 
@@ -40,9 +41,17 @@ each_of P (row ∷ rows) all r has =
       | inr later ↦ each_of P rows all.1 r later
     ]
 
-module _ (p1 p2 : List ℕ) (kept : Kept) (files : shelves.Files) (id : Id20) (moment : Moment) (wanted : Wanted) (named : AreNamed kept) where
+-- a path has no row where none is kept of it
+pub none_is : (o : Option FlatRow) → is_some o ≡ false → o ≡ None
+none_is None is = refl
+none_is (Some row) is = absurd (cc (is))
+
+module _ (p1 p2 : List ℕ) (kept : KeptRows) (files : shelves.Files) (id : Id20) (moment : Moment) (wanted : Wanted) (named : AreNamed kept) where
   abbrev flat : Flat
   flat = flat_from p1 p2 kept
+
+  abbrev keeps : Kept
+  keeps path = is_some (kept path)
 
   -- what is told of a path
   abbrev Tells : Row → Type 0
@@ -68,24 +77,24 @@ module _ (p1 p2 : List ℕ) (kept : Kept) (files : shelves.Files) (id : Id20) (m
   told_tracked : (k : FlatRow) (letter : Letter) → kept k.path ≡ Some k → letter_at files id moment k ≡ Some letter → wants wanted letter ≡ true → Tells (row_under k letter)
   told_tracked k letter is has wants = (wants, has_letter k.path k letter is refl has, sym (ap source_of is))
 
-  told_unknown : (letter : Letter) (path : List ℕ) → Gives wanted (Ignore moment) path letter → IsUnknownIn kept moment None path → Tells (untracked_row letter path)
+  told_unknown : (letter : Letter) (path : List ℕ) → Gives wanted (Ignore moment) path letter → IsUnknownIn keeps moment None path → Tells (untracked_row letter path)
   told_unknown letter path gives u = (
     gives.0,
-    subst (λ (o : Option FlatRow). HasLetterBy (option_map (λ r. marks_of (view r.entry)) o) flat moment (parent_rows files id) (ignored_at moment) path letter) (sym u.untracked.1)
+    subst (λ (o : Option FlatRow). HasLetterBy (option_map (λ r. marks_of (view r.entry)) o) flat moment (parent_rows files id) (ignored_at moment) path letter) (sym (none_is (kept path) u.untracked.1))
         (u.untracked.0, λ d below. u.visible d refl below, gives.1),
-    sym (ap source_of u.untracked.1),
+    sym (ap source_of (none_is (kept path) u.untracked.1)),
   )
 
   -- a row that is told is that of an entry, or of a path without one
   told_row : (row : Row) (o : Option FlatRow) → kept row.path ≡ o → Tells row
       → ((k : FlatRow) × (kept row.path ≡ Some k) × (letter_at files id moment k ≡ Some row.letter) × (row ≡ row_under k row.letter))
-      ⊎ ((kept row.path ≡ None) × Gives wanted (Ignore moment) row.path row.letter × IsUnknownIn kept moment None row.path × (row ≡ untracked_row row.letter row.path))
+      ⊎ ((kept row.path ≡ None) × Gives wanted (Ignore moment) row.path row.letter × IsUnknownIn keeps moment None row.path × (row ≡ untracked_row row.letter row.path))
   told_row row None is tells =
       let letter = subst (λ (o : Option FlatRow). HasLetterBy (option_map (λ r. marks_of (view r.entry)) o) flat moment (parent_rows files id) (ignored_at moment) row.path row.letter) is tells.1 in
       inr (
         is,
         (tells.0, letter.2),
-        record { inside = refl; untracked = (letter.0, is); visible = λ d from below. letter.1 d below },
+        record { inside = refl; untracked = (letter.0, ap is_some is); visible = λ d from below. letter.1 d below },
         same_row row (untracked_row row.letter row.path) refl refl (tells.2 ∙ ap source_of is),
       )
   told_row row (Some k) is tells =
@@ -93,8 +102,8 @@ module _ (p1 p2 : List ℕ) (kept : Kept) (files : shelves.Files) (id : Id20) (m
       inl (k, is, letter_back row.path k row.letter is same tells.1, same_row row (row_under k row.letter) refl (sym same) (tells.2 ∙ ap source_of is))
 
   module _ (S : List ℕ → Type 0) (Left : FlatRow → Type 0) (rows : List FlatRow) (own : HaveOwnPaths rows) (holds : Holds kept rows) (left : (k : FlatRow) → Contains rows k → S k.path → Left k) (a b : List Row)
-      (tracked : AddsTracked Left files id moment wanted rows [] a) (state : List Piece) (asks : (path : List ℕ) → S path → kept path ≡ None → needs_patterns wanted ≡ true → state ≡ Ignore moment)
-      (lists : Lists kept (Gives wanted state) S (IsUnknownIn kept moment None) a b) where
+      (tracked : AddsTracked Left files id moment wanted rows [] a) (state : List Piece) (asks : (path : List ℕ) → S path → keeps path ≡ false → needs_patterns wanted ≡ true → state ≡ Ignore moment)
+      (lists : Lists keeps (Gives wanted state) S (IsUnknownIn keeps moment None) a b) where
     abbrev Put : FlatRow → List Row → Type 0
     Put = IsPutFor Left files id moment wanted
 
@@ -141,7 +150,7 @@ module _ (p1 p2 : List ℕ) (kept : Kept) (files : shelves.Files) (id : Id20) (m
               (subst (λ (l : List Row). Contains l row) (sym tracked.1)
               (from.2 row (subst (λ (l : List Row). Contains l row) (sym (from.1.one ∙ from.1.found.right here ∙ ap (rows_under wanted k) letter)) put)))
           | inr (none, gives, unknown, same) ↦
-              let at : state ≡ Ignore moment = asks row.path meets none (gives_needs wanted (Ignore moment) row.path row.letter gives) in
+              let at : state ≡ Ignore moment = asks row.path meets (ap is_some none) (gives_needs wanted (Ignore moment) row.path row.letter gives) in
               Contains-append_right a lists.0 row
               (subst (Contains lists.0) (sym same)
               (lists.2.all row.path row.letter meets unknown (subst (λ (t : List Piece). Gives wanted t row.path row.letter) (sym at) gives)))
@@ -154,7 +163,7 @@ module _ (p1 p2 : List ℕ) (kept : Kept) (files : shelves.Files) (id : Id20) (m
           | inl (k, more, of, put, within) ↦
               let is : row ≡ row_under k row.letter = (put_row k more put row within).1 in
               ap (λ (r : Row). r.source) is ∙ sym (ap source_of (ap (λ (r : Row). kept r.path) is ∙ holds.found k of))
-          | inr second ↦ let e = lists.2.each row second in ap (λ (r : Row). r.source) e.is ∙ sym (ap source_of e.none)
+          | inr second ↦ let e = lists.2.each row second in ap (λ (r : Row). r.source) e.is ∙ sym (ap source_of (none_is (kept row.path) e.none))
         ]
 
     one_row : (k : FlatRow) (more : List Row) → Put k more → (x y : Row) → Contains more x → Contains more y → x ≡ y
@@ -191,7 +200,7 @@ module _ (p1 p2 : List ℕ) (kept : Kept) (files : shelves.Files) (id : Id20) (m
             let is : bytes_eq k.path from.0.path ≡ true = (bytes_eq-Decides k.path from.0.path).1 (sym mine ∙ at ∙ other) in
             absurd (cc (never, is))
 
-    one_other : (x y : Row) → IsUntrackedRow kept (Gives wanted state) x → IsUntrackedRow kept (Gives wanted state) y → x.path ≡ y.path → x ≡ y
+    one_other : (x y : Row) → IsUntrackedRow keeps (Gives wanted state) x → IsUntrackedRow keeps (Gives wanted state) y → x.path ≡ y.path → x ≡ y
     one_other x y left right same =
         let letters : x.letter ≡ y.letter = one_letter state y.path x.letter y.letter (subst (λ (p : List ℕ). GivesLetter state p x.letter) same left.given.1) right.given.1 in
         left.is ∙ ap (untracked_row x.letter) same ∙ ap (λ (l : Letter). untracked_row l y.path) letters ∙ sym right.is
@@ -217,17 +226,20 @@ module _ (p1 p2 : List ℕ) (kept : Kept) (files : shelves.Files) (id : Id20) (m
             let from = from_put Put rows tracked.0 tracked.2 p (subst (λ (l : List Row). Contains l p) tracked.1 first) in
             let mine : p.path ≡ from.0.path = ap (λ (r : Row). r.path) (put_row from.0 from.1 from.3 p from.4).1 in
             let there : kept q.path ≡ Some from.0 = ap kept (sym at ∙ mine) ∙ holds.found from.0 from.2 in
-            let none = (lists.2.each q second).none in absurd (cc (there, none))
+            let none = none_is (kept q.path) (lists.2.each q second).none in absurd (cc (there, none))
 
     -- what a comparison asked for was there
-    pub served_path : (path : List ℕ) → S path → IsAsked wanted flat moment path → IsServed files id moment path
+    pub served_path : (path : List ℕ) → S path → IsAsked (asked_by wanted flat) moment path → IsServed files id moment path
     served_path path meets asked = by (kept path) refl
       where
         test : Option FlatRow → Bool
         test o = (wanted.m || wanted.c) && is_plain_entry (option_map (λ r. marks_of (view r.entry)) o) (is_some (source_of o))
 
+        both : (is_compared wanted flat path ≡ true) × (is_file_or_link (moment.things path) ≡ true)
+        both = and_parts (is_compared wanted flat path) (is_file_or_link (moment.things path)) asked
+
         by : (o : Option FlatRow) → kept path ≡ o → IsServed files id moment path
-        by None is = absurd (never (wanted.m || wanted.c) (sym (ap test is) ∙ asked.compared))
+        by None is = absurd (never (wanted.m || wanted.c) (sym (ap test is) ∙ both.0))
           where
             never : (b : Bool) → (b && false) ≡ true → ⊥
             never true same = absurd (cc (same))
@@ -238,7 +250,7 @@ module _ (p1 p2 : List ℕ) (kept : Kept) (files : shelves.Files) (id : Id20) (m
             let from = in_put Put rows tracked.0 tracked.2 k of in
             subst (IsServed files id moment) same
             (from.1.found.served (left k of (subst S (sym same) meets))
-            (record { compared = sym (ap test is) ∙ asked.compared; there = ap (λ (p : List ℕ). is_file_or_link (moment.things p)) same ∙ asked.there }))
+            (record { compared = sym (ap test is) ∙ both.0; there = ap (λ (p : List ℕ). is_file_or_link (moment.things p)) same ∙ both.1 }))
 
     -- these rows put in order without doubles are the full listing of the paths that meet S
     pub full_for : (c d : List Row) → IsPermutation b c → IsSorted whole_order c → d ≡ dedup (eq_by_cmp whole_order) c → IsFullFor S flat moment (parent_rows files id) (ignored_at moment) wanted d

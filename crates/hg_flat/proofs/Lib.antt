@@ -2,10 +2,12 @@ pub mod Alike
 pub mod Alone
 pub mod Among
 pub mod Ascending
+pub mod Asking
 pub mod Asks
 pub mod Calls
 pub mod Faces
 pub mod Fullness
+pub mod Going
 pub mod Holding
 pub mod Ignoring
 pub mod Leaving
@@ -18,6 +20,7 @@ pub mod Refusing
 pub mod Rooms
 pub mod Spanning
 pub mod Steps
+pub mod Storing
 pub mod Tracking
 pub mod Unknowns
 pub mod Whole

@@ -4,7 +4,6 @@ use Rattle.std.specs.Prelude.{IsTrue, IfErr, IfOk, IfSome, OnOk, MatchBool}
 use Rattle.hg_base.specs.declared.id.Id20.{Id20}
 use Rattle.hg_base.specs.declared.stat.Stat.{Stat}
 use Rattle.hg_tree.specs.History as trees
-use Rattle.hg_tree.proofs.Spans as tree
 use Rattle.hg_shelf.specs.History as shelves
 use Rattle.hg_shelf.specs.Polite.{KeepsFile}
 use Rattle.hg_shelf.specs.Reads.{size_of}
@@ -13,18 +12,19 @@ use Rattle.hg_manifest.specs.Load.{Finds, IsFrontOf, Reads, Stays, Was, file_at,
 use Rattle.hg_manifest.specs.Plain.{is_null, plain_name}
 use Rattle.hg_manifest.specs.Rows.{Rows}
 use Rattle.hg_manifest.specs.declared.fault.ManifestFault.{ManifestFault}
+use Rattle.hg_manifest.specs.declared.fault.ManifestFault.TheVariants as a_manifest_fault
 use Rattle.hg_manifest.specs.declared.row.FileRow.{FileRow}
 use Rattle.hg_manifest.proofs.Loads.{complete}
 use Rattle.hg_compare.specs.Alike.{contents_name}
 use Rattle.hg_compare.specs.Same.{parent_row}
 use Rattle.hg_compare.specs.declared.letter.Letter.{Letter}
-use Rattle.hg_flat.specs.Course.{Goes, IsFound, IsJudged, IsKeptManifest, IsManifest, LacksIn, LacksManifest, LoadsParent, MetBy, compared_letter, upto}
+use Rattle.hg_flat.specs.Course.{IsFound, IsJudged, IsManifest, LacksIn, LacksManifest, LoadsParent, MetBy, compared_letter, upto}
 use Rattle.hg_flat.specs.Met.{Status, WasRead}
 use Rattle.hg_flat.specs.Parent.{KeepsRow, manifest_at, row_among, row_of}
+use Rattle.hg_listing.specs.Cause.{of_manifest}
 use Rattle.hg_listing.specs.declared.fault.StatusFault.{StatusFault}
 use Rattle.hg_listing.specs.declared.fault.StatusFault.TheVariants as a_fault
 use Rattle.hg_flat.specs.declared.parent.Loaded.{Loaded}
-use Rattle.hg_flat.specs.declared.parent.Parent.{Parent}
 
 -- ---- moments of the shelf
 
@@ -70,6 +70,9 @@ read_copy : (s : Status) (copy later : trees.History) (files : shelves.History) 
 read_copy s copy later files answer read =
     record { size = read.size; bytes = read.bytes; few = read.few; short = read.short; sized = read.sized; front = read.front; found = read.found }
 
+pub read_later : (s : Status) (copy later : trees.History) (old new : shelves.History) (answer : Result Rows ManifestFault) → shelves.Passes s.shelf_old old → shelves.Passes old new → WasRead (upto s copy old) answer → WasRead (upto s later new) answer
+read_later s copy later old new answer first second read = read_copy s copy later new answer (read_moved s copy old new answer first second read)
+
 by_null : (P Q R : Type 0) (b : Bool) → (Q → R) → MatchBool b P Q → MatchBool b P R
 by_null P Q R true goes is = is
 by_null P Q R false goes is = goes is
@@ -77,7 +80,7 @@ by_null P Q R false goes is = goes is
 pub manifest_later : (s : Status) (copy later : trees.History) (old new : shelves.History) (rows : Rows) → shelves.Passes s.shelf_old old → shelves.Passes old new → IsManifest (upto s copy old) rows → IsManifest (upto s later new) rows
 manifest_later s copy later old new rows first second is =
     by_null (rows ≡ []) (WasRead (upto s copy old) (Ok rows)) (WasRead (upto s later new) (Ok rows)) (is_null s.id.0)
-    (λ read. read_copy s copy later new (Ok rows) (read_moved s copy old new (Ok rows) first second read)) is
+    (read_later s copy later old new (Ok rows) first second) is
 
 -- what a load read
 reads_was : (s : Status) (copy : trees.History) (old new : shelves.History) (answer : Result Rows ManifestFault) → shelves.Passes s.shelf_old old → shelves.Passes old new → Reads old new (plain_name s.id.0) answer → WasRead (upto s copy new) answer
@@ -105,6 +108,27 @@ load_done s old new id rows answer done first second same null found =
     subst (λ (i : Id20). MatchBool (is_null i.0) (rows ≡ []) (WasRead (upto s s.tree_new new) (Ok rows))) same
     (if_null (rows ≡ []) (WasRead (upto s s.tree_new new) (Ok rows)) (is_null id.0) (λ is. cc (done, null is))
     (λ is. reads_was s s.tree_new old new (Ok rows) first second (subst (λ (i : Id20). Reads old new (plain_name i.0) (Ok rows)) same (found is))))
+
+lacks_file : (s : Status) (old new : shelves.History) (fault : ManifestFault) → is_null s.id.0 ≡ false → shelves.Passes s.shelf_old old → shelves.Passes old new → Finds old new (plain_name s.id.0) s.id (Err fault)
+    → LacksManifest (upto s s.tree_new new) (of_manifest fault)
+lacks_file s old new a_manifest_fault.OutOfMemory committed first second found = tt
+lacks_file s old new a_manifest_fault.Failed committed first second found = tt
+lacks_file s old new (a_manifest_fault.NoManifest gone) committed first second found =
+    (committed, found.0, was_later s.shelf_old old new (plain_name s.id.0) (λ file. file ≡ None) first found.1)
+lacks_file s old new (a_manifest_fault.ManifestTooLarge size) committed first second found =
+    (committed, found.0, was_later s.shelf_old old new (plain_name s.id.0) (λ file. size_of file ≡ Some size) first found.1)
+lacks_file s old new (a_manifest_fault.ManifestLine line) committed first second found =
+    (committed, reads_was s s.tree_new old new (Err (a_manifest_fault.ManifestLine line)) first second found)
+lacks_file s old new (a_manifest_fault.ManifestOrder line) committed first second found =
+    (committed, reads_was s s.tree_new old new (Err (a_manifest_fault.ManifestOrder line)) first second found)
+
+pub load_failed : (s : Status) (old new : shelves.History) (id : Id20) (fault : ManifestFault) (answer : Result Rows ManifestFault) → answer ≡ Err fault → shelves.Passes s.shelf_old old → shelves.Passes old new → id ≡ s.id
+    → (IsTrue (is_null id.0) → answer ≡ Ok []) → (is_null id.0 ≡ false → Finds old new (plain_name id.0) id (Err fault)) → LacksManifest (upto s s.tree_new new) (of_manifest fault)
+load_failed s old new id fault answer failed first second same null found = by (is_null id.0) refl
+  where
+    by : (b : Bool) → is_null id.0 ≡ b → LacksManifest (upto s s.tree_new new) (of_manifest fault)
+    by true is = absurd (cc (failed, null is))
+    by false is = lacks_file s old new fault (ap (λ (i : Id20). is_null i.0) (sym same) ∙ is) first second (subst (λ (i : Id20). Finds old new (plain_name i.0) i (Err fault)) same (found is))
 
 -- ---- a comparison with the parent
 
@@ -178,7 +202,7 @@ found_letter s copy later old new rows path before (Ok letter) first second is k
         (contents_kept (upto s later new) rows path passes keeps formed))
 
 -- rows that have one were read, for a parent that isn't null
-read_some : (s : Status) (rows : Rows) (path : List ℕ) (row : FileRow) → row_of rows path ≡ Some row → IsManifest s rows → (is_null s.id.0 ≡ false) × WasRead s (Ok rows)
+pub read_some : (s : Status) (rows : Rows) (path : List ℕ) (row : FileRow) → row_of rows path ≡ Some row → IsManifest s rows → (is_null s.id.0 ≡ false) × WasRead s (Ok rows)
 read_some s rows path row has is = by (is_null s.id.0) is
   where
     never : row_of [] path ≡ Some row → ⊥
@@ -232,30 +256,6 @@ met_load s path before (a_fault.BadRegexp line) lacks = absurd lacks
 met_load s path before (a_fault.RegexpTooBig line) lacks = absurd lacks
 met_load s path before (a_fault.BadInclude line) lacks = absurd lacks
 
--- ---- a status goes on
-
-kept_later : (s : Status) (copy later : trees.History) (old new : shelves.History) (loaded : Option Loaded) → shelves.Passes s.shelf_old old → shelves.Passes old new → IsKeptManifest (upto s copy old) loaded → IsKeptManifest (upto s later new) loaded
-kept_later s copy later old new None first second is = tt
-kept_later s copy later old new (Some loaded) first second is = manifest_later s copy later old new loaded.manifest first second is
-
-pub goes_on : (s : Status) (copy later : trees.History) (old new : shelves.History) (parent : Parent) → trees.Passes copy later → shelves.Passes old new → Goes (upto s copy old) parent → Goes (upto s later new) parent
-goes_on s copy later old new parent first second goes = record {
-  tree = tree.passes_trans s.tree_old copy later goes.tree first;
-  shelf = shelf.passes_trans s.shelf_old old new goes.shelf second;
-  same = goes.same;
-  read = kept_later s copy later old new parent.loaded goes.shelf second goes.read;
-}
-
--- with a manifest that is loaded
-pub goes_loaded : (s : Status) (copy later : trees.History) (old new : shelves.History) (parent : Parent) (loaded : Loaded) → trees.Passes copy later → shelves.Passes old new → Goes (upto s copy old) parent
-    → IsManifest (upto s later new) loaded.manifest → Goes (upto s later new) (record { id = parent.id; loaded = Some loaded })
-goes_loaded s copy later old new parent loaded first second goes is = record {
-  tree = tree.passes_trans s.tree_old copy later goes.tree first;
-  shelf = shelf.passes_trans s.shelf_old old new goes.shelf second;
-  same = goes.same;
-  read = is;
-}
-
 -- ---- at the ends of the calls
 
 pub loads_room : (s : Status) (rows : Rows) (result : Result Loaded StatusFault) → IfOk result (λ loaded. loaded.manifest ≡ rows) → IfErr result (λ fault. fault ≡ a_fault.OutOfMemory) → IsManifest s rows → LoadsParent s result
@@ -265,6 +265,10 @@ loads_room s rows (Err fault) same kind is = subst (LacksManifest s) (sym kind) 
 pub always : {T E : Type 0} (r : Result T E) (P : Type 0) → P → OnOk r P
 always (Ok x) P is = is
 always (Err e) P is = tt
+
+pub always_failed : {T E : Type 0} (r : Result T E) (P : Type 0) → P → IfErr r (λ e. P)
+always_failed (Ok x) P is = tt
+always_failed (Err e) P is = is
 
 pub ok_each : (r : Result Letter StatusFault) (A B C D E : Status → Type 0) (Q : Status → Letter → Type 0) → ((s : Status) → A s → B s → C s → D s → E s → IfOk r (Q s))
     → IfOk r (λ letter. (s : Status) → A s → B s → C s → D s → E s → Q s letter)

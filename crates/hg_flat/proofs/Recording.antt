@@ -21,9 +21,9 @@ use Rattle.hg_image.specs.View as image_is
 use Rattle.hg_image.specs.Walk.{levels}
 use Rattle.hg_image.specs.declared.opened.Image.{Image}
 use Rattle.hg_image.proofs.Sourced.{IsSourcedByEntry, list_sourced}
-use Rattle.hg_flat.specs.Kept.{HaveOwnPaths, Kept, flat_from, row_at, shown_row, source_of}
+use Rattle.hg_flat.specs.Kept.{HaveOwnPaths, KeptRows, flat_from, row_at, shown_row, source_of}
 use Rattle.hg_flat.specs.Recorded.{Adds, Recorded, Records, recorded_in, recording, recordings}
-use Rattle.hg_flat.specs.Shown.{flat_in, kept_of}
+use Rattle.hg_flat.specs.Shown.{flat_in, rows_of}
 use Rattle.hg_flat.specs.declared.flat.Flat.{Flat}
 use Rattle.hg_flat.specs.declared.kept.FlatRow.{FlatRow}
 
@@ -171,7 +171,7 @@ sourced_by None sourced none = refl
 sourced_by (Some row) sourced none = sourced none
 
 -- a map that keeps what the table says of each path is that of the table
-pub flat_same : (docket : Contents) (nodes : List node.Row) (p1 p2 : List ℕ) (kept : Kept) → AllByRecursion IsSourcedByEntry nodes → p1 ≡ docket.p1 → p2 ≡ docket.p2 → Records (table_of docket nodes) kept
+pub flat_same : (docket : Contents) (nodes : List node.Row) (p1 p2 : List ℕ) (kept : KeptRows) → AllByRecursion IsSourcedByEntry nodes → p1 ≡ docket.p1 → p2 ≡ docket.p2 → Records (table_of docket nodes) kept
     → flat_from p1 p2 kept ≡ flat_of (table_of docket nodes)
 flat_same docket nodes p1 p2 kept sourced first second records =
     let table = table_of docket nodes in
@@ -184,10 +184,10 @@ flat_same docket nodes p1 p2 kept sourced first second records =
 
 -- what was read with these rows
 pub read_flat : (image : Image) (items : List FlatRow) (docket : Docket) (result : Result Flat OutOfMemory) → AreDistinct (image_is.rows image) → Adds (image_is.rows image) [] items → docket ≡ image.docket
-    → IfOk result (λ flat. (path : List ℕ) → kept_of flat path ≡ row_at items path) → IfOk result (λ flat. flat.p1 ≡ docket.p1) → IfOk result (λ flat. flat.p2 ≡ docket.p2) → IfOk result (λ flat. flat_in flat ≡ flat_of (table_in image))
+    → IfOk result (λ flat. (path : List ℕ) → rows_of flat path ≡ row_at items path) → IfOk result (λ flat. flat.p1 ≡ docket.p1) → IfOk result (λ flat. flat.p2 ≡ docket.p2) → IfOk result (λ flat. flat_in flat ≡ flat_of (table_in image))
 read_flat image items docket (Err fault) apart adds is kept first second = tt
 read_flat image items docket (Ok flat) apart adds is kept first second =
-    flat_same (docket_is.view image.docket) (image_is.rows image) flat.p1.0 flat.p2.0 (kept_of flat) (list_sourced levels image.bytes.now image.docket.root_start image.docket.root_count)
+    flat_same (docket_is.view image.docket) (image_is.rows image) flat.p1.0 flat.p2.0 (rows_of flat) (list_sourced levels image.bytes.now image.docket.root_start image.docket.root_count)
     (ap (λ (id : Id20). id.0) first ∙ ap (λ (d : Docket). d.p1.0) is)
     (ap (λ (id : Id20). id.0) second ∙ ap (λ (d : Docket). d.p2.0) is)
     (λ path. ap (option_map shown_row) (kept path) ∙ records (docket_is.view image.docket) (image_is.rows image) items apart adds path)

@@ -2,7 +2,6 @@
 use Rattle.std.proofs.Common.{ℕ, ◌≡◌, true, Some, Result, Ok, Err, IsTrue, ◌∙◌, arith}
 use Rattle.hg_base.specs.declared.id.Id20.{Id20}
 use Rattle.hg_base.specs.declared.stat.Stat.{Stat}
-use Rattle.hg_entry.specs.Table.{Flat}
 use Rattle.hg_tree.specs.History as trees
 use Rattle.hg_tree.specs.Moment.{Moment, stat_at}
 use Rattle.hg_shelf.specs.History as shelves
@@ -12,18 +11,19 @@ use Rattle.hg_manifest.specs.declared.fault.ManifestFault.TheVariants as a_manif
 use Rattle.hg_compare.specs.Alike.{is_alike}
 use Rattle.hg_flat.specs.Course.{LacksPatterns, MetParent}
 use Rattle.hg_flat.specs.Met.{LacksContents, Met, NeedsManifest, Shows, Status, WasRead}
-use Rattle.hg_flat.specs.Parent.{IsAsked}
+use Rattle.hg_flat.specs.Parent.{Asking, IsAsked}
 use Rattle.hg_flat.specs.Patterns.{CountsOversize, is_of_parent, needs_patterns}
 use Rattle.hg_listing.specs.declared.fault.StatusFault.{StatusFault}
 use Rattle.hg_listing.specs.declared.fault.StatusFault.TheVariants as a_fault
 use Rattle.hg_listing.specs.declared.row.Wanted.{Wanted}
+use Rattle.hg_flat.proofs.Asking.{asked_later}
 
-module _ (wanted : Wanted) (flat : Flat) (id : Id20) (start old new : trees.History) (first : trees.Passes start old) (files later : shelves.History) where
+module _ (wanted : Wanted) (asks : Asking) (id : Id20) (start old new : trees.History) (first : trees.Passes start old) (files later : shelves.History) where
   abbrev part : Status
-  part = record { wanted = wanted; flat = flat; id = id; tree_old = old; tree_new = new; shelf_old = files; shelf_new = later }
+  part = record { wanted = wanted; asks = asks; id = id; tree_old = old; tree_new = new; shelf_old = files; shelf_new = later }
 
   abbrev whole : Status
-  whole = record { wanted = wanted; flat = flat; id = id; tree_old = start; tree_new = new; shelf_old = files; shelf_new = later }
+  whole = record { wanted = wanted; asks = asks; id = id; tree_old = start; tree_new = new; shelf_old = files; shelf_new = later }
 
   shows_whole : (P : Moment → Type 0) → Shows part P → Shows whole P
   shows_whole P shows = record {
@@ -38,18 +38,18 @@ module _ (wanted : Wanted) (flat : Flat) (id : Id20) (start old new : trees.Hist
       record { size = read.size; bytes = read.bytes; few = read.few; short = read.short; sized = read.sized; front = read.front; found = read.found }
 
   needs_whole : NeedsManifest part → NeedsManifest whole
-  needs_whole needs = record { path = needs.path; asked = shows_whole (λ moment. IsAsked wanted flat moment needs.path) needs.asked; committed = needs.committed }
+  needs_whole needs = record { path = needs.path; asked = asked_later asks start old new needs.path first.past needs.asked; committed = needs.committed }
 
   lacks_whole : (gone : Id20) → LacksContents part gone → LacksContents whole gone
   lacks_whole gone lacks = record {
     path = lacks.path;
-    compared = lacks.compared;
+    asked = asked_later asks start old new lacks.path first.past lacks.asked;
     rows = lacks.rows;
     read = read_whole (Ok lacks.rows) lacks.read;
     row = lacks.row;
     is = lacks.is;
     names = lacks.names;
-    alike = shows_whole (λ moment. (stat : Stat) × (stat_at moment lacks.path ≡ Some stat) × IsTrue (is_alike lacks.row stat)) lacks.alike;
+    alike = shows_whole (λ moment. IsAsked asks moment lacks.path × (stat : Stat) × (stat_at moment lacks.path ≡ Some stat) × IsTrue (is_alike lacks.row stat)) lacks.alike;
     absent = lacks.absent;
     committed = lacks.committed;
   }

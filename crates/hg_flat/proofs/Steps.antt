@@ -1,5 +1,5 @@
 -- The steps of a listing, for the paths that nobody touches meanwhile, in the words of the moment at its start.
-use Rattle.std.proofs.Common.{ℕ, ◌≡◌, ◌+◌, ◌<◌, Bool, true, false, List, length, take, get_or, Option, Some, None, is_some, option_map, IsTrue, refl, sym, ap, ◌∙◌, subst, inl, inr, ◌⊎◌, arith, ◌++◌}
+use Rattle.std.proofs.Common.{ℕ, ◌≡◌, ◌+◌, ◌<◌, Bool, true, false, List, length, take, get_or, Option, Some, None, option_map, IsTrue, refl, sym, ap, ◌∙◌, subst, inl, inr, ◌⊎◌, arith, ◌++◌}
 use Rattle.std.proofs.lemmas.Bool.{and_parts}
 use Rattle.std.proofs.lemmas.List.{append-nil}
 use Rattle.hg_base.specs.declared.stat.Stat.{Stat}
@@ -23,7 +23,6 @@ use Rattle.hg_flat.specs.Kept.{Kept}
 use Rattle.hg_flat.specs.Listing.{Gives, GivesLetter, HoldsFor, IsUnknownAmong, IsUnknownFrom, IsUnknownIn, Lists, PutsUntracked, rows_if, untracked_row}
 use Rattle.hg_listing.specs.declared.row.Row.{Row}
 use Rattle.hg_listing.specs.declared.row.Wanted.{Wanted}
-use Rattle.hg_flat.specs.declared.kept.FlatRow.{FlatRow}
 use Rattle.hg_flat.proofs.Alike.{alike_back, among_moved, from_moved, in_moved}
 use Rattle.hg_flat.proofs.Ignoring.{none_left, one_letter}
 use Rattle.hg_flat.proofs.Unknowns.{among_more, backward, forward, from_in, here_from, in_from, inside_joined, lists_moved, lists_none, lists_one, nested_in, no_dir_in, not_dir, nothing_from, only_here}
@@ -126,7 +125,7 @@ module _ (kept : Kept) (wanted : Wanted) (state : List Piece) (old mid : History
       let s : Seen (now mid) path found = sees (told_then old mid mid first same p is) in
       only_here kept (now mid) s.formed path p (not_dir ((now mid).things path) (file_is ((now mid).things path) stat (sym some ∙ s.is) kind)) (later p is u)
 
-  put_by : (stat : Stat) (a b : List Row) (letter : Letter) (asks : Bool) → wants wanted letter ≡ asks → kept path ≡ None → found ≡ Some stat → (stat.kind ≡ a_kind.File) ⊎ (stat.kind ≡ a_kind.Link) → GivesLetter state path letter
+  put_by : (stat : Stat) (a b : List Row) (letter : Letter) (asks : Bool) → wants wanted letter ≡ asks → kept path ≡ false → found ≡ Some stat → (stat.kind ≡ a_kind.File) ⊎ (stat.kind ≡ a_kind.Link) → GivesLetter state path letter
       → b ≡ a ++ rows_if asks (untracked_row letter path) → Lists kept (Gives wanted state) (Untouched mid old.last) (IsUnknownFrom kept (now old) path) a b
   put_by stat a b letter true asks is some kind given put =
       lists_one kept (Gives wanted state) (Untouched mid old.last) (IsUnknownFrom kept (now old) path) a b path letter put is (asks, given)
@@ -144,17 +143,17 @@ module _ (kept : Kept) (wanted : Wanted) (state : List Piece) (old mid : History
       let one : l ≡ letter = one_letter state path l letter (subst (λ (q : List ℕ). GivesLetter state q l) at gives.1) given in
       absurd (cc (asks, sym (ap (wants wanted) one) ∙ gives.0))))
 
-  file_by : (stat : Stat) (a b : List Row) (o : Option FlatRow) → kept path ≡ o → found ≡ Some stat → (stat.kind ≡ a_kind.File) ⊎ (stat.kind ≡ a_kind.Link)
-      → PutsUntracked (is_some o) wanted state path a b → Lists kept (Gives wanted state) (Untouched mid old.last) (IsUnknownFrom kept (now old) path) a b
-  file_by stat a b None is some kind puts = put_by stat a b puts.letter (wants wanted puts.letter) refl is some kind puts.given puts.put
-  file_by stat a b (Some row) is some kind rows =
+  file_by : (stat : Stat) (a b : List Row) (has : Bool) → kept path ≡ has → found ≡ Some stat → (stat.kind ≡ a_kind.File) ⊎ (stat.kind ≡ a_kind.Link)
+      → PutsUntracked has wanted state path a b → Lists kept (Gives wanted state) (Untouched mid old.last) (IsUnknownFrom kept (now old) path) a b
+  file_by stat a b false is some kind puts = put_by stat a b puts.letter (wants wanted puts.letter) refl is some kind puts.given puts.put
+  file_by stat a b true is some kind rows =
       subst (λ (n : List Row). Lists kept (Gives wanted state) (Untouched mid old.last) (IsUnknownFrom kept (now old) path) a n) (sym rows)
       (lists_none kept (Gives wanted state) (Untouched mid old.last) (IsUnknownFrom kept (now old) path) a
       (λ p l meets u gives. let at = ap kept (only_file stat some kind p meets u) in absurd (cc (u.untracked.1, at, is))))
 
   -- a file or link has a row exactly where it has no entry and its letter is wanted
   pub look_file : (stat : Stat) (a b : List Row) → found ≡ Some stat → (stat.kind ≡ a_kind.File) ⊎ (stat.kind ≡ a_kind.Link)
-      → PutsUntracked (is_some (kept path)) wanted state path a b → Lists kept (Gives wanted state) (Untouched mid old.last) (IsUnknownFrom kept (now old) path) a b
+      → PutsUntracked (kept path) wanted state path a b → Lists kept (Gives wanted state) (Untouched mid old.last) (IsUnknownFrom kept (now old) path) a b
   look_file stat a b some kind rows = file_by stat a b (kept path) refl some kind rows
 
   -- of a directory that is ignored nothing is wanted where I isn't

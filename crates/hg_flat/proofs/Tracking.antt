@@ -11,7 +11,7 @@ use Rattle.hg_entry.specs.Table.{marks_of}
 use Rattle.hg_tree.specs.History as trees
 use Rattle.hg_tree.specs.Moment.{Moment}
 use Rattle.hg_tree.specs.Still.{AreAlike}
-use Rattle.hg_tree.proofs.Stillness.{alike_between, same_kind, untouched_first, untouched_second}
+use Rattle.hg_tree.proofs.Stillness.{alike_at, alike_between, same_kind, untouched_first, untouched_second}
 use Rattle.hg_shelf.specs.History as shelves
 use Rattle.hg_shelf.specs.Polite.{KeepsFile}
 use Rattle.hg_manifest.specs.Plain.{plain_name}
@@ -19,7 +19,7 @@ use Rattle.hg_manifest.specs.declared.row.FileRow.{FileRow}
 use Rattle.hg_compare.specs.Alike.{contents_name, is_alike}
 use Rattle.hg_compare.specs.declared.letter.Letter.{Letter}
 use Rattle.hg_listing.specs.Full.{wants}
-use Rattle.hg_flat.specs.Listing.{AddsTracked, ArePutFor, IsLeftRow, IsLetterFor, IsPutFor, row_under, rows_if, rows_under}
+use Rattle.hg_flat.specs.Listing.{AddsTracked, ArePutFor, IsAskedRow, IsLeftRow, IsLetterFor, IsPutFor, row_under, rows_if, rows_under}
 use Rattle.hg_flat.specs.Parent.{HasContents, IsServed, KeepsRow, manifest_at, parent_rows, row_among, row_of}
 use Rattle.hg_flat.specs.declared.kept.FlatRow.{FlatRow}
 use Rattle.hg_listing.specs.declared.row.Row.{Row}
@@ -111,12 +111,19 @@ module _ (wanted : Wanted) (id : Id20) (old mid new : trees.History) (first : tr
   pub left_first : (k : FlatRow) → IsLeftRow wanted id new old.last later since k → IsLeftRow wanted id mid old.last files since k
   left_first k is = record {
     own = untouched_first mid new old.last k.path second first.later is.own;
-    row = λ compared. row_earlier files later since id k.path past within (is.row compared);
+    row = λ asked. row_earlier files later since id k.path past within (is.row (subst (λ (m : Moment). IsAskedRow wanted m k) (sym (second.stay old.last first.later)) asked));
   }
 
 pub left_second : (wanted : Wanted) (id : Id20) (old mid new : trees.History) → trees.Extends old mid → trees.Extends mid new → (later : shelves.History) (since : ℕ) (k : FlatRow) → IsLeftRow wanted id new old.last later since k → IsLeftRow wanted id new mid.last later since k
-left_second wanted id old mid new first second later since k is =
-    record { own = untouched_second new old.last mid.last k.path first.later second.later is.own; row = is.row }
+left_second wanted id old mid new first second later since k is = record {
+  own = untouched_second new old.last mid.last k.path first.later second.later is.own;
+  row = λ asked.
+      let alike = alike_at new old.last mid.last k.path first.later second.later is.own in
+      is.row (record {
+        compared = asked.compared;
+        there = sym (file_alike (new.at mid.last) (new.at old.last) k.path (same_kind (new.at mid.last) (new.at old.last) k.path alike.seen)) ∙ asked.there;
+      });
+}
 
 -- ---- what is found at one moment is so at another at which the path is alike
 

@@ -34,7 +34,7 @@ unknown_none kept L S P never = record {
 the_one : (row other : Row) → Contains (row ∷ []) other → other ≡ row
 the_one row other has = elim (Contains-push_cases [] row other has) [ inl (k, below, is) ↦ absurd (omega (arith, below)) | inr same ↦ sym same ]
 
-unknown_one : (kept : Kept) (L : List ℕ → Letter → Type 0) (S P : List ℕ → Type 0) (path : List ℕ) (letter : Letter) → kept path ≡ None → L path letter → ((l : Letter) → L path l → l ≡ letter) → (S path → P path)
+unknown_one : (kept : Kept) (L : List ℕ → Letter → Type 0) (S P : List ℕ → Type 0) (path : List ℕ) (letter : Letter) → kept path ≡ false → L path letter → ((l : Letter) → L path l → l ≡ letter) → (S path → P path)
     → ((p : List ℕ) → S p → P p → p ≡ path) → AreUnknown kept L S P (untracked_row letter path ∷ [])
 unknown_one kept L S P path letter none given one here only = record {
   each = λ row has.
@@ -69,7 +69,7 @@ unknown_moved kept L S T P Q xs meets there back are = record {
 pub lists_none : (kept : Kept) (L : List ℕ → Letter → Type 0) (S P : List ℕ → Type 0) (rows : List Row) → ((p : List ℕ) (l : Letter) → S p → P p → L p l → ⊥) → Lists kept L S P rows rows
 lists_none kept L S P rows never = ([], sym (append-nil rows), unknown_none kept L S P never)
 
-pub lists_one : (kept : Kept) (L : List ℕ → Letter → Type 0) (S P : List ℕ → Type 0) (old new : List Row) (path : List ℕ) (letter : Letter) → new ≡ old ++ untracked_row letter path ∷ [] → kept path ≡ None → L path letter
+pub lists_one : (kept : Kept) (L : List ℕ → Letter → Type 0) (S P : List ℕ → Type 0) (old new : List Row) (path : List ℕ) (letter : Letter) → new ≡ old ++ untracked_row letter path ∷ [] → kept path ≡ false → L path letter
     → ((l : Letter) → L path l → l ≡ letter) → (S path → P path) → ((p : List ℕ) → S p → P p → p ≡ path) → Lists kept L S P old new
 lists_one kept L S P old new path letter is none given one here only =
     (untracked_row letter path ∷ [], is, unknown_one kept L S P path letter none given one here only)
@@ -172,7 +172,7 @@ module _ (kept : Kept) (moment : Moment) (formed : IsFormed moment) where
   nothing_from path p other never u =
       let is = ap (λ (q : List ℕ). is_file_or_link (moment.things q)) (only_here path p other u) in absurd (cc (u.untracked.0, is, never))
 
-  pub here_from : (path : List ℕ) → is_file_or_link (moment.things path) ≡ true → kept path ≡ None → IsUnknownFrom kept moment path path
+  pub here_from : (path : List ℕ) → is_file_or_link (moment.things path) ≡ true → kept path ≡ false → IsUnknownFrom kept moment path path
   here_from path file none = record {
     inside = from_same path path refl;
     untracked = (file, none);

@@ -1,5 +1,5 @@
 -- A status from its parts: the rows of the paths with an entry, and those of what else stands, behind a read of the patterns.
-use Rattle.std.proofs.Common.{ℕ, ◌≡◌, true, List, Option, None, option_map, ap}
+use Rattle.std.proofs.Common.{ℕ, ◌≡◌, false, true, List, Option, None, option_map, ap}
 use Rattle.std.specs.List.{Contains}
 use Rattle.hg_base.specs.declared.id.Id20.{Id20}
 use Rattle.hg_entry.specs.Entry.{view}
@@ -12,13 +12,14 @@ use Rattle.hg_tree.proofs.Histories.{extends_trans}
 use Rattle.hg_tree.proofs.Stillness.{alike_between}
 use Rattle.hg_flat.specs.Course.{IsKeptState, pieces_of}
 use Rattle.hg_flat.specs.Listing.{AddsTracked, Gives, IsLeftRow, IsUnknownIn, Lists}
-use Rattle.hg_flat.specs.Parent.{IsLeft}
+use Rattle.hg_flat.specs.Parent.{IsLeft, asked_by}
 use Rattle.hg_flat.specs.Patterns.{needs_patterns}
-use Rattle.hg_flat.specs.Shown.{flat_in, kept_of}
+use Rattle.hg_flat.specs.Shown.{flat_in, kept_of, rows_of}
 use Rattle.hg_flat.specs.declared.flat.Flat.{Flat}
 use Rattle.hg_flat.specs.declared.kept.FlatRow.{FlatRow}
 use Rattle.hg_listing.specs.declared.row.Row.{Row}
 use Rattle.hg_listing.specs.declared.row.Wanted.{Wanted}
+use Rattle.hg_flat.proofs.Fullness.{none_is}
 use Rattle.hg_flat.proofs.Leaving.{left_row}
 use Rattle.hg_flat.proofs.Refusing.{state_kept}
 use Rattle.hg_flat.proofs.Steps.{lists_later}
@@ -27,7 +28,7 @@ use Rattle.hg_flat.proofs.Tracking.{left_second, tracked_moved}
 module _ (flat : Flat) (wanted : Wanted) (id : Id20) (old mid later new : trees.History) (first : trees.Passes old mid) (second : trees.Passes mid later) (third : trees.Passes later new) (files : shelves.History) (since : ℕ) where
   -- what is left over the whole status
   abbrev pub Left : List ℕ → Type 0
-  Left = IsLeft wanted (flat_in flat) id new old.last files since
+  Left = IsLeft wanted (flat_in flat) (asked_by wanted (flat_in flat)) id new old.last files since
 
   -- an entry that is left while the entries are looked at, from the start on
   abbrev pub LeftRow : FlatRow → Type 0
@@ -51,7 +52,7 @@ module _ (flat : Flat) (wanted : Wanted) (id : Id20) (old mid later new : trees.
   lists_whole L a b lists = lists_later old later new past third.past (kept_of flat) (Gives wanted L) Left (λ path left. left.own) a b lists
 
   -- where the patterns decide the letter of a path that is left, they are those of the start
-  pub asks_start : (ignore : Option (List Piece)) → IsKeptState wanted old mid ignore → (path : List ℕ) → Left path → kept_of flat path ≡ None → needs_patterns wanted ≡ true → pieces_of ignore ≡ Ignore (trees.now old)
+  pub asks_start : (ignore : Option (List Piece)) → IsKeptState wanted old mid ignore → (path : List ℕ) → Left path → kept_of flat path ≡ false → needs_patterns wanted ≡ true → pieces_of ignore ≡ Ignore (trees.now old)
   asks_start ignore kept path left none needed =
       state_kept old mid new first (extends_trans mid later new second.past third.past) wanted ignore kept needed
-      (left.patterns needed (ap (option_map (λ (r : FlatRow). marks_of (view r.entry))) none))
+      (left.patterns needed (ap (option_map (λ (r : FlatRow). marks_of (view r.entry))) (none_is (rows_of flat path) none)))

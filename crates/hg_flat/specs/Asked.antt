@@ -9,6 +9,7 @@ use Rattle.hg_tree.specs.declared.asked.Asked.{Asked}
 use Rattle.hg_tree.specs.declared.asked.Asked.TheVariants as an_ask
 use Rattle.hg_listing.specs.Full.{IsVisible}
 use Rattle.hg_flat.specs.Listing.{IsVisibleFrom, is_from, is_inside}
+use Rattle.hg_flat.specs.Parent.{Asking, WasAsked}
 use Rattle.hg_flat.specs.Patterns.{ignored_at, needs_patterns}
 use Rattle.hg_listing.specs.declared.row.Wanted.{Wanted}
 
@@ -79,15 +80,16 @@ IsPatternsRead wanted old new first = (first ≡ []) ⊎ ((needs_patterns wanted
 abbrev pub pattern_reads : Wanted → Moment → List Asked
 pattern_reads wanted moment = if needs_patterns wanted then reads_at moment else []
 
--- these calls were made besides, then these paths were read, and then these directories listed, each once; no directory is the root
-pub record AsksBehind (first : List Asked) (Compared : List ℕ → Type 0) (Within : Option (List ℕ) → Type 0) (old new : History) : Type 0 where
+-- these calls were made besides, then these paths were read, each compared at a moment of the call, and then these directories listed, each once; no
+-- directory is the root
+pub record AsksBehind (first : List Asked) (asks : Asking) (Within : Option (List ℕ) → Type 0) (old new : History) : Type 0 where
   pub paths : List (List ℕ)
   pub dirs : List (Option (List ℕ))
   pub asked : new.asked ≡ old.asked ++ first ++ map an_ask.Read paths ++ map an_ask.List dirs
-  pub compared : (path : List ℕ) → Contains paths path → Compared path
+  pub compared : (path : List ℕ) → Contains paths path → WasAsked asks old new path
   pub once : IsDistinct is_same_dir dirs
   pub within : (dir : Option (List ℕ)) → Contains dirs dir → Within dir
 
 -- the patterns were read first, if at all
-abbrev pub AsksAll : Wanted → (List ℕ → Type 0) → (Option (List ℕ) → Type 0) → History → History → Type 0
-AsksAll wanted Compared Within old new = (first : List Asked) × IsPatternsRead wanted old new first × AsksBehind first Compared Within old new
+abbrev pub AsksAll : Wanted → Asking → (Option (List ℕ) → Type 0) → History → History → Type 0
+AsksAll wanted asks Within old new = (first : List Asked) × IsPatternsRead wanted old new first × AsksBehind first asks Within old new

@@ -1,5 +1,6 @@
 -- A status in its course: what it knows of the first parent so far, and what a comparison with it finds.
 use Rattle.std.specs.Prelude.{ℕ, ◌≡◌, ◌<◌, true, false, if◌then◌else◌, List, [], ◌++◌, Option, Some, None, Result, Ok, Err, IsTrue, MatchBool, option_map}
+use Rattle.std.specs.List.{AllByRecursion}
 use Rattle.hg_base.specs.declared.id.Id20.{Id20}
 use Rattle.hg_base.specs.declared.stat.Stat.{Stat}
 use Rattle.hg_tree.specs.History as trees
@@ -11,8 +12,9 @@ use Rattle.hg_ignore.specs.State.{Ignore, Piece}
 use Rattle.hg_ignore.specs.declared.fault.IgnoreFault.TheVariants as an_ignore_fault
 use Rattle.hg_ignore.specs.declared.warnings.Warning.{Warning}
 use Rattle.hg_shelf.specs.History as shelves
+use Rattle.hg_shelf.specs.declared.asked.Asked as shelf_asks
 use Rattle.hg_shelf.specs.Reads.{size_of}
-use Rattle.hg_manifest.specs.Load.{Was}
+use Rattle.hg_manifest.specs.Load.{Was, asks_of}
 use Rattle.hg_manifest.specs.Plain.{is_null, most, plain_name}
 use Rattle.hg_manifest.specs.Rows.{Rows}
 use Rattle.hg_manifest.specs.declared.fault.ManifestFault.TheVariants as a_manifest_fault
@@ -26,8 +28,9 @@ use Rattle.hg_compare.specs.declared.looked.Looked.{Looked}
 use Rattle.hg_compare.specs.declared.looked.Looked.TheVariants as a_look
 use Rattle.hg_flat.specs.Asked.{IsPatternsRead}
 use Rattle.hg_flat.specs.Met.{Holds, Met, Status, WasRead}
-use Rattle.hg_flat.specs.Parent.{HasContents, IsServed, parent_rows, row_of}
+use Rattle.hg_flat.specs.Parent.{HasContents, IsServed, WasAsked, parent_rows, row_of}
 use Rattle.hg_flat.specs.Patterns.{needs_patterns}
+use Rattle.hg_flat.specs.Stored.{IsOfRow}
 use Rattle.hg_listing.specs.declared.fault.StatusFault.{StatusFault}
 use Rattle.hg_listing.specs.declared.fault.StatusFault.TheVariants as a_fault
 use Rattle.hg_flat.specs.declared.parent.Loaded.{Loaded}
@@ -110,12 +113,25 @@ abbrev pub IsKeptManifest : Status → Option Loaded → Type 0
 IsKeptManifest s None = Unit {0}
 IsKeptManifest s (Some loaded) = IsManifest s loaded.manifest
 
+-- the shelf was asked for the whole manifest, since a path was compared, and behind it for contents that its rows name
+pub record AsksWhole (s : Status) : Type 0 where
+  pub contents : List shelf_asks.Asked
+  pub asked : s.shelf_new.asked ≡ s.shelf_old.asked ++ asks_of s.id ++ contents
+  pub needed : (path : List ℕ) × WasAsked s.asks s.tree_old s.tree_new path
+  pub each : AllByRecursion (IsOfRow s) contents
+
+-- it was asked so once the manifest is loaded, and else nothing
+abbrev pub HasAsked : Status → Option Loaded → Type 0
+HasAsked s None = s.shelf_new.asked ≡ s.shelf_old.asked
+HasAsked s (Some loaded) = AsksWhole s
+
 -- a status that has come so far, with what it keeps of its parent
 pub record Goes (s : Status) (parent : Parent) : Type 0 where
   pub tree : trees.Passes s.tree_old s.tree_new
   pub shelf : shelves.Passes s.shelf_old s.shelf_new
   pub same : parent.id ≡ s.id
   pub read : IsKeptManifest s parent.loaded
+  pub asked : IsTrue s.shelf_old.told → HasAsked s parent.loaded
 
 -- why a manifest could not be loaded
 abbrev pub LacksManifest : Status → StatusFault → Type 0

@@ -1,5 +1,5 @@
 -- The rows that a dirstate keeps, and the maps that they stand for.
-use Rattle.std.specs.Prelude.{ℕ, ◌≡◌, List, map, replicate, Option, Some, None, option_map}
+use Rattle.std.specs.Prelude.{ℕ, ◌≡◌, Bool, List, map, replicate, Option, Some, None, option_map}
 use Rattle.std.specs.List.{IsDistinct, find}
 use Rattle.std.specs.List.Sorted.{IsSortedBy}
 use Rattle.std.specs.Ordering.{is_lt, nat_cmp}
@@ -15,12 +15,16 @@ use Rattle.hg_flat.specs.declared.kept.FlatRow.{FlatRow}
 abbrev pub null_parent : List ℕ
 null_parent = replicate 20 0
 
--- what is kept of each path
+-- which paths have an entry
 abbrev pub Kept : Type 0
-Kept = List ℕ → Option FlatRow
+Kept = List ℕ → Bool
+
+-- the row of each path with an entry
+abbrev pub KeptRows : Type 0
+KeptRows = List ℕ → Option FlatRow
 
 -- the row of a path among some rows
-abbrev pub row_at : List FlatRow → Kept
+abbrev pub row_at : List FlatRow → KeptRows
 row_at rows path = find (λ row. bytes_eq row.path path) rows
 
 -- rows ascend by the bytes of their paths
@@ -37,13 +41,13 @@ source_of None = None
 source_of (Some row) = row.source
 
 -- the flat map that rows stand for, under these parents
-abbrev pub flat_from : List ℕ → List ℕ → Kept → plain.Flat
-flat_from p1 p2 kept =
-    record { p1 = p1; p2 = p2; marks = λ path. option_map (λ row. marks_of (view row.entry)) (kept path); sources = λ path. source_of (kept path) }
+abbrev pub flat_from : List ℕ → List ℕ → KeptRows → plain.Flat
+flat_from p1 p2 rows =
+    record { p1 = p1; p2 = p2; marks = λ path. option_map (λ row. marks_of (view row.entry)) (rows path); sources = λ path. source_of (rows path) }
 
 -- each row stands at its own path
-abbrev pub AreNamed : Kept → Type 0
-AreNamed kept = (path : List ℕ) → option_map (λ row. row.path) (kept path) ≡ option_map (λ row. path) (kept path)
+abbrev pub AreNamed : KeptRows → Type 0
+AreNamed rows = (path : List ℕ) → option_map (λ row. row.path) (rows path) ≡ option_map (λ row. path) (rows path)
 
 -- an item shows an entry and its source
 abbrev pub shown_item : Item → EntryData × Option (List ℕ)

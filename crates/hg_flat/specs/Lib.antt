@@ -7,3 +7,4 @@ pub mod Parent
 pub mod Patterns
 pub mod Recorded
 pub mod Shown
+pub mod Stored

@@ -19,7 +19,7 @@ use Rattle.hg_compare.specs.declared.letter.Letter.{Letter}
 use Rattle.hg_compare.specs.declared.letter.Letter.TheVariants as a_letter
 use Rattle.hg_listing.specs.Full.{is_repository, wants}
 use Rattle.hg_flat.specs.Kept.{Kept}
-use Rattle.hg_flat.specs.Parent.{IsServed, KeepsRow, is_plain_entry, parent_rows}
+use Rattle.hg_flat.specs.Parent.{Asking, IsServed, KeepsRow, is_plain_entry, parent_rows}
 use Rattle.hg_listing.specs.declared.row.Row.{Row}
 use Rattle.hg_listing.specs.declared.row.Wanted.{Wanted}
 use Rattle.hg_flat.specs.declared.kept.FlatRow.{FlatRow}
@@ -72,19 +72,19 @@ marked_letter kept there =
     if not kept.entry.p1 then Some a_letter.A else (
     if is_some kept.source then Some a_letter.M else None)))
 
--- the path of an entry whose bytes are compared
-abbrev pub IsComparedAs : Wanted → FlatRow → List ℕ → Type 0
-IsComparedAs wanted kept path = (path ≡ kept.path) × IsTrue (is_compared_row wanted kept)
+-- a test of which paths are compared says of an entry's path what its marks say
+abbrev pub AsksRow : Wanted → FlatRow → Asking → Type 0
+AsksRow wanted kept asks = (moment : Moment) → asks moment kept.path ≡ (is_compared_row wanted kept && is_file_or_link (moment.things kept.path))
 
 -- an entry whose bytes are compared at a moment
 pub record IsAskedRow (wanted : Wanted) (moment : Moment) (kept : FlatRow) : Type 0 where
   pub compared : IsTrue (is_compared_row wanted kept)
   pub there : IsTrue (is_file_or_link (moment.things kept.path))
 
--- nobody touches an entry's path, nor what the first parent has of it where its bytes are compared
+-- nobody touches an entry's path, nor what the first parent has of it where its bytes are compared at first
 pub record IsLeftRow (wanted : Wanted) (id : Id20) (copy : trees.History) (from : ℕ) (files : shelves.History) (since : ℕ) (kept : FlatRow) : Type 0 where
   pub own : Untouched copy from kept.path
-  pub row : IsTrue (is_compared_row wanted kept) → KeepsRow files since id kept.path
+  pub row : IsAskedRow wanted (copy.at from) kept → KeepsRow files since id kept.path
 
 -- a letter that is found of an entry, or none: where the entry meets S the letter at a moment, as far as it is wanted, and what a
 -- comparison asks for is there
@@ -159,7 +159,7 @@ IsVisibleFrom moment dir path = (d : List ℕ) → IsTrue (is_from dir d) → Is
 
 -- a file or link without an entry
 abbrev pub IsUntracked : Kept → Moment → List ℕ → Type 0
-IsUntracked kept moment path = IsTrue (is_file_or_link (moment.things path)) × (kept path ≡ None)
+IsUntracked kept moment path = IsTrue (is_file_or_link (moment.things path)) × (kept path ≡ false)
 
 -- a file or link without an entry in a directory, with no repository between
 pub record IsUnknownIn (kept : Kept) (moment : Moment) (dir : Option (List ℕ)) (path : List ℕ) : Type 0 where
@@ -181,7 +181,7 @@ IsUnknownAmong kept moment dir names path =
 -- a row of a path without an entry, under a letter that its path has by L
 pub record IsUntrackedRow (kept : Kept) (L : List ℕ → Letter → Type 0) (row : Row) : Type 0 where
   pub is : row ≡ untracked_row row.letter row.path
-  pub none : kept row.path ≡ None
+  pub none : kept row.path ≡ false
   pub given : L row.path row.letter
 
 -- rows of paths without an entry, under letters that they have by L; of the paths that meet S, just those that meet P, with each letter

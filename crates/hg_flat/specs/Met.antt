@@ -2,7 +2,6 @@
 use Rattle.std.specs.Prelude.{ℕ, ◌≡◌, ◌≤◌, ◌<◌, true, false, List, length, Option, Some, None, Result, Ok, Err, IsTrue}
 use Rattle.hg_base.specs.declared.id.Id20.{Id20}
 use Rattle.hg_base.specs.declared.stat.Stat.{Stat}
-use Rattle.hg_entry.specs.Table.{Flat}
 use Rattle.hg_tree.specs.History as tree
 use Rattle.hg_tree.specs.Moment.{Moment, stat_at}
 use Rattle.hg_ignore.specs.Patterns.{HasBadLine, IsCutAt, IsOver}
@@ -16,7 +15,7 @@ use Rattle.hg_manifest.specs.declared.fault.ManifestFault.{ManifestFault}
 use Rattle.hg_manifest.specs.declared.fault.ManifestFault.TheVariants as a_manifest_fault
 use Rattle.hg_manifest.specs.declared.row.FileRow.{FileRow}
 use Rattle.hg_compare.specs.Alike.{contents_name, is_alike}
-use Rattle.hg_flat.specs.Parent.{IsAsked, is_compared, row_of}
+use Rattle.hg_flat.specs.Parent.{Asking, IsAsked, WasAsked, row_of}
 use Rattle.hg_flat.specs.Patterns.{needs_patterns}
 use Rattle.hg_listing.specs.declared.fault.StatusFault.{StatusFault}
 use Rattle.hg_listing.specs.declared.fault.StatusFault.TheVariants as a_fault
@@ -25,7 +24,7 @@ use Rattle.hg_listing.specs.declared.row.Wanted.{Wanted}
 -- what a status is asked for, and what both devices tell before and after it
 pub record Status : Type 0 where
   pub wanted : Wanted
-  pub flat : Flat
+  pub asks : Asking  -- which paths are compared
   pub id : Id20
   pub tree_old : tree.History
   pub tree_new : tree.History
@@ -53,22 +52,22 @@ pub record WasRead (s : Status) (answer : Result Rows ManifestFault) : Type 0 wh
   pub front : Holds s (plain_name s.id.0) (IsFrontOf size bytes)
   pub found : manifest_of bytes ≡ answer
 
--- a path whose bytes are compared stood there, so that the manifest was needed
+-- a path was compared, so that the manifest was needed
 pub record NeedsManifest (s : Status) : Type 0 where
   pub path : List ℕ
-  pub asked : Shows s (λ moment. IsAsked s.wanted s.flat moment path)
+  pub asked : WasAsked s.asks s.tree_old s.tree_new path
   pub committed : is_null s.id.0 ≡ false
 
--- the row of a path names contents that weren't there, and a thing of its kind and executable bit stood at the path
+-- the row of a path that was compared names contents that weren't there, and then a thing of its kind and executable bit stood at the path
 pub record LacksContents (s : Status) (gone : Id20) : Type 0 where
   pub path : List ℕ
-  pub compared : IsTrue (is_compared s.wanted s.flat path)
+  pub asked : WasAsked s.asks s.tree_old s.tree_new path
   pub rows : Rows
   pub read : WasRead s (Ok rows)
   pub row : FileRow
   pub is : row_of rows path ≡ Some row
   pub names : row.id ≡ gone
-  pub alike : Shows s (λ moment. (stat : Stat) × (stat_at moment path ≡ Some stat) × IsTrue (is_alike row stat))
+  pub alike : Shows s (λ moment. IsAsked s.asks moment path × (stat : Stat) × (stat_at moment path ≡ Some stat) × IsTrue (is_alike row stat))
   pub absent : Holds s (contents_name gone.0) (λ file. file ≡ None)
   pub committed : is_null s.id.0 ≡ false
 

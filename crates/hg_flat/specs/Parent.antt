@@ -1,5 +1,5 @@
--- What the first parent has of each path, by the files below `.hg`, and of which paths the bytes are compared with it.
-use Rattle.std.specs.Prelude.{ℕ, ◌≡◌, Bool, true, false, not, ◌&&◌, ◌||◌, List, Option, Some, None, Result, Ok, Err, IsTrue, IfSome, is_some, option_map}
+-- What the first parent has of each path, by the files below `.hg`, and which paths are compared with it, at which moments.
+use Rattle.std.specs.Prelude.{ℕ, ◌≡◌, ◌≤◌, Bool, true, false, not, ◌&&◌, ◌||◌, List, Option, Some, None, Result, Ok, Err, IsTrue, IfSome, is_some, option_map}
 use Rattle.std.specs.Map.{lookup}
 use Rattle.std.specs.Str.{bytes_eq}
 use Rattle.hg_base.specs.declared.id.Id20.{Id20}
@@ -46,16 +46,37 @@ is_plain_entry (Some marks) copied = marks.w && marks.p1 && not marks.p2 && not 
 abbrev pub is_compared : Wanted → Flat → List ℕ → Bool
 is_compared wanted flat path = (wanted.m || wanted.c) && is_plain_entry (flat.marks path) (is_some (flat.sources path))
 
+-- a test of which paths are compared, by what a moment shows
+abbrev pub Asking : Type 0
+Asking = Moment → List ℕ → Bool
+
+-- the test by marks: nothing else decides the letter, and a file or a link stands there
+abbrev pub asked_by : Wanted → Flat → Asking
+asked_by wanted flat moment path = is_compared wanted flat path && is_file_or_link (moment.things path)
+
+-- a path is compared at a moment
+abbrev pub IsAsked : Asking → Moment → List ℕ → Type 0
+IsAsked asks moment path = IsTrue (asks moment path)
+
+-- a path is compared at a moment; where the tree tells its moments, at one of the call
+pub record WasAsked (asks : Asking) (old new : tree.History) (path : List ℕ) : Type 0 where
+  pub moment : Moment
+  pub asked : IsAsked asks moment path
+  pub at : ℕ
+  pub from : IsTrue old.told → old.last ≤ at
+  pub to : IsTrue old.told → at ≤ new.last
+  pub is : IsTrue old.told → new.at at ≡ moment
+
 -- nobody touches what a parent has of a path from a moment on: its manifest, and the contents that the row of the path names
 pub record KeepsRow (h : shelf.History) (from : ℕ) (id : Id20) (path : List ℕ) : Type 0 where
   pub told : IsTrue h.told
   pub manifest : is_null id.0 ≡ false → KeepsFile h from (plain_name id.0)
   pub contents : IfSome (row_among (manifest_at (h.at from).files id) path) (λ row. KeepsFile h from (contents_name row.id.0))
 
--- nobody touches a path, nor what the first parent has of it where its bytes are compared, nor the ignore patterns where they decide its letter
-pub record IsLeft (wanted : Wanted) (flat : Flat) (id : Id20) (copy : tree.History) (from : ℕ) (files : shelf.History) (since : ℕ) (path : List ℕ) : Type 0 where
+-- nobody touches a path, nor what the first parent has of it where the path is compared at first, nor the ignore patterns where they decide its letter
+pub record IsLeft (wanted : Wanted) (flat : Flat) (asks : Asking) (id : Id20) (copy : tree.History) (from : ℕ) (files : shelf.History) (since : ℕ) (path : List ℕ) : Type 0 where
   pub own : Untouched copy from path
-  pub row : IsTrue (is_compared wanted flat path) → KeepsRow files since id path
+  pub row : IsAsked asks (copy.at from) path → KeepsRow files since id path
   pub patterns : needs_patterns wanted ≡ true → flat.marks path ≡ None → KeepsPatterns copy from
 
 -- where a look shows a thing of a row's kind and executable bit, the row has contents
@@ -68,8 +89,3 @@ pub record IsServed (files : shelf.Files) (id : Id20) (moment : Moment) (path : 
   pub rows : Rows
   pub formed : manifest_at files id ≡ Ok rows
   pub contents : HasContents files moment path (row_of rows path)
-
--- a path whose bytes are compared at a moment: a file or a link stands there
-pub record IsAsked (wanted : Wanted) (flat : Flat) (moment : Moment) (path : List ℕ) : Type 0 where
-  pub compared : IsTrue (is_compared wanted flat path)
-  pub there : IsTrue (is_file_or_link (moment.things path))

@@ -4,7 +4,7 @@ use Rattle.hg_entry.specs.Entry.{EntryData, entry_of}
 use Rattle.hg_entry.specs.Table.{Table}
 use Rattle.hg_image.specs.Node.{fields_of}
 use Rattle.hg_image.specs.Rows as node
-use Rattle.hg_flat.specs.Kept.{Kept, shown_row}
+use Rattle.hg_flat.specs.Kept.{KeptRows, shown_row}
 use Rattle.hg_flat.specs.declared.kept.FlatRow.{FlatRow}
 
 -- an entry and its copy source, where it has one
@@ -15,9 +15,9 @@ Recorded = EntryData × Option (List ℕ)
 abbrev pub recorded_at : Table → List ℕ → Option Recorded
 recorded_at table path = option_map (λ entry. (entry, table.sources path)) (table.entries path)
 
--- what is kept of each path is what the table says of it
-abbrev pub Records : Table → Kept → Type 0
-Records table kept = (path : List ℕ) → option_map shown_row (kept path) ≡ recorded_at table path
+-- the row of each path is what the table says of it
+abbrev pub Records : Table → KeptRows → Type 0
+Records table rows = (path : List ℕ) → option_map shown_row (rows path) ≡ recorded_at table path
 
 -- what a row records, where its node has an entry
 abbrev pub recorded_in : node.Row → Option Recorded

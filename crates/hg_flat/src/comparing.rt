@@ -1,16 +1,19 @@
 //! The letter of a path whose bytes are compared with the first parent's.
 
-ghost use Rattle.std.specs.Prelude.{◌≡◌, List, Option, Some, ℕ, IsTrue, IfErr, IfOk, IfSome, OnOk, is_some};
+ghost use Rattle.std.specs.Prelude.{◌≡◌, List, Option, Some, None, ℕ, IsTrue, IfErr, IfOk, IfSome, OnOk, is_some};
 ghost use Rattle.hg_compare.specs.Alike.{contents_name, is_alike};
 ghost use Rattle.hg_compare.specs.Same.{Reads, StaysShown, parent_row};
-ghost use Rattle.hg_manifest.specs.Load.{Stays};
+ghost use Rattle.hg_manifest.specs.Load.{Stays, asks_of};
+ghost use Rattle.hg_shelf.specs.Asks.{AsksInOrder, AsksOnly};
 ghost use Rattle.hg_shelf.specs.History as shelves;
+ghost use Rattle.hg_shelf.specs.Images as images;
 ghost use Rattle.hg_tree.specs.History as trees;
 ghost use Rattle.hg_tree.specs.Moment.{stat_at};
 ghost use Rattle.hg_listing.specs.Cause.{HasShelfCause, HasStatusCause};
 ghost use Rattle.hg_flat.specs.Course.{Goes, IsFound, IsJudged, LacksIn, LoadsParent, MetBy, compared_letter, letter_of, upto};
 ghost use Rattle.hg_flat.specs.Met.{Status};
-ghost use Rattle.hg_flat.specs.Parent.{KeepsRow, row_of};
+ghost use Rattle.hg_flat.specs.Parent.{KeepsRow, WasAsked, row_of};
+ghost use Rattle.hg_flat.specs.Stored.{AsksStore, IsContents};
 ghost use Rattle.hg_listing.specs.declared.fault.StatusFault.TheVariants as a_fault;
 
 use crate::parent::{Loaded, Parent};
@@ -25,9 +28,12 @@ use std::alloc::Global;
 // Loads the manifest of a parent.
 fn load<S: Shelf>(alloc: Global, shelf: &mut S, id: &Id20) -> Result<Loaded, StatusFault>
     ensures passes { shelves.Passes (S.history shelf.old) (S.history shelf.new) }
+    ensures kept { images.Goes (images.course (S.history shelf.old) (S.images shelf.old)) (images.course (S.history shelf.new) (S.images shelf.new)) }
+    ensures held { S.held shelf.new ≡ S.held shelf.old }
     ensures found { (s : Status) → shelves.Passes s.shelf_old (S.history shelf.old)
         → id.now ≡ s.id
         → LoadsParent (upto s s.tree_new (S.history shelf.new)) result }
+    ensures asked { IsTrue (S.history shelf.old).told → AsksInOrder (asks_of id.now) (S.history shelf.old) (S.history shelf.new) result }
     ensures kind { IfErr result (λ fault. fault ≡ a_fault.TreeFailed → ⊥) }
     ensures cause { HasShelfCause (S.faults shelf.old) (S.faults shelf.new) result }
 {
@@ -66,6 +72,8 @@ fn letter_by_row<T: Tree, S: Shelf>(
 ) -> Result<Letter, StatusFault>
     ensures tree_passes { trees.Passes (T.history tree.old) (T.history tree.new) }
     ensures shelf_passes { shelves.Passes (S.history shelf.old) (S.history shelf.new) }
+    ensures kept { images.Goes (images.course (S.history shelf.old) (S.images shelf.old)) (images.course (S.history shelf.new) (S.images shelf.new)) }
+    ensures held { S.held shelf.new ≡ S.held shelf.old }
     ensures judged { (files : shelves.Files) → IsTrue (T.history tree.old).told
         → IsTrue (S.history shelf.old).told
         → StaysShown (T.history tree.old) (T.history tree.new) path.entry.text.now
@@ -74,6 +82,8 @@ fn letter_by_row<T: Tree, S: Shelf>(
         → IfOk result (IsJudged files (Some row.now) (trees.now (T.history tree.old)) path.entry.text.now) }
     ensures lacks { IfErr result (LacksIn (S.history shelf.old) (S.history shelf.new) (Some row.now) before.now) }
     ensures asked { IsTrue (T.history tree.old).told → Reads before.now.size path.entry.text.now (T.history tree.old) (T.history tree.new) }
+    ensures contents { IsTrue (S.history shelf.old).told
+        → AsksOnly (IsContents (Some row.now)) (S.history shelf.old) (S.history shelf.new) }
     ensures cause { HasStatusCause (T.faults tree.old) (T.faults tree.new) result }
     ensures cause_shelf { HasShelfCause (S.faults shelf.old) (S.faults shelf.new) result }
 {
@@ -93,7 +103,9 @@ fn letter_in<T: Tree, S: Shelf>(
 ) -> Result<Letter, StatusFault>
     ensures tree_passes { trees.Passes (T.history tree.old) (T.history tree.new) }
     ensures shelf_passes { shelves.Passes (S.history shelf.old) (S.history shelf.new) }
-    ensures kept { loaded.new.manifest ≡ loaded.old.manifest }
+    ensures kept { images.Goes (images.course (S.history shelf.old) (S.images shelf.old)) (images.course (S.history shelf.new) (S.images shelf.new)) }
+    ensures held { S.held shelf.new ≡ S.held shelf.old }
+    ensures manifest { loaded.new.manifest ≡ loaded.old.manifest }
     ensures judged { (files : shelves.Files) → IsTrue (T.history tree.old).told
         → IsTrue (S.history shelf.old).told
         → StaysShown (T.history tree.old) (T.history tree.new) path.entry.text.now
@@ -116,6 +128,11 @@ fn letter_in<T: Tree, S: Shelf>(
         (row_of loaded.old.manifest path.entry.text.now)
         before.now) }
     ensures asked { IsTrue (T.history tree.old).told → Reads before.now.size path.entry.text.now (T.history tree.old) (T.history tree.new) }
+    ensures contents { IsTrue (S.history shelf.old).told
+        → AsksOnly
+        (IsContents (row_of loaded.old.manifest path.entry.text.now))
+        (S.history shelf.old)
+        (S.history shelf.new) }
     ensures cause { HasStatusCause (T.faults tree.old) (T.faults tree.new) result }
     ensures cause_shelf { HasShelfCause (S.faults shelf.old) (S.faults shelf.new) result }
 {
@@ -134,11 +151,15 @@ fn first_letter<T: Tree, S: Shelf>(
     before: &Stat,
     parent: &mut Parent,
 ) -> Result<Letter, StatusFault>
+    requires { parent.now.loaded ≡ None }
     ensures tree_passes { trees.Passes (T.history tree.old) (T.history tree.new) }
     ensures shelf_passes { shelves.Passes (S.history shelf.old) (S.history shelf.new) }
+    ensures kept { images.Goes (images.course (S.history shelf.old) (S.images shelf.old)) (images.course (S.history shelf.new) (S.images shelf.new)) }
+    ensures held { S.held shelf.new ≡ S.held shelf.old }
     ensures goes { OnOk
         result
         ((s : Status) → Goes (upto s (T.history tree.old) (S.history shelf.old)) parent.old
+        → WasAsked s.asks s.tree_old (T.history tree.new) path.entry.text.now
         → Goes (upto s (T.history tree.new) (S.history shelf.new)) parent.new) }
     // Where nobody touches the path and what the parent has of it, it is the letter of that.
     ensures found { IfOk
@@ -154,6 +175,12 @@ fn first_letter<T: Tree, S: Shelf>(
         (λ fault. (s : Status) → Goes (upto s (T.history tree.old) (S.history shelf.old)) parent.old
         → MetBy (upto s (T.history tree.new) (S.history shelf.new)) path.entry.text.now before.now fault) }
     ensures asked { IsTrue (T.history tree.old).told → Reads before.now.size path.entry.text.now (T.history tree.old) (T.history tree.new) }
+    ensures store { IfErr
+        result
+        (λ fault. (s : Status) → Goes (upto s (T.history tree.old) (S.history shelf.old)) parent.old
+        → WasAsked s.asks s.tree_old (T.history tree.new) path.entry.text.now
+        → IsTrue s.shelf_old.told
+        → AsksStore (upto s (T.history tree.new) (S.history shelf.new))) }
     ensures cause { HasStatusCause (T.faults tree.old) (T.faults tree.new) result }
     ensures cause_shelf { HasShelfCause (S.faults shelf.old) (S.faults shelf.new) result }
 {
@@ -174,9 +201,12 @@ pub(crate) fn compared_letter<T: Tree, S: Shelf>(
 ) -> Result<Letter, StatusFault>
     ensures tree_passes { trees.Passes (T.history tree.old) (T.history tree.new) }
     ensures shelf_passes { shelves.Passes (S.history shelf.old) (S.history shelf.new) }
+    ensures kept { images.Goes (images.course (S.history shelf.old) (S.images shelf.old)) (images.course (S.history shelf.new) (S.images shelf.new)) }
+    ensures held { S.held shelf.new ≡ S.held shelf.old }
     ensures goes { OnOk
         result
         ((s : Status) → Goes (upto s (T.history tree.old) (S.history shelf.old)) parent.old
+        → WasAsked s.asks s.tree_old (T.history tree.new) path.entry.text.now
         → Goes (upto s (T.history tree.new) (S.history shelf.new)) parent.new) }
     // Where nobody touches the path and what the parent has of it, it is the letter of that.
     ensures found { IfOk
@@ -192,6 +222,12 @@ pub(crate) fn compared_letter<T: Tree, S: Shelf>(
         (λ fault. (s : Status) → Goes (upto s (T.history tree.old) (S.history shelf.old)) parent.old
         → MetBy (upto s (T.history tree.new) (S.history shelf.new)) path.entry.text.now before.now fault) }
     ensures asked { IsTrue (T.history tree.old).told → Reads before.now.size path.entry.text.now (T.history tree.old) (T.history tree.new) }
+    ensures store { IfErr
+        result
+        (λ fault. (s : Status) → Goes (upto s (T.history tree.old) (S.history shelf.old)) parent.old
+        → WasAsked s.asks s.tree_old (T.history tree.new) path.entry.text.now
+        → IsTrue s.shelf_old.told
+        → AsksStore (upto s (T.history tree.new) (S.history shelf.new))) }
     ensures cause { HasStatusCause (T.faults tree.old) (T.faults tree.new) result }
     ensures cause_shelf { HasShelfCause (S.faults shelf.old) (S.faults shelf.new) result }
 {

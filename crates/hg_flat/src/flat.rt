@@ -19,15 +19,15 @@ pub struct Flat {
 }
 
 impl Flat {
-    ghost use Rattle.std.specs.Prelude.{◌≡◌, ℕ, List, None, IfOk, IsTrue, true, is_some, option_map};
+    ghost use Rattle.std.specs.Prelude.{◌≡◌, ℕ, List, IfOk, IsTrue, false, true, option_map};
     ghost use Rattle.hg_flat.specs.Kept.{HaveOwnPaths, null_parent, row_at, shown_item, shown_row};
-    ghost use Rattle.hg_flat.specs.Shown.{flat_in, kept_of};
+    ghost use Rattle.hg_flat.specs.Shown.{flat_in, kept_of, rows_of};
 
     /// Null parents and no paths.
     pub fn new(alloc: Global) -> Flat
         ensures first { (flat_in result).p1 ≡ null_parent }
         ensures second { (flat_in result).p2 ≡ null_parent }
-        ensures none { (path : List ℕ) → kept_of result path ≡ None }
+        ensures none { (path : List ℕ) → kept_of result path ≡ false }
     {
         Flat {
             p1: Id20([0; 20]),
@@ -39,7 +39,7 @@ impl Flat {
     // These parents and rows, of which no two are of one path.
     pub(crate) fn of(p1: Id20, p2: Id20, mut rows: Vec<FlatRow>) -> Result<Flat, OutOfMemory>
         requires { HaveOwnPaths rows.items }
-        ensures kept { IfOk result (λ flat. (path : List ℕ) → kept_of flat path ≡ row_at rows.items path) }
+        ensures kept { IfOk result (λ flat. (path : List ℕ) → rows_of flat path ≡ row_at rows.items path) }
         ensures first { IfOk result (λ flat. flat.p1 ≡ p1) }
         ensures second { IfOk result (λ flat. flat.p2 ≡ p2) }
     {
@@ -56,7 +56,7 @@ impl Flat {
 
     // The row of a path, where it has an entry.
     fn find(&self, path: &str) -> Option<&FlatRow>
-        ensures { option_map (λ row. row.now) result ≡ kept_of self.now path.now }
+        ensures { option_map (λ row. row.now) result ≡ rows_of self.now path.now }
     {
         match self
             .rows
@@ -69,7 +69,7 @@ impl Flat {
 
     // Whether the row at this place is of the path.
     fn is_row_of(&self, at: usize, path: &str) -> bool
-        ensures { IsTrue result → is_some (kept_of self.now path.now) ≡ true }
+        ensures { IsTrue result → kept_of self.now path.now ≡ true }
     {
         if at >= self.rows.len() {
             return false;
@@ -85,7 +85,7 @@ impl Flat {
     /// Whether a path has an entry. Paths are mostly asked for in order, so the row at `next` is looked at first, which is made the one
     /// behind the row that was found.
     pub(crate) fn has(&self, path: &str, next: &mut usize) -> bool
-        ensures { result ≡ is_some (kept_of self.now path.now) }
+        ensures { result ≡ kept_of self.now path.now }
     {
         if self.is_row_of(*next, path) {
             *next = next.saturating_add(1);
@@ -100,7 +100,7 @@ impl Flat {
 
     /// What is said of a path, where it has an entry.
     pub fn get(&self, path: PathRef<'_>) -> Option<Item<'_>>
-        ensures { option_map shown_item result ≡ option_map shown_row (kept_of self.now path.entry.text.now) }
+        ensures { option_map shown_item result ≡ option_map shown_row (rows_of self.now path.entry.text.now) }
     {
         let row = self.find(path.text)?;
         Some(item_of(row))

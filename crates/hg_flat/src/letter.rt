@@ -2,15 +2,17 @@
 
 ghost use Rattle.std.specs.Prelude.{◌≡◌, ◌++◌, ◌∷◌, [], Some, None, false, true, OnOk, IfErr, IfOk, IsTrue, if◌then◌else◌, is_some, ◌||◌};
 ghost use Rattle.hg_shelf.specs.History as shelves;
+ghost use Rattle.hg_shelf.specs.Images as images;
 ghost use Rattle.hg_tree.specs.History as trees;
 ghost use Rattle.hg_tree.specs.Moment.{stat_at};
 ghost use Rattle.hg_flat.specs.Asked.{AsksReads};
 ghost use Rattle.hg_listing.specs.Cause.{HasShelfCause, HasStatusCause};
 ghost use Rattle.hg_flat.specs.Course.{Goes, MetParent, upto};
 ghost use Rattle.hg_listing.specs.Full.{wants};
-ghost use Rattle.hg_flat.specs.Listing.{AddsTracked, IsComparedAs, IsLeftRow, IsLetterFor, is_compared_row, is_file_or_link_kind, marked_letter, row_under, rows_under, wants_bytes, wants_tracked};
+ghost use Rattle.hg_flat.specs.Listing.{AddsTracked, AsksRow, IsLeftRow, IsLetterFor, is_file_or_link_kind, marked_letter, row_under, rows_under, wants_bytes, wants_tracked};
 ghost use Rattle.hg_flat.specs.Met.{Status};
-ghost use Rattle.hg_flat.specs.Parent.{is_compared};
+ghost use Rattle.hg_flat.specs.Parent.{Asking, WasAsked};
+ghost use Rattle.hg_flat.specs.Stored.{AsksStore};
 
 use crate::comparing::compared_letter;
 use crate::kept::FlatRow;
@@ -83,9 +85,13 @@ fn letter_there<T: Tree, S: Shelf>(
     requires { kept.now.entry.w ≡ true }
     ensures tree_passes { trees.Passes (T.history tree.old) (T.history tree.new) }
     ensures shelf_passes { shelves.Passes (S.history shelf.old) (S.history shelf.new) }
+    ensures kept { images.Goes (images.course (S.history shelf.old) (S.images shelf.old)) (images.course (S.history shelf.new) (S.images shelf.new)) }
+    ensures held { S.held shelf.new ≡ S.held shelf.old }
     ensures goes { OnOk
         result
         ((s : Status) → Goes (upto s (T.history tree.old) (S.history shelf.old)) parent.old
+        → AsksRow wanted kept.now s.asks
+        → (IsTrue (T.history tree.old).told → stat_at (trees.now (T.history tree.old)) kept.now.path ≡ Some there.now)
         → Goes (upto s (T.history tree.new) (S.history shelf.new)) parent.new) }
     ensures found { IfOk
         result
@@ -108,11 +114,24 @@ fn letter_there<T: Tree, S: Shelf>(
     ensures met { IfErr
         result
         (λ fault. (s : Status) → Goes (upto s (T.history tree.old) (S.history shelf.old)) parent.old
-        → is_compared s.wanted s.flat kept.now.path ≡ is_compared_row wanted kept.now
+        → AsksRow wanted kept.now s.asks
         → (IsTrue (T.history tree.old).told → stat_at (trees.now (T.history tree.old)) kept.now.path ≡ Some there.now)
         → MetParent (upto s (T.history tree.new) (S.history shelf.new)) fault) }
-    ensures asked { IsTrue (T.history tree.old).told → AsksReads (IsComparedAs wanted kept.now) (T.history tree.old) (T.history tree.new) }
-    ensures unasked { is_compared_row wanted kept.now ≡ false → shelf.new ≡ shelf.old }
+    ensures asked { (asks : Asking) → AsksRow wanted kept.now asks
+        → IsTrue (T.history tree.old).told
+        → stat_at (trees.now (T.history tree.old)) kept.now.path ≡ Some there.now
+        → AsksReads (WasAsked asks (T.history tree.old) (T.history tree.new)) (T.history tree.old) (T.history tree.new) }
+    ensures unasked { (asks : Asking) → AsksRow wanted kept.now asks
+        → (IsTrue (T.history tree.old).told → stat_at (trees.now (T.history tree.old)) kept.now.path ≡ Some there.now)
+        → (WasAsked asks (T.history tree.old) (T.history tree.new) kept.now.path → ⊥)
+        → shelf.new ≡ shelf.old }
+    ensures store { IfErr
+        result
+        (λ fault. (s : Status) → Goes (upto s (T.history tree.old) (S.history shelf.old)) parent.old
+        → AsksRow wanted kept.now s.asks
+        → (IsTrue (T.history tree.old).told → stat_at (trees.now (T.history tree.old)) kept.now.path ≡ Some there.now)
+        → IsTrue s.shelf_old.told
+        → AsksStore (upto s (T.history tree.new) (S.history shelf.new))) }
     ensures cause { HasStatusCause (T.faults tree.old) (T.faults tree.new) result }
     ensures cause_shelf { HasShelfCause (S.faults shelf.old) (S.faults shelf.new) result }
 {
@@ -137,9 +156,12 @@ fn find_letter<T: Tree, S: Shelf>(
 ) -> Result<Option<Letter>, StatusFault>
     ensures tree_passes { trees.Passes (T.history tree.old) (T.history tree.new) }
     ensures shelf_passes { shelves.Passes (S.history shelf.old) (S.history shelf.new) }
+    ensures kept { images.Goes (images.course (S.history shelf.old) (S.images shelf.old)) (images.course (S.history shelf.new) (S.images shelf.new)) }
+    ensures held { S.held shelf.new ≡ S.held shelf.old }
     ensures goes { OnOk
         result
         ((s : Status) → Goes (upto s (T.history tree.old) (S.history shelf.old)) parent.old
+        → AsksRow wanted kept.now s.asks
         → Goes (upto s (T.history tree.new) (S.history shelf.new)) parent.new) }
     ensures found { IfOk
         result
@@ -161,10 +183,20 @@ fn find_letter<T: Tree, S: Shelf>(
     ensures met { IfErr
         result
         (λ fault. (s : Status) → Goes (upto s (T.history tree.old) (S.history shelf.old)) parent.old
-        → is_compared s.wanted s.flat kept.now.path ≡ is_compared_row wanted kept.now
+        → AsksRow wanted kept.now s.asks
         → MetParent (upto s (T.history tree.new) (S.history shelf.new)) fault) }
-    ensures asked { IsTrue (T.history tree.old).told → AsksReads (IsComparedAs wanted kept.now) (T.history tree.old) (T.history tree.new) }
-    ensures unasked { is_compared_row wanted kept.now ≡ false → shelf.new ≡ shelf.old }
+    ensures asked { (asks : Asking) → AsksRow wanted kept.now asks
+        → IsTrue (T.history tree.old).told
+        → AsksReads (WasAsked asks (T.history tree.old) (T.history tree.new)) (T.history tree.old) (T.history tree.new) }
+    ensures unasked { (asks : Asking) → AsksRow wanted kept.now asks
+        → (WasAsked asks (T.history tree.old) (T.history tree.new) kept.now.path → ⊥)
+        → shelf.new ≡ shelf.old }
+    ensures store { IfErr
+        result
+        (λ fault. (s : Status) → Goes (upto s (T.history tree.old) (S.history shelf.old)) parent.old
+        → AsksRow wanted kept.now s.asks
+        → IsTrue s.shelf_old.told
+        → AsksStore (upto s (T.history tree.new) (S.history shelf.new))) }
     ensures cause { HasStatusCause (T.faults tree.old) (T.faults tree.new) result }
     ensures cause_shelf { HasShelfCause (S.faults shelf.old) (S.faults shelf.new) result }
 {
@@ -240,9 +272,12 @@ pub(crate) fn add_tracked<T: Tree, S: Shelf>(
 ) -> Result<(), StatusFault>
     ensures tree_passes { trees.Passes (T.history tree.old) (T.history tree.new) }
     ensures shelf_passes { shelves.Passes (S.history shelf.old) (S.history shelf.new) }
+    ensures kept { images.Goes (images.course (S.history shelf.old) (S.images shelf.old)) (images.course (S.history shelf.new) (S.images shelf.new)) }
+    ensures held { S.held shelf.new ≡ S.held shelf.old }
     ensures goes { OnOk
         result
         ((s : Status) → Goes (upto s (T.history tree.old) (S.history shelf.old)) parent.old
+        → AsksRow wanted kept.now s.asks
         → Goes (upto s (T.history tree.new) (S.history shelf.new)) parent.new) }
     ensures row { OnOk
         result
@@ -265,10 +300,20 @@ pub(crate) fn add_tracked<T: Tree, S: Shelf>(
     ensures met { IfErr
         result
         (λ fault. (s : Status) → Goes (upto s (T.history tree.old) (S.history shelf.old)) parent.old
-        → is_compared s.wanted s.flat kept.now.path ≡ is_compared_row wanted kept.now
+        → AsksRow wanted kept.now s.asks
         → MetParent (upto s (T.history tree.new) (S.history shelf.new)) fault) }
-    ensures asked { IsTrue (T.history tree.old).told → AsksReads (IsComparedAs wanted kept.now) (T.history tree.old) (T.history tree.new) }
-    ensures unasked { is_compared_row wanted kept.now ≡ false → shelf.new ≡ shelf.old }
+    ensures asked { (asks : Asking) → AsksRow wanted kept.now asks
+        → IsTrue (T.history tree.old).told
+        → AsksReads (WasAsked asks (T.history tree.old) (T.history tree.new)) (T.history tree.old) (T.history tree.new) }
+    ensures unasked { (asks : Asking) → AsksRow wanted kept.now asks
+        → (WasAsked asks (T.history tree.old) (T.history tree.new) kept.now.path → ⊥)
+        → shelf.new ≡ shelf.old }
+    ensures store { IfErr
+        result
+        (λ fault. (s : Status) → Goes (upto s (T.history tree.old) (S.history shelf.old)) parent.old
+        → AsksRow wanted kept.now s.asks
+        → IsTrue s.shelf_old.told
+        → AsksStore (upto s (T.history tree.new) (S.history shelf.new))) }
     ensures cause { HasStatusCause (T.faults tree.old) (T.faults tree.new) result }
     ensures cause_shelf { HasShelfCause (S.faults shelf.old) (S.faults shelf.new) result }
 {

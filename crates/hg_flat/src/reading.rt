@@ -7,7 +7,7 @@ ghost use Rattle.hg_image.specs.Reading.{table_in};
 ghost use Rattle.hg_image.specs.View.{row, rows_below, rows_in};
 ghost use Rattle.hg_flat.specs.Kept.{shown_row};
 ghost use Rattle.hg_flat.specs.Recorded.{Adds, Records};
-ghost use Rattle.hg_flat.specs.Shown.{flat_in, kept_of};
+ghost use Rattle.hg_flat.specs.Shown.{flat_in, rows_of};
 
 use crate::flat::Flat;
 use crate::kept::FlatRow;
@@ -77,7 +77,7 @@ impl Flat {
     /// What a record says of each path: the parents of its docket, and each node with an entry.
     pub fn read(alloc: Global, image: &Image<'_>) -> Result<Flat, OutOfMemory>
         // Of each path with an entry the entry and its source are those of the table.
-        ensures records { IfOk result (λ flat. Records (table_in image.now) (kept_of flat)) }
+        ensures records { IfOk result (λ flat. Records (table_in image.now) (rows_of flat)) }
         // So are the parents, and by path the marks and the sources.
         ensures flat { IfOk result (λ flat. flat_in flat ≡ flat_of (table_in image.now)) }
     {

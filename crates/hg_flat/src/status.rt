@@ -2,6 +2,7 @@
 
 ghost use Rattle.std.specs.Prelude.{◌≡◌, true, false, ℕ, List, None, IsTrue, IfErr, IfOk, OnOk, is_some, option_map};
 ghost use Rattle.hg_shelf.specs.History as shelves;
+ghost use Rattle.hg_shelf.specs.Images as images;
 ghost use Rattle.hg_shelf.specs.Polite.{KeepsPlain};
 ghost use Rattle.hg_tree.specs.History as trees;
 ghost use Rattle.hg_tree.specs.Still.{Untouched};
@@ -10,9 +11,10 @@ ghost use Rattle.hg_listing.specs.Cause.{HasListingCause, HasShelfCause, HasStat
 ghost use Rattle.hg_flat.specs.Course.{MetParent, pieces_of};
 ghost use Rattle.hg_listing.specs.Full.{IsFull, IsFullFor};
 ghost use Rattle.hg_flat.specs.Met.{Met};
-ghost use Rattle.hg_flat.specs.Parent.{IsAsked, IsLeft, IsServed, is_compared, parent_rows};
+ghost use Rattle.hg_flat.specs.Parent.{IsAsked, IsLeft, IsServed, WasAsked, asked_by, parent_rows};
 ghost use Rattle.hg_flat.specs.Patterns.{CountsOversize, HadPatterns, Warns, ignored_at, is_of_parent, needs_patterns};
 ghost use Rattle.hg_flat.specs.Listing.{AddsTracked, Gives, IsEntered, IsLeftRow, IsUnknownIn, Lists};
+ghost use Rattle.hg_flat.specs.Stored.{AsksStore};
 ghost use Rattle.hg_flat.specs.Shown.{flat_in, kept_of};
 
 use crate::flat::Flat;
@@ -40,6 +42,8 @@ fn add_each<T: Tree, S: Shelf>(
 ) -> Result<(), StatusFault>
     ensures passes { trees.Passes (T.history tree.old) (T.history tree.new) }
     ensures passes_shelf { shelves.Passes (S.history shelf.old) (S.history shelf.new) }
+    ensures kept { images.Goes (images.course (S.history shelf.old) (S.images shelf.old)) (images.course (S.history shelf.new) (S.images shelf.new)) }
+    ensures held { S.held shelf.new ≡ S.held shelf.old }
     ensures added { OnOk
         result
         (AddsTracked
@@ -62,7 +66,7 @@ fn add_each<T: Tree, S: Shelf>(
         (MetParent
         (record {
           wanted = wanted;
-          flat = flat_in flat.now;
+          asks = asked_by wanted (flat_in flat.now);
           id = p1.now;
           tree_old = T.history tree.old;
           tree_new = T.history tree.new;
@@ -70,8 +74,23 @@ fn add_each<T: Tree, S: Shelf>(
           shelf_new = S.history shelf.new;
         })) }
     ensures asked { IsTrue (T.history tree.old).told
-        → AsksReads (λ path. IsTrue (is_compared wanted (flat_in flat.now) path)) (T.history tree.old) (T.history tree.new) }
-    ensures unasked { ((path : List ℕ) → is_compared wanted (flat_in flat.now) path ≡ false) → shelf.new ≡ shelf.old }
+        → AsksReads
+        (WasAsked (asked_by wanted (flat_in flat.now)) (T.history tree.old) (T.history tree.new))
+        (T.history tree.old)
+        (T.history tree.new) }
+    ensures unasked { ((path : List ℕ) → WasAsked (asked_by wanted (flat_in flat.now)) (T.history tree.old) (T.history tree.new) path → ⊥)
+        → shelf.new ≡ shelf.old }
+    ensures store { IsTrue (S.history shelf.old).told
+        → AsksStore
+        (record {
+          wanted = wanted;
+          asks = asked_by wanted (flat_in flat.now);
+          id = p1.now;
+          tree_old = T.history tree.old;
+          tree_new = T.history tree.new;
+          shelf_old = S.history shelf.old;
+          shelf_new = S.history shelf.new;
+        }) }
     ensures cause { HasStatusCause (T.faults tree.old) (T.faults tree.new) result }
     ensures cause_shelf { HasShelfCause (S.faults shelf.old) (S.faults shelf.new) result }
 {
@@ -157,12 +176,15 @@ pub fn plain_status<T: Tree, S: Shelf, G: Regexps>(
 ) -> Result<Listed, StatusFault>
     ensures passes { trees.Passes (T.history tree.old) (T.history tree.new) }
     ensures passes_shelf { shelves.Passes (S.history shelf.old) (S.history shelf.new) }
+    ensures kept { images.Goes (images.course (S.history shelf.old) (S.images shelf.old)) (images.course (S.history shelf.new) (S.images shelf.new)) }
+    ensures held { S.held shelf.new ≡ S.held shelf.old }
     ensures still { IfOk
         result
         (λ listed. IsFullFor
         (IsLeft
         wanted
         (flat_in flat.now)
+        (asked_by wanted (flat_in flat.now))
         p1.now
         (T.history tree.new)
         (T.history tree.old).last
@@ -193,20 +215,21 @@ pub fn plain_status<T: Tree, S: Shelf, G: Regexps>(
         ((path : List ℕ) → IsLeft
         wanted
         (flat_in flat.now)
+        (asked_by wanted (flat_in flat.now))
         p1.now
         (T.history tree.new)
         (T.history tree.old).last
         (S.history shelf.new)
         (S.history shelf.old).last
         path
-        → IsAsked wanted (flat_in flat.now) (trees.now (T.history tree.old)) path
+        → IsAsked (asked_by wanted (flat_in flat.now)) (trees.now (T.history tree.old)) path
         → IsServed (shelves.now (S.history shelf.old)).files p1.now (trees.now (T.history tree.old)) path) }
     ensures met { IfErr
         result
         (Met
         (record {
           wanted = wanted;
-          flat = flat_in flat.now;
+          asks = asked_by wanted (flat_in flat.now);
           id = p1.now;
           tree_old = T.history tree.old;
           tree_new = T.history tree.new;
@@ -218,7 +241,7 @@ pub fn plain_status<T: Tree, S: Shelf, G: Regexps>(
     ensures asked { IsTrue (T.history tree.old).told
         → AsksAll
         wanted
-        (λ path. IsTrue (is_compared wanted (flat_in flat.now) path))
+        (asked_by wanted (flat_in flat.now))
         (IsListedDir wanted (T.history tree.old) (T.history tree.new))
         (T.history tree.old)
         (T.history tree.new) }
@@ -228,12 +251,27 @@ pub fn plain_status<T: Tree, S: Shelf, G: Regexps>(
         result
         (AsksBehind
         (pattern_reads wanted (trees.now (T.history tree.old)))
-        (λ path. IsTrue (is_compared wanted (flat_in flat.now) path))
+        (asked_by wanted (flat_in flat.now))
         (IsListedDir wanted (T.history tree.old) (T.history tree.new))
         (T.history tree.old)
         (T.history tree.new)) }
-    // Where no bytes are compared, the files below `.hg` aren't asked, and where no patterns are needed, no regexp is compiled.
-    ensures unasked { ((path : List ℕ) → is_compared wanted (flat_in flat.now) path ≡ false) → shelf.new ≡ shelf.old }
+    // Where no path is compared, the files below `.hg` aren't asked.
+    ensures unasked { ((path : List ℕ) → WasAsked (asked_by wanted (flat_in flat.now)) (T.history tree.old) (T.history tree.new) path → ⊥)
+        → shelf.new ≡ shelf.old }
+    // They are asked for the manifest of the parent once at most, its size and then its bytes, and behind it only for contents that its rows of such
+    // paths name.
+    ensures asked_store { IsTrue (S.history shelf.old).told
+        → AsksStore
+        (record {
+          wanted = wanted;
+          asks = asked_by wanted (flat_in flat.now);
+          id = p1.now;
+          tree_old = T.history tree.old;
+          tree_new = T.history tree.new;
+          shelf_old = S.history shelf.old;
+          shelf_new = S.history shelf.new;
+        }) }
+    // Where no patterns are needed, no regexp is compiled.
     ensures uncompiled { needs_patterns wanted ≡ false → regexps.new ≡ regexps.old }
     ensures cause { HasStatusCause (T.faults tree.old) (T.faults tree.new) result }
     ensures cause_shelf { HasShelfCause (S.faults shelf.old) (S.faults shelf.new) result }

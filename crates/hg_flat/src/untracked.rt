@@ -1,6 +1,6 @@
 //! The row of a path without an entry.
 
-ghost use Rattle.std.specs.Prelude.{◌≡◌, ◌↔◌, ◌&&◌, not, is_some, OnOk, IfErr, IsTrue};
+ghost use Rattle.std.specs.Prelude.{◌≡◌, ◌↔◌, ◌&&◌, not, OnOk, IfErr, IsTrue};
 ghost use Rattle.hg_base.specs.PathText.{parent_of};
 ghost use Rattle.hg_ignore.specs.Asked.{state_asked};
 ghost use Rattle.hg_ignore.specs.Kept.{DirIgnored};
@@ -63,7 +63,7 @@ pub(crate) fn add_untracked(
     ensures row { OnOk
         result
         (PutsUntracked
-        (is_some (kept_of flat.now path))
+        (kept_of flat.now path)
         wanted
         (state_asked matcher.old)
         path

@@ -1,139 +1,26 @@
--- Each step of a publication keeps the data that dockets name, and where all steps do, it is kept throughout.
-use Rattle.std.proofs.Common.{◌≡◌, ℕ, zero, suc, ◌+◌, ◌-◌, ◌<◌, ◌≤◌, Bool, true, false, cond, List, ◌++◌, length, codes, refl, sym, ap, ◌∙◌, subst, arith, IsSome, IsTrue, is_some, Option, Some, None, inl, inr}
+-- Each step of a publication keeps the data that dockets name.
+use Rattle.std.proofs.Common.{◌≡◌, ℕ, suc, ◌+◌, ◌≤◌, List, codes, sym, ap, ◌∙◌, subst, arith, IsSome, is_some, Some, inl, inr}
 use Rattle.std.specs.Str.{bytes_eq}
-use Rattle.std.proofs.lemmas.Bool.{cases_lt}
-use Rattle.std.proofs.lemmas.List.{length-append}
 use Rattle.hg_append.specs.declared.encoding.Encoded.{Encoded}
 use Rattle.hg_docket.specs.Docket.{docket_of}
 use Rattle.hg_docket.specs.Number.{next_name}
-use Rattle.hg_shelf.specs.History.{Extends, Files, History, Who, others, readers, us}
+use Rattle.hg_shelf.specs.History.{Files, us}
 use Rattle.hg_shelf.specs.Images.{Course, Goes, Remains, Scene, last_scene, scene}
-use Rattle.hg_shelf.specs.Polite.{OthersOnlyRead, Undisturbed}
+use Rattle.hg_shelf.specs.Polite.{Undisturbed}
 use Rattle.hg_shelf.specs.Rules.{Perhaps, Surely, moved, without}
 use Rattle.hg_shelf.proofs.Scenes.{first_part, goes_trans, second_part}
 use Rattle.hg_save.specs.Leads.{ButFor, Clears, IsDone, Leads, OnceBy, OwnSteps, StepBy}
-use Rattle.hg_save.specs.Loads.{files_at}
-use Rattle.hg_save.specs.Others.{HasData, HasFront, IsKeeping, IsNotAhead, KeepData, KeepsFiles, KeepsFront, StaysFront, UsesData, named_file}
+use Rattle.hg_save.specs.Others.{HasData, HasFront, IsKeeping, IsNotAhead, KeepsFiles, StaysFront, UsesData, named_file}
 use Rattle.hg_save.specs.Record.{data_name, docket_in, id_in}
 use Rattle.hg_save.specs.Saved.{IsOver, Stands, name_after, new_docket, used_in}
 use Rattle.hg_save.proofs.Kept.{leads_gone, perhaps_gone, steps_weaker}
-use Rattle.hg_save.proofs.Names.{data_not_new, later_still, never_itself, next_other, one_data}
+use Rattle.hg_save.proofs.Names.{data_not_new, later_still, next_other, one_data}
 use Rattle.hg_save.proofs.Own.{steps_on}
 use Rattle.hg_save.proofs.Readings.{Holds, IsReady, Spares, id_published, moved_ready, same_docket, spared_docket, used_published, without_old}
+use Rattle.hg_save.proofs.Spans.{has_front, keeping_itself, stays_by, stays_gone}
 use Rattle.hg_save.proofs.Stages.{EachShown, Puts, cleared_shown, done_shown, ready_shown, shown_one, shown_two}
 
--- ---- the front of a file
-
-stays_itself : (used : ℕ) (file : Option (List ℕ)) → StaysFront used file file
-stays_itself used None = tt
-stays_itself used (Some bytes) = λ long. (long, refl)
-
-stays_by : (used : ℕ) (old new : Option (List ℕ)) → new ≡ old → StaysFront used old new
-stays_by used old new same = subst (StaysFront used old) (sym same) (stays_itself used old)
-
-stays_gone : (used : ℕ) (t : Bool) (old : Option (List ℕ)) → StaysFront used old (cond t None old)
-stays_gone used true old = tt
-stays_gone used false old = stays_itself used old
-
-front_itself : (used : ℕ) (file : Option (List ℕ)) → HasFront used file → KeepsFront used file file
-front_itself used None has = absurd has
-front_itself used (Some bytes) has = (has, has, refl)
-
-front_on : (used : ℕ) (old mid new : Option (List ℕ)) → KeepsFront used old mid → StaysFront used mid new → KeepsFront used old new
-front_on used old mid None keeps stays = tt
-front_on used old None (Some new) keeps stays = absurd stays
-front_on used None (Some mid) (Some new) keeps stays = absurd keeps
-front_on used (Some old) (Some mid) (Some new) keeps stays = let next = stays keeps.1 in (keeps.0, next.0, next.1 ∙ keeps.2)
-
-has_front : (n : ℕ) (file : Option (List ℕ)) (bytes rest : List ℕ) → n ≡ length bytes → file ≡ Some (bytes ++ rest) → HasFront n file
-has_front n file bytes rest same is = subst (HasFront n) (sym is) (omega (arith, same, length-append bytes rest))
-
--- ---- many steps
-
-module _ (h : History) (from : ℕ) (start : HasData (files_at h from)) (keeps : (by : Who) → KeepsFiles by h from) where
-  step_at : (k : ℕ) → from ≤ k → k < h.last → IsKeeping (files_at h k) (files_at h (k + 1))
-  step_at k after before = (keeps (h.who k)).each k after before refl
-
-  has_at : (n k : ℕ) → k ≡ from + n → k ≤ h.last → HasData (files_at h k)
-  has_at zero k at within = subst (λ (m : ℕ). HasData (files_at h m)) (omega (arith, at)) start
-  has_at (suc n) k at within =
-      let next : from + n + 1 ≡ k = omega (arith, at) in
-      subst (λ (m : ℕ). HasData (files_at h m)) next ((step_at (from + n) (omega arith) (omega (arith, next, within))).there (has_at n (from + n) refl (omega (arith, next, within))))
-
-  has_from : (k : ℕ) → from ≤ k → k ≤ h.last → HasData (files_at h k)
-  has_from k after within = has_at (k - from) k (omega (arith, after)) within
-
-  module _ (k : ℕ) (after : from ≤ k) (uses : UsesData (docket_in (files_at h k))) where
-    -- the docket of that moment isn't ahead of the one that stands, and its data is kept
-    record IsKept (m : ℕ) : Type 0 where
-      pub behind : IsNotAhead (id_in (files_at h m)) (id_in (files_at h k))
-      pub front : KeepsFront (used_in (files_at h k)) (named_file (docket_in (files_at h k)) (files_at h k)) (named_file (docket_in (files_at h k)) (files_at h m))
-
-    kept_at : (n m : ℕ) → m ≡ k + n → m ≤ h.last → IsKept m
-    kept_at zero m at within =
-        subst IsKept (omega (arith, at)) (record {
-          behind = λ n. never_itself n (id_in (files_at h k));
-          front = front_itself (used_in (files_at h k)) (named_file (docket_in (files_at h k)) (files_at h k)) (has_from k after (omega (arith, at, within)) uses);
-        })
-    kept_at (suc n) m at within =
-        let next : k + n + 1 ≡ m = omega (arith, at) in
-        let was : IsKept (k + n) = kept_at n (k + n) refl (omega (arith, next, within)) in
-        let step : IsKeeping (files_at h (k + n)) (files_at h (k + n + 1)) = step_at (k + n) (omega (arith, after)) (omega (arith, next, within)) in
-        subst IsKept next (record {
-          behind = step.ahead (id_in (files_at h k)) was.behind;
-          front = front_on (used_in (files_at h k)) (named_file (docket_in (files_at h k)) (files_at h k)) (named_file (docket_in (files_at h k)) (files_at h (k + n))) (named_file (docket_in (files_at h k)) (files_at h (k + n + 1)))
-              was.front (step.kept (docket_in (files_at h k)) uses was.behind);
-        })
-
-    kept_from : (m : ℕ) → k ≤ m → m ≤ h.last → IsKept m
-    kept_from m later within = kept_at (m - k) m (omega (arith, later)) within
-
-pub keep_data : (h : History) (from : ℕ) → IsTrue h.told → HasData (files_at h from) → ((by : Who) → KeepsFiles by h from) → KeepData h from
-keep_data h from told start keeps = record {
-  told = told;
-  there = λ k after within uses. has_from h from start keeps k after within uses;
-  kept = λ k m after later within uses. (kept_from h from start keeps k after uses m later within).front;
-}
-
--- who keeps it from a moment on does from a later one on
-pub files_later : (by : Who) (h : History) (from start : ℕ) → from ≤ start → KeepsFiles by h from → KeepsFiles by h start
-files_later by h from start order keep = record { each = λ k after before who. keep.each k (omega (arith, order, after)) before who }
-
--- steps that aren't there keep anything
-pub files_front : (by : Who) (h : History) (from start : ℕ) → ((k : ℕ) → from ≤ k → k < start → h.who k ≡ by → ⊥) → KeepsFiles by h start → KeepsFiles by h from
-files_front by h from start none keep = record {
-  each = λ k after before who. elim (cases_lt k start) [
-    | inl early ↦ absurd (none k after early who)
-    | inr late ↦ keep.each k late before who
-  ];
-}
-
--- a longer history whose further steps are by none keeps it as the shorter one does
-pub files_longer : (by : Who) (h g : History) (from : ℕ) → Extends h g → ((k : ℕ) → h.last ≤ k → k < g.last → g.who k ≡ by → ⊥) → KeepsFiles by h from → KeepsFiles by g from
-files_longer by h g from past none keep = record {
-  each = λ k after before who. elim (cases_lt k h.last) [
-    | inl early ↦
-        subst (λ (f : Files). IsKeeping f (files_at g (k + 1))) (sym (past.stay k (omega (arith, early))).shown)
-        (subst (IsKeeping (files_at h k)) (sym (past.stay (k + 1) (omega (arith, early))).shown) (keep.each k after early (sym (past.who k early) ∙ who)))
-    | inr late ↦ absurd (none k late before who)
-  ];
-}
-
 -- ---- one step
-
-keeping_itself : (x : Files) → IsKeeping x x
-keeping_itself x = record { kept = λ docket uses ahead. stays_itself (docket_of docket).used (named_file docket x); there = λ has. has; ahead = λ id is. is }
-
--- others that only read keep it
-pub keep_beside : (c : Course) (from : ℕ) → IsTrue c.history.told → OthersOnlyRead c from → HasData (files_at c.history from) → KeepsFiles us c.history from → KeepsFiles others c.history from → KeepData c.history from
-keep_beside c from told only start own theirs = keep_data c.history from told start by_each
-  where
-    by_each : (by : Who) → KeepsFiles by c.history from
-    by_each us = own
-    by_each others = theirs
-    by_each readers = record {
-      each = λ k after before who. subst (IsKeeping (files_at c.history k)) (sym (only.same k after before who).shown) (keeping_itself (files_at c.history k));
-    }
 
 -- a step between scenes
 abbrev Keeping : Scene → Scene → Type 0

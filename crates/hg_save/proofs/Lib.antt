@@ -12,5 +12,6 @@ pub mod Own
 pub mod Parts
 pub mod Published
 pub mod Readings
+pub mod Spans
 pub mod Stages
 pub mod Tails

@@ -67,6 +67,12 @@ pub record IsKeeping (before behind : Files) : Type 0 where
 pub record KeepsFiles (by : Who) (h : History) (from : ℕ) : Type 0 where
   pub each : (k : ℕ) → from ≤ k → k < h.last → h.who k ≡ by → IsKeeping (files_at h k) (files_at h (k + 1))
 
+-- a step keeps the data of the dockets that have stood since a moment
+pub record KeepsStood (h : History) (from k : ℕ) : Type 0 where
+  pub kept : (j : ℕ) → from ≤ j → j ≤ k → UsesData (docket_in (files_at h j))
+      → StaysFront (docket_of (docket_in (files_at h j))).used (named_file (docket_in (files_at h j)) (files_at h k)) (named_file (docket_in (files_at h j)) (files_at h (k + 1)))
+  pub there : HasData (files_at h k) → HasData (files_at h (k + 1))
+
 -- ---- what was recorded
 
 -- the files of one moment of a call record this

@@ -1,6 +1,6 @@
 //! Laws of the definitions.
 
-ghost use Rattle.std.specs.Prelude.{◌≡◌, ℕ, Err, IsTrue, List, None, Ok};
+ghost use Rattle.std.specs.Prelude.{◌≡◌, ◌≤◌, ◌<◌, ◌+◌, ℕ, Err, IsTrue, List, None, Ok};
 ghost use Rattle.hg_append.specs.Encoded.{IsWritten, ReadsAs};
 ghost use Rattle.hg_append.specs.declared.encoding.Encoded.{Encoded};
 ghost use Rattle.hg_docket.specs.Docket.{docket_of, docket_refusal};
@@ -9,7 +9,8 @@ ghost use Rattle.hg_image.specs.Reading.{reading_of};
 ghost use Rattle.hg_image.specs.Reading as a_record_fault;
 ghost use Rattle.hg_mixed.specs.Held.{Held, table};
 ghost use Rattle.hg_save.specs.Loads.{files_at, Loads, Try};
-ghost use Rattle.hg_save.specs.Others.{HasData, KeepData, KeepsFiles, WasLoaded, WasRecorded};
+ghost use Rattle.hg_save.specs.Others.{HasData, IsKeeping, IsNotAhead, KeepData, KeepsFiles, KeepsStood, WasLoaded, WasRecorded};
+ghost use Rattle.hg_save.specs.Record.{id_in};
 ghost use Rattle.hg_save.specs.Saved.{IsOver};
 ghost use Rattle.hg_save.specs.declared.load_fault.LoadFault.TheVariants as a_fault;
 ghost use Rattle.hg_save.specs.declared.loaded.Loaded.{Loaded};
@@ -36,5 +37,11 @@ pub fn one_moment()
 /// Where each step keeps the data that dockets name, whoever made it, and the standing docket's is there at first, it is kept throughout: so
 /// publications beside each other keep to what is asked of others.
 pub fn data_kept()
-    ensures { (h : History) (from : ℕ) → IsTrue h.told → HasData (files_at h from) → ((by : Who) → KeepsFiles by h from) → KeepData h from }
+    ensures all { (h : History) (from : ℕ) → IsTrue h.told → HasData (files_at h from) → ((by : Who) → KeepsFiles by h from) → KeepData h from }
+    // It is enough that each keeps that of the dockets which have stood.
+    ensures stood { (h : History) (from : ℕ) → IsTrue h.told → HasData (files_at h from)
+        → ((k : ℕ) → from ≤ k → k < h.last → KeepsStood h from k) → KeepData h from }
+    // So does a step of this program where none of these is ahead of the one that stands.
+    ensures own { (h : History) (from k : ℕ) → IsKeeping (files_at h k) (files_at h (k + 1))
+        → ((j : ℕ) → from ≤ j → j ≤ k → IsNotAhead (id_in (files_at h k)) (id_in (files_at h j))) → KeepsStood h from k }
 {}

@@ -1,26 +1,35 @@
-use Rattle.std.proofs.Common.{Some, sym, subst, ◌≡◌}
+use Rattle.std.proofs.Common.{Some, sym, subst, ◌≡◌, ◌∙◌}
 use Rattle.std.specs.Prelude.{IsTrue}
 use Rattle.std.proofs.lemmas.Result.{IfErr-weaker}
 use Rattle.hg_compare.specs.Same.{StaysShown}
 use Rattle.hg_shelf.specs.History as shelf
 use Rattle.hg_tree.specs.History as tree
 use Rattle.hg_tree.specs.Moment.{stat_at}
-use Rattle.hg_flat.specs.Course.{Goes, IsFound, IsKeptManifest, IsManifest, LacksIn, MetBy, upto}
+use Rattle.hg_flat.specs.Course.{Goes, HasAsked, IsFound, IsKeptManifest, IsManifest, LacksIn, MetBy, upto}
 use Rattle.hg_flat.specs.Met.{Status}
 use Rattle.hg_flat.specs.Parent.{KeepsRow, row_of}
-use Rattle.hg_flat.proofs.Manifests.{always, found_letter, goes_loaded, manifest_later, met_in, ok_each}
+use Rattle.hg_flat.proofs.Manifests.{always, always_failed, found_letter, manifest_later, met_in, ok_each}
+use Rattle.hg_flat.proofs.Going.{goes_loaded}
+use Rattle.hg_flat.proofs.Storing.{store_whole, whole_more}
 use Rattle.hg_flat.proofs.comparing.compared_letter.Goals as goal
 
 pub returns-in-Some-clause-goes : goal.returns-in-Some-clause-goes
 returns-in-Some-clause-goes g c =
+    let copy = g.T.Tree.history c.args.tree.now in
+    let later = g.T.Tree.history c.letter_in.new.tree in
+    let old = g.S.Shelf.history c.args.shelf.now in
+    let new = g.S.Shelf.history c.letter_in.new.shelf in
     always c.letter_in.result _
-    (λ s goes.
-    goes_loaded s (g.T.Tree.history c.args.tree.now) (g.T.Tree.history c.letter_in.new.tree) (g.S.Shelf.history c.args.shelf.now) (g.S.Shelf.history c.letter_in.new.shelf) c.args.parent.now c.letter_in.new.loaded
-    c.letter_in.ensures.tree_passes c.letter_in.ensures.shelf_passes goes
-    (subst (IsManifest (upto s (g.T.Tree.history c.letter_in.new.tree) (g.S.Shelf.history c.letter_in.new.shelf))) (sym c.letter_in.ensures.kept)
-    (manifest_later s (g.T.Tree.history c.args.tree.now) (g.T.Tree.history c.letter_in.new.tree) (g.S.Shelf.history c.args.shelf.now) (g.S.Shelf.history c.letter_in.new.shelf) c.in-Some.loaded.manifest goes.shelf
-    c.letter_in.ensures.shelf_passes
-    (subst (IsKeptManifest (upto s (g.T.Tree.history c.args.tree.now) (g.S.Shelf.history c.args.shelf.now))) c.in-Some.is goes.read))))
+    (λ s goes asked.
+    goes_loaded s copy later old new c.args.parent.now c.letter_in.new.loaded c.letter_in.ensures.tree_passes c.letter_in.ensures.shelf_passes goes
+    (subst (IsManifest (upto s later new)) (sym c.letter_in.ensures.manifest)
+    (manifest_later s copy later old new c.in-Some.loaded.manifest goes.shelf c.letter_in.ensures.shelf_passes
+    (subst (IsKeptManifest (upto s copy old)) c.in-Some.is goes.read)))
+    (λ told.
+    whole_more s copy later old new goes.tree.past c.letter_in.ensures.tree_passes.past goes.shelf c.letter_in.ensures.shelf_passes c.in-Some.loaded.manifest c.args.path.text.now asked
+    (manifest_later s copy later old new c.in-Some.loaded.manifest goes.shelf c.letter_in.ensures.shelf_passes
+    (subst (IsKeptManifest (upto s copy old)) c.in-Some.is goes.read))
+    (subst (HasAsked (upto s copy old)) c.in-Some.is (goes.asked told)) (c.letter_in.ensures.contents (goes.shelf.past.told ∙ told))))
 
 pub returns-in-Some-clause-found : goal.returns-in-Some-clause-found
 returns-in-Some-clause-found g c =
@@ -50,3 +59,17 @@ returns-in-Some-clause-met g c =
     (subst (IsKeptManifest (upto s (g.T.Tree.history c.args.tree.now) (g.S.Shelf.history c.args.shelf.now))) c.in-Some.is goes.read))
     lacks)
     c.letter_in.ensures.lacks
+
+pub returns-in-Some-clause-store : goal.returns-in-Some-clause-store
+returns-in-Some-clause-store g c =
+    let copy = g.T.Tree.history c.args.tree.now in
+    let later = g.T.Tree.history c.letter_in.new.tree in
+    let old = g.S.Shelf.history c.args.shelf.now in
+    let new = g.S.Shelf.history c.letter_in.new.shelf in
+    always_failed c.letter_in.result _
+    (λ s goes asked told.
+    store_whole (upto s later new)
+    (whole_more s copy later old new goes.tree.past c.letter_in.ensures.tree_passes.past goes.shelf c.letter_in.ensures.shelf_passes c.in-Some.loaded.manifest c.args.path.text.now asked
+    (manifest_later s copy later old new c.in-Some.loaded.manifest goes.shelf c.letter_in.ensures.shelf_passes
+    (subst (IsKeptManifest (upto s copy old)) c.in-Some.is goes.read))
+    (subst (HasAsked (upto s copy old)) c.in-Some.is (goes.asked told)) (c.letter_in.ensures.contents (goes.shelf.past.told ∙ told))))

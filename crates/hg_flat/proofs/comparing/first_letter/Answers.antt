@@ -1,8 +1,14 @@
-use Rattle.std.proofs.Common.{Ok, sym, subst}
+use Rattle.std.proofs.Common.{Ok, ◌≡◌, ◌++◌, ◌∙◌, sym, subst}
 use Rattle.std.proofs.lemmas.Result.{err_from_is_err_and}
 use Rattle.hg_shelf.proofs.Histories as shelves
-use Rattle.hg_flat.specs.Course.{IsManifest, upto}
-use Rattle.hg_flat.proofs.Manifests.{found_letter, goes_loaded, manifest_later, met_in, met_load}
+use Rattle.hg_shelf.proofs.Scenes.{goes_trans}
+use Rattle.hg_flat.specs.Course.{HasAsked, IsManifest, upto}
+use Rattle.hg_flat.proofs.Going.{goes_loaded}
+use Rattle.hg_flat.proofs.Manifests.{found_letter, manifest_later, met_in, met_load}
+use Rattle.hg_flat.proofs.Storing.{store_failed, store_whole, whole_first}
+use Rattle.hg_base.specs.declared.id.Id20.{Id20}
+use Rattle.hg_manifest.specs.Load.{asks_of}
+use Rattle.hg_shelf.specs.Asks.{AsksFrontOf}
 use Rattle.hg_flat.proofs.comparing.first_letter.Goals as goal
 
 pub returns-in_err-loaded-clause-met : goal.returns-in_err-loaded-clause-met
@@ -27,16 +33,25 @@ returns-in_err-letter-clause-met g c =
     c.in_err-letter.ensures.lacks)
 
 pub returns-clause-goes : goal.returns-clause-goes
-returns-clause-goes g c = λ s goes.
-    let first = shelves.passes_trans s.shelf_old (g.S.Shelf.history c.args.shelf.now) (g.S.Shelf.history c.load.new.shelf) goes.shelf c.load.ensures.passes in
-    goes_loaded s (g.T.Tree.history c.args.tree.now) (g.T.Tree.history c.letter_in.new.tree) (g.S.Shelf.history c.args.shelf.now) (g.S.Shelf.history c.letter_in.new.shelf) c.args.parent.now c.letter_in.new.loaded
-    c.letter_in.ensures.tree_passes
-    (shelves.passes_trans (g.S.Shelf.history c.args.shelf.now) (g.S.Shelf.history c.load.new.shelf) (g.S.Shelf.history c.letter_in.new.shelf) c.load.ensures.passes c.letter_in.ensures.shelf_passes)
+returns-clause-goes g c = λ s goes asked.
+    let copy = g.T.Tree.history c.args.tree.now in
+    let later = g.T.Tree.history c.letter_in.new.tree in
+    let old = g.S.Shelf.history c.args.shelf.now in
+    let mid = g.S.Shelf.history c.load.new.shelf in
+    let new = g.S.Shelf.history c.letter_in.new.shelf in
+    let first = shelves.passes_trans s.shelf_old old mid goes.shelf c.load.ensures.passes in
+    goes_loaded s copy later old new c.args.parent.now c.letter_in.new.loaded c.letter_in.ensures.tree_passes
+    (shelves.passes_trans old mid new c.load.ensures.passes c.letter_in.ensures.shelf_passes)
     goes
-    (subst (IsManifest (upto s (g.T.Tree.history c.letter_in.new.tree) (g.S.Shelf.history c.letter_in.new.shelf))) (sym c.letter_in.ensures.kept)
-    (manifest_later s (g.T.Tree.history c.args.tree.now) (g.T.Tree.history c.letter_in.new.tree) (g.S.Shelf.history c.load.new.shelf) (g.S.Shelf.history c.letter_in.new.shelf) c.in_ok-loaded.loaded.manifest first
-    c.letter_in.ensures.shelf_passes
-    (c.in_ok-loaded.ensures.found (upto s (g.T.Tree.history c.args.tree.now) (g.S.Shelf.history c.args.shelf.now)) goes.shelf goes.same)))
+    (subst (IsManifest (upto s later new)) (sym c.letter_in.ensures.manifest)
+    (manifest_later s copy later mid new c.in_ok-loaded.loaded.manifest first c.letter_in.ensures.shelf_passes
+    (c.in_ok-loaded.ensures.found (upto s copy old) goes.shelf goes.same)))
+    (λ told.
+    whole_first s later old mid new c.in_ok-loaded.loaded.manifest c.args.path.text.now (subst (HasAsked (upto s copy old)) c.requires (goes.asked told))
+    (subst (λ (i : Id20). mid.asked ≡ old.asked ++ asks_of i) goes.same (c.in_ok-loaded.ensures.asked (goes.shelf.past.told ∙ told))) asked
+    (manifest_later s copy later mid new c.in_ok-loaded.loaded.manifest first c.letter_in.ensures.shelf_passes
+    (c.in_ok-loaded.ensures.found (upto s copy old) goes.shelf goes.same))
+    (c.letter_in.ensures.contents (c.load.ensures.passes.past.told ∙ goes.shelf.past.told ∙ told)))
 
 pub returns-clause-found : goal.returns-clause-found
 returns-clause-found g c = λ s goes told stays keeps shown.
@@ -47,3 +62,38 @@ returns-clause-found g c = λ s goes told stays keeps shown.
     c.letter_in.ensures.shelf_passes
     (c.in_ok-loaded.ensures.found (upto s (g.T.Tree.history c.args.tree.now) (g.S.Shelf.history c.args.shelf.now)) goes.shelf goes.same))
     keeps (λ files held kept. c.in_ok-letter.ensures.judged files told held stays kept shown)
+
+pub returns-in_err-letter-clause-kept : goal.returns-in_err-letter-clause-kept
+returns-in_err-letter-clause-kept g c = goes_trans _ _ _ c.load.ensures.kept c.letter_in.ensures.kept
+
+pub returns-clause-kept : goal.returns-clause-kept
+returns-clause-kept g c = goes_trans _ _ _ c.load.ensures.kept c.letter_in.ensures.kept
+
+pub returns-in_err-loaded-clause-store : goal.returns-in_err-loaded-clause-store
+returns-in_err-loaded-clause-store g c =
+    let p = err_from_is_err_and c.from_residual.result c.from_residual.ensures.1 in
+    let copy = g.T.Tree.history c.args.tree.now in
+    let old = g.S.Shelf.history c.args.shelf.now in
+    let new = g.S.Shelf.history c.load.new.shelf in
+    rw p.1
+    (λ s goes asked told.
+    store_failed (upto s copy new) old c.args.path.text.now (subst (HasAsked (upto s copy old)) c.requires (goes.asked told))
+    (subst (λ (i : Id20). AsksFrontOf (asks_of i) old new) goes.same (c.in_err-loaded.ensures.asked (goes.shelf.past.told ∙ told))) asked)
+
+pub returns-in_err-letter-clause-store : goal.returns-in_err-letter-clause-store
+returns-in_err-letter-clause-store g c =
+    let p = err_from_is_err_and c.from_residual-in_err-letter.result c.from_residual-in_err-letter.ensures.1 in
+    let copy = g.T.Tree.history c.args.tree.now in
+    let later = g.T.Tree.history c.letter_in.new.tree in
+    let old = g.S.Shelf.history c.args.shelf.now in
+    let mid = g.S.Shelf.history c.load.new.shelf in
+    let new = g.S.Shelf.history c.letter_in.new.shelf in
+    rw p.1
+    (λ s goes asked told.
+    let first = shelves.passes_trans s.shelf_old old mid goes.shelf c.load.ensures.passes in
+    store_whole (upto s later new)
+    (whole_first s later old mid new c.in_ok-loaded.loaded.manifest c.args.path.text.now (subst (HasAsked (upto s copy old)) c.requires (goes.asked told))
+    (subst (λ (i : Id20). mid.asked ≡ old.asked ++ asks_of i) goes.same (c.in_ok-loaded.ensures.asked (goes.shelf.past.told ∙ told))) asked
+    (manifest_later s copy later mid new c.in_ok-loaded.loaded.manifest first c.letter_in.ensures.shelf_passes
+    (c.in_ok-loaded.ensures.found (upto s copy old) goes.shelf goes.same))
+    (c.letter_in.ensures.contents (c.load.ensures.passes.past.told ∙ goes.shelf.past.told ∙ told))))

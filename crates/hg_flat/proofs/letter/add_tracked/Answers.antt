@@ -1,6 +1,8 @@
 use Rattle.hg_shelf.specs.History as shelves
 use Rattle.hg_tree.specs.History as trees
 use Rattle.hg_flat.specs.Listing.{IsLeftRow}
+use Rattle.std.proofs.lemmas.Result.{err_from_is_err_and}
+use Rattle.hg_flat.proofs.Going.{goes_store}
 use Rattle.hg_flat.proofs.Tracking.{tracked_one}
 use Rattle.hg_flat.proofs.letter.add_tracked.Goals as goal
 
@@ -10,3 +12,10 @@ returns-clause-row g c = λ s goes.
     (IsLeftRow c.args.wanted s.id (g.T.Tree.history c.find_letter.new.tree) (g.T.Tree.history c.args.tree.now).last (g.S.Shelf.history c.find_letter.new.shelf) s.shelf_old.last)
     (shelves.now s.shelf_old).files s.id (trees.now (g.T.Tree.history c.args.tree.now)) c.args.wanted c.args.kept.now c.in_ok-letter.letter c.args.rows.now.items c.put_wanted.new.rows.items
     (c.in_ok-letter.ensures.found s goes) c.in_ok-put_wanted.ensures
+
+pub returns-in_err-put_wanted-clause-store : goal.returns-in_err-put_wanted-clause-store
+returns-in_err-put_wanted-clause-store g c =
+    let p = err_from_is_err_and c.from_residual-in_err-put_wanted.result c.from_residual-in_err-put_wanted.ensures.1 in
+    rw p.1
+    (λ s goes agrees told.
+    goes_store s (g.T.Tree.history c.find_letter.new.tree) (g.S.Shelf.history c.find_letter.new.shelf) c.find_letter.new.parent (c.in_ok-letter.ensures.goes s goes agrees) told)

@@ -1,13 +1,17 @@
-use Rattle.std.proofs.Common.{List, ℕ, refl, sym, ◌∙◌, subst}
+use Rattle.std.proofs.Common.{List, ℕ, sym, ap, ◌∙◌, subst, arith}
 use Rattle.std.proofs.lemmas.Result.{err_from_is_err_and}
 use Rattle.hg_compare.specs.Same.{Reads}
+use Rattle.hg_compare.specs.Tracked.{is_file_or_link}
 use Rattle.hg_shelf.specs.History as shelves
 use Rattle.hg_tree.specs.History as trees
+use Rattle.hg_tree.specs.Moment.{Moment}
 use Rattle.hg_flat.specs.Course.{IsFound, MetBy, upto}
-use Rattle.hg_flat.specs.Listing.{IsComparedAs, IsLeftRow}
+use Rattle.hg_flat.specs.Listing.{IsLeftRow}
+use Rattle.hg_flat.specs.Parent.{WasAsked}
+use Rattle.hg_flat.proofs.Asking.{asked_later, asked_now, asks_there}
 use Rattle.hg_flat.proofs.Asks.{reads_pieces}
 use Rattle.hg_flat.proofs.Faces.{stays_shown}
-use Rattle.hg_flat.proofs.Letters.{compared_by, found_marked, found_read, plain_there}
+use Rattle.hg_flat.proofs.Letters.{compared_by, found_marked, found_read, plain_there, there_is}
 use Rattle.hg_flat.proofs.Meeting.{met_compared}
 use Rattle.hg_flat.proofs.letter.letter_there.Goals as goal
 
@@ -20,19 +24,24 @@ pub returns-in_err-letter-clause-met : goal.returns-in_err-letter-clause-met
 returns-in_err-letter-clause-met g c =
     let p = err_from_is_err_and c.from_residual.result c.from_residual.ensures.1 in
     rw (p.1, p.2)
-    (λ s goes same shown.
+    (λ s goes agrees shown.
     let plain = plain_there c.args.kept.now c.args.there.now c.requires (sym c.marked_letter.ensures ∙ c.in_default.is) in
     met_compared s (g.T.Tree.history c.args.tree.now) (g.T.Tree.history c.compared_letter.new.tree) (g.S.Shelf.history c.compared_letter.new.shelf) c.args.kept.now.path c.args.there.now goes.tree
-    c.compared_letter.ensures.tree_passes (same ∙ compared_by c.args.wanted c.args.kept.now (sym c.wants_bytes.ensures ∙ c.if-not-wants_bytes.false) plain.1) plain.0 shown c.in_err-letter.field-0.0
+    c.compared_letter.ensures.tree_passes
+    (asks_there c.args.wanted c.args.kept.now s.asks agrees (compared_by c.args.wanted c.args.kept.now (sym c.wants_bytes.ensures ∙ c.if-not-wants_bytes.false) plain.1)) plain.0 shown c.in_err-letter.field-0.0
     (subst (λ (p : List ℕ). MetBy (upto s (g.T.Tree.history c.compared_letter.new.tree) (g.S.Shelf.history c.compared_letter.new.shelf)) p c.args.there.now c.in_err-letter.field-0.0) c.as_ref.ensures
     (c.in_err-letter.ensures.met s goes)))
 
 pub returns-in_err-letter-clause-asked : goal.returns-in_err-letter-clause-asked
-returns-in_err-letter-clause-asked g c = λ told.
+returns-in_err-letter-clause-asked g c = λ asks agrees told shown.
+    let old = g.T.Tree.history c.args.tree.now in
+    let new = g.T.Tree.history c.compared_letter.new.tree in
     let plain = plain_there c.args.kept.now c.args.there.now c.requires (sym c.marked_letter.ensures ∙ c.in_default.is) in
-    reads_pieces (IsComparedAs c.args.wanted c.args.kept.now) c.args.there.now.size c.args.kept.now.path (g.T.Tree.history c.args.tree.now) (g.T.Tree.history c.compared_letter.new.tree)
-    (refl, compared_by c.args.wanted c.args.kept.now (sym c.wants_bytes.ensures ∙ c.if-not-wants_bytes.false) plain.1)
-    (subst (λ (p : List ℕ). Reads c.args.there.now.size p (g.T.Tree.history c.args.tree.now) (g.T.Tree.history c.compared_letter.new.tree)) c.as_ref.ensures (c.compared_letter.ensures.asked told))
+    let compared = compared_by c.args.wanted c.args.kept.now (sym c.wants_bytes.ensures ∙ c.if-not-wants_bytes.false) plain.1 in
+    reads_pieces (WasAsked asks old new) c.args.there.now.size c.args.kept.now.path old new
+    (asked_now asks old new c.args.kept.now.path c.compared_letter.ensures.tree_passes.past (asks_there c.args.wanted c.args.kept.now asks agrees compared)
+    (λ _. there_is (trees.now old) c.args.kept.now.path c.args.there.now shown ∙ plain.0))
+    (subst (λ (p : List ℕ). Reads c.args.there.now.size p old new) c.as_ref.ensures (c.compared_letter.ensures.asked told))
 
 pub returns-clause-found : goal.returns-clause-found
 returns-clause-found g c = λ s goes shown.
@@ -45,12 +54,70 @@ returns-clause-found g c = λ s goes shown.
     subst (λ (p : List ℕ). IsFound (shelves.now s.shelf_old).files s.id (trees.now (g.T.Tree.history c.args.tree.now)) p c.in_ok-letter.letter) c.as_ref.ensures
     (c.in_ok-letter.ensures.found s goes told
     (stays_shown (g.T.Tree.history c.args.tree.now) (g.T.Tree.history c.compared_letter.new.tree) c.as_ref.result.text.now (rw c.as_ref.ensures meets.own))
-    (rw c.as_ref.ensures (meets.row (compared_by c.args.wanted c.args.kept.now (sym c.wants_bytes.ensures ∙ c.if-not-wants_bytes.false) plain.1)))
+    (rw c.as_ref.ensures
+    (meets.row (record {
+      compared = compared_by c.args.wanted c.args.kept.now (sym c.wants_bytes.ensures ∙ c.if-not-wants_bytes.false) plain.1;
+      there =
+          ap (λ (m : Moment). is_file_or_link (m.things c.args.kept.now.path)) (c.compared_letter.ensures.tree_passes.past.stay (g.T.Tree.history c.args.tree.now).last (omega arith))
+          ∙ there_is (trees.now (g.T.Tree.history c.args.tree.now)) c.args.kept.now.path c.args.there.now (shown told) ∙ plain.0;
+    })))
     (rw c.as_ref.ensures (shown told))))
 
 pub returns-clause-asked : goal.returns-clause-asked
-returns-clause-asked g c = λ told.
+returns-clause-asked g c = λ asks agrees told shown.
+    let old = g.T.Tree.history c.args.tree.now in
+    let new = g.T.Tree.history c.compared_letter.new.tree in
     let plain = plain_there c.args.kept.now c.args.there.now c.requires (sym c.marked_letter.ensures ∙ c.in_default.is) in
-    reads_pieces (IsComparedAs c.args.wanted c.args.kept.now) c.args.there.now.size c.args.kept.now.path (g.T.Tree.history c.args.tree.now) (g.T.Tree.history c.compared_letter.new.tree)
-    (refl, compared_by c.args.wanted c.args.kept.now (sym c.wants_bytes.ensures ∙ c.if-not-wants_bytes.false) plain.1)
-    (subst (λ (p : List ℕ). Reads c.args.there.now.size p (g.T.Tree.history c.args.tree.now) (g.T.Tree.history c.compared_letter.new.tree)) c.as_ref.ensures (c.compared_letter.ensures.asked told))
+    let compared = compared_by c.args.wanted c.args.kept.now (sym c.wants_bytes.ensures ∙ c.if-not-wants_bytes.false) plain.1 in
+    reads_pieces (WasAsked asks old new) c.args.there.now.size c.args.kept.now.path old new
+    (asked_now asks old new c.args.kept.now.path c.compared_letter.ensures.tree_passes.past (asks_there c.args.wanted c.args.kept.now asks agrees compared)
+    (λ _. there_is (trees.now old) c.args.kept.now.path c.args.there.now shown ∙ plain.0))
+    (subst (λ (p : List ℕ). Reads c.args.there.now.size p old new) c.as_ref.ensures (c.compared_letter.ensures.asked told))
+
+pub returns-in_err-letter-clause-unasked : goal.returns-in_err-letter-clause-unasked
+returns-in_err-letter-clause-unasked g c = λ asks agrees shown never.
+    let old = g.T.Tree.history c.args.tree.now in
+    let new = g.T.Tree.history c.compared_letter.new.tree in
+    let plain = plain_there c.args.kept.now c.args.there.now c.requires (sym c.marked_letter.ensures ∙ c.in_default.is) in
+    let compared = compared_by c.args.wanted c.args.kept.now (sym c.wants_bytes.ensures ∙ c.if-not-wants_bytes.false) plain.1 in
+    absurd (never
+    (asked_now asks old new c.args.kept.now.path c.compared_letter.ensures.tree_passes.past (asks_there c.args.wanted c.args.kept.now asks agrees compared)
+    (λ told. there_is (trees.now old) c.args.kept.now.path c.args.there.now (shown told) ∙ plain.0)))
+
+pub returns-clause-unasked : goal.returns-clause-unasked
+returns-clause-unasked g c = λ asks agrees shown never.
+    let old = g.T.Tree.history c.args.tree.now in
+    let new = g.T.Tree.history c.compared_letter.new.tree in
+    let plain = plain_there c.args.kept.now c.args.there.now c.requires (sym c.marked_letter.ensures ∙ c.in_default.is) in
+    let compared = compared_by c.args.wanted c.args.kept.now (sym c.wants_bytes.ensures ∙ c.if-not-wants_bytes.false) plain.1 in
+    absurd (never
+    (asked_now asks old new c.args.kept.now.path c.compared_letter.ensures.tree_passes.past (asks_there c.args.wanted c.args.kept.now asks agrees compared)
+    (λ told. there_is (trees.now old) c.args.kept.now.path c.args.there.now (shown told) ∙ plain.0)))
+
+pub returns-clause-goes : goal.returns-clause-goes
+returns-clause-goes g c = λ s goes agrees shown.
+    let old = g.T.Tree.history c.args.tree.now in
+    let new = g.T.Tree.history c.compared_letter.new.tree in
+    let plain = plain_there c.args.kept.now c.args.there.now c.requires (sym c.marked_letter.ensures ∙ c.in_default.is) in
+    let compared = compared_by c.args.wanted c.args.kept.now (sym c.wants_bytes.ensures ∙ c.if-not-wants_bytes.false) plain.1 in
+    c.in_ok-letter.ensures.goes s goes
+    (subst (WasAsked s.asks s.tree_old new) (sym c.as_ref.ensures)
+    (asked_later s.asks s.tree_old old new c.args.kept.now.path goes.tree.past
+    (asked_now s.asks old new c.args.kept.now.path c.compared_letter.ensures.tree_passes.past (asks_there c.args.wanted c.args.kept.now s.asks agrees compared)
+    (λ told. there_is (trees.now old) c.args.kept.now.path c.args.there.now (shown told) ∙ plain.0))))
+
+pub returns-in_err-letter-clause-store : goal.returns-in_err-letter-clause-store
+returns-in_err-letter-clause-store g c =
+    let p = err_from_is_err_and c.from_residual.result c.from_residual.ensures.1 in
+    let old = g.T.Tree.history c.args.tree.now in
+    let new = g.T.Tree.history c.compared_letter.new.tree in
+    let plain = plain_there c.args.kept.now c.args.there.now c.requires (sym c.marked_letter.ensures ∙ c.in_default.is) in
+    let compared = compared_by c.args.wanted c.args.kept.now (sym c.wants_bytes.ensures ∙ c.if-not-wants_bytes.false) plain.1 in
+    rw p.1
+    (λ s goes agrees shown told.
+    c.in_err-letter.ensures.store s goes
+    (subst (WasAsked s.asks s.tree_old new) (sym c.as_ref.ensures)
+    (asked_later s.asks s.tree_old old new c.args.kept.now.path goes.tree.past
+    (asked_now s.asks old new c.args.kept.now.path c.compared_letter.ensures.tree_passes.past (asks_there c.args.wanted c.args.kept.now s.asks agrees compared)
+    (λ told. there_is (trees.now old) c.args.kept.now.path c.args.there.now (shown told) ∙ plain.0))))
+    told)

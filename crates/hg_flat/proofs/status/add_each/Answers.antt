@@ -1,13 +1,13 @@
-use Rattle.std.proofs.Common.{List, ℕ, ◌<◌, length, sym, ◌∙◌, subst}
-use Rattle.std.specs.Prelude.{IsTrue}
+use Rattle.std.proofs.Common.{◌<◌, length, sym, ◌∙◌}
 use Rattle.std.specs.List.{Contains}
 use Rattle.std.proofs.lemmas.Result.{err_from_is_err_and}
 use Rattle.hg_shelf.specs.History as shelves
-use Rattle.hg_flat.specs.Listing.{IsComparedAs}
-use Rattle.hg_flat.specs.Parent.{is_compared}
+use Rattle.hg_shelf.proofs.Scenes.{goes_trans}
+use Rattle.hg_flat.specs.Parent.{asked_by}
 use Rattle.hg_flat.specs.Shown.{flat_in}
-use Rattle.hg_flat.proofs.Asks.{reads_trans, reads_weaker}
-use Rattle.hg_flat.proofs.Leaving.{compared_same}
+use Rattle.hg_flat.proofs.Asking.{asked_later, asked_longer, reads_on}
+use Rattle.hg_flat.proofs.Going.{goes_store}
+use Rattle.hg_flat.proofs.Leaving.{asks_same}
 use Rattle.hg_flat.proofs.Tracking.{tracked_more}
 use Rattle.hg_flat.proofs.status.add_each.Goals as goal
 
@@ -20,30 +20,31 @@ returns-in_err-add_tracked-clause-met g c =
     (c.in_err-add_tracked.ensures.met
     (record {
       wanted = c.args.wanted;
-      flat = flat_in c.args.flat.now;
+      asks = asked_by c.args.wanted (flat_in c.args.flat.now);
       id = c.args.p1.now;
       tree_old = g.T.Tree.history c.args.tree.now;
       tree_new = g.T.Tree.history c.loop-kept.tree;
       shelf_old = g.S.Shelf.history c.args.shelf.now;
       shelf_new = g.S.Shelf.history c.loop-kept.shelf;
     })
-    c.loop-kept.invariant.goes (compared_same c.args.flat.now c.args.wanted c.kept-item.result has))
+    c.loop-kept.invariant.goes (asks_same c.args.flat.now c.args.wanted c.kept-item.result has))
 
 pub returns-in_err-add_tracked-clause-asked : goal.returns-in_err-add_tracked-clause-asked
 returns-in_err-add_tracked-clause-asked g c = λ told.
     let below : c.loop-kept.kept-index < length c.args.flat.now.rows.items = rw c.deref-kept-items.ensures.value at c.loop-kept-test.true in
     let has : Contains c.args.flat.now.rows.items c.kept-item.result = (c.loop-kept.kept-index, below, sym (rw c.deref-kept-items.ensures.value at c.kept-item.is)) in
-    reads_trans (λ (path : List ℕ). IsTrue (is_compared c.args.wanted (flat_in c.args.flat.now) path)) (g.T.Tree.history c.args.tree.now) (g.T.Tree.history c.loop-kept.tree) (g.T.Tree.history c.add_tracked.new.tree)
-    (c.loop-kept.invariant.asked told)
-    (reads_weaker (IsComparedAs c.args.wanted c.kept-item.result) (λ (path : List ℕ). IsTrue (is_compared c.args.wanted (flat_in c.args.flat.now) path)) (g.T.Tree.history c.loop-kept.tree) (g.T.Tree.history c.add_tracked.new.tree)
-    (λ path both. subst (λ (p : List ℕ). IsTrue (is_compared c.args.wanted (flat_in c.args.flat.now) p)) (sym both.0) (compared_same c.args.flat.now c.args.wanted c.kept-item.result has ∙ both.1))
-    (c.add_tracked.ensures.asked (c.loop-kept.invariant.goes.tree.past.told ∙ told)))
+    reads_on (asked_by c.args.wanted (flat_in c.args.flat.now)) (g.T.Tree.history c.args.tree.now) (g.T.Tree.history c.loop-kept.tree) (g.T.Tree.history c.add_tracked.new.tree) c.loop-kept.invariant.goes.tree.past
+    c.add_tracked.ensures.tree_passes.past (c.loop-kept.invariant.asked told)
+    (c.add_tracked.ensures.asked (asked_by c.args.wanted (flat_in c.args.flat.now)) (asks_same c.args.flat.now c.args.wanted c.kept-item.result has) (c.loop-kept.invariant.goes.tree.past.told ∙ told))
 
 pub returns-in_err-add_tracked-clause-unasked : goal.returns-in_err-add_tracked-clause-unasked
 returns-in_err-add_tracked-clause-unasked g c = λ none.
     let below : c.loop-kept.kept-index < length c.args.flat.now.rows.items = rw c.deref-kept-items.ensures.value at c.loop-kept-test.true in
     let has : Contains c.args.flat.now.rows.items c.kept-item.result = (c.loop-kept.kept-index, below, sym (rw c.deref-kept-items.ensures.value at c.kept-item.is)) in
-    c.add_tracked.ensures.unasked (sym (compared_same c.args.flat.now c.args.wanted c.kept-item.result has) ∙ none c.kept-item.result.path) ∙ c.loop-kept.invariant.unasked none
+    c.add_tracked.ensures.unasked (asked_by c.args.wanted (flat_in c.args.flat.now)) (asks_same c.args.flat.now c.args.wanted c.kept-item.result has)
+    (λ was. none c.kept-item.result.path (asked_later (asked_by c.args.wanted (flat_in c.args.flat.now)) (g.T.Tree.history c.args.tree.now) (g.T.Tree.history c.loop-kept.tree) (g.T.Tree.history c.add_tracked.new.tree) c.kept-item.result.path c.loop-kept.invariant.goes.tree.past was))
+    ∙ c.loop-kept.invariant.unasked
+    (λ path was. none path (asked_longer (asked_by c.args.wanted (flat_in c.args.flat.now)) (g.T.Tree.history c.args.tree.now) (g.T.Tree.history c.loop-kept.tree) (g.T.Tree.history c.add_tracked.new.tree) path c.loop-kept.invariant.goes.tree.past c.add_tracked.ensures.tree_passes.past was))
 
 pub loop-kept-preserved : goal.loop-kept-preserved
 loop-kept-preserved g c =
@@ -54,14 +55,16 @@ loop-kept-preserved g c =
           c.in_ok-add_tracked.ensures.goes
           (record {
             wanted = c.args.wanted;
-            flat = flat_in c.args.flat.now;
+            asks = asked_by c.args.wanted (flat_in c.args.flat.now);
             id = c.args.p1.now;
             tree_old = g.T.Tree.history c.args.tree.now;
             tree_new = g.T.Tree.history c.loop-kept.tree;
             shelf_old = g.S.Shelf.history c.args.shelf.now;
             shelf_new = g.S.Shelf.history c.loop-kept.shelf;
           })
-          c.loop-kept.invariant.goes;
+          c.loop-kept.invariant.goes (asks_same c.args.flat.now c.args.wanted c.kept-item.result has);
+      kept = goes_trans _ _ _ c.loop-kept.invariant.kept c.add_tracked.ensures.kept;
+      held = c.add_tracked.ensures.held ∙ c.loop-kept.invariant.held;
       added =
           tracked_more c.args.wanted c.args.p1.now (g.T.Tree.history c.args.tree.now) (g.T.Tree.history c.loop-kept.tree) (g.T.Tree.history c.add_tracked.new.tree) c.loop-kept.invariant.goes.tree.past
           c.add_tracked.ensures.tree_passes.past (g.S.Shelf.history c.loop-kept.shelf) (g.S.Shelf.history c.add_tracked.new.shelf) (g.S.Shelf.history c.args.shelf.now).last c.add_tracked.ensures.shelf_passes.past
@@ -70,7 +73,7 @@ loop-kept-preserved g c =
           (c.in_ok-add_tracked.ensures.row
           (record {
             wanted = c.args.wanted;
-            flat = flat_in c.args.flat.now;
+            asks = asked_by c.args.wanted (flat_in c.args.flat.now);
             id = c.args.p1.now;
             tree_old = g.T.Tree.history c.args.tree.now;
             tree_new = g.T.Tree.history c.loop-kept.tree;
@@ -79,14 +82,47 @@ loop-kept-preserved g c =
           })
           c.loop-kept.invariant.goes);
       asked = λ told.
-          reads_trans (λ (path : List ℕ). IsTrue (is_compared c.args.wanted (flat_in c.args.flat.now) path)) (g.T.Tree.history c.args.tree.now) (g.T.Tree.history c.loop-kept.tree) (g.T.Tree.history c.add_tracked.new.tree)
-          (c.loop-kept.invariant.asked told)
-          (reads_weaker (IsComparedAs c.args.wanted c.kept-item.result) (λ (path : List ℕ). IsTrue (is_compared c.args.wanted (flat_in c.args.flat.now) path)) (g.T.Tree.history c.loop-kept.tree)
-          (g.T.Tree.history c.add_tracked.new.tree)
-          (λ path both. subst (λ (p : List ℕ). IsTrue (is_compared c.args.wanted (flat_in c.args.flat.now) p)) (sym both.0) (compared_same c.args.flat.now c.args.wanted c.kept-item.result has ∙ both.1))
-          (c.add_tracked.ensures.asked (c.loop-kept.invariant.goes.tree.past.told ∙ told)));
+          reads_on (asked_by c.args.wanted (flat_in c.args.flat.now)) (g.T.Tree.history c.args.tree.now) (g.T.Tree.history c.loop-kept.tree) (g.T.Tree.history c.add_tracked.new.tree) c.loop-kept.invariant.goes.tree.past
+          c.add_tracked.ensures.tree_passes.past (c.loop-kept.invariant.asked told)
+          (c.add_tracked.ensures.asked (asked_by c.args.wanted (flat_in c.args.flat.now)) (asks_same c.args.flat.now c.args.wanted c.kept-item.result has) (c.loop-kept.invariant.goes.tree.past.told ∙ told));
       unasked = λ none.
-          c.add_tracked.ensures.unasked (sym (compared_same c.args.flat.now c.args.wanted c.kept-item.result has) ∙ none c.kept-item.result.path) ∙ c.loop-kept.invariant.unasked none;
+          c.add_tracked.ensures.unasked (asked_by c.args.wanted (flat_in c.args.flat.now)) (asks_same c.args.flat.now c.args.wanted c.kept-item.result has)
+          (λ was. none c.kept-item.result.path (asked_later (asked_by c.args.wanted (flat_in c.args.flat.now)) (g.T.Tree.history c.args.tree.now) (g.T.Tree.history c.loop-kept.tree) (g.T.Tree.history c.add_tracked.new.tree) c.kept-item.result.path c.loop-kept.invariant.goes.tree.past was))
+          ∙ c.loop-kept.invariant.unasked
+          (λ path was. none path (asked_longer (asked_by c.args.wanted (flat_in c.args.flat.now)) (g.T.Tree.history c.args.tree.now) (g.T.Tree.history c.loop-kept.tree) (g.T.Tree.history c.add_tracked.new.tree) path c.loop-kept.invariant.goes.tree.past c.add_tracked.ensures.tree_passes.past was));
       still = c.in_ok-add_tracked.ensures.cause.quiet ∙ c.loop-kept.invariant.still;
       shelf_still = c.in_ok-add_tracked.ensures.cause_shelf.quiet ∙ c.loop-kept.invariant.shelf_still;
     }
+
+pub returns-in_err-add_tracked-clause-kept : goal.returns-in_err-add_tracked-clause-kept
+returns-in_err-add_tracked-clause-kept g c = goes_trans _ _ _ c.loop-kept.invariant.kept c.add_tracked.ensures.kept
+
+pub returns-in_err-add_tracked-clause-store : goal.returns-in_err-add_tracked-clause-store
+returns-in_err-add_tracked-clause-store g c = λ told.
+    let below : c.loop-kept.kept-index < length c.args.flat.now.rows.items = rw c.deref-kept-items.ensures.value at c.loop-kept-test.true in
+    let has : Contains c.args.flat.now.rows.items c.kept-item.result = (c.loop-kept.kept-index, below, sym (rw c.deref-kept-items.ensures.value at c.kept-item.is)) in
+    c.in_err-add_tracked.ensures.store
+    (record {
+      wanted = c.args.wanted;
+      asks = asked_by c.args.wanted (flat_in c.args.flat.now);
+      id = c.args.p1.now;
+      tree_old = g.T.Tree.history c.args.tree.now;
+      tree_new = g.T.Tree.history c.loop-kept.tree;
+      shelf_old = g.S.Shelf.history c.args.shelf.now;
+      shelf_new = g.S.Shelf.history c.loop-kept.shelf;
+    })
+    c.loop-kept.invariant.goes (asks_same c.args.flat.now c.args.wanted c.kept-item.result has) told
+
+pub returns-clause-store : goal.returns-clause-store
+returns-clause-store g c = λ told.
+    goes_store
+    (record {
+      wanted = c.args.wanted;
+      asks = asked_by c.args.wanted (flat_in c.args.flat.now);
+      id = c.args.p1.now;
+      tree_old = g.T.Tree.history c.args.tree.now;
+      tree_new = g.T.Tree.history c.loop-kept.tree;
+      shelf_old = g.S.Shelf.history c.args.shelf.now;
+      shelf_new = g.S.Shelf.history c.loop-kept.shelf;
+    })
+    (g.T.Tree.history c.loop-kept.tree) (g.S.Shelf.history c.loop-kept.shelf) c.loop-kept.parent c.loop-kept.invariant.goes told

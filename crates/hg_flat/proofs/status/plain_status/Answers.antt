@@ -1,5 +1,4 @@
-use Rattle.std.proofs.Common.{List, [], ℕ, ◌≡◌, true, Option, None, is_some, ap, subst, ◌∙◌}
-use Rattle.std.specs.Prelude.{IsTrue}
+use Rattle.std.proofs.Common.{List, [], ℕ, ◌≡◌, true, Option, None, is_some, refl, ap, subst, ◌∙◌}
 use Rattle.std.specs.Ordering.{eq_by_cmp}
 use Rattle.std.proofs.lemmas.List.Filters.{dedup_is}
 use Rattle.std.proofs.lemmas.Result.{err_from_is_err_and}
@@ -7,21 +6,24 @@ use Rattle.hg_ignore.specs.State.{Piece}
 use Rattle.hg_shelf.specs.History as shelves
 use Rattle.hg_tree.specs.History as trees
 use Rattle.hg_tree.specs.Still.{Untouched}
+use Rattle.hg_tree.proofs.Histories.{extends_same, extends_trans}
 use Rattle.hg_tree.proofs.Spans.{ours_first, passes_trans}
 use Rattle.hg_flat.specs.Asked.{AsksFor, IsDirIn}
 use Rattle.hg_flat.specs.Course.{pieces_of}
 use Rattle.hg_flat.specs.Listing.{Gives, IsEntered, IsUnknownIn, Lists}
 use Rattle.hg_listing.specs.Order.{whole_order}
-use Rattle.hg_flat.specs.Parent.{is_compared, parent_rows}
+use Rattle.hg_flat.specs.Parent.{Asking, WasAsked, asked_by, parent_rows}
 use Rattle.hg_flat.specs.Patterns.{ignored_at, needs_patterns}
-use Rattle.hg_flat.specs.Shown.{flat_in, kept_of}
+use Rattle.hg_flat.specs.Shown.{flat_in, kept_of, rows_of}
 use Rattle.hg_flat.specs.declared.listed.Listed.{Listed}
+use Rattle.hg_flat.proofs.Asking.{asked_later, asked_longer}
 use Rattle.hg_flat.proofs.Calls.{all_asks, asks_first, asks_second, own_asks}
 use Rattle.hg_flat.proofs.Fullness.{full_for, full_of, served_path}
 use Rattle.hg_flat.proofs.Holding.{holds_rows, named}
 use Rattle.hg_flat.proofs.Leaving.{left_all}
 use Rattle.hg_flat.proofs.Refusing.{had, is_kept, state_still, warns}
 use Rattle.hg_flat.proofs.Spanning.{counts_still, met_patterns, met_whole, not_parent}
+use Rattle.hg_flat.proofs.Storing.{store_longer, store_none}
 use Rattle.hg_flat.proofs.Whole.{Left, LeftRow, asks_start, lists_whole, row_left, tracked_whole}
 use Rattle.hg_flat.proofs.status.plain_status.Goals as goal
 
@@ -36,7 +38,7 @@ returns-clause-still g c =
     let flat = c.args.flat.now in
     rw c.of-rows.ensures
     (full_for
-    flat.p1.0 flat.p2.0 (kept_of flat) (shelves.now start).files c.args.p1.now (trees.now old) c.args.wanted (named flat.rows.items)
+    flat.p1.0 flat.p2.0 (rows_of flat) (shelves.now start).files c.args.p1.now (trees.now old) c.args.wanted (named flat.rows.items)
     (Left flat c.args.wanted c.args.p1.now old mid later new c.read_patterns.ensures.passes c.add_each.ensures.passes c.add_others.ensures.passes files start.last)
     (LeftRow flat c.args.wanted c.args.p1.now old mid later new c.read_patterns.ensures.passes c.add_each.ensures.passes c.add_others.ensures.passes files start.last)
     flat.rows.items flat.own (holds_rows flat.rows.items flat.own)
@@ -65,7 +67,7 @@ returns-clause-full g c = λ ours keeps.
     let whole = passes_trans old mid new c.read_patterns.ensures.passes (passes_trans mid later new c.add_each.ensures.passes c.add_others.ensures.passes) in
     full_of (Left flat c.args.wanted c.args.p1.now old mid later new c.read_patterns.ensures.passes c.add_each.ensures.passes c.add_others.ensures.passes files start.last)
     (flat_in flat) (trees.now old) (parent_rows (shelves.now start).files c.args.p1.now) (ignored_at (trees.now old)) c.args.wanted c.of-rows.result
-    (left_all (flat_in flat) c.args.wanted c.args.p1.now old new whole ours files start.last keeps) (returns-clause-still g c)
+    (left_all (flat_in flat) c.args.wanted (asked_by c.args.wanted (flat_in flat)) c.args.p1.now old new whole ours files start.last keeps) (returns-clause-still g c)
 
 pub returns-clause-served : goal.returns-clause-served
 returns-clause-served g c =
@@ -77,7 +79,7 @@ returns-clause-served g c =
     let files = g.S.Shelf.history c.add_each.new.shelf in
     let flat = c.args.flat.now in
     served_path
-    flat.p1.0 flat.p2.0 (kept_of flat) (shelves.now start).files c.args.p1.now (trees.now old) c.args.wanted (named flat.rows.items)
+    flat.p1.0 flat.p2.0 (rows_of flat) (shelves.now start).files c.args.p1.now (trees.now old) c.args.wanted (named flat.rows.items)
     (Left flat c.args.wanted c.args.p1.now old mid later new c.read_patterns.ensures.passes c.add_each.ensures.passes c.add_others.ensures.passes files start.last)
     (LeftRow flat c.args.wanted c.args.p1.now old mid later new c.read_patterns.ensures.passes c.add_each.ensures.passes c.add_others.ensures.passes files start.last)
     flat.rows.items flat.own (holds_rows flat.rows.items flat.own)
@@ -114,7 +116,7 @@ returns-in_err-ignore-clause-met g c =
     (met_patterns
     (record {
       wanted = c.args.wanted;
-      flat = flat_in c.args.flat.now;
+      asks = asked_by c.args.wanted (flat_in c.args.flat.now);
       id = c.args.p1.now;
       tree_old = g.T.Tree.history c.args.tree.now;
       tree_new = g.T.Tree.history c.read_patterns.new.tree;
@@ -132,7 +134,7 @@ pub returns-in_err-add_each-clause-met : goal.returns-in_err-add_each-clause-met
 returns-in_err-add_each-clause-met g c =
     let p = err_from_is_err_and c.from_residual-in_err-add_each.result c.from_residual-in_err-add_each.ensures.1 in
     rw (p.1, p.2)
-    (met_whole c.args.wanted (flat_in c.args.flat.now) c.args.p1.now (g.T.Tree.history c.args.tree.now) (g.T.Tree.history c.read_patterns.new.tree)
+    (met_whole c.args.wanted (asked_by c.args.wanted (flat_in c.args.flat.now)) c.args.p1.now (g.T.Tree.history c.args.tree.now) (g.T.Tree.history c.read_patterns.new.tree)
     (g.T.Tree.history c.add_each.new.tree) c.read_patterns.ensures.passes (g.S.Shelf.history c.args.shelf.now) (g.S.Shelf.history c.add_each.new.shelf) c.in_err-add_each.field-0.0 c.in_err-add_each.ensures.met)
 
 pub returns-in_err-add_each-clause-behind : goal.returns-in_err-add_each-clause-behind
@@ -149,7 +151,7 @@ returns-in_err-add_each-clause-oversize g c =
     (counts_still Listed
     (record {
       wanted = c.args.wanted;
-      flat = flat_in c.args.flat.now;
+      asks = asked_by c.args.wanted (flat_in c.args.flat.now);
       id = c.args.p1.now;
       tree_old = g.T.Tree.history c.read_patterns.new.tree;
       tree_new = g.T.Tree.history c.add_each.new.tree;
@@ -162,12 +164,12 @@ returns-in_err-add_each-clause-oversize g c =
 
 pub returns-in_err-ignore-clause-asked : goal.returns-in_err-ignore-clause-asked
 returns-in_err-ignore-clause-asked g c = λ told.
-    asks_first c.args.wanted (λ (path : List ℕ). IsTrue (is_compared c.args.wanted (flat_in c.args.flat.now) path)) (g.T.Tree.history c.args.tree.now) (g.T.Tree.history c.read_patterns.new.tree) (c.read_patterns.ensures.asked told)
+    asks_first c.args.wanted (asked_by c.args.wanted (flat_in c.args.flat.now)) (g.T.Tree.history c.args.tree.now) (g.T.Tree.history c.read_patterns.new.tree) c.read_patterns.ensures.passes.past (c.read_patterns.ensures.asked told)
 
 pub returns-in_err-add_each-clause-asked : goal.returns-in_err-add_each-clause-asked
 returns-in_err-add_each-clause-asked g c = λ told.
-    asks_second c.args.wanted (λ (path : List ℕ). IsTrue (is_compared c.args.wanted (flat_in c.args.flat.now) path)) (g.T.Tree.history c.args.tree.now) (g.T.Tree.history c.read_patterns.new.tree)
-    (g.T.Tree.history c.add_each.new.tree) c.add_each.ensures.passes.past (c.read_patterns.ensures.asked told) (c.add_each.ensures.asked (c.read_patterns.ensures.passes.past.told ∙ told))
+    asks_second c.args.wanted (asked_by c.args.wanted (flat_in c.args.flat.now)) (g.T.Tree.history c.args.tree.now) (g.T.Tree.history c.read_patterns.new.tree)
+    (g.T.Tree.history c.add_each.new.tree) c.read_patterns.ensures.passes.past c.add_each.ensures.passes.past (c.read_patterns.ensures.asked told) (c.add_each.ensures.asked (c.read_patterns.ensures.passes.past.told ∙ told))
 
 pub returns-in_err-add_others-clause-asked : goal.returns-in_err-add_others-clause-asked
 returns-in_err-add_others-clause-asked g c = λ told.
@@ -175,7 +177,7 @@ returns-in_err-add_others-clause-asked g c = λ told.
     let mid = g.T.Tree.history c.read_patterns.new.tree in
     let later = g.T.Tree.history c.add_each.new.tree in
     let new = g.T.Tree.history c.add_others.new.tree in
-    all_asks c.args.wanted (λ (path : List ℕ). IsTrue (is_compared c.args.wanted (flat_in c.args.flat.now) path)) (pieces_of c.in_ok-ignore.ignore) old mid later new c.read_patterns.ensures.passes c.add_each.ensures.passes c.add_others.ensures.passes
+    all_asks c.args.wanted (asked_by c.args.wanted (flat_in c.args.flat.now)) (pieces_of c.in_ok-ignore.ignore) old mid later new c.read_patterns.ensures.passes c.add_each.ensures.passes c.add_others.ensures.passes
     (state_still c.args.wanted old mid c.in_ok-ignore.ignore c.in_ok-ignore.ensures.kept)
     (c.read_patterns.ensures.asked told)
     (c.add_each.ensures.asked (c.read_patterns.ensures.passes.past.told ∙ told))
@@ -189,7 +191,7 @@ returns-in_err-sort-clause-asked g c = λ told.
     let mid = g.T.Tree.history c.read_patterns.new.tree in
     let later = g.T.Tree.history c.add_each.new.tree in
     let new = g.T.Tree.history c.add_others.new.tree in
-    all_asks c.args.wanted (λ (path : List ℕ). IsTrue (is_compared c.args.wanted (flat_in c.args.flat.now) path)) (pieces_of c.in_ok-ignore.ignore) old mid later new c.read_patterns.ensures.passes c.add_each.ensures.passes c.add_others.ensures.passes
+    all_asks c.args.wanted (asked_by c.args.wanted (flat_in c.args.flat.now)) (pieces_of c.in_ok-ignore.ignore) old mid later new c.read_patterns.ensures.passes c.add_each.ensures.passes c.add_others.ensures.passes
     (state_still c.args.wanted old mid c.in_ok-ignore.ignore c.in_ok-ignore.ensures.kept)
     (c.read_patterns.ensures.asked told)
     (c.add_each.ensures.asked (c.read_patterns.ensures.passes.past.told ∙ told))
@@ -203,7 +205,7 @@ returns-clause-asked g c = λ told.
     let mid = g.T.Tree.history c.read_patterns.new.tree in
     let later = g.T.Tree.history c.add_each.new.tree in
     let new = g.T.Tree.history c.add_others.new.tree in
-    all_asks c.args.wanted (λ (path : List ℕ). IsTrue (is_compared c.args.wanted (flat_in c.args.flat.now) path)) (pieces_of c.in_ok-ignore.ignore) old mid later new c.read_patterns.ensures.passes c.add_each.ensures.passes c.add_others.ensures.passes
+    all_asks c.args.wanted (asked_by c.args.wanted (flat_in c.args.flat.now)) (pieces_of c.in_ok-ignore.ignore) old mid later new c.read_patterns.ensures.passes c.add_each.ensures.passes c.add_others.ensures.passes
     (state_still c.args.wanted old mid c.in_ok-ignore.ignore c.in_ok-ignore.ensures.kept)
     (c.read_patterns.ensures.asked told)
     (c.add_each.ensures.asked (c.read_patterns.ensures.passes.past.told ∙ told))
@@ -217,10 +219,113 @@ returns-clause-asked_own g c = λ ours.
     let mid = g.T.Tree.history c.read_patterns.new.tree in
     let later = g.T.Tree.history c.add_each.new.tree in
     let new = g.T.Tree.history c.add_others.new.tree in
-    own_asks c.args.wanted (λ (path : List ℕ). IsTrue (is_compared c.args.wanted (flat_in c.args.flat.now) path)) (pieces_of c.in_ok-ignore.ignore) old mid later new c.read_patterns.ensures.passes c.add_each.ensures.passes c.add_others.ensures.passes
+    own_asks c.args.wanted (asked_by c.args.wanted (flat_in c.args.flat.now)) (pieces_of c.in_ok-ignore.ignore) old mid later new c.read_patterns.ensures.passes c.add_each.ensures.passes c.add_others.ensures.passes
     (state_still c.args.wanted old mid c.in_ok-ignore.ignore c.in_ok-ignore.ensures.kept)
     (c.in_ok-ignore.ensures.asked_own (ours_first old mid new (passes_trans mid later new c.add_each.ensures.passes c.add_others.ensures.passes).past ours))
     (c.add_each.ensures.asked (c.read_patterns.ensures.passes.past.told ∙ ours.told))
     (subst
     (λ (o : Option (List Piece)). AsksFor (λ dir. (needs_patterns c.args.wanted ≡ true) × IsDirIn (IsEntered c.args.wanted (pieces_of o)) later new None dir) later new)
     c.as_ref.ensures.value (c.add_others.ensures.asked (c.add_each.ensures.passes.past.told ∙ c.read_patterns.ensures.passes.past.told ∙ ours.told)))
+
+-- ---- what is asked below `.hg`
+
+-- where no path is compared in a call, none is in a part of it
+never_each : (asks : Asking) (old mid later new : trees.History) → trees.Extends old mid → trees.Extends mid later → trees.Extends later new → ((path : List ℕ) → WasAsked asks old new path → ⊥)
+    → (path : List ℕ) → WasAsked asks mid later path → ⊥
+never_each asks old mid later new first second third never path was =
+    never path (asked_longer asks old later new path (extends_trans old mid later first second) third (asked_later asks old mid later path first was))
+
+pub returns-in_err-add_each-clause-unasked : goal.returns-in_err-add_each-clause-unasked
+returns-in_err-add_each-clause-unasked g c = λ never.
+    let later = g.T.Tree.history c.add_each.new.tree in
+    c.add_each.ensures.unasked
+    (never_each (asked_by c.args.wanted (flat_in c.args.flat.now)) (g.T.Tree.history c.args.tree.now) (g.T.Tree.history c.read_patterns.new.tree) later later c.read_patterns.ensures.passes.past c.add_each.ensures.passes.past
+    (extends_same later) never)
+
+pub returns-in_err-add_others-clause-unasked : goal.returns-in_err-add_others-clause-unasked
+returns-in_err-add_others-clause-unasked g c = λ never.
+    c.add_each.ensures.unasked
+    (never_each (asked_by c.args.wanted (flat_in c.args.flat.now)) (g.T.Tree.history c.args.tree.now) (g.T.Tree.history c.read_patterns.new.tree) (g.T.Tree.history c.add_each.new.tree) (g.T.Tree.history c.add_others.new.tree)
+    c.read_patterns.ensures.passes.past c.add_each.ensures.passes.past c.add_others.ensures.passes.past never)
+
+pub returns-in_err-sort-clause-unasked : goal.returns-in_err-sort-clause-unasked
+returns-in_err-sort-clause-unasked g c = λ never.
+    c.add_each.ensures.unasked
+    (never_each (asked_by c.args.wanted (flat_in c.args.flat.now)) (g.T.Tree.history c.args.tree.now) (g.T.Tree.history c.read_patterns.new.tree) (g.T.Tree.history c.add_each.new.tree) (g.T.Tree.history c.add_others.new.tree)
+    c.read_patterns.ensures.passes.past c.add_each.ensures.passes.past c.add_others.ensures.passes.past never)
+
+pub returns-clause-unasked : goal.returns-clause-unasked
+returns-clause-unasked g c = λ never.
+    c.add_each.ensures.unasked
+    (never_each (asked_by c.args.wanted (flat_in c.args.flat.now)) (g.T.Tree.history c.args.tree.now) (g.T.Tree.history c.read_patterns.new.tree) (g.T.Tree.history c.add_each.new.tree) (g.T.Tree.history c.add_others.new.tree)
+    c.read_patterns.ensures.passes.past c.add_each.ensures.passes.past c.add_others.ensures.passes.past never)
+
+pub returns-in_err-ignore-clause-asked_store : goal.returns-in_err-ignore-clause-asked_store
+returns-in_err-ignore-clause-asked_store g c = λ told.
+    store_none
+    (record {
+      wanted = c.args.wanted;
+      asks = asked_by c.args.wanted (flat_in c.args.flat.now);
+      id = c.args.p1.now;
+      tree_old = g.T.Tree.history c.args.tree.now;
+      tree_new = g.T.Tree.history c.read_patterns.new.tree;
+      shelf_old = g.S.Shelf.history c.args.shelf.now;
+      shelf_new = g.S.Shelf.history c.args.shelf.now;
+    })
+    refl
+
+pub returns-in_err-add_each-clause-asked_store : goal.returns-in_err-add_each-clause-asked_store
+returns-in_err-add_each-clause-asked_store g c = λ told.
+    store_longer
+    (record {
+      wanted = c.args.wanted;
+      asks = asked_by c.args.wanted (flat_in c.args.flat.now);
+      id = c.args.p1.now;
+      tree_old = g.T.Tree.history c.read_patterns.new.tree;
+      tree_new = g.T.Tree.history c.add_each.new.tree;
+      shelf_old = g.S.Shelf.history c.args.shelf.now;
+      shelf_new = g.S.Shelf.history c.add_each.new.shelf;
+    })
+    (g.T.Tree.history c.args.tree.now) (g.T.Tree.history c.add_each.new.tree) c.read_patterns.ensures.passes.past c.add_each.ensures.passes.past (extends_same (g.T.Tree.history c.add_each.new.tree)) (c.add_each.ensures.store told)
+
+pub returns-in_err-add_others-clause-asked_store : goal.returns-in_err-add_others-clause-asked_store
+returns-in_err-add_others-clause-asked_store g c = λ told.
+    store_longer
+    (record {
+      wanted = c.args.wanted;
+      asks = asked_by c.args.wanted (flat_in c.args.flat.now);
+      id = c.args.p1.now;
+      tree_old = g.T.Tree.history c.read_patterns.new.tree;
+      tree_new = g.T.Tree.history c.add_each.new.tree;
+      shelf_old = g.S.Shelf.history c.args.shelf.now;
+      shelf_new = g.S.Shelf.history c.add_each.new.shelf;
+    })
+    (g.T.Tree.history c.args.tree.now) (g.T.Tree.history c.add_others.new.tree) c.read_patterns.ensures.passes.past c.add_each.ensures.passes.past c.add_others.ensures.passes.past (c.add_each.ensures.store told)
+
+pub returns-in_err-sort-clause-asked_store : goal.returns-in_err-sort-clause-asked_store
+returns-in_err-sort-clause-asked_store g c = λ told.
+    store_longer
+    (record {
+      wanted = c.args.wanted;
+      asks = asked_by c.args.wanted (flat_in c.args.flat.now);
+      id = c.args.p1.now;
+      tree_old = g.T.Tree.history c.read_patterns.new.tree;
+      tree_new = g.T.Tree.history c.add_each.new.tree;
+      shelf_old = g.S.Shelf.history c.args.shelf.now;
+      shelf_new = g.S.Shelf.history c.add_each.new.shelf;
+    })
+    (g.T.Tree.history c.args.tree.now) (g.T.Tree.history c.add_others.new.tree) c.read_patterns.ensures.passes.past c.add_each.ensures.passes.past c.add_others.ensures.passes.past (c.add_each.ensures.store told)
+
+pub returns-clause-asked_store : goal.returns-clause-asked_store
+returns-clause-asked_store g c = λ told.
+    store_longer
+    (record {
+      wanted = c.args.wanted;
+      asks = asked_by c.args.wanted (flat_in c.args.flat.now);
+      id = c.args.p1.now;
+      tree_old = g.T.Tree.history c.read_patterns.new.tree;
+      tree_new = g.T.Tree.history c.add_each.new.tree;
+      shelf_old = g.S.Shelf.history c.args.shelf.now;
+      shelf_new = g.S.Shelf.history c.add_each.new.shelf;
+    })
+    (g.T.Tree.history c.args.tree.now) (g.T.Tree.history c.add_others.new.tree) c.read_patterns.ensures.passes.past c.add_each.ensures.passes.past c.add_others.ensures.passes.past (c.add_each.ensures.store told)

@@ -1,0 +1,165 @@
+-- What a status has asked below `.hg` so far: nothing, or the whole manifest and contents that its rows name.
+use Rattle.std.proofs.Common.{ℕ, zero, suc, ◌≡◌, ◌⊎◌, List, [], ◌∷◌, ◌++◌, length, take, replicate, Option, Some, None, Result, Ok, refl, sym, ap, ◌∙◌, inl, inr, arith}
+use Rattle.std.specs.List.{AllByRecursion}
+use Rattle.std.proofs.lemmas.List.{append-nil, append_assoc, take_all}
+use Rattle.hg_base.specs.declared.stat.Stat.{Stat}
+use Rattle.hg_compare.specs.Alike.{contents_name}
+use Rattle.hg_compare.specs.Same.{AsksShelf}
+use Rattle.hg_compare.specs.Seen.{Compared}
+use Rattle.hg_compare.specs.declared.fault.CompareFault.{CompareFault}
+use Rattle.hg_compare.specs.declared.looked.Looked.{Looked}
+use Rattle.hg_flat.specs.Course.{AsksWhole, HasAsked, IsManifest, upto}
+use Rattle.hg_flat.specs.Met.{Status}
+use Rattle.hg_flat.specs.Parent.{WasAsked, row_of}
+use Rattle.hg_flat.specs.Stored.{AsksStore, IsContents, IsOfRow}
+use Rattle.hg_flat.specs.declared.parent.Loaded.{Loaded}
+use Rattle.hg_flat.proofs.Asking.{asked_later, asked_longer}
+use Rattle.hg_flat.proofs.Manifests.{read_later, read_some}
+use Rattle.hg_manifest.specs.Load.{asks_of}
+use Rattle.hg_manifest.specs.Rows.{Rows}
+use Rattle.hg_manifest.specs.declared.row.FileRow.{FileRow}
+use Rattle.hg_shelf.specs.Asks.{AsksFrontOf, AsksOnly}
+use Rattle.hg_shelf.specs.History as shelves
+use Rattle.hg_shelf.specs.declared.asked.Asked.{Asked}
+use Rattle.hg_shelf.specs.declared.asked.Asked.TheVariants as an_ask
+use Rattle.hg_shelf.proofs.Asks.{each_append, only_none}
+use Rattle.hg_tree.specs.History as trees
+use Rattle.hg_tree.proofs.Histories.{extends_trans}
+
+-- ---- a comparison with a row
+
+reads_of : (row : FileRow) (name : List ℕ) → name ≡ contents_name row.id.0 → (n : ℕ) → AllByRecursion (IsContents (Some row)) (replicate n (an_ask.Read name))
+reads_of row name same zero = tt
+reads_of row name same (suc n) = ((row, refl, inr (ap an_ask.Read same)), reads_of row name same n)
+
+-- it asks only for the row's contents
+pub contents_same : (c : Compared) (row : FileRow) (before : Stat) (result : Result Looked CompareFault) → c.name ≡ contents_name row.id.0 → AsksShelf c row before result → AsksOnly (IsContents (Some row)) c.shelf_old c.shelf_new
+contents_same c row before result same (inl other) = only_none (IsContents (Some row)) c.shelf_old c.shelf_new other.1
+contents_same c row before result same (inr (alike, inl failed)) = only_none (IsContents (Some row)) c.shelf_old c.shelf_new failed.1
+contents_same c row before result same (inr (alike, inr asks)) = record {
+  more = an_ask.Size c.name ∷ replicate asks.pieces (an_ask.Read c.name);
+  made = asks.asked;
+  each = ((row, refl, inl (ap an_ask.Size same)), reads_of row c.name same asks.pieces);
+}
+
+-- ---- in the course of a status
+
+each_weaker : (P Q : Asked → Type 0) → ((ask : Asked) → P ask → Q ask) → (asks : List Asked) → AllByRecursion P asks → AllByRecursion Q asks
+each_weaker P Q weaker [] all = tt
+each_weaker P Q weaker (ask ∷ asks) all = (weaker ask all.0, each_weaker P Q weaker asks all.1)
+
+module _ (s : Status) (copy later : trees.History) (old new : shelves.History) (tree_first : trees.Extends s.tree_old copy) (tree_second : trees.Extends copy later) (first : shelves.Passes s.shelf_old old) (second : shelves.Passes old new) where
+  -- what was asked for a row's contents stays so
+  of_row_later : (ask : Asked) → IsOfRow (upto s copy old) ask → IsOfRow (upto s later new) ask
+  of_row_later ask of = record {
+    path = of.path;
+    asked = asked_longer s.asks s.tree_old copy later of.path tree_first tree_second of.asked;
+    rows = of.rows;
+    read = read_later s copy later old new (Ok of.rows) first second of.read;
+    contents = of.contents;
+  }
+
+  -- the contents of the row of a path that is compared
+  of_path : (rows : Rows) (path : List ℕ) → WasAsked s.asks s.tree_old later path → IsManifest (upto s later new) rows → (ask : Asked) → IsContents (row_of rows path) ask → IsOfRow (upto s later new) ask
+  of_path rows path asked is ask (row, has, names) = record {
+    path = path;
+    asked = asked;
+    rows = rows;
+    read = (read_some (upto s later new) rows path row has is).1;
+    contents = (row, has, names);
+  }
+
+  -- more contents behind the manifest
+  pub whole_more : (rows : Rows) (path : List ℕ) → WasAsked s.asks s.tree_old later path → IsManifest (upto s later new) rows → AsksWhole (upto s copy old) → AsksOnly (IsContents (row_of rows path)) old new → AsksWhole (upto s later new)
+  whole_more rows path asked is whole only = record {
+    contents = whole.contents ++ only.more;
+    asked = only.made ∙ ap (λ (l : List Asked). l ++ only.more) whole.asked ∙ append_assoc (s.shelf_old.asked ++ asks_of s.id) whole.contents only.more;
+    needed = (path, asked);
+    each =
+        each_append (IsOfRow (upto s later new)) whole.contents only.more (each_weaker (IsOfRow (upto s copy old)) (IsOfRow (upto s later new)) of_row_later whole.contents whole.each)
+        (each_weaker (IsContents (row_of rows path)) (IsOfRow (upto s later new)) (of_path rows path asked is) only.more only.each);
+  }
+
+  -- a tree that is looked at meanwhile
+  pub has_later : new.asked ≡ old.asked → (loaded : Option Loaded) → HasAsked (upto s copy old) loaded → HasAsked (upto s later new) loaded
+  has_later same None none = same ∙ none
+  has_later same (Some loaded) whole = record {
+    contents = whole.contents;
+    asked = same ∙ whole.asked;
+    needed = (whole.needed.0, asked_longer s.asks s.tree_old copy later whole.needed.0 tree_first tree_second whole.needed.1);
+    each = each_weaker (IsOfRow (upto s copy old)) (IsOfRow (upto s later new)) of_row_later whole.contents whole.each;
+  }
+
+-- the first contents, behind a manifest that was loaded just now
+pub whole_first : (s : Status) (later : trees.History) (old mid new : shelves.History) (rows : Rows) (path : List ℕ) → old.asked ≡ s.shelf_old.asked → mid.asked ≡ old.asked ++ asks_of s.id → WasAsked s.asks s.tree_old later path
+    → IsManifest (upto s later new) rows → AsksOnly (IsContents (row_of rows path)) mid new → AsksWhole (upto s later new)
+whole_first s later old mid new rows path none made asked is only = record {
+  contents = only.more;
+  asked = only.made ∙ ap (λ (l : List Asked). l ++ only.more) (made ∙ ap (λ (l : List Asked). l ++ asks_of s.id) none);
+  needed = (path, asked);
+  each = each_weaker (IsContents (row_of rows path)) (IsOfRow (upto s later new)) (λ ask (row, has, names). record {
+    path = path;
+    asked = asked;
+    rows = rows;
+    read = (read_some (upto s later new) rows path row has is).1;
+    contents = (row, has, names);
+  }) only.more only.each;
+}
+
+-- ---- at the end
+
+pub store_whole : (s : Status) → AsksWhole s → AsksStore s
+store_whole s whole = record {
+  some = length (asks_of s.id);
+  contents = whole.contents;
+  asked = whole.asked ∙ ap (λ (l : List Asked). s.shelf_old.asked ++ l ++ whole.contents) (sym (take_all (length (asks_of s.id)) (asks_of s.id) (omega arith)));
+  needed = inr whole.needed;
+  whole = inr refl;
+  each = whole.each;
+}
+
+pub store_none : (s : Status) → s.shelf_new.asked ≡ s.shelf_old.asked → AsksStore s
+store_none s none = record { some = 0; contents = []; asked = none ∙ sym (append-nil s.shelf_old.asked) ∙ sym (append-nil (s.shelf_old.asked ++ [])); needed = inl refl; whole = inl refl; each = tt }
+
+pub store_of : (s : Status) (loaded : Option Loaded) → HasAsked s loaded → AsksStore s
+store_of s None none = store_none s none
+store_of s (Some loaded) whole = store_whole s whole
+
+-- a load that failed
+pub store_failed : (s : Status) (old : shelves.History) (path : List ℕ) → old.asked ≡ s.shelf_old.asked → AsksFrontOf (asks_of s.id) old s.shelf_new → WasAsked s.asks s.tree_old s.tree_new path → AsksStore s
+store_failed s old path none front asked = record {
+  some = front.some;
+  contents = [];
+  asked = front.made ∙ ap (λ (l : List Asked). l ++ take front.some (asks_of s.id)) none ∙ sym (append-nil (s.shelf_old.asked ++ take front.some (asks_of s.id)));
+  needed = inr (path, asked);
+  whole = inl refl;
+  each = tt;
+}
+
+-- over a longer look at the tree
+pub store_longer : (s : Status) (start later : trees.History) → trees.Extends start s.tree_old → trees.Extends s.tree_old s.tree_new → trees.Extends s.tree_new later → AsksStore s → AsksStore (record s { tree_old = start; tree_new = later })
+store_longer s start later first second third store = record {
+  some = store.some;
+  contents = store.contents;
+  asked = store.asked;
+  needed = elim store.needed as (λ _. (store.some ≡ 0) ⊎ ((path : List ℕ) × WasAsked s.asks start later path)) [ inl none ↦ inl none | inr (path, was) ↦ inr (path, asked path was) ];
+  whole = store.whole;
+  each = each_weaker (IsOfRow s) (IsOfRow (record s { tree_old = start; tree_new = later })) (λ ask of. record {
+    path = of.path;
+    asked = asked of.path of.asked;
+    rows = of.rows;
+    read = record {
+      size = of.read.size;
+      bytes = of.read.bytes;
+      few = of.read.few;
+      short = of.read.short;
+      sized = of.read.sized;
+      front = of.read.front;
+      found = of.read.found;
+    };
+    contents = of.contents;
+  }) store.contents store.each;
+}
+  where
+    asked : (path : List ℕ) → WasAsked s.asks s.tree_old s.tree_new path → WasAsked s.asks start later path
+    asked path was = asked_longer s.asks start s.tree_new later path (extends_trans start s.tree_old s.tree_new first second) third (asked_later s.asks start s.tree_old s.tree_new path first was)
