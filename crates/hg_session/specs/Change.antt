@@ -238,6 +238,7 @@ pub record WasRefused (copy : Watched tree.History) (files : Watched shelf.Histo
   pub ours : files.new.ours ≡ files.old.ours
   pub counted : Rose locks.before locks.after
   pub unwritten : IsUnwritten files.old files.new
+  pub unasked : files.new.asked ≡ files.old.asked
   pub unlooked : IsUnlooked copy
   pub answer : IsFaultOrMemory fault a_fault.Held
 
@@ -248,6 +249,7 @@ pub record WasNotTaken (copy : Watched tree.History) (files : Watched shelf.Hist
   pub uncounted : locks.after ≡ locks.before
   pub failed : Fails files
   pub unwritten : IsUnwritten files.old files.new
+  pub unasked : files.new.asked ≡ files.old.asked
   pub unlooked : IsUnlooked copy
   pub answer : IsFaultOrMemory fault a_fault.ShelfFailed
 

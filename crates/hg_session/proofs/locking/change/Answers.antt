@@ -1,6 +1,7 @@
 -- The lock, the change and giving the lock back, as one call.
 use Rattle.std.proofs.Common.{IsTrue, inl, inr, refl, sym, ◌∙◌}
 use Rattle.hg_session.proofs.Acted.{acted_over}
+use Rattle.hg_session.proofs.Asking.{asks_none, asks_wide}
 use Rattle.hg_session.proofs.Freed.{once_done, once_locked, once_met, once_safe, once_unwritten, refused_same, taken_same}
 use Rattle.hg_session.proofs.Locks.{not_taken_by, noted_taken, refused_by, taken_by}
 use Rattle.hg_session.proofs.Widening.{read_some_wide}
@@ -95,6 +96,7 @@ returns-in-Err-clause-locked g c = inr (inl (record {
   uncounted = c.in-Err.ensures.locks.1;
   failed = c.in-Err.ensures.cause.rose tt;
   unwritten = record { none = c.lock.ensures.waits.none };
+  unasked = c.lock.ensures.unasked;
   unlooked = record { same = refl; count = refl };
   answer = inl refl;
 }))
@@ -107,6 +109,7 @@ returns-in-Ok-false-clause-locked g c =
       ours = was.0;
       counted = was.1;
       unwritten = record { none = c.lock.ensures.waits.none };
+      unasked = c.lock.ensures.unasked;
       unlooked = record { same = refl; count = refl };
       answer = inl refl;
     })
@@ -131,6 +134,17 @@ returns-in-Ok-true-clause-locked g c =
     (record { before = g.S.Shelf.held c.args.shelf.now; after = g.S.Shelf.held c.unlock-freed.new.self }) c.change_locked-done.result c.unlock-freed.result c.in-Ok-true.ensures.cause.quiet c.change_locked-done.ensures.later
     (c.unlock-freed.ensures.held ∙ c.change_locked-done.ensures.locks ∙ counted)
     c.change_locked-done.ensures.done c.change_locked-done.ensures.met c.unlock-freed.ensures.cause c.unlock-freed.ensures.unlocks c.unlock-freed.ensures.noted)
+
+pub returns-in-Err-clause-asked : goal.returns-in-Err-clause-asked
+returns-in-Err-clause-asked g c = λ told. asks_none (g.S.Shelf.history c.args.shelf.now) (g.S.Shelf.history c.lock.new.self) c.lock.ensures.kept.past c.lock.ensures.unasked
+
+pub returns-in-Ok-false-clause-asked : goal.returns-in-Ok-false-clause-asked
+returns-in-Ok-false-clause-asked g c = λ told. asks_none (g.S.Shelf.history c.args.shelf.now) (g.S.Shelf.history c.lock.new.self) c.lock.ensures.kept.past c.lock.ensures.unasked
+
+pub returns-in-Ok-true-clause-asked : goal.returns-in-Ok-true-clause-asked
+returns-in-Ok-true-clause-asked g c = λ told.
+    asks_wide (g.S.Shelf.history c.args.shelf.now) (g.S.Shelf.history c.lock.new.self) (g.S.Shelf.history c.change_locked-done.new.shelf) (g.S.Shelf.history c.unlock-freed.new.self)
+    c.lock.ensures.kept.past c.lock.ensures.unasked c.unlock-freed.ensures.kept.past c.unlock-freed.ensures.unasked (c.change_locked-done.ensures.asked (c.lock.ensures.kept.past.told ∙ told))
 
 pub returns-in-Ok-true-clause-kept : goal.returns-in-Ok-true-clause-kept
 returns-in-Ok-true-clause-kept g c =
