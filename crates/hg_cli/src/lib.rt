@@ -12,6 +12,8 @@
 //! ```
 #![tactic(auto)]
 
+mod laws;
 mod top;
 
+pub use laws::each_run_is_safe;
 pub use top::run;

@@ -1,32 +1,41 @@
 -- The cause of a fault in the table of all commands, from the stage at which a command met it; and the whole answer of a call.
-use Rattle.std.proofs.Common.{ℕ, ◌≡◌, Option, Some, None, IfSome, sym, subst, inl, inr}
+use Rattle.std.proofs.Common.{ℕ, ◌≡◌, false, List, Option, Some, None, Result, Ok, Err, IfSome, OnOk, refl, sym, ap, ◌∙◌, subst, inl, inr}
 use Rattle.std.specs.Option.{MatchOption}
 use Rattle.std.specs.Prelude.{◌⊎◌}
 use Rattle.hg_base.specs.Fault.{Rose}
 use Rattle.hg_listing.specs.declared.fault.StatusFault.TheVariants as a_status
 use Rattle.hg_report.specs.declared.fault.Fault.{Fault}
 use Rattle.hg_report.specs.declared.fault.Fault.TheVariants as a_fault
-use Rattle.hg_session.specs.Answered.{IsAnswered, Ran}
-use Rattle.hg_session.specs.Call.{Call}
+use Rattle.hg_session.specs.Answered.{IsAnswered, IsUnbuilt, Ran}
+use Rattle.hg_session.specs.Call.{Call, Count, Looked, Saved, Sink, Watched}
 use Rattle.hg_session.specs.Cause.{CommandCause}
-use Rattle.hg_session.specs.Change.{ChangeCause, MetChanging, makes_in}
+use Rattle.hg_session.specs.Change.{ChangeCause, IsUnwritten, MetChanging, makes_in}
 use Rattle.hg_session.specs.Changed.{RanChange}
-use Rattle.hg_session.specs.Commands.{changing_of, files_of}
-use Rattle.hg_session.specs.Debug.{record_look}
+use Rattle.hg_session.specs.Commands.{changing_of, files_of, is_built}
+use Rattle.hg_session.specs.Crash.{published_in}
+use Rattle.hg_session.specs.Debug.{DoesRecord, IsLeftAlone, record_look}
 use Rattle.hg_session.specs.Flags.{wanted_of}
-use Rattle.hg_session.specs.Listed.{ListingCause}
+use Rattle.hg_session.specs.Listed.{AsksOwn, ListingCause}
 use Rattle.hg_session.specs.Load.{of_list, of_read}
 use Rattle.hg_session.specs.Loaded.{MetReading}
-use Rattle.hg_session.specs.Look.{IsLook, IsOutFault, LeavesAt, Looks, Stage, at_first, at_printing, at_telling}
-use Rattle.hg_session.specs.Put.{Tells}
-use Rattle.hg_session.specs.Status.{status_look}
+use Rattle.hg_session.specs.Look.{EndsAs, IsCalm, IsLook, IsOutFault, LeavesAt, Looks, OnlyReads, Stage, at_first, at_printing, at_telling}
+use Rattle.hg_session.specs.Put.{IsFaultOrMemory, IsSilent, Tells}
+use Rattle.hg_session.specs.Status.{DoesStatus, RanStatus, status_look}
 use Rattle.hg_session.specs.declared.acting.Changing.{Changing}
+use Rattle.hg_session.specs.declared.acting.Changing.TheVariants as a_change
 use Rattle.hg_session.specs.declared.list_fault.ListFault.{ListFault}
 use Rattle.hg_session.specs.declared.list_fault.ListFault.TheVariants as a_list
 use Rattle.hg_session.specs.declared.read_fault.ReadFault.{ReadFault}
 use Rattle.hg_session.specs.declared.read_fault.ReadFault.TheVariants as a_read
+use Rattle.hg_session.proofs.Crashes.{crash_unwritten}
+use Rattle.hg_session.proofs.Expectations.{status_by}
+use Rattle.hg_session.proofs.Looks.{calm_by, from_well, joined, looks_by, not_without}
 use Rattle.hg_session.proofs.Readings.{was_loaded}
+use Rattle.hg_session.proofs.Records.{record_by}
+use Rattle.hg_shelf.specs.History as shelf
+use Rattle.hg_tree.specs.History as tree
 use Rattle.hg_words.specs.declared.flags.StatusFlags.{StatusFlags}
+use Rattle.hg_words.specs.declared.given.Command.{Command}
 use Rattle.hg_words.specs.declared.given.Command.TheVariants as a_command
 
 -- ---- a command that only looks
@@ -105,6 +114,7 @@ answered_looked call code fault ran look cause = record {
   cause = cause;
   calm = look.calm;
   kept = look.only.kept;
+  crash = λ calm keep first. (None, look.crash calm keep first);
   status = looked_status code fault look.status;
 }
 
@@ -117,5 +127,85 @@ answered_changed call code fault command is changed ran status = record {
   calm = λ none.
       record { tree = changed.calm_tree none; shelf = changed.calm_shelf (inl none); regexps = changed.uncounted; out = changed.silent.count; err = changed.calm_err none };
   kept = changed.kept;
+  crash = λ calm keep first. (published_in (makes_in command (files_of call.command) call) call.saved fault (changed.safe calm), changed.crash calm keep first);
   status = status;
 }
+
+pub answered_add : (command : Command) (files : List (List ℕ)) (call : Call) (code : ℕ) (fault : Option Fault) → command ≡ a_command.Add files → call.command ≡ command → RanChange a_change.Add files call code fault
+    → MatchOption fault ((code ≡ 0) ⊎ (code ≡ 1)) (λ f. code ≡ 255) → IsAnswered call code fault
+answered_add command files call code fault is same changed status =
+    let one : call.command ≡ a_command.Add files = same ∙ is in
+    answered_changed call code fault a_change.Add (ap changing_of one) (subst (λ (words : List (List ℕ)). RanChange a_change.Add words call code fault) (sym (ap files_of one)) changed)
+    (subst (λ (c : Command). Ran c call code fault) (sym one) changed) status
+
+pub answered_forget : (command : Command) (files : List (List ℕ)) (call : Call) (code : ℕ) (fault : Option Fault) → command ≡ a_command.Forget files → call.command ≡ command → RanChange a_change.Forget files call code fault
+    → MatchOption fault ((code ≡ 0) ⊎ (code ≡ 1)) (λ f. code ≡ 255) → IsAnswered call code fault
+answered_forget command files call code fault is same changed status =
+    let one : call.command ≡ a_command.Forget files = same ∙ is in
+    answered_changed call code fault a_change.Forget (ap changing_of one) (subst (λ (words : List (List ℕ)). RanChange a_change.Forget words call code fault) (sym (ap files_of one)) changed)
+    (subst (λ (c : Command). Ran c call code fault) (sym one) changed) status
+
+-- a status, from what it did and what was told behind it
+pub answered_status : (command : Command) (flags : StatusFlags) (looked : Looked) (saved : Saved) (locks : Count) (out mid tail : Sink) (bytes : tail.old ≡ mid.new) (count : tail.before ≡ mid.after)
+    (done : Result Unit Fault) (code : ℕ) (fault : Option Fault) → command ≡ a_command.Status flags → DoesStatus flags looked out mid done → OnlyReads looked.shelf saved locks → IsUnwritten saved.old.history saved.new.history → EndsAs tail done code fault
+    → IsAnswered (record { command = command; looked = looked; saved = saved; locks = locks; out = out; err = joined mid tail bytes count }) code fault
+answered_status command flags looked saved locks out mid tail bytes count done code fault is does only none ends =
+    let call : Call = record { command = command; looked = looked; saved = saved; locks = locks; out = out; err = joined mid tail bytes count } in
+    let looks : Looks (status_look flags looked) out (joined mid tail bytes count) fault =
+    looks_by mid tail bytes count (status_look flags looked) out (a_list.Read a_read.OutOfMemory, refl, tt) done code fault does.shows ends in
+    let ran : RanStatus flags call fault =
+    status_by flags call does.tree only.passes fault looks does.asked (λ none. from_well mid tail bytes count (AsksOwn looked (wanted_of flags)) done code fault ends does.asked_own none) in
+    answered_looked call code fault (subst (λ (c : Command). Ran c call code fault) (sym is) ran)
+    (record { only = only; crash = λ calm keep first. crash_unwritten saved.old saved.new only.kept calm keep none first; calm = calm_by mid tail bytes count looked out done code fault ends does.calm; status = ends.status })
+    (status_cause call flags is fault looks)
+
+-- the command that prints the record
+pub answered_record : (command : Command) (copy : Watched tree.History) (files : Watched shelf.History) (oversize : Count) (saved : Saved) (locks : Count) (out mid tail : Sink) (bytes : tail.old ≡ mid.new)
+    (count : tail.before ≡ mid.after) (done : Result Unit Fault) (code : ℕ) (fault : Option Fault) → command ≡ a_command.DebugDirstate → IsLeftAlone copy → oversize.after ≡ oversize.before → IsSilent mid
+    → DoesRecord files out done → OnlyReads files saved locks → IsUnwritten saved.old.history saved.new.history → EndsAs tail done code fault
+    → IsAnswered (record { command = command; looked = record { tree = copy; shelf = files; oversize = oversize }; saved = saved; locks = locks; out = out; err = joined mid tail bytes count }) code fault
+answered_record command copy files oversize saved locks out mid tail bytes count done code fault is alone uncounted silent does only none ends =
+    let looked : Looked = record { tree = copy; shelf = files; oversize = oversize } in
+    let call : Call = record { command = command; looked = looked; saved = saved; locks = locks; out = out; err = joined mid tail bytes count } in
+    let looks : Looks (record_look files) out (joined mid tail bytes count) fault =
+    looks_by mid tail bytes count (record_look files) out (a_read.OutOfMemory, refl, tt) done code fault (does.shows mid silent) ends in
+    answered_looked call code fault (subst (λ (c : Command). Ran c call code fault) (sym is) (record_by call only.passes fault looks alone uncounted))
+    (record { only = only; crash = λ calm keep first. crash_unwritten saved.old saved.new only.kept calm keep none first; calm = calm_by mid tail bytes count looked out done code fault ends (calm_all done does.calm_shelf does.calm_out); status = ends.status })
+    (record_cause call fault looks)
+  where
+    calm_all : (done : Result Unit Fault) → OnOk done (files.after ≡ files.before) → OnOk done (out.after ≡ out.before) → OnOk done (IsCalm (record { tree = copy; shelf = files; oversize = oversize }) out mid)
+    calm_all (Ok u) calm_shelf calm_out = record { tree = alone.count; shelf = calm_shelf; regexps = uncounted; out = calm_out; err = silent.count }
+    calm_all (Err fault) calm_shelf calm_out = tt
+
+-- ---- a command that isn't built
+
+module _ (call : Call) (code : ℕ) (fault : Option Fault) (unbuilt : IsUnbuilt call fault) where
+  ran_other : (command : Command) → ((flags : StatusFlags) → command ≡ a_command.Status flags → ⊥) → ((files : List (List ℕ)) → command ≡ a_command.Add files → ⊥)
+      → ((files : List (List ℕ)) → command ≡ a_command.Forget files → ⊥) → (command ≡ a_command.DebugDirstate → ⊥) → Ran command call code fault × (is_built command ≡ false)
+  ran_other (a_command.Status flags) status add forget debug = absurd (status flags refl)
+  ran_other (a_command.Add files) status add forget debug = absurd (add files refl)
+  ran_other (a_command.Forget files) status add forget debug = absurd (forget files refl)
+  ran_other a_command.DebugDirstate status add forget debug = absurd (debug refl)
+  ran_other command status add forget debug = (unbuilt, refl)
+
+  unbuilt_cause : (answered : Option Fault) → IsFaultOrMemory answered a_fault.NotBuilt → is_built call.command ≡ false → IfSome answered (CommandCause call)
+  unbuilt_cause answered (inl same) is = subst (λ (f : Option Fault). IfSome f (CommandCause call)) (sym same) is
+  unbuilt_cause answered (inr memory) is = subst (λ (f : Option Fault). IfSome f (CommandCause call)) (sym memory) tt
+
+  status_failed : (answered : Option Fault) → IsFaultOrMemory answered a_fault.NotBuilt → code ≡ 255 → MatchOption answered (code ≡ 0) (λ f. code ≡ 255)
+  status_failed answered (inl same) is = subst (λ (f : Option Fault). MatchOption f (code ≡ 0) (λ f. code ≡ 255)) (sym same) is
+  status_failed answered (inr memory) is = subst (λ (f : Option Fault). MatchOption f (code ≡ 0) (λ f. code ≡ 255)) (sym memory) is
+
+  pub answered_unbuilt : ((flags : StatusFlags) → call.command ≡ a_command.Status flags → ⊥) → ((files : List (List ℕ)) → call.command ≡ a_command.Add files → ⊥)
+      → ((files : List (List ℕ)) → call.command ≡ a_command.Forget files → ⊥) → (call.command ≡ a_command.DebugDirstate → ⊥) → shelf.Passes call.looked.shelf.old call.looked.shelf.new → code ≡ 255
+      → IsAnswered call code fault
+  answered_unbuilt status add forget debug passes is =
+      let ran = ran_other call.command status add forget debug in
+      answered_looked call code fault ran.0
+      (record {
+        only = record { passes = passes; kept = unbuilt.idle.kept; held = unbuilt.idle.held };
+        crash = λ calm keep first. crash_unwritten call.saved.old call.saved.new unbuilt.idle.kept calm keep unbuilt.idle.unwritten first;
+        calm = λ none. not_without fault a_fault.NotBuilt unbuilt.answered none;
+        status = status_failed fault unbuilt.answered is;
+      })
+      (unbuilt_cause fault unbuilt.answered ran.1)

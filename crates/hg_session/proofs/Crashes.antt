@@ -1,5 +1,5 @@
 -- What a crash may leave at each moment of a whole call, from what was said of the stretch in which the lock was held.
-use Rattle.std.proofs.Common.{ℕ, ◌≡◌, ◌≤◌, Option, Some, Result, Ok, refl, sym, ◌∙◌, subst, arith, inl, inr, ◌⊎◌}
+use Rattle.std.proofs.Common.{ℕ, ◌≡◌, ◌≤◌, Option, Some, None, Result, Ok, refl, sym, ◌∙◌, subst, arith, inl, inr, ◌⊎◌}
 use Rattle.std.proofs.lemmas.Bool.{cases_lt}
 use Rattle.hg_entry.specs.Table.{Table}
 use Rattle.hg_image.specs.Reading.{RecordFault}
@@ -13,7 +13,7 @@ use Rattle.hg_save.specs.Saved.{IsLatest, ReadsAsBeforeOr}
 use Rattle.hg_session.specs.Acts.{Makes}
 use Rattle.hg_session.specs.Call.{Saved}
 use Rattle.hg_session.specs.Change.{IsKept, IsSafe, IsUnwritten, NoneOurs, Publishes, Stretch}
-use Rattle.hg_session.specs.Crash.{IsCrashSafe, IsLasting, LeavesSound, MightBeLeft}
+use Rattle.hg_session.specs.Crash.{IsCrashSafe, IsLasting, LeavesSound, MightBeLeft, published_in}
 use Rattle.hg_shelf.proofs.Scenes.{only_later}
 use Rattle.hg_shelf.specs.History.{Files, others, us}
 use Rattle.hg_shelf.specs.Images.{Course, Goes, last_scene, scene}
@@ -107,7 +107,7 @@ module _ (a b : Course) (goes : Goes a b) (calm : Undisturbed a b) (keep : Keeps
           latest_until b is.stretch.to (only_later b start is.stretch.to later calm.others) (keeps_later others b start is.stretch.to later keep) b.history.last is.stretch.end is.stretch.behind (omega arith)
           (is.is.latest latest_from)
 
-    pub crash_safe : (fault : Option Fault) (safe : IsSafe Does saved fault) → IsCrashSafe Does saved fault safe
+    pub crash_safe : (fault : Option Fault) (safe : IsSafe Does saved fault) → IsCrashSafe (published_in Does saved fault safe) saved
     crash_safe fault (inl none) =
         let known : (k : ℕ) (f : Files) → start ≤ k → k ≤ b.history.last → (scene b k).leaves f → IsKnown (λ r. ⊥) k (reading f) =
         λ k f after within left. known_before (λ r. ⊥) k after (none_before b start b.history.last k within none.none) within f left in
@@ -125,6 +125,10 @@ module _ (a b : Course) (goes : Goes a b) (calm : Undisturbed a b) (keep : Keeps
       keeping = files_front us b.history start is.stretch.from is.stretch.before is.is.keeping;
       latest = latest_end is;
     }
+
+  -- also where the caller makes no step
+  pub crash_unwritten : IsUnwritten a.history b.history → IsLatest (last_scene a) → IsCrashSafe None saved
+  crash_unwritten none first = crash_safe (λ old new lines changed. ⊥) first None (inl none)
 
   lasts_by : (loaded made : Table) (stretch : Stretch a.history b.history) (kept : IsKept loaded made saved stretch.from stretch.to)
       → (((c : Files) → (scene b stretch.to).leaves c → reading c ≡ Some (Ok kept.found)) ⊎ (IsSame made loaded × IsUnwritten a.history b.history))

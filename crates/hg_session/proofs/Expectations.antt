@@ -1,5 +1,5 @@
 -- What is expected of a status where nobody else steps, and what it did, from how it ended.
-use Rattle.std.proofs.Common.{ℕ, ◌≡◌, ◌≤◌, length, true, List, [], ◌++◌, Option, Some, None, Ok, Err, IsTrue, IfSome, refl, sym, ap, ◌∙◌, subst, inl, inr}
+use Rattle.std.proofs.Common.{ℕ, ◌≡◌, ◌≤◌, length, true, List, [], Option, Some, None, Ok, Err, IsTrue, IfSome, refl, sym, ◌∙◌, subst, inl, inr}
 use Rattle.std.proofs.lemmas.List.{append-nil}
 use Rattle.std.specs.Str.{IsUtf8, IsValidUpTo}
 use Rattle.hg_base.proofs.Faults.{steady_not_rose}
@@ -37,13 +37,13 @@ use Rattle.hg_session.specs.Listed.{AsksLittle, AsksOwn, IsAskedAt, IsListable, 
 use Rattle.hg_session.specs.Load.{of_list, of_read}
 use Rattle.hg_session.specs.Loaded.{IsLoaded, IsUnreadable}
 use Rattle.hg_session.specs.Look.{LeavesAt, Look, Looks, Stage, at_first, at_printing, at_telling}
-use Rattle.hg_session.specs.Put.{LeavesFront, Puts, PutsFront, Tells}
+use Rattle.hg_session.specs.Put.{LeavesFront, Tells}
 use Rattle.hg_session.specs.Status.{HasBadManifest, HasBadPatterns, IsExpected, IsFullText, IsReady, IsRowsText, LacksContents, RanStatus, status_look}
 use Rattle.hg_session.specs.declared.list_fault.ListFault.{ListFault}
 use Rattle.hg_session.specs.declared.list_fault.ListFault.TheVariants as a_list
 use Rattle.hg_session.specs.declared.read_fault.ReadFault.{ReadFault}
 use Rattle.hg_session.specs.declared.read_fault.ReadFault.TheVariants as a_read
-use Rattle.hg_session.proofs.Causes.{gone_now, holds_now, large_now, read_now, shows_now, there_alike}
+use Rattle.hg_session.proofs.Causes.{asked_now, gone_now, holds_now, large_now, read_now, shows_now}
 use Rattle.hg_session.proofs.Readings as readings
 use Rattle.hg_session.proofs.Refusals.{fine_now, over_now, so_now}
 use Rattle.hg_session.proofs.Parents.{row_kept}
@@ -119,7 +119,7 @@ module _ (looked : Looked) (copy : tree.Passes looked.tree.old looked.tree.new) 
       table = table;
       ready = ready_now table loaded had;
       path = needs.path;
-      asked = shows_now (over table) copy.past files.past still_tree still_shelf own.tree.told own.shelf.told (λ moment. IsAskedAt wanted table moment needs.path) needs.asked;
+      asked = asked_now (over table) copy.past files.past still_tree still_shelf own.tree.told own.shelf.told needs.path needs.asked;
       is = is;
     }
 
@@ -127,17 +127,17 @@ module _ (looked : Looked) (copy : tree.Passes looked.tree.old looked.tree.new) 
         → LacksContents wanted there (tree.now looked.tree.old) gone
     lacks_contents table loaded had gone met =
         let alike = shows_now (over table) copy.past files.past still_tree still_shelf own.tree.told own.shelf.told
-        (λ moment. (stat : Stat) × (stat_at moment met.path ≡ Some stat) × IsTrue (is_alike met.row stat)) met.alike in record {
+        (λ moment. IsAskedAt wanted table moment met.path × (stat : Stat) × (stat_at moment met.path ≡ Some stat) × IsTrue (is_alike met.row stat)) met.alike in record {
           table = table;
           ready = ready_now table loaded had;
           path = met.path;
-          asked = record { compared = met.compared; there = there_alike met.row ((tree.now looked.tree.old).things met.path) alike.0 alike.1 alike.2 };
+          asked = alike.0;
           rows = met.rows;
           formed = read_now (over table) copy.past files.past still_tree still_shelf own.tree.told own.shelf.told (Ok met.rows) met.committed met.read;
           row = met.row;
           is = met.is;
           names = met.names;
-          alike = alike;
+          alike = (alike.1, alike.2, alike.3);
           absent = holds_now (over table) copy.past files.past still_tree still_shelf own.tree.told own.shelf.told (contents_name gone.0) (λ file. file ≡ None) met.absent;
         }
 

@@ -1,11 +1,10 @@
 -- A change of the record with the lock round it, from what was done under the lock.
-use Rattle.std.proofs.Common.{ℕ, ◌≡◌, ◌≤◌, Bool, false, true, IsTrue, List, Some, None, Result, Ok, Err, Vec, Global, IfErr, IfOk, refl, arith, inl, inr, sym, subst, ◌∙◌}
+use Rattle.std.proofs.Common.{ℕ, ◌≡◌, ◌≤◌, Bool, false, true, IsTrue, List, Some, None, Result, Ok, Err, Vec, Global, IfErr, IfOk, refl, arith, inl, inr, ◌∙◌}
 use Rattle.std.specs.Result.{result_err}
 use Rattle.hg_base.specs.Fault.{HasCause, Rose}
 use Rattle.hg_base.specs.declared.fault.Failed.{Failed}
 use Rattle.hg_entry.specs.Table.{Table}
 use Rattle.hg_report.specs.declared.fault.Fault.{Fault}
-use Rattle.hg_report.specs.declared.fault.Fault.TheVariants as a_fault
 use Rattle.hg_session.proofs.Widening.{calm_within, done_wide, held_stretch, met_wide, safe_wide, unwritten_wide}
 use Rattle.hg_session.specs.Acts.{Makes}
 use Rattle.hg_session.specs.Call.{Count, Saved, Watched}

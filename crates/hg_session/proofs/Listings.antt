@@ -1,5 +1,5 @@
 -- What a listing answers, from what its parts answer.
-use Rattle.std.proofs.Common.{ℕ, ◌≡◌, Bool, true, List, [], Ok, Err, IsTrue, refl, sym, ap, ◌∙◌, subst, inr}
+use Rattle.std.proofs.Common.{ℕ, ◌≡◌, Bool, true, List, [], Err, IsTrue, refl, sym, ap, ◌∙◌, subst, inr}
 use Rattle.std.specs.Prelude.{MatchBool}
 use Rattle.hg_base.specs.declared.id.Id20.{Id20}
 use Rattle.hg_entry.specs.Table.{Table, flat_of}
@@ -7,7 +7,7 @@ use Rattle.hg_entry.specs.Table as plain
 use Rattle.hg_listing.specs.Full.{IsFullFor}
 use Rattle.hg_flat.specs.Asked.{AsksAll, AsksBehind, IsListedDir, pattern_reads}
 use Rattle.hg_flat.specs.Met as flat_met
-use Rattle.hg_flat.specs.Parent.{IsAsked, IsLeft, IsServed, is_compared, parent_rows}
+use Rattle.hg_flat.specs.Parent.{IsAsked, IsLeft, IsServed, asked_by, parent_rows}
 use Rattle.hg_flat.specs.Patterns.{CountsOversize, HadPatterns, Warns, ignored_at, is_of_parent}
 use Rattle.hg_flat.specs.declared.listed.Listed.{Listed}
 use Rattle.hg_listing.specs.declared.fault.StatusFault.{StatusFault}
@@ -16,11 +16,15 @@ use Rattle.hg_listing.specs.declared.row.Row.{Row}
 use Rattle.hg_listing.specs.declared.row.Wanted.{Wanted}
 use Rattle.hg_ignore.specs.Patterns.{WereRead}
 use Rattle.hg_ignore.specs.declared.warnings.Warning.{Warning}
+use Rattle.hg_shelf.proofs.Histories.{passes_trans}
+use Rattle.hg_shelf.proofs.Scenes.{goes_trans}
 use Rattle.hg_shelf.specs.History as shelf
+use Rattle.hg_shelf.specs.Images.{Course, Goes}
 use Rattle.hg_tree.specs.History as tree
 use Rattle.hg_session.specs.Call.{Fails, Looked}
 use Rattle.hg_session.specs.Listed.{AsksLittle, AsksOwn, IsListable, IsListedFor, ListingCause, StatusMet, first_parent}
 use Rattle.hg_session.specs.Loaded.{IsLoaded}
+use Rattle.hg_session.specs.Look.{OnlyReads}
 use Rattle.hg_session.specs.declared.list_fault.ListFault.{ListFault}
 use Rattle.hg_session.specs.declared.list_fault.ListFault.TheVariants as a_list
 use Rattle.hg_session.proofs.Causes.{met_longer}
@@ -30,14 +34,25 @@ use Rattle.hg_session.proofs.Parents.{full_moved, served_moved}
 pub id_is : (id : Id20) (flat : plain.Flat) (table : Table) → flat ≡ flat_of table → id.0 ≡ flat.p1 → id ≡ first_parent table
 id_is id flat table same is = λ i. record { 0 = (is ∙ ap (λ (f : plain.Flat). f.p1) same) i }
 
+-- two calls that only ask, one behind the other
+pub only_trans : (a b c : Course) (one two three first second third : ℕ)
+    → OnlyReads (record { old = a.history; new = b.history; before = one; after = two }) (record { old = a; new = b }) (record { before = first; after = second })
+    → shelf.Passes b.history c.history → Goes b c → third ≡ second
+    → OnlyReads (record { old = a.history; new = c.history; before = one; after = three }) (record { old = a; new = c }) (record { before = first; after = third })
+only_trans a b c one two three first second third only passes kept held = record {
+  passes = passes_trans a.history b.history c.history only.passes passes;
+  kept = goes_trans a b c only.kept kept;
+  held = held ∙ only.held;
+}
+
 -- ---- the listing itself, behind a load
 
 module _ (looked : Looked) (wanted : Wanted) (behind : shelf.History) (flat : plain.Flat) (table : Table) (same : flat ≡ flat_of table) (id : Id20) (is : id ≡ first_parent table)
-    (before : shelf.Passes looked.shelf.old behind) (after : shelf.Passes behind looked.shelf.new) (loaded : IsLoaded looked.shelf table) where
+    (copy : tree.Passes looked.tree.old looked.tree.new) (before : shelf.Passes looked.shelf.old behind) (after : shelf.Passes behind looked.shelf.new) (loaded : IsLoaded looked.shelf table) where
   abbrev later : plain.Flat → Id20 → flat_met.Status
   later flat id = record {
     wanted = wanted;
-    flat = flat;
+    asks = asked_by wanted flat;
     id = id;
     tree_old = looked.tree.old;
     tree_new = looked.tree.new;
@@ -59,7 +74,7 @@ module _ (looked : Looked) (wanted : Wanted) (behind : shelf.History) (flat : pl
     loaded = loaded;
     behind = patterns;
     met =
-        met_longer wanted (flat_of table) (first_parent table) looked.tree.old looked.tree.new looked.shelf.old behind looked.shelf.new before.past fault
+        met_longer wanted (asked_by wanted (flat_of table)) (first_parent table) looked.tree.old looked.tree.new looked.shelf.old behind looked.shelf.new before.past fault
         (by_table (λ f i. flat_met.Met (later f i) fault) met);
   }
 
@@ -77,7 +92,7 @@ module _ (looked : Looked) (wanted : Wanted) (behind : shelf.History) (flat : pl
       subst (ListingCause looked wanted) (sym told) (cause_by fault patterns tree_failed shelf_failed counts met)
 
   abbrev LeftBehind : plain.Flat → Id20 → List ℕ → Type 0
-  LeftBehind flat id = IsLeft wanted flat id looked.tree.new looked.tree.old.last looked.shelf.new behind.last
+  LeftBehind flat id = IsLeft wanted flat (asked_by wanted flat) id looked.tree.new looked.tree.old.last looked.shelf.new behind.last
 
   pub listed_for : (rows : List Row) → IsFullFor (LeftBehind flat id) flat (tree.now looked.tree.old) (parent_rows (shelf.now behind).files id) (ignored_at (tree.now looked.tree.old)) wanted rows
       → IsListedFor looked wanted rows
@@ -85,34 +100,31 @@ module _ (looked : Looked) (wanted : Wanted) (behind : shelf.History) (flat : pl
     table = table;
     loaded = loaded;
     full =
-        full_moved wanted (flat_of table) (first_parent table) looked.tree.old looked.tree.new looked.shelf.old behind looked.shelf.new before.past after.past rows
+        full_moved wanted (flat_of table) (first_parent table) looked.tree.old looked.tree.new looked.shelf.old behind looked.shelf.new copy.past before.past after.past rows
         (by_table (λ f i. IsFullFor (LeftBehind f i) f (tree.now looked.tree.old) (parent_rows (shelf.now behind).files i) (ignored_at (tree.now looked.tree.old)) wanted rows) full);
   }
 
   pub listable_by : HadPatterns wanted looked.tree.old looked.tree.new
-      → ((path : List ℕ) → LeftBehind flat id path → IsAsked wanted flat (tree.now looked.tree.old) path → IsServed (shelf.now behind).files id (tree.now looked.tree.old) path) → IsListable looked wanted
+      → ((path : List ℕ) → LeftBehind flat id path → IsAsked (asked_by wanted flat) (tree.now looked.tree.old) path → IsServed (shelf.now behind).files id (tree.now looked.tree.old) path) → IsListable looked wanted
   listable_by patterns served = record {
     table = table;
     loaded = loaded;
     patterns = patterns;
     served =
-        served_moved wanted (flat_of table) (first_parent table) looked.tree.old looked.tree.new looked.shelf.old behind looked.shelf.new before.past after.past
-        (by_table (λ f i. (path : List ℕ) → LeftBehind f i path → IsAsked wanted f (tree.now looked.tree.old) path → IsServed (shelf.now behind).files i (tree.now looked.tree.old) path) served);
+        served_moved wanted (flat_of table) (first_parent table) looked.tree.old looked.tree.new looked.shelf.old behind looked.shelf.new copy.past before.past after.past
+        (by_table (λ f i. (path : List ℕ) → LeftBehind f i path → IsAsked (asked_by wanted f) (tree.now looked.tree.old) path → IsServed (shelf.now behind).files i (tree.now looked.tree.old) path) served);
   }
 
-  abbrev Compared : plain.Flat → List ℕ → Type 0
-  Compared flat path = IsTrue (is_compared wanted flat path)
-
-  pub asks_little : (IsTrue looked.tree.old.told → AsksAll wanted (Compared flat) (IsListedDir wanted looked.tree.old looked.tree.new) looked.tree.old looked.tree.new) → AsksLittle looked wanted
+  pub asks_little : (IsTrue looked.tree.old.told → AsksAll wanted (asked_by wanted flat) (IsListedDir wanted looked.tree.old looked.tree.new) looked.tree.old looked.tree.new) → AsksLittle looked wanted
   asks_little asks told =
-      inr (table, loaded, by_table (λ f i. AsksAll wanted (Compared f) (IsListedDir wanted looked.tree.old looked.tree.new) looked.tree.old looked.tree.new) (asks told))
+      inr (table, loaded, by_table (λ f i. AsksAll wanted (asked_by wanted f) (IsListedDir wanted looked.tree.old looked.tree.new) looked.tree.old looked.tree.new) (asks told))
 
   pub asks_own : (tree.IsOurs looked.tree.old looked.tree.new
-      → AsksBehind (pattern_reads wanted (tree.now looked.tree.old)) (Compared flat) (IsListedDir wanted looked.tree.old looked.tree.new) looked.tree.old looked.tree.new) → AsksOwn looked wanted
+      → AsksBehind (pattern_reads wanted (tree.now looked.tree.old)) (asked_by wanted flat) (IsListedDir wanted looked.tree.old looked.tree.new) looked.tree.old looked.tree.new) → AsksOwn looked wanted
   asks_own asks own = (
     table,
     loaded,
-    by_table (λ f i. AsksBehind (pattern_reads wanted (tree.now looked.tree.old)) (Compared f) (IsListedDir wanted looked.tree.old looked.tree.new) looked.tree.old looked.tree.new) (asks own),
+    by_table (λ f i. AsksBehind (pattern_reads wanted (tree.now looked.tree.old)) (asked_by wanted f) (IsListedDir wanted looked.tree.old looked.tree.new) looked.tree.old looked.tree.new) (asks own),
   )
 
 -- warnings that were read say that the patterns were

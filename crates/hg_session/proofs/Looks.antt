@@ -1,13 +1,12 @@
 -- How a command ends that only looks, from what it did and what is told behind it.
-use Rattle.std.proofs.Common.{ℕ, ◌≡◌, Bool, true, false, List, Option, Some, None, Result, Ok, Err, IfSome, refl, sym, ap, ◌∙◌, subst, inl, inr, true≢false}
-use Rattle.std.specs.Prelude.{◌⊎◌}
+use Rattle.std.proofs.Common.{ℕ, ◌≡◌, true, false, List, Option, Some, None, Result, Ok, Err, IfSome, OnOk, refl, sym, ap, ◌∙◌, subst, inl, inr, true≢false}
 use Rattle.hg_report.specs.Fault.{has_line}
 use Rattle.hg_report.specs.declared.fault.Fault.{Fault}
 use Rattle.hg_report.specs.declared.fault.Fault.TheVariants as a_fault
 use Rattle.hg_base.specs.Fault.{Rose}
 use Rattle.hg_stream.specs.Stream.{GrownByFront}
 use Rattle.hg_session.specs.Call.{Looked, Sink}
-use Rattle.hg_session.specs.Look.{EndsAs, IsCalm, IsShown, IsUntold, LeavesAt, Look, Looks, Shows, Stage, at_first, at_printing, at_telling}
+use Rattle.hg_session.specs.Look.{EndsAs, IsCalm, IsUntold, LeavesAt, Look, Looks, Shows, Stage, at_first, at_printing, at_telling}
 use Rattle.hg_session.specs.Put.{IsFaultOrMemory, IsSilent, Puts, PutsFront, Tells, TellsLine}
 
 pub not_without : {Q : Type 0} (answered : Option Fault) (fault : Fault) → IsFaultOrMemory answered fault → answered ≡ None → Q
@@ -84,11 +83,15 @@ module _ (mid tail : Sink) (bytes : tail.old ≡ mid.new) (count : tail.before �
     ]
 
   -- without a fault there was none before the line of one would be told
-  pub calm_by : (looked : Looked) (out : Sink) (done : Result Unit Fault) (code : ℕ) (fault : Option Fault) → EndsAs tail done code fault → fault ≡ None
-      → ((u : Unit) → done ≡ Ok u → IsCalm looked out mid) → IsCalm looked out joined
-  calm_by looked out (Ok u) code fault ends none calm =
-      let c = calm u refl in record { tree = c.tree; shelf = c.shelf; regexps = c.regexps; out = c.out; err = ends.well.1.count ∙ count ∙ c.err }
-  calm_by looked out (Err met) code fault ends none calm = elim ends.ill [
-    | inl (has, is, line) ↦ not_without fault met is none
+  pub from_well : (P : Type 0) (done : Result Unit Fault) (code : ℕ) (fault : Option Fault) → EndsAs tail done code fault → OnOk done P → fault ≡ None → P
+  from_well P (Ok u) code fault ends has none = has
+  from_well P (Err met) code fault ends has none = elim ends.ill [
+    | inl (told, is, line) ↦ not_without fault met is none
     | inr (other, is, silent) ↦ absurd (cc (is, none))
   ]
+
+  pub calm_by : (looked : Looked) (out : Sink) (done : Result Unit Fault) (code : ℕ) (fault : Option Fault) → EndsAs tail done code fault → OnOk done (IsCalm looked out mid) → fault ≡ None
+      → IsCalm looked out joined
+  calm_by looked out (Ok u) code fault ends c none =
+      record { tree = c.tree; shelf = c.shelf; regexps = c.regexps; out = c.out; err = ends.well.1.count ∙ count ∙ c.err }
+  calm_by looked out (Err met) code fault ends c none = from_well (IsCalm looked out joined) (Err met) code fault ends tt none

@@ -11,7 +11,7 @@ use Rattle.hg_report.specs.Fault.{has_line}
 use Rattle.hg_report.specs.declared.fault.Fault.{Fault}
 use Rattle.hg_report.specs.declared.fault.Fault.TheVariants as a_fault
 use Rattle.hg_save.proofs.Loads.{last_within, unstepped_found}
-use Rattle.hg_save.specs.Loads.{Try, files_at}
+use Rattle.hg_save.specs.Loads.{files_at}
 use Rattle.hg_save.specs.Record.{id_in, reading}
 use Rattle.hg_session.proofs.Looks.{not_without}
 use Rattle.hg_session.proofs.Crashes.{crash_safe, lasting}
@@ -21,10 +21,9 @@ use Rattle.hg_session.specs.Call.{Call, Count, Fails, Saved, Serves, Watched}
 use Rattle.hg_session.specs.Change.{FailsOrUnwritten, Fits, FitsFirst, IsDone, IsEarly, IsLocked, IsMade, IsReadFirst, IsReadSome, IsSafe, IsUnlooked, MayFollowWriting, MetChanging, MetLocking, NoneOurs, Stretch, id_read, makes_in, up_to}
 use Rattle.hg_session.specs.Changed.{IsExpectedChange, IsMadeOf, IsPartlyTold, IsUnwrittenUnless, OnlyLooks, RanChange, TellsFault, status_of}
 use Rattle.hg_session.specs.Put.{IsFaultOrMemory, IsSilent, TellsLine}
-use Rattle.hg_session.specs.Loaded.{AsksRecord, IsRefused, LoadMet}
+use Rattle.hg_session.specs.Loaded.{AsksRecord}
 use Rattle.hg_session.specs.declared.acting.Changing.{Changing}
 use Rattle.hg_session.specs.declared.acting.Changing.TheVariants as a_change
-use Rattle.hg_session.specs.declared.read_fault.ReadFault.{ReadFault}
 use Rattle.hg_session.specs.declared.read_fault.ReadFault.TheVariants as a_read
 use Rattle.hg_shelf.specs.History.{Extends, Files, History, IsOurs, now, readers, us}
 use Rattle.hg_shelf.specs.Images.{Course, Goes}

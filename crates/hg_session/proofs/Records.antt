@@ -2,7 +2,6 @@
 use Rattle.std.proofs.Common.{ℕ, ◌≡◌, true, List, [], Option, Some, None, IfSome, refl, sym, ap, ◌∙◌, subst}
 use Rattle.std.proofs.lemmas.List.{append-nil}
 use Rattle.hg_base.proofs.Faults.{steady_not_rose}
-use Rattle.hg_entry.specs.Table.{Table}
 use Rattle.hg_report.specs.Fault.{has_line}
 use Rattle.hg_report.specs.declared.fault.Fault.{Fault}
 use Rattle.hg_stream.specs.Stream.{Grown}
@@ -11,7 +10,6 @@ use Rattle.hg_shelf.proofs.Histories as shelves
 use Rattle.hg_session.specs.Call.{Call, Serves, Sink}
 use Rattle.hg_session.specs.Debug.{HasText, IsEmpty, IsExpectedOf, IsLeftAlone, IsTextIn, RanRecord, record_look}
 use Rattle.hg_session.specs.Load.{of_read}
-use Rattle.hg_session.specs.Loaded.{WasLoaded}
 use Rattle.hg_session.specs.Look.{LeavesAt, Looks, Stage, at_first, at_printing, at_telling}
 use Rattle.hg_session.specs.Put.{IsSilent, LeavesFront, Puts, Tells}
 use Rattle.hg_session.specs.declared.read_fault.ReadFault.{ReadFault}

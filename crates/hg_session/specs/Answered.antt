@@ -2,10 +2,12 @@
 use Rattle.std.specs.Prelude.{ℕ, ◌≡◌, ◌⊎◌, None, Option, IfSome, MatchOption}
 use Rattle.hg_report.specs.declared.fault.Fault.{Fault}
 use Rattle.hg_report.specs.declared.fault.Fault.TheVariants as a_fault
-use Rattle.hg_session.specs.Call.{Call}
+use Rattle.hg_session.specs.Call.{Call, Count, Looked, Saved, Sink}
 use Rattle.hg_session.specs.Cause.{CommandCause}
+use Rattle.hg_session.specs.Change.{IsUnwritten}
 use Rattle.hg_session.specs.Changed.{RanChange}
 use Rattle.hg_session.specs.Commands.{changing_of}
+use Rattle.hg_session.specs.Crash.{IsSafeFromCrashes}
 use Rattle.hg_session.specs.Debug.{IsLeftAlone, RanRecord}
 use Rattle.hg_session.specs.Look.{IsCalm, IsLook}
 use Rattle.hg_session.specs.Put.{IsFaultOrMemory, IsSilent, Tells}
@@ -15,15 +17,22 @@ use Rattle.hg_shelf.specs.Images.{Goes}
 use Rattle.hg_words.specs.declared.given.Command.{Command}
 use Rattle.hg_words.specs.declared.given.Command.TheVariants as a_command
 
--- what is done for a command that isn't built: it is answered as such, whatever else holds, its line is told, and every other device is as it was
+-- every device but the error stream is as it was, and no count of theirs rose
+pub record IsIdle (looked : Looked) (saved : Saved) (locks : Count) (out : Sink) : Type 0 where
+  pub copy : IsLeftAlone looked.tree
+  pub files : looked.shelf.new ≡ looked.shelf.old
+  pub files_count : looked.shelf.after ≡ looked.shelf.before
+  pub kept : Goes saved.old saved.new
+  pub unwritten : IsUnwritten saved.old.history saved.new.history
+  pub held : locks.after ≡ locks.before
+  pub regexps : looked.oversize.after ≡ looked.oversize.before
+  pub silent : IsSilent out
+
+-- what is done for a command that isn't built: it is answered as such, whatever else holds, and its line is told
 pub record IsUnbuilt (call : Call) (fault : Option Fault) : Type 0 where
-  pub fault : IsFaultOrMemory fault a_fault.NotBuilt
+  pub answered : IsFaultOrMemory fault a_fault.NotBuilt
   pub told : IfSome fault (Tells call.err)
-  pub tree : IsLeftAlone call.looked.tree
-  pub shelf : call.looked.shelf.new ≡ call.looked.shelf.old
-  pub shelf_count : call.looked.shelf.after ≡ call.looked.shelf.before
-  pub regexps : call.looked.oversize.after ≡ call.looked.oversize.before
-  pub out : IsSilent call.out
+  pub idle : IsIdle call.looked call.saved call.locks call.out
 
 -- what a command did that ended with this status and this fault, or with none
 abbrev pub Ran : Command → Call → ℕ → Option Fault → Type 0
@@ -45,5 +54,8 @@ pub record IsAnswered (call : Call) (code : ℕ) (fault : Option Fault) : Type 0
   pub calm : fault ≡ None → IsCalm call.looked call.out call.err
   -- the moments so far stay, with what a crash may leave of them
   pub kept : Goes call.saved.old call.saved.new
+  -- at each moment of the call a crash leaves a record of what it might have left at the start, of what the call published, or of what others
+  -- published since; and the premise holds at the end, so that this can be said of the next call
+  pub crash : IsSafeFromCrashes call.saved
   -- the status is 0 without a fault, or 1, and 255 with one
   pub status : MatchOption fault ((code ≡ 0) ⊎ (code ≡ 1)) (λ f. code ≡ 255)

@@ -1,5 +1,5 @@
 -- What the commands that change the record promise.
-use Rattle.std.specs.Prelude.{ℕ, Bool, true, false, ◌≡◌, ◌⊎◌, ◌<◌, List, [], ◌∷◌, Option, Some, None, Ok, Err, IsTrue, IfSome, IsSomeAnd, MatchBool, is_some}
+use Rattle.std.specs.Prelude.{ℕ, Bool, true, false, ◌≡◌, ◌⊎◌, ◌<◌, List, [], ◌∷◌, Option, Some, None, Ok, IsTrue, IfSome, IsSomeAnd, MatchBool, is_some}
 use Rattle.hg_append.specs.Encoded.{IsTooLarge}
 use Rattle.hg_base.specs.Fault.{IsSteady}
 use Rattle.hg_docket.specs.Number.{next_name}
@@ -17,7 +17,7 @@ use Rattle.hg_session.specs.Call.{Call, Fails, Serves, Watched}
 use Rattle.hg_session.specs.Change.{ChangeCause, Fits, IsDone, IsEarly, IsLocked, IsReadSome, IsSafe, IsUnlooked, IsUnwritten, Stretch, makes_in}
 use Rattle.hg_session.specs.Loaded.{AsksRecord, IsUnreadable}
 use Rattle.hg_session.specs.Put.{IsFaultOrMemory, IsSilent, TellsLine}
-use Rattle.hg_session.specs.Crash.{IsCrashSafe, IsLasting}
+use Rattle.hg_session.specs.Crash.{IsCrashSafe, IsLasting, published_in}
 use Rattle.hg_session.specs.Listed.{IsOwn}
 use Rattle.hg_session.specs.declared.acting.Changing.{Changing}
 use Rattle.hg_session.specs.declared.acting.Changing.TheVariants as a_change
@@ -120,7 +120,7 @@ pub record RanChange (command : Changing) (words : List (List ℕ)) (call : Call
   -- and where others keep to how a record is published, also before the lock was got and behind it: at each moment since the call's start a crash
   -- leaves a record of what it might have left then, of what the call published, or of what others published since
   pub crash : (calm : Undisturbed call.saved.old call.saved.new) → KeepsRecords shelf.others call.saved.new call.saved.old.history.last → IsLatest (last_scene call.saved.old)
-      → IsCrashSafe (makes_in command words call) call.saved fault (safe calm)
+      → IsCrashSafe (published_in (makes_in command words call) call.saved fault (safe calm)) call.saved
   -- after a fault that comes before a publication nothing is written, whatever others do
   pub unwritten : IfSome fault (IsUnwrittenUnless call)
   -- each fault comes only for its cause

@@ -6,7 +6,7 @@ use Rattle.hg_entry.specs.Table.{Table, flat_of}
 use Rattle.hg_flat.specs.Asked.{AsksAll, AsksBehind, AsksNothing, IsListedDir, pattern_reads}
 use Rattle.hg_listing.specs.Full.{IsFull, IsFullFor}
 use Rattle.hg_flat.specs.Met.{Met, Status}
-use Rattle.hg_flat.specs.Parent.{IsAsked, IsLeft, IsServed, is_compared, parent_rows}
+use Rattle.hg_flat.specs.Parent.{Asking, IsAsked, IsLeft, IsServed, asked_by, parent_rows}
 use Rattle.hg_flat.specs.Patterns.{HadPatterns, Warns, ignored_at, is_of_parent}
 use Rattle.hg_listing.specs.declared.fault.StatusFault.{StatusFault}
 use Rattle.hg_listing.specs.declared.fault.StatusFault.TheVariants as a_status
@@ -26,16 +26,21 @@ use Rattle.hg_session.specs.declared.list_fault.ListFault.TheVariants as a_list
 abbrev pub first_parent : Table → Id20
 first_parent table = record { 0 = (flat_of table).p1 }
 
+-- which paths a status over a table compares, by what a moment shows
+abbrev pub asking : Wanted → Table → Asking
+asking wanted table = asked_by wanted (flat_of table)
+
 -- ---- paths that are left alone
 
--- nobody touches the path during the call, nor what the first parent has of it where its bytes are compared, nor the ignore patterns where
--- they decide its letter
+-- nobody touches the path during the call, nor what the first parent has of it where it is compared, nor the ignore patterns where they
+-- decide its letter
 abbrev pub IsUntouched : Looked → Wanted → Table → List ℕ → Type 0
-IsUntouched looked wanted table = IsLeft wanted (flat_of table) (first_parent table) looked.tree.new looked.tree.old.last looked.shelf.new looked.shelf.old.last
+IsUntouched looked wanted table =
+    IsLeft wanted (flat_of table) (asking wanted table) (first_parent table) looked.tree.new looked.tree.old.last looked.shelf.new looked.shelf.old.last
 
--- a path whose bytes are compared at a moment
+-- a path is compared at a moment
 abbrev pub IsAskedAt : Wanted → Table → Moment → List ℕ → Type 0
-IsAskedAt wanted table moment path = IsAsked wanted (flat_of table) moment path
+IsAskedAt wanted table moment path = IsAsked (asking wanted table) moment path
 
 -- what the comparisons of a listing ask for was there at the start of the call, for each path that is left alone
 abbrev pub IsServedFor : Looked → Wanted → Table → Type 0
@@ -56,7 +61,7 @@ pub record IsListable (looked : Looked) (wanted : Wanted) : Type 0 where
 abbrev pub status_over : Looked → Wanted → Table → Status
 status_over looked wanted table = record {
   wanted = wanted;
-  flat = flat_of table;
+  asks = asking wanted table;
   id = first_parent table;
   tree_old = looked.tree.old;
   tree_new = looked.tree.new;
@@ -101,15 +106,11 @@ pub record IsOwn (looked : Looked) : Type 0 where
   pub tree : tree.IsOurs looked.tree.old looked.tree.new
   pub shelf : shelf.IsOurs looked.shelf.old looked.shelf.new
 
--- a path whose bytes are compared
-abbrev pub IsCompared : Wanted → Table → List ℕ → Type 0
-IsCompared wanted table path = IsTrue (is_compared wanted (flat_of table) path)
-
--- the tree was asked by a listing over a table: the ignore patterns were read where they are needed and a file of them was seen, then paths whose
--- bytes are compared were read, and where `?` or I is wanted directories were listed, each once at most; where nobody else steps, visible ones alone,
+-- the tree was asked by a listing over a table: the ignore patterns were read where they are needed and a file of them was seen, then paths that
+-- are compared were read, and where `?` or I is wanted directories were listed, each once at most; where nobody else steps, visible ones alone,
 -- and without I none that is ignored
 abbrev pub AsksOver : Table → Wanted → Watched tree.History → Type 0
-AsksOver table wanted copy = AsksAll wanted (IsCompared wanted table) (IsListedDir wanted copy.old copy.new) copy.old copy.new
+AsksOver table wanted copy = AsksAll wanted (asking wanted table) (IsListedDir wanted copy.old copy.new) copy.old copy.new
 
 -- it was asked nothing, or by a listing over the table that was loaded
 abbrev pub AsksLittle : Looked → Wanted → Type 0
@@ -121,7 +122,7 @@ abbrev pub AsksOwn : Looked → Wanted → Type 0
 AsksOwn looked wanted =
     tree.IsOurs looked.tree.old looked.tree.new
     → (table : Table) × IsLoaded looked.shelf table
-    × AsksBehind (pattern_reads wanted (tree.now looked.tree.old)) (IsCompared wanted table) (IsListedDir wanted looked.tree.old looked.tree.new) looked.tree.old looked.tree.new
+    × AsksBehind (pattern_reads wanted (tree.now looked.tree.old)) (asking wanted table) (IsListedDir wanted looked.tree.old looked.tree.new) looked.tree.old looked.tree.new
 
 -- what a listing does: it only asks, and answers the rows and the warnings, or a fault
 pub record Lists (looked : Looked) (wanted : Wanted) (result : Result Listed ListFault) : Type 0 where

@@ -5,7 +5,7 @@ use Rattle.std.specs.declared.alloc.Global.{Global}
 use Rattle.hg_docket.specs.Docket.{docket_of}
 use Rattle.hg_entry.specs.Table.{Table, flat_of}
 use Rattle.hg_flat.specs.Recorded.{Records}
-use Rattle.hg_flat.specs.Shown.{flat_in, kept_of}
+use Rattle.hg_flat.specs.Shown.{flat_in, rows_of}
 use Rattle.hg_flat.specs.declared.flat.Flat.{Flat}
 use Rattle.hg_image.specs.Reading.{RecordFault}
 use Rattle.hg_image.specs.Reading as a_record_fault
@@ -50,7 +50,7 @@ pub record AsksRecord (old new : History) : Type 0 where
 -- a flat map is that of a table, and keeps its entries and sources
 pub record IsFlatOf (table : Table) (loaded : Flat) : Type 0 where
   pub flat : flat_in loaded ≡ flat_of table
-  pub records : Records table (kept_of loaded)
+  pub records : Records table (rows_of loaded)
 
 -- bytes are the text of a table
 abbrev pub IsBytesOf : Table → Vec ℕ Global → Type 0

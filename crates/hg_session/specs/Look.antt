@@ -3,10 +3,14 @@ use Rattle.std.specs.Prelude.{ℕ, ◌≡◌, ◌⊎◌, true, false, List, Opti
 use Rattle.hg_report.specs.Fault.{has_line}
 use Rattle.hg_report.specs.declared.fault.Fault.{Fault}
 use Rattle.hg_report.specs.declared.fault.Fault.TheVariants as a_fault
+use Rattle.hg_save.specs.Others.{KeepsRecords}
+use Rattle.hg_save.specs.Saved.{IsLatest}
 use Rattle.hg_session.specs.Call.{Call, Count, Looked, Saved, Sink, Watched}
+use Rattle.hg_session.specs.Crash.{IsCrashSafe}
 use Rattle.hg_session.specs.Put.{IsFaultOrMemory, IsSilent, Puts, PutsFront, Tells}
 use Rattle.hg_shelf.specs.History as shelf
-use Rattle.hg_shelf.specs.Images.{Goes}
+use Rattle.hg_shelf.specs.Images.{Goes, last_scene}
+use Rattle.hg_shelf.specs.Polite.{Undisturbed}
 
 -- where a command meets a fault: before it prints, while it prints, while it tells its lines behind that
 pub data Stage : Type 0 where
@@ -83,6 +87,9 @@ pub record IsCalm (looked : Looked) (output errors : Sink) : Type 0 where
 -- what a call did whose command doesn't change the record
 pub record IsLook (call : Call) (code : ℕ) (fault : Option Fault) : Type 0 where
   pub only : OnlyReads call.looked.shelf call.saved call.locks
+  -- and a crash leaves nothing that the call published
+  pub crash : Undisturbed call.saved.old call.saved.new → KeepsRecords shelf.others call.saved.new call.saved.old.history.last → IsLatest (last_scene call.saved.old)
+      → IsCrashSafe None call.saved
   -- where a device failed, or a regexp was too big, there is a fault
   pub calm : fault ≡ None → IsCalm call.looked call.out call.err
   -- the status is 0 without a fault, and 255 with one

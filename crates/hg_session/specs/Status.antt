@@ -27,7 +27,7 @@ use Rattle.hg_session.specs.Flags.{style_of, wanted_of}
 use Rattle.hg_session.specs.Listed.{AsksLittle, AsksOwn, IsAskedAt, IsListable, IsListed, IsListedFor, IsOwn, ListingCause, first_parent}
 use Rattle.hg_session.specs.Load.{of_list}
 use Rattle.hg_session.specs.Loaded.{IsUnreadable}
-use Rattle.hg_session.specs.Look.{IsCalm, IsShown, Look, Looks, Shows}
+use Rattle.hg_session.specs.Look.{IsCalm, Look, Looks, Shows}
 use Rattle.hg_session.specs.Put.{LeavesFront, Puts}
 use Rattle.hg_session.specs.declared.list_fault.ListFault.{ListFault}
 use Rattle.hg_shelf.specs.History as shelf

@@ -8,7 +8,8 @@ use lib.Utf8.{scalar}
 use Rattle.std.proofs.lemmas.Bool.{and_parts, and_from, not-true, ltb-true, lt-ltb, ne_eqb}
 use Rattle.std.proofs.lemmas.Str.{IsUtf8-past_char, chars_past_char, char_from_byte, encode_ascii, length-encode, len_utf8_bounds}
 use Rattle.hg_words.specs.Command.{Flag, by_letter, by_name, named_by_letters}
-use Rattle.hg_words.proofs.Rows.{gone_flagged, gone_keeps, gone_row, given, is_flagged, put_flagged, put_keeps, put_row, put_word, word_id}
+use Rattle.hg_words.proofs.Rows.{gone_flagged, gone_keeps, gone_row, is_flagged, put_flagged, put_keeps, put_row}
+use Rattle.hg_words.specs.Clapped.{flag_arg, given, is_good, word_arg, word_id}
 use Rattle.clap.specs.Facts.{unwrap_or_range}
 use Rattle.clap.specs.Kinds.{Kinds, or_else}
 use Rattle.clap.specs.Faults.{bundle_fault, flags_fault, react_fault, settle_fault, short_fault, use_fault}
@@ -20,13 +21,7 @@ use Rattle.clap.specs.declared.error.kind.ErrorKind.TheVariants as kind
 use Rattle.clap.proofs.FaultLemmas.{fault_ends, fault_reads}
 use Rattle.clap.proofs.WalkLemmas.{bundle_ends, bundle_reads}
 
--- ---- the arguments, as they are given and as they are built
-
-abbrev pub flag_arg : Flag → Rule
-flag_arg f = record (new_rule f.name) { short = Some f.letter; long = Some f.name; action = Some SetTrue }
-
-abbrev pub word_arg : Rule
-word_arg = record (new_rule word_id) { action = Some Append }
+-- ---- the arguments as they are built
 
 abbrev pub flag_rule : Flag → Rule
 flag_rule f = with_index 1 (filled (flag_arg f))
@@ -36,10 +31,6 @@ word_rule = with_index 1 (filled word_arg)
 
 abbrev pub rules : List Flag → List Rule
 rules flags = map flag_rule flags ++ word_rule ∷ []
-
--- a letter in ASCII, and a name that isn't that of the words and has no `=`
-abbrev pub is_good : Flag → Bool
-is_good f = ltb f.letter 128 && (not (bytes_eq f.name word_id) && not (list_any (λ b. eqb b 61) f.name))
 
 ge_from_ltb : (x : ℕ) → ltb x 128 ≡ false → 128 ≤ x
 ge_from_ltb x e = grind (arith, e, lt-ltb x 128)
@@ -75,7 +66,7 @@ pub by_index : (flags : List Flag) → arg_by_index (rules flags) 1 ≡ Some wor
 by_index [] = refl
 by_index (f ∷ flags) = by_index flags
 
-good_name : (f : Flag) → is_good f ≡ true → bytes_eq f.name word_id ≡ false
+pub good_name : (f : Flag) → is_good f ≡ true → bytes_eq f.name word_id ≡ false
 good_name f good = not-true (bytes_eq f.name word_id) (and_parts (not (bytes_eq f.name word_id)) (not (list_any (λ b. eqb b 61) f.name)) (and_parts (ltb f.letter 128) (not (bytes_eq f.name word_id) && not (list_any (λ b. eqb b 61) f.name)) good).1).0
 
 pub by_id : (flags : List Flag) → list_all is_good flags ≡ true → arg_by_id (rules flags) word_id ≡ Some word_rule

@@ -1,6 +1,10 @@
+pub mod Answering
+pub mod Building
 pub mod Commands
 pub mod Leading
 pub mod Letters
+pub mod Parsed
 pub mod Paths
+pub mod Refused
 pub mod Rows
 pub mod Turns

@@ -6,28 +6,10 @@ use Rattle.std.specs.Option.{option_and_then, option_map_or}
 use Rattle.std.specs.Str.{bytes_eq}
 use Rattle.std.proofs.lemmas.Bool.{and_parts, and_from}
 use Rattle.hg_base.proofs.Within.{same_bytes, equal_bytes}
+use Rattle.hg_words.specs.Clapped.{given, is_set, is_true, values_of_row, word_id}
 use Rattle.clap.specs.Walk.{Row, Text, all_of, at_row, first_of, has_row, more_values, with_values, without}
 use Rattle.clap.specs.declared.builder.value_parser.Reading.{Reading}
 use Rattle.clap.specs.declared.parser.matches.ValueSource.{ValueSource}
-
--- what the words that are no flags are known by
-abbrev pub word_id : Text
-word_id = codes "WORD"
-
-abbrev pub is_true : Option Text → Bool
-is_true text = option_map_or (λ t. bytes_eq t (codes "true")) text false
-
--- a flag is set
-abbrev pub is_set : Text → List Row → Bool
-is_set name rows = is_true (first_of name rows)
-
-abbrev pub values_of_row : Option Row → List Text
-values_of_row None = []
-values_of_row (Some r) = r.values
-
--- the words so far
-abbrev pub given : List Row → List Text
-given rows = values_of_row (find (λ r. bytes_eq r.id word_id) rows)
 
 abbrev pub begins_true : List Text → Bool
 begins_true [] = false

@@ -8,8 +8,8 @@ use Rattle.std.proofs.lemmas.Bool.{and_parts, not-true}
 use Rattle.std.proofs.lemmas.Str.{IsUtf8-past_char, encode_ascii}
 use Rattle.hg_base.proofs.Within.{same_bytes}
 use Rattle.hg_words.specs.Command.{Flag, by_name, is_dashed, named_behind, named_by_letters}
-use Rattle.hg_words.proofs.Letters.{Sets, by_id, by_index, by_long, fine_both, good_found, held, is_fine, is_good, letters_fault, letters_met, now, past_none, react_none, reacted_is, rules, flag_rule, set, sets_one, settle_none, settled_is, word_rule}
-use Rattle.hg_words.proofs.Rows.{word_id}
+use Rattle.hg_words.proofs.Letters.{Sets, by_id, by_index, by_long, fine_both, good_found, held, is_fine, letters_fault, letters_met, now, past_none, react_none, reacted_is, rules, flag_rule, set, sets_one, settle_none, settled_is, word_rule}
+use Rattle.hg_words.specs.Clapped.{is_good, word_id}
 use Rattle.clap.specs.Kinds.{Kinds, or_else}
 use Rattle.clap.specs.Faults.{bundle_fault, flag_word_fault, long_fault, other_fault, positional_fault, step_fault, stray_fault, turn_fault, word_fault}
 use Rattle.clap.specs.Lexer.{long_of, name_and_value, short_of}

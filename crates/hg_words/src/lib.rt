@@ -27,6 +27,7 @@
 mod fault;
 mod flags;
 mod folder;
+mod forms;
 mod given;
 mod laws;
 mod locating;

@@ -3,11 +3,9 @@ use Rattle.std.proofs.Common.{inl, refl, sym, ◌∙◌}
 use Rattle.std.proofs.lemmas.Result.{err_from_is_err_and}
 use Rattle.hg_flat.specs.Shown.{flat_in}
 use Rattle.hg_shelf.specs.Images.{course}
-use Rattle.hg_shelf.proofs.Histories as shelves
-use Rattle.hg_shelf.proofs.Scenes.{goes_trans}
 use Rattle.hg_tree.proofs.Spans.{passes_same}
 use Rattle.hg_session.specs.Call.{Looked}
-use Rattle.hg_session.proofs.Listings.{asks_little, asks_own, cause_status, had_patterns, id_is, listable_by, listed_for}
+use Rattle.hg_session.proofs.Listings.{asks_little, asks_own, cause_status, had_patterns, id_is, listable_by, listed_for, only_trans}
 use Rattle.hg_session.specs.Loaded.{IsFlatOf}
 use Rattle.hg_session.proofs.Readings.{loaded_as, met_reading}
 use Rattle.hg_session.proofs.listing.list.Goals as goal
@@ -47,13 +45,13 @@ returns-in_err-listed-clause-lists g c =
       still = tt;
       warns = tt;
       listable = tt;
-      cause = cause_status looked c.args.wanted shelf_mid flat l.0 l.2.flat c.first_parent-parent.result id c.read_flat.ensures.only.passes c.plain_status.ensures.passes_shelf l.1
+      cause = cause_status looked c.args.wanted shelf_mid flat l.0 l.2.flat c.first_parent-parent.result id c.plain_status.ensures.passes c.read_flat.ensures.only.passes c.plain_status.ensures.passes_shelf l.1
           c.in_err-listed.field-0.0 p.0 p.2 c.in_err-listed.ensures.behind
           c.in_err-listed.ensures.cause.rose
           (λ failed. rw (sym c.in_ok-flat.ensures.cause.quiet) (c.in_err-listed.ensures.cause_shelf.rose failed))
           c.in_err-listed.ensures.oversize
           c.in_err-listed.ensures.met;
-      asked = asks_little looked c.args.wanted shelf_mid flat l.0 l.2.flat c.first_parent-parent.result id c.read_flat.ensures.only.passes c.plain_status.ensures.passes_shelf l.1 c.plain_status.ensures.asked;
+      asked = asks_little looked c.args.wanted shelf_mid flat l.0 l.2.flat c.first_parent-parent.result id c.plain_status.ensures.passes c.read_flat.ensures.only.passes c.plain_status.ensures.passes_shelf l.1 c.plain_status.ensures.asked;
       asked_own = tt;
       calm_tree = tt;
       calm_shelf = tt;
@@ -75,14 +73,30 @@ returns-clause-lists g c =
     let id = id_is c.first_parent-parent.result flat l.0 l.2.flat c.first_parent-parent.ensures in
     record {
       tree = c.plain_status.ensures.passes;
-      still = listed_for looked c.args.wanted shelf_mid flat l.0 l.2.flat c.first_parent-parent.result id c.read_flat.ensures.only.passes c.plain_status.ensures.passes_shelf l.1 c.in_ok-listed.listed.rows c.in_ok-listed.ensures.still;
+      still = listed_for looked c.args.wanted shelf_mid flat l.0 l.2.flat c.first_parent-parent.result id c.plain_status.ensures.passes c.read_flat.ensures.only.passes c.plain_status.ensures.passes_shelf l.1 c.in_ok-listed.listed.rows c.in_ok-listed.ensures.still;
       warns = c.in_ok-listed.ensures.warns;
-      listable = listable_by looked c.args.wanted shelf_mid flat l.0 l.2.flat c.first_parent-parent.result id c.read_flat.ensures.only.passes c.plain_status.ensures.passes_shelf l.1
+      listable = listable_by looked c.args.wanted shelf_mid flat l.0 l.2.flat c.first_parent-parent.result id c.plain_status.ensures.passes c.read_flat.ensures.only.passes c.plain_status.ensures.passes_shelf l.1
           (had_patterns c.args.wanted looked.tree.old looked.tree.new c.in_ok-listed.listed.warnings c.in_ok-listed.ensures.warns) c.in_ok-listed.ensures.served;
       cause = tt;
-      asked = asks_little looked c.args.wanted shelf_mid flat l.0 l.2.flat c.first_parent-parent.result id c.read_flat.ensures.only.passes c.plain_status.ensures.passes_shelf l.1 c.plain_status.ensures.asked;
-      asked_own = asks_own looked c.args.wanted shelf_mid flat l.0 l.2.flat c.first_parent-parent.result id c.read_flat.ensures.only.passes c.plain_status.ensures.passes_shelf l.1 c.in_ok-listed.ensures.asked_own;
+      asked = asks_little looked c.args.wanted shelf_mid flat l.0 l.2.flat c.first_parent-parent.result id c.plain_status.ensures.passes c.read_flat.ensures.only.passes c.plain_status.ensures.passes_shelf l.1 c.plain_status.ensures.asked;
+      asked_own = asks_own looked c.args.wanted shelf_mid flat l.0 l.2.flat c.first_parent-parent.result id c.plain_status.ensures.passes c.read_flat.ensures.only.passes c.plain_status.ensures.passes_shelf l.1 c.in_ok-listed.ensures.asked_own;
       calm_tree = c.in_ok-listed.ensures.cause.quiet;
       calm_shelf = c.in_ok-listed.ensures.cause_shelf.quiet ∙ c.in_ok-flat.ensures.cause.quiet;
       calm_regexps = c.in_ok-listed.ensures.oversize;
     }
+
+pub returns-in_err-listed-clause-only : goal.returns-in_err-listed-clause-only
+returns-in_err-listed-clause-only g c =
+    only_trans (course (g.S.Shelf.history c.args.shelf.now) (g.S.Shelf.images c.args.shelf.now)) (course (g.S.Shelf.history c.read_flat.new.shelf) (g.S.Shelf.images c.read_flat.new.shelf))
+    (course (g.S.Shelf.history c.plain_status.new.shelf) (g.S.Shelf.images c.plain_status.new.shelf))
+    (g.S.Shelf.faults c.args.shelf.now) (g.S.Shelf.faults c.read_flat.new.shelf) (g.S.Shelf.faults c.plain_status.new.shelf)
+    (g.S.Shelf.held c.args.shelf.now) (g.S.Shelf.held c.read_flat.new.shelf) (g.S.Shelf.held c.plain_status.new.shelf)
+    c.read_flat.ensures.only c.plain_status.ensures.passes_shelf c.plain_status.ensures.kept c.plain_status.ensures.held
+
+pub returns-clause-only : goal.returns-clause-only
+returns-clause-only g c =
+    only_trans (course (g.S.Shelf.history c.args.shelf.now) (g.S.Shelf.images c.args.shelf.now)) (course (g.S.Shelf.history c.read_flat.new.shelf) (g.S.Shelf.images c.read_flat.new.shelf))
+    (course (g.S.Shelf.history c.plain_status.new.shelf) (g.S.Shelf.images c.plain_status.new.shelf))
+    (g.S.Shelf.faults c.args.shelf.now) (g.S.Shelf.faults c.read_flat.new.shelf) (g.S.Shelf.faults c.plain_status.new.shelf)
+    (g.S.Shelf.held c.args.shelf.now) (g.S.Shelf.held c.read_flat.new.shelf) (g.S.Shelf.held c.plain_status.new.shelf)
+    c.read_flat.ensures.only c.plain_status.ensures.passes_shelf c.plain_status.ensures.kept c.plain_status.ensures.held
