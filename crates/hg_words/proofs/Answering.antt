@@ -1,5 +1,5 @@
 -- What is answered where `clap` takes the words, and where it refuses them.
-use Rattle.std.proofs.Common.{ℕ, ◌≡◌, ◌⊎◌, inl, inr, Bool, true, false, ◌&&◌, List, [], ◌∷◌, drop, Option, Some, None, is_some, refl, sym, ap, ap₂, ◌∙◌, true≢false, subst}
+use Rattle.std.proofs.Common.{◌≡◌, ◌⊎◌, inl, inr, true, false, List, [], ◌∷◌, drop, Option, Some, None, is_some, refl, sym, ap, ◌∙◌, true≢false, subst}
 use Rattle.std.specs.List.{list_all}
 use Rattle.std.proofs.lemmas.Bool.{and_parts}
 use Rattle.hg_words.specs.Command.{Flag, Parted, parted_of}
@@ -47,9 +47,11 @@ module _ (name : Text) (flags : List Flag) (good : list_all is_good flags ≡ tr
       none : (o : Option Parted) → parted_of flags (drop 1 all) ≡ o → is_some o ≡ false → o ≡ None
       none None is_so e = refl
       none (Some parted) is_so e = absurd (true≢false e)
+
       is_none : parted_of flags (drop 1 all) ≡ None
       is_none = none (parted_of flags (drop 1 all)) refl
           (sym (refuses name flags good all texts) ∙ ap is_fine (ap (λ (x : App). fault_of x all) (sym is)) ∙ among_refused (kind_of e) (fault_of a all) among)
+
       by : (fault_of_kind (kind_of e) ≡ a_fault.OutOfMemory) ⊎ (fault_of_kind (kind_of e) ≡ a_fault.Usage)
           → (fault ≡ a_fault.OutOfMemory) ⊎ ((fault ≡ a_fault.Usage) × (parted_of flags (drop 1 all) ≡ None))
       by (inl memory) = inl (so ∙ memory)

@@ -5,6 +5,8 @@ pub mod Leading
 pub mod Letters
 pub mod Parsed
 pub mod Paths
+pub mod Readings
 pub mod Refused
 pub mod Rows
+pub mod Telling
 pub mod Turns

@@ -1,22 +1,16 @@
 -- All words of a command, as `clap` reads them.
-use Rattle.std.proofs.Common.{ℕ, ◌≡◌, Bool, true, false, cond, not, ◌||◌, ◌&&◌, List, [], ◌∷◌, ◌++◌, map, drop, fold, Option, Some, None, is_some, refl, sym, ap, ap₂, ◌∙◌, true≢false, IsUtf8, subst, append_assoc, append-nil}
-use Rattle.std.specs.Prelude.{codes, ⊤}
+use Rattle.std.proofs.Common.{◌≡◌, Bool, true, false, cond, ◌||◌, List, [], ◌∷◌, ◌++◌, drop, fold, Option, Some, None, refl, sym, ap, ap₂, ◌∙◌, subst, append_assoc, append-nil}
 use Rattle.std.specs.List.{list_all, list_any}
 use Rattle.std.specs.Option.{option_and_then, option_map}
 use Rattle.std.specs.Str.{bytes_eq}
-use Rattle.std.proofs.lemmas.Bool.{and_parts}
-use Rattle.hg_words.specs.Command.{Flag, Parted, is_dashed, is_given, named_behind, parted_of, with_flags, with_word}
-use Rattle.hg_words.proofs.Letters.{Sets, fine_both, flag_rule, good_name, held, is_fine, now, rules, settle_none, settled_is, word_rule}
-use Rattle.hg_words.proofs.Rows.{default_sets_none, is_flagged, put_flagged, put_keeps, put_row, put_word, set_where_row}
-use Rattle.hg_words.specs.Clapped.{AreTexts, given, is_good, is_set, word_id}
-use Rattle.hg_words.proofs.Turns.{Flagged, at, dashes, dashes_fault, dashes_met, flags_turn, plain_met, plain_turn, top, trailing_fault, trailing_met}
-use Rattle.clap.specs.Kinds.{Kinds, or_else}
-use Rattle.clap.specs.Faults.{check_fault, defaults_fault, fault_of, level_fault, settle_fault, turn_fault, walk_fault}
-use Rattle.clap.specs.Simple.{App, built, filled_from, matches_of, new_shape}
-use Rattle.clap.specs.Takes.{is_given as was_given}
-use Rattle.clap.specs.Walk.{Held, Row, Rule, Text, Walk, finished, has_row, nothing_held, reading_by, settled, walk, walk_from, walked, with_default, with_values}
-use Rattle.clap.specs.declared.parser.matches.ValueSource.TheVariants.{CommandLine, DefaultValue}
-use Rattle.clap.proofs.FaultLemmas.{leaf_fault}
+use Rattle.hg_words.specs.Command.{Flag, Parted, is_dashed, named_behind, parted_of, with_flags, with_word}
+use Rattle.hg_words.proofs.Letters.{Sets, now, rules, settle_none, settled_is, word_rule}
+use Rattle.hg_words.proofs.Rows.{is_flagged, put_flagged, put_row, put_word}
+use Rattle.hg_words.specs.Clapped.{AreTexts, given, is_good, word_id}
+use Rattle.hg_words.proofs.Turns.{at, dashes, dashes_met, flags_turn, plain_met, trailing_met}
+use Rattle.clap.specs.Faults.{settle_fault}
+use Rattle.clap.specs.Walk.{Held, Row, Text, Walk, has_row, reading_by, settled, walked}
+use Rattle.clap.specs.declared.parser.matches.ValueSource.TheVariants.{CommandLine}
 
 -- what the walk has read at its end
 pub record Ends (flags : List Flag) (w : Walk) (rows : List Row) (parted : Parted) : Type 0 where
@@ -100,6 +94,7 @@ module _ (name : Text) (flags : List Flag) (good : list_all is_good flags ≡ tr
     where
       later : Type 0
       later = (r : List Row) (p : Option Text) (w : Bool) (q : Parted) → parted_of flags words ≡ Some q → Ends flags (walks (at false r p w) words) (now p r) q
+
       by_plain : (o : Option Parted) → parted_of flags words ≡ o → option_map (with_word word) o ≡ Some parted → bytes_eq word dashes ≡ false → is_dashed word ≡ false → later
           → Ends flags (walks (at false rows pending waits) (word ∷ words)) (now pending rows) parted
       by_plain None o_is e other not_dashed rest = absurd (cc)
@@ -107,6 +102,7 @@ module _ (name : Text) (flags : List Flag) (good : list_all is_good flags ≡ tr
           moved (at false rows pending waits) (at false (now pending rows) (Some word) true) word words (now pending rows) parted (plain_met name flags good rows pending waits word other not_dashed)
           (subst (λ (p : Parted). Ends flags (walks (at false (now pending rows) (Some word) true) words) (now pending rows) p) (parted_some (with_word word q) parted e)
           (word_before (walks (at false (now pending rows) (Some word) true) words) (now pending rows) word q (rest (now pending rows) (Some word) true q o_is)))
+
       by_flags : (named : Option (List Text)) → named_behind flags (drop 1 word) ≡ named → (o : Option Parted) → parted_of flags words ≡ o
           → option_and_then (λ names. option_map (with_flags names) o) named ≡ Some parted → bytes_eq word dashes ≡ false → is_dashed word ≡ true → later
           → Ends flags (walks (at false rows pending waits) (word ∷ words)) (now pending rows) parted
@@ -118,6 +114,7 @@ module _ (name : Text) (flags : List Flag) (good : list_all is_good flags ≡ tr
           moved (at false rows pending waits) (at false met.0 None false) word words (now pending rows) parted met.2
           (subst (λ (p : Parted). Ends flags (walks (at false met.0 None false) words) (now pending rows) p) (parted_some (with_flags names q) parted e)
           (flags_before (walks (at false met.0 None false) words) (now pending rows) met.0 names q met.1 (rest met.0 None false q o_is)))
+
       by : (t : Bool) → bytes_eq word dashes ≡ t → (u : Bool) → is_dashed word ≡ u → by_kind (bytes_eq word dashes) (is_dashed word) word words ≡ Some parted → later
           → Ends flags (walks (at false rows pending waits) (word ∷ words)) (now pending rows) parted
       by true t_is u u_is e rest =

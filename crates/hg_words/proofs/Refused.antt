@@ -1,5 +1,5 @@
 -- Which words `clap` refuses, and what it has read of those that it takes.
-use Rattle.std.proofs.Common.{ℕ, ◌≡◌, Bool, true, false, cond, not, ◌||◌, ◌&&◌, List, [], ◌∷◌, ◌++◌, map, drop, fold, Option, Some, None, is_some, refl, sym, ap, ap₂, ◌∙◌, true≢false, IsUtf8, subst}
+use Rattle.std.proofs.Common.{◌≡◌, Bool, true, false, cond, not, ◌||◌, ◌&&◌, List, [], ◌∷◌, ◌++◌, map, drop, fold, Option, Some, None, is_some, refl, sym, ap, ap₂, ◌∙◌}
 use Rattle.std.specs.Prelude.{codes}
 use Rattle.std.specs.List.{list_all, list_any}
 use Rattle.std.specs.Option.{option_and_then, option_map}
@@ -7,15 +7,15 @@ use Rattle.std.specs.Str.{bytes_eq}
 use Rattle.std.proofs.lemmas.Bool.{and_parts}
 use Rattle.hg_words.specs.Command.{Flag, Parted, is_dashed, is_given, named_behind, parted_of, with_flags, with_word}
 use Rattle.hg_words.proofs.Letters.{fine_both, flag_rule, good_name, is_fine, now, rules, word_rule}
-use Rattle.hg_words.proofs.Parsed.{Ends, by_kind, walk_ends}
-use Rattle.hg_words.proofs.Rows.{default_sets_none, is_flagged, put_keeps, set_where_row}
+use Rattle.hg_words.proofs.Parsed.{by_kind, walk_ends}
+use Rattle.hg_words.proofs.Rows.{default_sets_none, put_keeps, set_where_row}
 use Rattle.hg_words.specs.Clapped.{AreTexts, Parts, app, flag_arg, given, is_good, is_set, word_arg, word_id}
 use Rattle.hg_words.proofs.Turns.{at, dashes, dashes_fault, dashes_met, flags_turn, plain_met, plain_turn, top, trailing_fault, trailing_met}
 use Rattle.clap.specs.Kinds.{Kinds, check_kinds, or_else}
-use Rattle.clap.specs.Faults.{built_fault, check_fault, defaults_fault, fault_of, is_simple_and_free, level_fault, settle_fault, turn_fault, walk_fault}
-use Rattle.clap.specs.Simple.{App, built, filled_from, matches_of, names_of, new_shape}
+use Rattle.clap.specs.Faults.{built_fault, check_fault, defaults_fault, fault_of, settle_fault, turn_fault, walk_fault}
+use Rattle.clap.specs.Simple.{App, built, filled_from, matches_of, names_of}
 use Rattle.clap.specs.Takes.{is_given as was_given}
-use Rattle.clap.specs.Walk.{Row, Rule, Text, Walk, finished, has_row, nothing_held, reading_by, rows_after, settled, walk, walk_from, walked, with_default, with_values}
+use Rattle.clap.specs.Walk.{Row, Rule, Text, Walk, finished, has_row, nothing_held, reading_by, rows_after, settled, walked, with_default, with_values}
 use Rattle.clap.specs.declared.parser.matches.ValueSource.TheVariants.{DefaultValue}
 use Rattle.clap.proofs.FaultLemmas.{leaf_fault}
 
@@ -60,9 +60,11 @@ module _ (name : Text) (flags : List Flag) (good : list_all is_good flags ≡ tr
     where
       later : Type 0
       later = (r : List Row) (p : Option Text) (w : Bool) → fine_walk (at false r p w) words ≡ is_some (parted_of flags words)
+
       some_mapped : (f : Parted → Parted) (o : Option Parted) → is_some o ≡ is_some (option_map f o)
       some_mapped f None = refl
       some_mapped f (Some p) = refl
+
       by_flags : (named : Option (List Text)) → named_behind flags (drop 1 word) ≡ named → bytes_eq word dashes ≡ false → is_dashed word ≡ true → later
           → fine_walk (at false rows pending waits) (word ∷ words) ≡ is_some (option_and_then (λ names. option_map (with_flags names) (parted_of flags words)) named)
       by_flags None named_is other dashed rest =
@@ -72,6 +74,7 @@ module _ (name : Text) (flags : List Flag) (good : list_all is_good flags ≡ tr
           let met = turn.met names named_is in
           one_word (at false rows pending waits) (at false met.0 None false) word words met.2
           ∙ ap₂ (λ (t u : Bool). t && u) (turn.fault ∙ ap is_some named_is) (rest met.0 None false ∙ some_mapped (with_flags names) (parted_of flags words))
+
       by : (t : Bool) → bytes_eq word dashes ≡ t → (u : Bool) → is_dashed word ≡ u → later
           → fine_walk (at false rows pending waits) (word ∷ words) ≡ is_some (by_kind name flags good (bytes_eq word dashes) (is_dashed word) word words)
       by true t_is u u_is rest =
@@ -113,14 +116,18 @@ module _ (name : Text) (flags : List Flag) (good : list_all is_good flags ≡ tr
     where
       words : List Text
       words = drop 1 all
+
       end : Walk
       end = fold (walked (rules flags) []) (at false [] None false) words
+
       behind : Kinds
       behind = or_else (settle_fault (rules flags) true end.held)
           (or_else (defaults_fault (settled (rules flags) end.held).rows (rules flags)) (check_fault (top name flags) (finished (rules flags) end.held) false))
+
       level : fault_of (app name flags) all ≡ or_else (walk_fault (top name flags) [] (at false [] None false) words) behind
       level = ap (λ (a : App). built_fault a nothing_held words) (app_built name flags)
           ∙ leaf_fault (record { top = top name flags; subs = [] }) nothing_held words refl
+
       by : (o : Option Parted) → parted_of flags words ≡ o → is_fine (or_else (walk_fault (top name flags) [] (at false [] None false) words) behind) ≡ is_some (parted_of flags words)
       by None is =
           fine_both (walk_fault (top name flags) [] (at false [] None false) words) behind

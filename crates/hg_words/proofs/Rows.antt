@@ -1,13 +1,13 @@
 -- What the rows of a parse say of flags and of words.
-use Rattle.std.proofs.Common.{ℕ, ◌≡◌, Bool, true, false, cond, ◌||◌, ◌&&◌, List, [], ◌∷◌, ◌++◌, Option, Some, None, refl, sym, ap, ◌∙◌, true≢false}
+use Rattle.std.proofs.Common.{◌≡◌, Bool, true, false, cond, ◌||◌, List, [], ◌∷◌, ◌++◌, Some, None, refl, sym, ap, ◌∙◌, true≢false}
 use Rattle.std.specs.Prelude.{codes, find, slice_get}
-use Rattle.std.specs.List.{list_all, list_any}
-use Rattle.std.specs.Option.{option_and_then, option_map_or}
+use Rattle.std.specs.List.{list_all}
+use Rattle.std.specs.Option.{option_and_then}
 use Rattle.std.specs.Str.{bytes_eq}
 use Rattle.std.proofs.lemmas.Bool.{and_parts, and_from}
-use Rattle.hg_base.proofs.Within.{same_bytes, equal_bytes}
+use Rattle.hg_base.proofs.Within.{same_bytes}
 use Rattle.hg_words.specs.Clapped.{given, is_set, is_true, values_of_row, word_id}
-use Rattle.clap.specs.Walk.{Row, Text, all_of, at_row, first_of, has_row, more_values, with_values, without}
+use Rattle.clap.specs.Walk.{Row, Text, has_row, more_values, with_values, without}
 use Rattle.clap.specs.declared.builder.value_parser.Reading.{Reading}
 use Rattle.clap.specs.declared.parser.matches.ValueSource.{ValueSource}
 
@@ -41,6 +41,7 @@ set_where_row name (r ∷ rows) other all = by (bytes_eq r.id name) (set_where_r
   where
     parts : (is_flagged r ≡ true) × (list_all is_flagged rows ≡ true)
     parts = and_parts (is_flagged r) (list_all is_flagged rows) all
+
     by : (t : Bool) → is_set name rows ≡ has_row name rows → bytes_eq r.id name ≡ t
         → is_true (option_and_then (λ (x : Row). slice_get x.values 0) (cond t (Some r) (find (λ (x : Row). bytes_eq x.id name) rows))) ≡ (t || has_row name rows)
     by true rest e = begins_sets r.values (or_second (bytes_eq r.id word_id) (begins_true r.values) (other_name r.id name word_id e other) parts.0)
@@ -85,6 +86,7 @@ module _ (id : Text) (how : Reading) (s : ValueSource) (values : List Text) wher
     where
       parts : (is_flagged r ≡ true) × (list_all is_flagged rows ≡ true)
       parts = and_parts (is_flagged r) (list_all is_flagged rows) all
+
       by : (t : Bool) → list_all is_flagged (with_values id how s values rows) ≡ true → list_all is_flagged (cond t (more_values s values r ++ rows) (r ∷ with_values id how s values rows)) ≡ true
       by true rest = and_from (bytes_eq r.id word_id || begins_true (r.values ++ values)) (list_all is_flagged rows) (more_true r parts.0) parts.1
       by false rest = and_from (is_flagged r) (list_all is_flagged (with_values id how s values rows)) parts.0 rest
@@ -96,10 +98,12 @@ module _ (id : Text) (how : Reading) (s : ValueSource) (values : List Text) wher
     where
       skips : bytes_eq r.id id ≡ true → bytes_eq r.id word_id ≡ false
       skips e = other_name r.id id word_id e other
+
       by_word : (t : Bool) → given (with_values id how s values rows) ≡ given rows → values_of_row (cond t (Some r) (find (λ (x : Row). bytes_eq x.id word_id) (with_values id how s values rows)))
           ≡ values_of_row (cond t (Some r) (find (λ (x : Row). bytes_eq x.id word_id) rows))
       by_word true rest = refl
       by_word false rest = rest
+
       by : (t : Bool) → given (with_values id how s values rows) ≡ given rows → bytes_eq r.id id ≡ t → given (cond t (more_values s values r ++ rows) (r ∷ with_values id how s values rows)) ≡ given (r ∷ rows)
       by true rest e = rw (skips e) refl
       by false rest e = by_word (bytes_eq r.id word_id) rest
@@ -147,6 +151,7 @@ module _ (id : Text) where
     where
       parts : (is_flagged r ≡ true) × (list_all is_flagged rows ≡ true)
       parts = and_parts (is_flagged r) (list_all is_flagged rows) all
+
       by : (t : Bool) → list_all is_flagged (without id rows) ≡ true → list_all is_flagged (cond t ([] ++ rows) (r ∷ without id rows)) ≡ true
       by true rest = parts.1
       by false rest = and_from (is_flagged r) (list_all is_flagged (without id rows)) parts.0 rest
@@ -159,6 +164,7 @@ module _ (id : Text) where
           ≡ values_of_row (cond t (Some r) (find (λ (x : Row). bytes_eq x.id word_id) rows))
       by_word true rest = refl
       by_word false rest = rest
+
       by : (t : Bool) → given (without id rows) ≡ given rows → bytes_eq r.id id ≡ t → given (cond t ([] ++ rows) (r ∷ without id rows)) ≡ given (r ∷ rows)
       by true rest e = rw (other_name r.id id word_id e other) refl
       by false rest e = by_word (bytes_eq r.id word_id) rest

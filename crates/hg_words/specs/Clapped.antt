@@ -1,7 +1,7 @@
 -- The commands as `clap` is told of them, and what its answer says.
-use Rattle.std.specs.Prelude.{ℕ, ◌≡◌, ◌⊎◌, ⊤, IfErr, IfOk, IsUtf8, Bool, true, false, not, ◌&&◌, List, [], ◌∷◌, ◌++◌, codes, drop, map, Option, Some, None, Result, Ok, Err, ◌==◌, nat_lt}
+use Rattle.std.specs.Prelude.{ℕ, ◌≡◌, ◌⊎◌, ⊤, IfErr, IfOk, IsUtf8, Bool, true, false, not, ◌&&◌, List, [], ◌∷◌, ◌++◌, codes, length, map, Option, Some, None, Result, Ok, Err, ◌==◌, nat_lt}
 use Rattle.std.specs.Borrow.{Bor}
-use Rattle.std.specs.List.{find, list_all, list_any}
+use Rattle.std.specs.List.{find, list_any}
 use Rattle.std.specs.Option.{option_map_or}
 use Rattle.std.specs.Str.{bytes_eq}
 use Rattle.clap.specs.Simple.{App, new_rule, new_shape}
@@ -9,9 +9,10 @@ use Rattle.clap.specs.Walk.{Row, Rule, Text, first_of}
 use Rattle.clap.specs.declared.builder.action.ArgAction.TheVariants.{Append, SetTrue}
 use Rattle.clap.specs.declared.error.kind.ErrorKind.{ErrorKind}
 use Rattle.clap.specs.declared.error.kind.ErrorKind.TheVariants as a_kind
-use Rattle.hg_words.specs.Command.{Flag, Parted, is_given, parted_of}
+use Rattle.hg_words.specs.Command.{Flag, Parted, is_between, is_given, parted_of}
 use Rattle.hg_words.specs.declared.fault.WordsFault.{WordsFault}
 use Rattle.hg_words.specs.declared.fault.WordsFault.TheVariants as a_fault
+use Rattle.hg_words.specs.declared.flags.StatusFlags.{StatusFlags}
 use Rattle.hg_words.specs.declared.given.Command.{Command}
 
 -- ---- what it is told
@@ -72,6 +73,21 @@ values_of_row (Some r) = r.values
 abbrev pub given : List Row → List Text
 given rows = values_of_row (find (λ r. bytes_eq r.id word_id) rows)
 
+abbrev pub status_flags_of : List Row → StatusFlags
+status_flags_of rows = record {
+  modified = is_set (codes "modified") rows;
+  added = is_set (codes "added") rows;
+  removed = is_set (codes "removed") rows;
+  deleted = is_set (codes "deleted") rows;
+  clean = is_set (codes "clean") rows;
+  unknown = is_set (codes "unknown") rows;
+  ignored = is_set (codes "ignored") rows;
+  all = is_set (codes "all") rows;
+  no_status = is_set (codes "no-status") rows;
+  print0 = is_set (codes "print0") rows;
+  copies = is_set (codes "copies") rows;
+}
+
 -- the words behind a command are parted as its rows say
 pub record Parts (flags : List Flag) (words : List Text) (rows : List Row) : Type 0 where
   pub parted : Parted
@@ -90,3 +106,9 @@ fault_of_kind kind = a_fault.Usage
 pub record Gives (told : Result Command WordsFault) (answer : Result Command WordsFault) : Type 0 where
   pub ok : IfOk answer (λ c. told ≡ Ok c)
   pub err : IfErr answer (λ fault. (fault ≡ a_fault.OutOfMemory) ⊎ (told ≡ Err fault))
+
+-- the words behind a command without flags, where they are as many as it takes
+pub record Plain (words : List Text) (least : ℕ) (most : Option ℕ) (answer : Result (List Text) WordsFault) : Type 0 where
+  pub ok : IfOk answer (λ all. (p : Parted) × (parted_of [] words ≡ Some p) × (p.words ≡ all) × (is_between least most (length all) ≡ true))
+  pub err : IfErr answer (λ fault. (fault ≡ a_fault.OutOfMemory)
+      ⊎ ((fault ≡ a_fault.Usage) × ((parted_of [] words ≡ None) ⊎ ((p : Parted) × (parted_of [] words ≡ Some p) × (is_between least most (length p.words) ≡ false)))))

@@ -1,21 +1,20 @@
 //! The flags of the commands, and their words as `clap` parts them.
 
-ghost use Rattle.std.specs.Prelude.{◌≡◌, ◌⊎◌, ◌<◌, IfErr, IfOk, None, codes, drop, false, Some, length, map, slice_get, string_bytes, true};
+ghost use Rattle.std.specs.Prelude.{◌≡◌, ◌⊎◌, ◌<◌, IfErr, IfOk, None, Some, drop, false, length, map, slice_get, true};
 ghost use Rattle.std.specs.List.{list_all};
 ghost use Rattle.std.specs.Option.{option_map};
 ghost use Rattle.clap.specs.Words.{app_of, found_of, kind_of, rows_of, rule_of};
 ghost use Rattle.hg_words.specs.Clapped as clapped;
-ghost use Rattle.hg_words.specs.Command.{parted_of, remove_flags, status_flags};
+ghost use Rattle.hg_words.specs.Command.{parted_of, status_flags};
 ghost use Rattle.hg_words.specs.declared.fault.WordsFault.TheVariants as a_fault;
 
 use crate::fault::WordsFault;
 use clap::error::ErrorKind;
 use clap::{Arg, ArgAction, ArgMatches, Error};
-use hg_base::{OutOfMemory, Text, Words};
 use std::alloc::Global;
 
 /// The flags of `status`, by letter and name.
-pub(crate) const STATUS: [(char, &str); 11] = [
+const STATUS: [(char, &str); 11] = [
     ('m', "modified"),
     ('a', "added"),
     ('r', "removed"),
@@ -110,4 +109,17 @@ pub(crate) fn parted<'a>(
         Ok(matches) => Ok(matches),
         Err(error) => Err(refused(&error)),
     }
+}
+
+/// Those of a status.
+pub(crate) fn parted_status<'a>(
+    alloc: Global,
+    words: &'a [&'a str],
+) -> Result<ArgMatches<'a>, WordsFault>
+    requires texts { clapped.AreTexts (drop 1 (map (λ word. word.now) words.now)) }
+    ensures ok { IfOk result (λ m. clapped.Parts status_flags (drop 1 (map (λ word. word.now) words.entry.now)) (rows_of (found_of m))) }
+    ensures err { IfErr result (λ fault. (fault ≡ a_fault.OutOfMemory)
+        ⊎ ((fault ≡ a_fault.Usage) × (parted_of status_flags (drop 1 (map (λ word. word.now) words.entry.now)) ≡ None))) }
+{
+    parted(alloc, "status", STATUS.as_slice(), words)
 }

@@ -1,4 +1,4 @@
-use Rattle.std.proofs.Common.{◌≡◌, ap, ap₂, ◌∙◌, refl, arith, map, take, length, true, ◌++◌, ◌∷◌, [], take_all}
+use Rattle.std.proofs.Common.{ap, ap₂, ◌∙◌, map, true, ◌++◌, ◌∷◌, [], take_all}
 use Rattle.clap.specs.Simple.{App, app_of_fields, with_rule}
 use Rattle.hg_words.specs.Clapped.{flag_arg, flags_in, with_args, word_arg}
 use Rattle.hg_words.proofs.Building.{one_flag}

@@ -1,4 +1,4 @@
-use Rattle.std.proofs.Common.{◌≡◌, ◌∙◌, ap, map}
+use Rattle.std.proofs.Common.{◌∙◌, ap, map}
 use Rattle.clap.specs.Words.{is_simple_and_free}
 use Rattle.hg_words.specs.Clapped.{flags_in}
 use Rattle.hg_words.proofs.Answering.{taken, turned_down}
