@@ -66,6 +66,8 @@ pub record Stretch (old new : shelf.History) : Type 0 where
   pub before : NoneOurs new old.last from
   pub behind : NoneOurs new to new.last
   pub taken : IsTrue old.told → TakenAt old new from to
+  -- within it each step is the caller's, or of one who may only read
+  pub held : IsTrue old.told → (k : ℕ) → from ≤ k → k < to → (new.who k ≡ shelf.us) ⊎ (new.who k ≡ shelf.readers)
 
 -- the caller wrote nothing
 pub record IsUnwritten (old new : shelf.History) : Type 0 where

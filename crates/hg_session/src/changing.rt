@@ -6,6 +6,7 @@ ghost use Rattle.hg_base.specs.Fault.{HasCause};
 ghost use Rattle.hg_docket.specs.Docket.{docket_of, docket_refusal};
 ghost use Rattle.hg_image.specs.Reading.{data_reading};
 ghost use Rattle.hg_report.specs.declared.fault.Fault.TheVariants as a_fault;
+ghost use Rattle.hg_save.specs.Leads.{IsHeld};
 ghost use Rattle.hg_save.specs.Loads.{Try};
 ghost use Rattle.hg_save.specs.Saved.{Stands};
 ghost use Rattle.hg_session.specs.Acts.{IsActed};
@@ -93,6 +94,7 @@ fn save<S: Shelf>(
     ensures later { S.faults shelf.old ≤ S.faults shelf.new }
     ensures kept { Goes (course (S.history shelf.old) (S.images shelf.old)) (course (S.history shelf.new) (S.images shelf.new)) }
     ensures ours { (S.history shelf.new).ours ≡ (S.history shelf.old).ours }
+    ensures lock { IsTrue (S.history shelf.old).told → IsHeld (S.history shelf.old) (S.history shelf.new) }
     ensures unasked { AsksNothing (S.history shelf.old) (S.history shelf.new) }
     ensures locks { S.held shelf.new ≡ S.held shelf.old }
 {
@@ -160,6 +162,7 @@ pub(crate) fn change_locked<T: Tree, S: Shelf>(
     ensures kept { Goes (course (S.history shelf.old) (S.images shelf.old)) (course (S.history shelf.new) (S.images shelf.new)) }
     ensures ours { (S.history shelf.new).ours ≡ (S.history shelf.old).ours }
     ensures asked { IsTrue (S.history shelf.old).told → AsksRecord (S.history shelf.old) (S.history shelf.new) }
+    ensures lock { IsTrue (S.history shelf.old).told → IsHeld (S.history shelf.old) (S.history shelf.new) }
     ensures uncalled { (S.history shelf.new).locks ≡ (S.history shelf.old).locks }
     ensures locks { S.held shelf.new ≡ S.held shelf.old }
 {

@@ -1,5 +1,5 @@
 -- The lock, the change and giving the lock back, as one call.
-use Rattle.std.proofs.Common.{IsTrue, inl, inr, refl, ◌∙◌}
+use Rattle.std.proofs.Common.{IsTrue, inl, inr, refl, sym, ◌∙◌}
 use Rattle.hg_session.proofs.Acted.{acted_over}
 use Rattle.hg_session.proofs.Asking.{asks_none, asks_wide}
 use Rattle.hg_session.proofs.Freed.{once_done, once_locked, once_met, once_safe, once_unwritten, refused_same, taken_same}
@@ -28,7 +28,7 @@ returns-in-Ok-true-clause-done g c =
     taken_by a.history b.history x.history d.history c.lock.ensures.kept.past c.change_locked-done.ensures.kept.past c.unlock-freed.ensures.kept.past (noted told) c.change_locked-done.ensures.uncalled c.unlock-freed.result
     (c.unlock-freed.ensures.noted (c.change_locked-done.ensures.kept.past.told ∙ c.lock.ensures.kept.past.told ∙ told)) in
     rw c.first_fault.ensures
-    (once_done a b x d c.lock.ensures.waits c.unlock-freed.ensures.waits c.lock.ensures.kept c.change_locked-done.ensures.kept c.unlock-freed.ensures.kept noted c.change_locked-done.ensures.uncalled taken
+    (once_done a b x d c.lock.ensures.waits c.unlock-freed.ensures.waits c.lock.ensures.kept c.change_locked-done.ensures.kept c.unlock-freed.ensures.kept noted c.change_locked-done.ensures.uncalled taken c.change_locked-done.ensures.lock
     _ _ (acted_over c.args.command _ _ c.args.words.now copy) copy (g.S.Shelf.faults c.args.shelf.now) (g.S.Shelf.faults c.lock.new.self) (g.S.Shelf.faults c.change_locked-done.new.shelf) (g.S.Shelf.faults c.unlock-freed.new.self)
     c.change_locked-done.result c.unlock-freed.result c.change_locked-done.ensures.done)
 
@@ -46,7 +46,7 @@ returns-in-Ok-true-clause-met g c =
     taken_by a.history b.history x.history d.history c.lock.ensures.kept.past c.change_locked-done.ensures.kept.past c.unlock-freed.ensures.kept.past (noted told) c.change_locked-done.ensures.uncalled c.unlock-freed.result
     (c.unlock-freed.ensures.noted (c.change_locked-done.ensures.kept.past.told ∙ c.lock.ensures.kept.past.told ∙ told)) in
     rw c.first_fault.ensures
-    (once_met a b x d c.lock.ensures.waits c.unlock-freed.ensures.waits c.lock.ensures.kept c.change_locked-done.ensures.kept c.unlock-freed.ensures.kept noted c.change_locked-done.ensures.uncalled taken
+    (once_met a b x d c.lock.ensures.waits c.unlock-freed.ensures.waits c.lock.ensures.kept c.change_locked-done.ensures.kept c.unlock-freed.ensures.kept noted c.change_locked-done.ensures.uncalled taken c.change_locked-done.ensures.lock
     _ _ (acted_over c.args.command _ _ c.args.words.now copy) copy (g.S.Shelf.faults c.args.shelf.now) (g.S.Shelf.faults c.lock.new.self) (g.S.Shelf.faults c.change_locked-done.new.shelf) (g.S.Shelf.faults c.unlock-freed.new.self)
     _ c.change_locked-done.result c.unlock-freed.result c.in-Ok-true.ensures.cause.quiet c.change_locked-done.ensures.later c.change_locked-done.ensures.met c.unlock-freed.ensures.cause)
 
@@ -64,7 +64,7 @@ returns-in-Ok-true-clause-safe g c = λ calm.
     taken_by a.history b.history x.history d.history c.lock.ensures.kept.past c.change_locked-done.ensures.kept.past c.unlock-freed.ensures.kept.past (noted told) c.change_locked-done.ensures.uncalled c.unlock-freed.result
     (c.unlock-freed.ensures.noted (c.change_locked-done.ensures.kept.past.told ∙ c.lock.ensures.kept.past.told ∙ told)) in
     rw c.first_fault.ensures
-    (once_safe a b x d c.lock.ensures.waits c.unlock-freed.ensures.waits c.lock.ensures.kept c.change_locked-done.ensures.kept c.unlock-freed.ensures.kept noted c.change_locked-done.ensures.uncalled taken
+    (once_safe a b x d c.lock.ensures.waits c.unlock-freed.ensures.waits c.lock.ensures.kept c.change_locked-done.ensures.kept c.unlock-freed.ensures.kept noted c.change_locked-done.ensures.uncalled taken c.change_locked-done.ensures.lock
     _ _ (acted_over c.args.command _ _ c.args.words.now copy) copy (g.S.Shelf.faults c.args.shelf.now) (g.S.Shelf.faults c.lock.new.self) (g.S.Shelf.faults c.change_locked-done.new.shelf) (g.S.Shelf.faults c.unlock-freed.new.self)
     c.change_locked-done.result c.unlock-freed.result c.change_locked-done.ensures.safe calm)
 
@@ -85,7 +85,7 @@ returns-in-Ok-true-clause-unwritten g c =
     taken_by a.history b.history x.history d.history c.lock.ensures.kept.past c.change_locked-done.ensures.kept.past c.unlock-freed.ensures.kept.past (noted told) c.change_locked-done.ensures.uncalled c.unlock-freed.result
     (c.unlock-freed.ensures.noted (c.change_locked-done.ensures.kept.past.told ∙ c.lock.ensures.kept.past.told ∙ told)) in
     rw c.first_fault.ensures
-    (once_unwritten a b x d c.lock.ensures.waits c.unlock-freed.ensures.waits c.lock.ensures.kept c.change_locked-done.ensures.kept c.unlock-freed.ensures.kept noted c.change_locked-done.ensures.uncalled taken
+    (once_unwritten a b x d c.lock.ensures.waits c.unlock-freed.ensures.waits c.lock.ensures.kept c.change_locked-done.ensures.kept c.unlock-freed.ensures.kept noted c.change_locked-done.ensures.uncalled taken c.change_locked-done.ensures.lock
     (λ old new lines changed. Unit {0}) (λ old new lines changed. Unit {0}) (λ old new lines changed is. is) copy (g.S.Shelf.faults c.args.shelf.now) (g.S.Shelf.faults c.lock.new.self) (g.S.Shelf.faults c.change_locked-done.new.shelf) (g.S.Shelf.faults c.unlock-freed.new.self)
     c.change_locked-done.result c.unlock-freed.result c.change_locked-done.ensures.unwritten)
 
@@ -129,7 +129,7 @@ returns-in-Ok-true-clause-locked g c =
     (c.unlock-freed.ensures.noted (c.change_locked-done.ensures.kept.past.told ∙ c.lock.ensures.kept.past.told ∙ told)) in
     let counted = taken_same _ _ _ _ c.in-Ok-true.field-0 c.in-Ok-true.field-0-test c.in-Ok-true.ensures.locks in
     rw c.first_fault.ensures
-    (once_locked a b x d c.lock.ensures.waits c.unlock-freed.ensures.waits c.lock.ensures.kept c.change_locked-done.ensures.kept c.unlock-freed.ensures.kept noted c.change_locked-done.ensures.uncalled taken
+    (once_locked a b x d c.lock.ensures.waits c.unlock-freed.ensures.waits c.lock.ensures.kept c.change_locked-done.ensures.kept c.unlock-freed.ensures.kept noted c.change_locked-done.ensures.uncalled taken c.change_locked-done.ensures.lock
     _ _ (acted_over c.args.command _ _ c.args.words.now copy) copy (g.S.Shelf.faults c.args.shelf.now) (g.S.Shelf.faults c.lock.new.self) (g.S.Shelf.faults c.change_locked-done.new.shelf) (g.S.Shelf.faults c.unlock-freed.new.self)
     (record { before = g.S.Shelf.held c.args.shelf.now; after = g.S.Shelf.held c.unlock-freed.new.self }) c.change_locked-done.result c.unlock-freed.result c.in-Ok-true.ensures.cause.quiet c.change_locked-done.ensures.later
     (c.unlock-freed.ensures.held ∙ c.change_locked-done.ensures.locks ∙ counted)
@@ -168,5 +168,5 @@ returns-in-Ok-true-clause-behind g c =
     (c.unlock-freed.ensures.noted (c.change_locked-done.ensures.kept.past.told ∙ c.lock.ensures.kept.past.told ∙ told)) in
     elim c.change_locked-done.ensures.behind [
       | inl same ↦ inl same
-      | inr read ↦ inr (read_some_wide a b x d c.lock.ensures.waits c.unlock-freed.ensures.waits c.lock.ensures.kept c.change_locked-done.ensures.kept c.unlock-freed.ensures.kept taken read)
+      | inr read ↦ inr (read_some_wide a b x d c.lock.ensures.waits c.unlock-freed.ensures.waits c.lock.ensures.kept c.change_locked-done.ensures.kept c.unlock-freed.ensures.kept taken c.change_locked-done.ensures.lock read)
     ]
