@@ -1,5 +1,5 @@
 -- What is asked for below `.hg` while a record is read, in a longer call too.
-use Rattle.std.proofs.Common.{ℕ, ◌≡◌, List, [], ◌∷◌, ◌++◌, length, take, Result, Ok, Err, sym, ap, ◌∙◌, subst, arith}
+use Rattle.std.proofs.Common.{◌≡◌, List, ◌∷◌, ◌++◌, length, take, Result, Ok, Err, sym, ap, ◌∙◌, arith}
 use Rattle.std.proofs.Math.Seq.{take-length}
 use Rattle.std.proofs.lemmas.List.{append-nil}
 use Rattle.hg_docket.specs.Docket.{docket_of}

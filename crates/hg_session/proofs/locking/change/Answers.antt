@@ -1,5 +1,5 @@
 -- The lock, the change and giving the lock back, as one call.
-use Rattle.std.proofs.Common.{IsTrue, inl, inr, refl, sym, ◌∙◌}
+use Rattle.std.proofs.Common.{IsTrue, inl, inr, refl, ◌∙◌}
 use Rattle.hg_session.proofs.Acted.{acted_over}
 use Rattle.hg_session.proofs.Asking.{asks_none, asks_wide}
 use Rattle.hg_session.proofs.Freed.{once_done, once_locked, once_met, once_safe, once_unwritten, refused_same, taken_same}
