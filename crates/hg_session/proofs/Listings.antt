@@ -22,7 +22,8 @@ use Rattle.hg_shelf.proofs.Scenes.{goes_trans}
 use Rattle.hg_shelf.specs.History as shelf
 use Rattle.hg_shelf.specs.Images.{Course, Goes}
 use Rattle.hg_tree.specs.History as tree
-use Rattle.hg_session.specs.Below.{AsksBelow, AsksRecord}
+use Rattle.hg_session.specs.Below.{AsksBelow}
+use Rattle.hg_session.specs.Loaded.{AsksRecord}
 use Rattle.hg_session.specs.Call.{Fails, Looked}
 use Rattle.hg_session.specs.Listed.{AsksLittle, AsksOwn, IsListable, IsListedFor, ListingCause, StatusMet, first_parent}
 use Rattle.hg_session.specs.Loaded.{IsLoaded}

@@ -1,5 +1,5 @@
 -- What a command that changes the record promises, from what was done under the lock and told behind it.
-use Rattle.std.proofs.Common.{ℕ, ◌≡◌, ◌<◌, ◌≤◌, Bool, true, List, Option, Some, None, Ok, IfSome, is_some, refl, sym, ap, ◌∙◌, subst, arith, inl, inr, ◌⊎◌}
+use Rattle.std.proofs.Common.{ℕ, ◌≡◌, ◌<◌, ◌≤◌, Bool, true, List, Option, Some, None, Ok, IfSome, IsTrue, is_some, refl, sym, ap, ◌∙◌, subst, arith, inl, inr, ◌⊎◌}
 use Rattle.std.specs.Prelude.{MatchBool}
 use Rattle.std.proofs.lemmas.Bool.{cases_lt}
 use Rattle.hg_base.proofs.Faults.{steady_not_rose}
@@ -20,6 +20,7 @@ use Rattle.hg_session.specs.Call.{Call, Count, Fails, Saved, Serves, Watched}
 use Rattle.hg_session.specs.Change.{FailsOrUnwritten, Fits, FitsFirst, IsDone, IsEarly, IsLocked, IsMade, IsReadFirst, IsReadSome, IsSafe, IsUnlooked, MayFollowWriting, MetChanging, MetLocking, NoneOurs, Stretch, id_read, makes_in, up_to}
 use Rattle.hg_session.specs.Changed.{IsExpectedChange, IsMadeOf, IsPartlyTold, IsUnwrittenUnless, OnlyLooks, RanChange, TellsFault, status_of}
 use Rattle.hg_session.specs.Put.{IsFaultOrMemory, IsSilent, TellsLine}
+use Rattle.hg_session.specs.Loaded.{AsksRecord}
 use Rattle.hg_session.specs.declared.acting.Changing.{Changing}
 use Rattle.hg_session.specs.declared.acting.Changing.TheVariants as a_change
 use Rattle.hg_session.specs.declared.read_fault.ReadFault.TheVariants as a_read
@@ -145,7 +146,7 @@ line_of_told Does call fault told line = subst (λ (h : Bool). MatchBool h (Tell
 
 module _ (command : Changing) (words : List (List ℕ)) (copy : Watched tree.History) (a b : Course) (before after : ℕ) (locks oversize : Count) (called : Command) (out err : Watched (Option (List ℕ)))
     (silent : IsSilent out) (uncounted : oversize.after ≡ oversize.before) (looks : OnlyLooks copy) (unlooked : command ≡ a_change.Forget → IsUnlooked copy)
-    (behind : IsUnlooked copy ⊎ IsReadSome (record { old = a.history; new = b.history; before = before; after = after })) (kept : Goes a b) where
+    (behind : IsUnlooked copy ⊎ IsReadSome (record { old = a.history; new = b.history; before = before; after = after })) (asked : IsTrue a.history.told → AsksRecord a.history b.history) (kept : Goes a b) where
   abbrev call : Call
   call = record {
     command = called;
@@ -170,6 +171,7 @@ module _ (command : Changing) (words : List (List ℕ)) (copy : Watched tree.His
     ours = is.ours;
     counted = is.counted;
     unwritten = is.unwritten;
+    unasked = is.unasked;
     unlooked = is.unlooked;
     answer = same a_fault.Held is.answer;
   })
@@ -179,6 +181,7 @@ module _ (command : Changing) (words : List (List ℕ)) (copy : Watched tree.His
     uncounted = is.uncounted;
     failed = is.failed;
     unwritten = is.unwritten;
+    unasked = is.unasked;
     unlooked = is.unlooked;
     answer = same a_fault.ShelfFailed is.answer;
   }))
@@ -220,6 +223,7 @@ module _ (command : Changing) (words : List (List ℕ)) (copy : Watched tree.His
     behind = behind;
     early = λ never. absurd never;
     unlooked = unlooked;
+    asked = asked;
     kept = kept;
     locked = locked;
   }
@@ -250,6 +254,7 @@ module _ (command : Changing) (words : List (List ℕ)) (copy : Watched tree.His
     behind = behind;
     early = λ never. absurd never;
     unlooked = unlooked;
+    asked = asked;
     kept = kept;
     locked = locked_as None (Some a_fault.ErrFailed) (λ fault is. never_none fault is) locked;
   }
@@ -313,6 +318,7 @@ module _ (command : Changing) (words : List (List ℕ)) (copy : Watched tree.His
         behind = behind;
         early = early;
         unlooked = unlooked;
+        asked = asked;
         kept = kept;
         locked = locked;
       }) line
@@ -339,6 +345,7 @@ module _ (command : Changing) (words : List (List ℕ)) (copy : Watched tree.His
         behind = behind;
         early = λ never. absurd never;
         unlooked = unlooked;
+        asked = asked;
         kept = kept;
         locked = locked_as (Some fault) (Some a_fault.OutOfMemory) (λ met is. inr refl) locked;
       }) line

@@ -16,7 +16,7 @@ use Rattle.hg_save.specs.Record.{docket_in, id_in, record_in}
 use Rattle.hg_save.specs.declared.load_fault.LoadFault.{LoadFault}
 use Rattle.hg_save.specs.declared.load_fault.LoadFault.TheVariants as a_load
 use Rattle.hg_save.specs.declared.loaded.Loaded.{Loaded}
-use Rattle.hg_session.specs.Below.{AsksRecord}
+use Rattle.hg_session.specs.Loaded.{AsksRecord}
 use Rattle.hg_session.specs.Call.{Fails, Serves, Watched}
 use Rattle.hg_session.specs.Change.{IsReadSome, up_to}
 use Rattle.hg_session.specs.Load.{by_load, of_read}

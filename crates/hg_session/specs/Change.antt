@@ -66,6 +66,8 @@ pub record Stretch (old new : shelf.History) : Type 0 where
   pub before : NoneOurs new old.last from
   pub behind : NoneOurs new to new.last
   pub taken : IsTrue old.told → TakenAt old new from to
+  -- within it each step is the caller's, or of one who may only read
+  pub held : IsTrue old.told → (k : ℕ) → from ≤ k → k < to → (new.who k ≡ shelf.us) ⊎ (new.who k ≡ shelf.readers)
 
 -- the caller wrote nothing
 pub record IsUnwritten (old new : shelf.History) : Type 0 where
@@ -238,6 +240,7 @@ pub record WasRefused (copy : Watched tree.History) (files : Watched shelf.Histo
   pub ours : files.new.ours ≡ files.old.ours
   pub counted : Rose locks.before locks.after
   pub unwritten : IsUnwritten files.old files.new
+  pub unasked : files.new.asked ≡ files.old.asked
   pub unlooked : IsUnlooked copy
   pub answer : IsFaultOrMemory fault a_fault.Held
 
@@ -248,6 +251,7 @@ pub record WasNotTaken (copy : Watched tree.History) (files : Watched shelf.Hist
   pub uncounted : locks.after ≡ locks.before
   pub failed : Fails files
   pub unwritten : IsUnwritten files.old files.new
+  pub unasked : files.new.asked ≡ files.old.asked
   pub unlooked : IsUnlooked copy
   pub answer : IsFaultOrMemory fault a_fault.ShelfFailed
 

@@ -15,7 +15,7 @@ use Rattle.hg_save.specs.Saved.{IsLatest}
 use Rattle.hg_session.specs.Acts.{Makes}
 use Rattle.hg_session.specs.Call.{Call, Fails, Serves, Watched}
 use Rattle.hg_session.specs.Change.{ChangeCause, Fits, IsDone, IsEarly, IsLocked, IsReadSome, IsSafe, IsUnlooked, IsUnwritten, Stretch, makes_in}
-use Rattle.hg_session.specs.Loaded.{IsUnreadable}
+use Rattle.hg_session.specs.Loaded.{AsksRecord, IsUnreadable}
 use Rattle.hg_session.specs.Put.{IsFaultOrMemory, IsSilent, TellsLine}
 use Rattle.hg_session.specs.Crash.{IsCrashSafe, IsLasting, published_in}
 use Rattle.hg_session.specs.Listed.{IsOwn}
@@ -146,6 +146,8 @@ pub record RanChange (command : Changing) (words : List (List ℕ)) (call : Call
   pub early : IsSomeAnd fault IsEarly → IsUnlooked call.looked.tree
   -- where files are forgotten the tree isn't asked
   pub unlooked : command ≡ a_change.Forget → IsUnlooked call.looked.tree
+  -- below `.hg` it asks for no more than a load does
+  pub asked : IsTrue call.looked.shelf.old.told → AsksRecord call.looked.shelf.old call.looked.shelf.new
   -- what was so far stays
   pub kept : Goes call.saved.old call.saved.new
   -- the lock was called for once, also where nothing was to be changed
