@@ -2,6 +2,7 @@ pub mod Asking
 pub mod Encodings
 pub mod Exact
 pub mod Exits
+pub mod Held
 pub mod Keeping
 pub mod Kept
 pub mod Loads

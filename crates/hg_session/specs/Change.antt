@@ -66,6 +66,8 @@ pub record Stretch (old new : shelf.History) : Type 0 where
   pub before : NoneOurs new old.last from
   pub behind : NoneOurs new to new.last
   pub taken : IsTrue old.told → TakenAt old new from to
+  -- within it each step is the caller's, or of one who may only read
+  pub held : IsTrue old.told → (k : ℕ) → from ≤ k → k < to → (new.who k ≡ shelf.us) ⊎ (new.who k ≡ shelf.readers)
 
 -- the caller wrote nothing
 pub record IsUnwritten (old new : shelf.History) : Type 0 where
@@ -207,10 +209,6 @@ MetLocking Does copy files locks fault = MetChanging Does copy files fault ⊎ (
 abbrev pub makes_in : Changing → List (List ℕ) → Call → Makes
 makes_in command words call = IsActed command words call.looked.tree call.looked.shelf
 
--- or an error stream that failed while the refused words were told
-abbrev pub ChangeCause : Makes → Call → Fault → Type 0
-ChangeCause Does call fault = MetLocking Does call.looked.tree call.looked.shelf call.locks fault ⊎ ((fault ≡ a_fault.ErrFailed) × Fails call.err)
-
 -- a fault that may be met once something was written: a shelf or an error stream that failed; for the line of the one there may be no memory
 abbrev pub MayFollowWriting : Option Fault → Type 0
 MayFollowWriting None = Unit {0}
@@ -238,6 +236,7 @@ pub record WasRefused (copy : Watched tree.History) (files : Watched shelf.Histo
   pub ours : files.new.ours ≡ files.old.ours
   pub counted : Rose locks.before locks.after
   pub unwritten : IsUnwritten files.old files.new
+  pub unasked : files.new.asked ≡ files.old.asked
   pub unlooked : IsUnlooked copy
   pub answer : IsFaultOrMemory fault a_fault.Held
 
@@ -248,6 +247,7 @@ pub record WasNotTaken (copy : Watched tree.History) (files : Watched shelf.Hist
   pub uncounted : locks.after ≡ locks.before
   pub failed : Fails files
   pub unwritten : IsUnwritten files.old files.new
+  pub unasked : files.new.asked ≡ files.old.asked
   pub unlooked : IsUnlooked copy
   pub answer : IsFaultOrMemory fault a_fault.ShelfFailed
 
