@@ -154,7 +154,7 @@ answered_status command flags looked saved locks out mid tail bytes count done c
     let looks : Looks (status_look flags looked) out (joined mid tail bytes count) fault =
     looks_by mid tail bytes count (status_look flags looked) out (a_list.Read a_read.OutOfMemory, refl, tt) done code fault does.shows ends in
     let ran : RanStatus flags call fault =
-    status_by flags call does.tree only.passes fault looks does.asked (λ none. from_well mid tail bytes count (AsksOwn looked (wanted_of flags)) done code fault ends does.asked_own none) in
+    status_by flags call does.tree only.passes fault looks does.asked (λ none. from_well mid tail bytes count (AsksOwn looked (wanted_of flags)) done code fault ends does.asked_own none) does.below in
     answered_looked call code fault (subst (λ (c : Command). Ran c call code fault) (sym is) ran)
     (record { only = only; crash = λ calm keep first. crash_unwritten saved.old saved.new only.kept calm keep none first; calm = calm_by mid tail bytes count looked out done code fault ends does.calm; status = ends.status })
     (status_cause call flags is fault looks)
@@ -169,7 +169,7 @@ answered_record command copy files oversize saved locks out mid tail bytes count
     let call : Call = record { command = command; looked = looked; saved = saved; locks = locks; out = out; err = joined mid tail bytes count } in
     let looks : Looks (record_look files) out (joined mid tail bytes count) fault =
     looks_by mid tail bytes count (record_look files) out (a_read.OutOfMemory, refl, tt) done code fault (does.shows mid silent) ends in
-    answered_looked call code fault (subst (λ (c : Command). Ran c call code fault) (sym is) (record_by call only.passes fault looks alone uncounted))
+    answered_looked call code fault (subst (λ (c : Command). Ran c call code fault) (sym is) (record_by call only.passes fault looks does.below alone uncounted))
     (record { only = only; crash = λ calm keep first. crash_unwritten saved.old saved.new only.kept calm keep none first; calm = calm_by mid tail bytes count looked out done code fault ends (calm_all done does.calm_shelf does.calm_out); status = ends.status })
     (record_cause call fault looks)
   where

@@ -31,6 +31,7 @@ use Rattle.hg_tree.specs.Moment.{stat_at}
 use Rattle.hg_tree.proofs.Spans.{ours_unstepped}
 use Rattle.hg_tree.proofs.Stillness.{ours_untouched}
 use Rattle.hg_save.specs.Record.{record_in}
+use Rattle.hg_session.specs.Below.{AsksBelow}
 use Rattle.hg_session.specs.Call.{Call, Looked, Serves}
 use Rattle.hg_session.specs.Flags.{wanted_of}
 use Rattle.hg_session.specs.Listed.{AsksLittle, AsksOwn, IsAskedAt, IsListable, IsListed, IsListedFor, IsOwn, IsUntouched, ListingCause, first_parent, status_over}
@@ -224,8 +225,8 @@ module _ (flags : StatusFlags) (call : Call) (copy : tree.Passes call.looked.tre
       (status_look flags call.looked) (λ text is. is) call fault looks.left
 
   pub status_by : (fault : Option Fault) → Looks (status_look flags call.looked) call.out call.err fault → AsksLittle call.looked (wanted_of flags) → (fault ≡ None → AsksOwn call.looked (wanted_of flags))
-      → RanStatus flags call fault
-  status_by fault looks asked asked_own = record {
+      → (IsTrue call.looked.shelf.old.told → AsksBelow call.looked (wanted_of flags)) → RanStatus flags call fault
+  status_by fault looks asked asked_own below = record {
     looks = looks;
     whole = λ none own.
         let printed = (looks.done none).printed in
@@ -235,4 +236,5 @@ module _ (flags : StatusFlags) (call : Call) (copy : tree.Passes call.looked.tre
     tree = copy;
     asked = asked;
     asked_own = asked_own;
+    below = below;
   }

@@ -1,5 +1,5 @@
 -- What the command that prints the record did, from how it ended.
-use Rattle.std.proofs.Common.{ℕ, ◌≡◌, true, List, [], Option, Some, None, IfSome, refl, sym, ap, ◌∙◌, subst}
+use Rattle.std.proofs.Common.{ℕ, ◌≡◌, true, List, [], Option, Some, None, IfSome, IsTrue, refl, sym, ap, ◌∙◌, subst}
 use Rattle.std.proofs.lemmas.List.{append-nil}
 use Rattle.hg_base.proofs.Faults.{steady_not_rose}
 use Rattle.hg_report.specs.Fault.{has_line}
@@ -7,6 +7,7 @@ use Rattle.hg_report.specs.declared.fault.Fault.{Fault}
 use Rattle.hg_stream.specs.Stream.{Grown}
 use Rattle.hg_shelf.specs.History as shelf
 use Rattle.hg_shelf.proofs.Histories as shelves
+use Rattle.hg_session.specs.Below.{AsksRecord}
 use Rattle.hg_session.specs.Call.{Call, Serves, Sink}
 use Rattle.hg_session.specs.Debug.{HasText, IsEmpty, IsExpectedOf, IsLeftAlone, IsTextIn, RanRecord, record_look}
 use Rattle.hg_session.specs.Load.{of_read}
@@ -62,14 +63,15 @@ module _ (call : Call) (files : shelf.Passes call.looked.shelf.old call.looked.s
   front_own (Some fault) looks own =
       front_by (HasText call.looked.shelf) (IsTextIn there) (text_own own) (record_look call.looked.shelf) (λ text is. is) call fault looks.left
 
-  pub record_by : (fault : Option Fault) → Looks (record_look call.looked.shelf) call.out call.err fault → IsLeftAlone call.looked.tree → call.looked.oversize.after ≡ call.looked.oversize.before
+  pub record_by : (fault : Option Fault) → Looks (record_look call.looked.shelf) call.out call.err fault → (IsTrue call.looked.shelf.old.told → AsksRecord call.looked.shelf.old call.looked.shelf.new) → IsLeftAlone call.looked.tree → call.looked.oversize.after ≡ call.looked.oversize.before
       → RanRecord call fault
-  record_by fault looks alone uncounted = record {
+  record_by fault looks below alone uncounted = record {
     looks = looks;
     whole = λ none own.
         let printed = (looks.done none).printed in record { text = printed.text; is = text_own own printed.text printed.is; put = printed.put };
     front = front_own fault looks;
     complete = expected_by fault looks;
+    below = below;
     alone = alone;
     uncounted = uncounted;
   }

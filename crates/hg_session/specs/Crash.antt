@@ -33,8 +33,8 @@ abbrev pub IsOwnRecord : Option Table → Option (Result Table RecordFault) → 
 IsOwnRecord own recorded = IsSomeAnd own (λ table. recorded ≡ Some (Ok table))
 
 -- at each moment from the call's start to its end, whatever a crash leaves records what it might have left at the start, what the call published (own), or
--- what others published since the start; it is sound where that at the start was; each step of the call keeps to how a record is published, and the data that dockets name, as those
--- of others do, so that this can be said beside another call; and no docket that a crash might leave at the end is ahead of the one that stands, so
+-- what others published since the start; it is sound where that at the start was; each step of the call keeps to how a record is published, as those
+-- of others do, and keeps the data that dockets name, so that this can be said beside another call; and no docket that a crash might leave at the end is ahead of the one that stands, so
 -- that it can be said of the next one
 pub record IsCrashSafe (own : Option Table) (saved : Saved) : Type 0 where
   pub each : (k : ℕ) (c : Files) → saved.old.history.last ≤ k → k ≤ saved.new.history.last → (scene saved.new k).leaves c

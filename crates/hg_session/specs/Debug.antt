@@ -1,9 +1,10 @@
 -- What the command that prints the record answers, and why.
-use Rattle.std.specs.Prelude.{ℕ, ◌≡◌, List, [], Option, Some, None, Result, Ok, IfSome, OnOk}
+use Rattle.std.specs.Prelude.{ℕ, ◌≡◌, List, [], Option, Some, None, Result, Ok, IfSome, IsTrue, OnOk}
 use Rattle.hg_entry.specs.Table.{Table}
 use Rattle.hg_report.specs.Debug.{IsDebugText}
 use Rattle.hg_report.specs.declared.fault.Fault.{Fault}
 use Rattle.hg_save.specs.Record.{record_in}
+use Rattle.hg_session.specs.Below.{AsksRecord}
 use Rattle.hg_session.specs.Call.{Call, Serves, Sink, Watched}
 use Rattle.hg_session.specs.Load.{of_read}
 use Rattle.hg_session.specs.Loaded.{IsLoaded, IsUnreadable, MetReading, WasLoaded}
@@ -57,6 +58,7 @@ IsExpectedOf files (Some fault) = IsUnreadable files fault
 -- a text that was printed, or a fault, before its line is told
 pub record DoesRecord (files : Watched shelf.History) (out : Sink) (result : Result Unit Fault) : Type 0 where
   pub shows : (err : Sink) → IsSilent err → Shows (record_look files) out err result
+  pub below : IsTrue files.old.told → AsksRecord files.old files.new
   pub calm_shelf : OnOk result (files.after ≡ files.before)
   pub calm_out : OnOk result (out.after ≡ out.before)
 
@@ -76,6 +78,7 @@ pub record RanRecord (call : Call) (fault : Option Fault) : Type 0 where
   -- where nobody else steps and no count rises, the answer is the expected one, or there was no memory
   pub complete : shelf.IsOurs call.looked.shelf.old call.looked.shelf.new → Serves call.looked.shelf → Serves call.out
       → IsExpectedOf (shelf.now call.looked.shelf.old).files fault
-  -- it doesn't look at the working copy, and compiles no regexp
+  -- below `.hg` it asks for the record alone; it doesn't look at the working copy, and compiles no regexp
+  pub below : IsTrue call.looked.shelf.old.told → AsksRecord call.looked.shelf.old call.looked.shelf.new
   pub alone : IsLeftAlone call.looked.tree
   pub uncounted : call.looked.oversize.after ≡ call.looked.oversize.before

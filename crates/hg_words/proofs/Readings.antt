@@ -54,9 +54,9 @@ one_text words i word is text each k below = ⊎_elim (each k) (λ past. here k 
         let same : i ≡ k = omega (arith, below, past) in
         subst IsUtf8 (sym (get_or_from_slice_get words i word [] is) ∙ ap (λ j. get_or words j []) same) text
 
-pub one_put : (words : List Text) (i : ℕ) (word : Text) (now new : List Text) → i < length words → slice_get words i ≡ Some word
-    → new ≡ now ++ word ∷ [] → now ++ drop i words ≡ words → new ++ drop (i + 1) words ≡ words
-one_put words i word now new below is put so =
+pub one_put : (words : List Text) (i : ℕ) (word : Text) (now new whole : List Text) → i < length words → slice_get words i ≡ Some word
+    → new ≡ now ++ word ∷ [] → now ++ drop i words ≡ whole → new ++ drop (i + 1) words ≡ whole
+one_put words i word now new whole below is put so =
     ap (λ (l : List Text). l ++ drop (i + 1) words) put ∙ append_assoc now (word ∷ []) (drop (i + 1) words)
     ∙ ap (λ (w : Text). now ++ w ∷ drop (i + 1) words) (sym (get_or_from_slice_get words i word word is))
     ∙ ap (λ (l : List Text). now ++ l) (sym (at_drop_more (λ (l : List Text). l) words i word below)) ∙ so

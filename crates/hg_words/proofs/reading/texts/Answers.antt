@@ -7,7 +7,7 @@ pub loop-i-preserved : goal.loop-i-preserved
 loop-i-preserved c =
     let is = c.at.ensures ∙ ap Some (sym c.as_str.ensures) in
     record {
-      all = one_put c.args.words.now c.loop-i.i c.as_str.result.now (map (λ word. word.now) c.loop-i.all.items) _ (rw c.len-i-end.ensures at c.loop-i-test.true) is
+      all = one_put c.args.words.now c.loop-i.i c.as_str.result.now (map (λ word. word.now) c.loop-i.all.items) _ c.args.words.now (rw c.len-i-end.ensures at c.loop-i-test.true) is
           (ap (map (λ word. word.now)) c.in_ok-push.ensures.items ∙ map-append (λ word. word.now) c.loop-i.all.items (c.as_str.result ∷ [])) c.loop-i.invariant.all;
       texts = one_text c.args.words.now c.loop-i.i c.as_str.result.now is c.as_str.utf8 c.loop-i.invariant.texts;
     }
