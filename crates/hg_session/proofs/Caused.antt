@@ -11,7 +11,7 @@ use Rattle.hg_session.specs.Call.{Call, Count, Looked, Saved, Sink, Watched}
 use Rattle.hg_session.specs.Cause.{CommandCause}
 use Rattle.hg_session.specs.Change.{ChangeCause, IsUnwritten, MetChanging, makes_in}
 use Rattle.hg_session.specs.Changed.{RanChange}
-use Rattle.hg_session.specs.Commands.{changing_of, files_of, is_built}
+use Rattle.hg_session.specs.Commands.{changing_of}
 use Rattle.hg_session.specs.Crash.{published_in}
 use Rattle.hg_session.specs.Debug.{DoesRecord, IsLeftAlone, record_look}
 use Rattle.hg_session.specs.Flags.{wanted_of}
@@ -34,6 +34,7 @@ use Rattle.hg_session.proofs.Readings.{was_loaded}
 use Rattle.hg_session.proofs.Records.{record_by}
 use Rattle.hg_shelf.specs.History as shelf
 use Rattle.hg_tree.specs.History as tree
+use Rattle.hg_words.specs.Given.{files_of, is_built}
 use Rattle.hg_words.specs.declared.flags.StatusFlags.{StatusFlags}
 use Rattle.hg_words.specs.declared.given.Command.{Command}
 use Rattle.hg_words.specs.declared.given.Command.TheVariants as a_command

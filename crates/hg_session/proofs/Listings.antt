@@ -22,10 +22,10 @@ use Rattle.hg_shelf.proofs.Scenes.{goes_trans}
 use Rattle.hg_shelf.specs.History as shelf
 use Rattle.hg_shelf.specs.Images.{Course, Goes}
 use Rattle.hg_tree.specs.History as tree
-use Rattle.hg_session.specs.Below.{AsksBelow, AsksRecord}
+use Rattle.hg_session.specs.Below.{AsksBelow}
+use Rattle.hg_session.specs.Loaded.{AsksRecord, IsLoaded}
 use Rattle.hg_session.specs.Call.{Fails, Looked}
 use Rattle.hg_session.specs.Listed.{AsksLittle, AsksOwn, IsListable, IsListedFor, ListingCause, StatusMet, first_parent}
-use Rattle.hg_session.specs.Loaded.{IsLoaded}
 use Rattle.hg_session.specs.Look.{OnlyReads}
 use Rattle.hg_session.specs.declared.list_fault.ListFault.{ListFault}
 use Rattle.hg_session.specs.declared.list_fault.ListFault.TheVariants as a_list

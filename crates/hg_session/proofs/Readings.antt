@@ -10,20 +10,17 @@ use Rattle.hg_entry.specs.Table.{Table}
 use Rattle.hg_image.specs.Reading.{RecordFault, data_reading, docket_reading, of_data, reading_of}
 use Rattle.hg_image.specs.declared.fault.NodeFault.{NodeFault}
 use Rattle.hg_save.proofs.Loads.{found_longer, same_ids, tries_longer, unstepped_found}
-use Rattle.hg_save.specs.Asked.{AsksAsOf, data_asks, docket_ask}
-use Rattle.hg_save.specs.Loads.{Loads, Try, files_at, found_by, id_by}
-use Rattle.hg_save.specs.Record.{docket_in, id_in, record_in}
+use Rattle.hg_save.specs.Loads.{Loads, Try, found_by, id_by}
+use Rattle.hg_save.specs.Record.{id_in, record_in}
 use Rattle.hg_save.specs.declared.load_fault.LoadFault.{LoadFault}
 use Rattle.hg_save.specs.declared.load_fault.LoadFault.TheVariants as a_load
 use Rattle.hg_save.specs.declared.loaded.Loaded.{Loaded}
-use Rattle.hg_session.specs.Below.{AsksRecord}
 use Rattle.hg_session.specs.Call.{Fails, Serves, Watched}
 use Rattle.hg_session.specs.Change.{IsReadSome, up_to}
 use Rattle.hg_session.specs.Load.{by_load, of_read}
 use Rattle.hg_session.specs.Loaded.{Answers, IsLoaded, IsRead, IsRefused, IsUnreadable, LoadMet, MetReading, NodesFind, Reads, Refuses, WasLoaded}
 use Rattle.hg_session.specs.declared.read_fault.ReadFault.{ReadFault}
 use Rattle.hg_session.specs.declared.read_fault.ReadFault.TheVariants as a_fault
-use Rattle.hg_shelf.proofs.Asks.{order_front}
 use Rattle.hg_shelf.specs.History.{Extends, Files, History, now}
 
 -- an answer that says nothing of the shelf, behind a call in which its count stood still
@@ -98,11 +95,6 @@ extends_up_to h upto within = record { told = refl; later = within; who = λ k l
 pub was_loaded : (files : Watched History) → IsReadSome files → WasLoaded files
 was_loaded files some told =
     let s = some told in (s.0, read_longer files.old (up_to s.1.upto files.new) files.new s.0 (extends_up_to files.new s.1.upto s.1.within) s.1.read)
-
--- what a load asked for, however it ended
-pub asks_record : (old new : History) (result : Result Loaded LoadFault) → AsksAsOf old new result → AsksRecord old new
-asks_record old new result asks =
-    record { at = asks.at; during = asks.during; asks = order_front (docket_ask ∷ data_asks (docket_of (docket_in (files_at new asks.at)))) old new result asks.asks }
 
 -- why a reading was refused
 pub met_reading : {X : Type 0} (IsOf : Table → X → Type 0) (files : Watched History) (fault : ReadFault) → (IsTrue files.old.told → (tried : Try) × Reads IsOf files.old files.new (tried ∷ []) (Err fault))

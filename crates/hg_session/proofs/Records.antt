@@ -7,7 +7,7 @@ use Rattle.hg_report.specs.declared.fault.Fault.{Fault}
 use Rattle.hg_stream.specs.Stream.{Grown}
 use Rattle.hg_shelf.specs.History as shelf
 use Rattle.hg_shelf.proofs.Histories as shelves
-use Rattle.hg_session.specs.Below.{AsksRecord}
+use Rattle.hg_session.specs.Loaded.{AsksRecord}
 use Rattle.hg_session.specs.Call.{Call, Serves, Sink}
 use Rattle.hg_session.specs.Debug.{HasText, IsEmpty, IsExpectedOf, IsLeftAlone, IsTextIn, RanRecord, record_look}
 use Rattle.hg_session.specs.Load.{of_read}

@@ -4,10 +4,9 @@ use Rattle.hg_entry.specs.Table.{Table}
 use Rattle.hg_report.specs.Debug.{IsDebugText}
 use Rattle.hg_report.specs.declared.fault.Fault.{Fault}
 use Rattle.hg_save.specs.Record.{record_in}
-use Rattle.hg_session.specs.Below.{AsksRecord}
+use Rattle.hg_session.specs.Loaded.{AsksRecord, IsLoaded, IsUnreadable, MetReading, WasLoaded}
 use Rattle.hg_session.specs.Call.{Call, Serves, Sink, Watched}
 use Rattle.hg_session.specs.Load.{of_read}
-use Rattle.hg_session.specs.Loaded.{IsLoaded, IsUnreadable, MetReading, WasLoaded}
 use Rattle.hg_session.specs.Look.{Look, Looks, Shows}
 use Rattle.hg_session.specs.Put.{IsSilent, LeavesFront, Puts}
 use Rattle.hg_session.specs.declared.read_fault.ReadFault.{ReadFault}

@@ -9,8 +9,7 @@ ghost use Rattle.hg_shelf.specs.Images.{course};
 ghost use Rattle.hg_session.specs.Debug.{DoesRecord};
 ghost use Rattle.hg_session.specs.Look.{OnlyReads};
 ghost use Rattle.hg_save.specs.Loads.{Try};
-ghost use Rattle.hg_session.specs.Below.{AsksRecord};
-ghost use Rattle.hg_session.specs.Loaded.{IsBytesOf, NodesFind, Reads};
+ghost use Rattle.hg_session.specs.Loaded.{AsksRecord, IsBytesOf, NodesFind, Reads};
 ghost use Rattle.hg_session.specs.declared.read_fault.ReadFault.TheVariants as a_fault;
 
 use crate::read_fault::ReadFault;

@@ -7,8 +7,7 @@ ghost use Rattle.hg_entry.specs.Table.{Table};
 ghost use Rattle.hg_image.specs.Reading.{data_reading};
 ghost use Rattle.hg_save.specs.Loads.{Try};
 ghost use Rattle.hg_shelf.specs.Images.{course};
-ghost use Rattle.hg_session.specs.Below.{AsksRecord};
-ghost use Rattle.hg_session.specs.Loaded.{IsFlatOf, NodesFind, Reads};
+ghost use Rattle.hg_session.specs.Loaded.{AsksRecord, IsFlatOf, NodesFind, Reads};
 ghost use Rattle.hg_session.specs.Look.{OnlyReads};
 ghost use Rattle.hg_session.specs.declared.read_fault.ReadFault.TheVariants as a_fault;
 

@@ -2,7 +2,8 @@ use Rattle.std.proofs.lemmas.Result.{err_from_is_err_and}
 use Rattle.hg_docket.specs.Docket.{docket_of}
 use Rattle.hg_image.specs.Reading.{data_reading}
 use Rattle.hg_session.specs.Loaded.{IsFlatOf}
-use Rattle.hg_session.proofs.Readings.{asks_record, cause_still, read_by, some_found, unread}
+use Rattle.hg_session.proofs.Asking.{asks_load}
+use Rattle.hg_session.proofs.Readings.{cause_still, read_by, some_found, unread}
 use Rattle.hg_session.proofs.reading.read_flat.Goals as goal
 
 pub returns-in_err-loaded-clause-found : goal.returns-in_err-loaded-clause-found
@@ -31,7 +32,7 @@ pub returns-clause-some : goal.returns-clause-some
 returns-clause-some g c = some_found IsFlatOf c.flat_in.result _ c.flat_in.ensures
 
 pub returns-in_err-loaded-clause-asked : goal.returns-in_err-loaded-clause-asked
-returns-in_err-loaded-clause-asked g c = λ told. asks_record (g.S.Shelf.history c.args.shelf.now) (g.S.Shelf.history c.load.new.shelf) c.load.result (c.load.ensures.asked told)
+returns-in_err-loaded-clause-asked g c = λ told. asks_load (g.S.Shelf.history c.args.shelf.now) (g.S.Shelf.history c.load.new.shelf) c.load.result (c.load.ensures.asked told)
 
 pub returns-clause-asked : goal.returns-clause-asked
-returns-clause-asked g c = λ told. asks_record (g.S.Shelf.history c.args.shelf.now) (g.S.Shelf.history c.load.new.shelf) c.load.result (c.load.ensures.asked told)
+returns-clause-asked g c = λ told. asks_load (g.S.Shelf.history c.args.shelf.now) (g.S.Shelf.history c.load.new.shelf) c.load.result (c.load.ensures.asked told)
