@@ -15,3 +15,4 @@ pub mod Readings
 pub mod Spans
 pub mod Stages
 pub mod Tails
+pub mod Torn
