@@ -1,5 +1,5 @@
 -- Whatever comes of a publication, it writes no other bytes than those that are published, and no others are named.
-use Rattle.std.proofs.Common.{◌≡◌, ℕ, ◌≤◌, Bool, cond, List, length, codes, refl, sym, ap, ◌∙◌, subst, arith, IsSome, is_some, Option, None, inl, inr, ◌⊎◌}
+use Rattle.std.proofs.Common.{◌≡◌, ℕ, Bool, cond, List, length, codes, sym, ap, ◌∙◌, subst, arith, IsSome, is_some, Option, None, inl, inr, ◌⊎◌}
 use Rattle.hg_append.specs.declared.encoding.Encoded.{Encoded}
 use Rattle.hg_docket.specs.Docket.{docket_of}
 use Rattle.hg_shelf.specs.History.{Files}
