@@ -135,6 +135,14 @@ fault_by bytes early late fault (Some first) refused is = named_refused bytes ea
 fault_by bytes early late fault None sound is =
     absurd (not_data (data_in (docket_of bytes) late) (docket_of bytes) fault (sym (named_sound bytes late (docket_of bytes) sound refl) ∙ is))
 
+-- the docket has a fault that its reading tells
+pub fault_of : (bytes : List ℕ) (files : Files) (fault : DocketFault) (refusal : Option DocketFault) → docket_refusal bytes ≡ refusal → named_reading bytes files ≡ Some (Err (a_record_fault.Docket fault)) → docket_refusal bytes ≡ Some fault
+fault_of bytes files fault (Some first) refused is =
+    let same : first ≡ fault = cc (sym (named_refused bytes files first refused) ∙ is) in
+    refused ∙ ap (λ (f : DocketFault). Some f) same
+fault_of bytes files fault None sound is =
+    absurd (not_data (data_in (docket_of bytes) files) (docket_of bytes) fault (sym (named_sound bytes files (docket_of bytes) sound refl) ∙ is))
+
 -- a docket's fault that a load told stood at one moment, whatever others do
 pub one_fault : (old new : History) (tries : List Try) (fault : DocketFault) → Loads old new tries (Err (a_fault.Docket fault)) → WasRecorded old new (Err (a_record_fault.Docket fault))
 one_fault old new tries fault load =
