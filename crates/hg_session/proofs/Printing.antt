@@ -80,6 +80,7 @@ module _ (flags : StatusFlags) (looked : Looked) (out err : Sink) (below : IsTru
         left = (
           at_printing,
           (
+            tt,
             lists.listable,
             record { text = text; is = record { rows = listed.rows; listing = lists.still; is = is }; put = grown; failed = failed },
             inl refl,

@@ -9,10 +9,10 @@ use Rattle.hg_shelf.specs.History as shelf
 use Rattle.hg_shelf.proofs.Histories as shelves
 use Rattle.hg_session.specs.Loaded.{AsksRecord}
 use Rattle.hg_session.specs.Call.{Call, IsLeftAlone, Serves, Sink}
-use Rattle.hg_session.specs.Debug.{HasText, IsEmpty, IsExpectedOf, IsTextIn, RanRecord, record_look}
+use Rattle.hg_session.specs.Debug.{HasText, IsExpectedOf, IsTextIn, RanRecord, record_look}
 use Rattle.hg_session.specs.Load.{of_read}
-use Rattle.hg_session.specs.Look.{LeavesAt, Looks, Stage, at_first, at_printing, at_telling}
-use Rattle.hg_session.specs.Put.{IsSilent, LeavesFront, Puts, Tells}
+use Rattle.hg_session.specs.Look.{LeavesAt, Looks, Stage, at_first, at_printing, at_saving, at_telling}
+use Rattle.hg_session.specs.Put.{IsEmpty, IsSilent, LeavesFront, Puts, Tells}
 use Rattle.hg_session.specs.declared.read_fault.ReadFault.{ReadFault}
 use Rattle.hg_session.specs.declared.read_fault.ReadFault.TheVariants as a_read
 use Rattle.hg_session.proofs.Expectations.{front_by}
@@ -49,8 +49,9 @@ module _ (call : Call) (files : shelf.Passes call.looked.shelf.old call.looked.s
         → IsExpectedOf there (Some fault)
     left_expected fault (at_first, ((f, is, met), silent, line)) p q =
         subst (λ (g : Fault). IsExpectedOf there (Some g)) (sym is) (unreadable_now call.looked.shelf files.past still own.told f met p)
-    left_expected fault (at_printing, (ready, front, kind, line)) p q = absurd (steady_not_rose call.out.before call.out.after q front.failed)
+    left_expected fault (at_printing, (printing, ready, front, kind, line)) p q = absurd (steady_not_rose call.out.before call.out.after q front.failed)
     left_expected fault (at_telling, (never, ready, puts, front, is)) p q = absurd never
+    left_expected fault (at_saving, (never, silent, line)) p q = absurd never
 
   expected_by : (fault : Option Fault) → Looks (record_look call.looked.shelf) call.out call.err fault → shelf.IsOurs call.looked.shelf.old call.looked.shelf.new → Serves call.looked.shelf → Serves call.out
       → IsExpectedOf there fault

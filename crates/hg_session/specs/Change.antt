@@ -209,10 +209,6 @@ MetLocking Does copy files locks fault = MetChanging Does copy files fault ⊎ (
 abbrev pub makes_in : Changing → List (List ℕ) → Call → Makes
 makes_in command words call = IsActed command words call.looked.tree call.looked.shelf
 
--- or an error stream that failed while the refused words were told
-abbrev pub ChangeCause : Makes → Call → Fault → Type 0
-ChangeCause Does call fault = MetLocking Does call.looked.tree call.looked.shelf call.locks fault ⊎ ((fault ≡ a_fault.ErrFailed) × Fails call.err)
-
 -- a fault that may be met once something was written: a shelf or an error stream that failed; for the line of the one there may be no memory
 abbrev pub MayFollowWriting : Option Fault → Type 0
 MayFollowWriting None = Unit {0}

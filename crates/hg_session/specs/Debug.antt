@@ -1,5 +1,5 @@
 -- What the command that prints the record answers, and why.
-use Rattle.std.specs.Prelude.{ℕ, ◌≡◌, List, [], Option, Some, None, Result, Ok, IfSome, IsTrue, OnOk}
+use Rattle.std.specs.Prelude.{ℕ, ◌≡◌, List, Option, Some, None, Result, Ok, IfSome, IsTrue, OnOk}
 use Rattle.hg_entry.specs.Table.{Table}
 use Rattle.hg_report.specs.Debug.{IsDebugText}
 use Rattle.hg_report.specs.declared.fault.Fault.{Fault}
@@ -8,7 +8,7 @@ use Rattle.hg_session.specs.Loaded.{AsksRecord, IsLoaded, IsUnreadable, MetReadi
 use Rattle.hg_session.specs.Call.{Call, IsLeftAlone, Serves, Sink, Watched}
 use Rattle.hg_session.specs.Load.{of_read}
 use Rattle.hg_session.specs.Look.{Look, Looks, Shows}
-use Rattle.hg_session.specs.Put.{IsSilent, LeavesFront, Puts}
+use Rattle.hg_session.specs.Put.{IsEmpty, IsSilent, LeavesFront, Puts}
 use Rattle.hg_session.specs.declared.read_fault.ReadFault.{ReadFault}
 use Rattle.hg_shelf.specs.History as shelf
 
@@ -30,18 +30,16 @@ pub record IsTextIn (files : shelf.Files) (text : List ℕ) : Type 0 where
 abbrev pub OneRecord : Type 0
 OneRecord = (files : shelf.Files) (a b : List ℕ) → IsTextIn files a → IsTextIn files b → a ≡ b
 
--- no lines are told behind it
-abbrev pub IsEmpty : List ℕ → Type 0
-IsEmpty text = text ≡ []
-
 -- the record is read, and its text printed
 abbrev pub record_look : Watched shelf.History → Look
 record_look files = record {
   Before = λ fault. (f : ReadFault) × (fault ≡ of_read f) × MetReading files f;
   Ready = WasLoaded files;
+  Printing = Unit {0};
   Text = HasText files;
-  Told = IsEmpty;
   Telling = ⊥;
+  Told = IsEmpty;
+  Saving = λ fault. ⊥;
 }
 
 -- ---- what has to be answered

@@ -65,9 +65,11 @@ abbrev pub status_look : StatusFlags → Looked → Look
 status_look flags looked = record {
   Before = λ fault. (f : ListFault) × (fault ≡ of_list f) × ListingCause looked (wanted_of flags) f;
   Ready = IsListable looked (wanted_of flags);
+  Printing = Unit {0};
   Text = IsRowsText flags looked;
-  Told = IsWarningText (wanted_of flags) looked.tree;
   Telling = Unit {0};
+  Told = IsWarningText (wanted_of flags) looked.tree;
+  Saving = λ fault. ⊥;
 }
 
 -- ---- what has to be answered

@@ -40,6 +40,7 @@ returns-in-Err-clause-does g c =
         left = (
           at_printing,
           (
+            tt,
             (λ told. (l.0, l.1 told)),
             record {
               text = c.in_ok-text.text.items;
