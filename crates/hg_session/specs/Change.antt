@@ -17,7 +17,7 @@ use Rattle.hg_save.specs.Others.{KeepsFiles, KeepsRecords}
 use Rattle.hg_save.specs.Record.{data_name, docket_in, id_in, reading}
 use Rattle.hg_save.specs.Saved.{IsExact, IsLatest, IsOver, KeepsOthers, ReadsAsBeforeOr}
 use Rattle.hg_session.specs.Acts.{IsActed, Makes}
-use Rattle.hg_session.specs.Call.{Call, Count, Fails, Saved, Watched}
+use Rattle.hg_session.specs.Call.{Call, Count, Fails, IsLeftAlone, Saved, Watched}
 use Rattle.hg_session.specs.Loaded.{IsRead, LoadMet}
 use Rattle.hg_session.specs.Locks.{NotReturned, NotTaken, Refused, Returned, TakenAt}
 use Rattle.hg_session.specs.Put.{IsFaultOrMemory}
@@ -225,11 +225,6 @@ IsSafeHeld Does saved fault =
 
 -- ---- the lock
 
--- the tree isn't asked at all: what it tells and its count of failures stay
-pub record IsUnlooked (copy : Watched tree.History) : Type 0 where
-  pub same : copy.new ≡ copy.old
-  pub count : copy.after ≡ copy.before
-
 -- the lock was refused, which is counted, and nothing else was done
 pub record WasRefused (copy : Watched tree.History) (files : Watched shelf.History) (locks : Count) (fault : Option Fault) : Type 0 where
   pub told : IsTrue files.old.told → Refused files.old files.new
@@ -237,7 +232,7 @@ pub record WasRefused (copy : Watched tree.History) (files : Watched shelf.Histo
   pub counted : Rose locks.before locks.after
   pub unwritten : IsUnwritten files.old files.new
   pub unasked : files.new.asked ≡ files.old.asked
-  pub unlooked : IsUnlooked copy
+  pub unlooked : IsLeftAlone copy
   pub answer : IsFaultOrMemory fault a_fault.Held
 
 -- taking it failed, and nothing else was done
@@ -248,7 +243,7 @@ pub record WasNotTaken (copy : Watched tree.History) (files : Watched shelf.Hist
   pub failed : Fails files
   pub unwritten : IsUnwritten files.old files.new
   pub unasked : files.new.asked ≡ files.old.asked
-  pub unlooked : IsUnlooked copy
+  pub unlooked : IsLeftAlone copy
   pub answer : IsFaultOrMemory fault a_fault.ShelfFailed
 
 -- it was taken and given back, after a fault too
