@@ -13,7 +13,6 @@ use Rattle.hg_mixed.specs.Held.{Held, table}
 use Rattle.hg_ops.specs.Cause.{LeavesAll}
 use Rattle.hg_ops.specs.Step.{IsForget, forget_refusal, is_tracked}
 use Rattle.hg_ops.specs.declared.refusal.OpFault.{OpFault}
-use Rattle.hg_ops.specs.declared.refusal.Refusal.{Refusal}
 use Rattle.hg_ops.specs.declared.refusal.Refusal.TheVariants as a_refusal
 use Rattle.hg_ops.proofs.Added.{same_table}
 

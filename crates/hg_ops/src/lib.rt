@@ -25,9 +25,13 @@ mod adding;
 mod entries;
 mod forgetting;
 mod laws;
+mod parents;
+mod paths;
 mod refusal;
+mod wanted;
 
 pub use adding::add;
 pub use forgetting::forget;
 pub use laws::{one_add, one_forget};
+pub use parents::set_parents;
 pub use refusal::{OpFault, Refusal};
