@@ -179,7 +179,7 @@ module _ (command : Changing) (words : List (List ℕ)) (copy : Watched tree.His
     first =
         elim is.first [
           | inl done ↦ inl (same a_fault.ShelfFailed done.0, done.1, done.2, done.3)
-          | inr met ↦ inr (met.0, same met.0 met.1, met.2)
+          | inr met ↦ inr (met.0, same met.0 met.1, met.2, met.3)
         ];
   })))
 

@@ -17,7 +17,7 @@ use Rattle.hg_save.specs.Others.{KeepsFiles, KeepsRecords}
 use Rattle.hg_save.specs.Record.{data_name, docket_in, id_in, reading}
 use Rattle.hg_save.specs.Saved.{IsExact, IsLatest, IsOver, KeepsOthers, ReadsAsBeforeOr}
 use Rattle.hg_session.specs.Acts.{IsActed, Makes}
-use Rattle.hg_session.specs.Call.{Call, Count, Fails, IsLeftAlone, Saved, Watched}
+use Rattle.hg_session.specs.Call.{Call, Count, Fails, FailsTwice, IsLeftAlone, Saved, Watched}
 use Rattle.hg_session.specs.Loaded.{IsRead, LoadMet}
 use Rattle.hg_session.specs.Locks.{NotReturned, NotTaken, Refused, Returned, TakenAt}
 use Rattle.hg_session.specs.Put.{IsFaultOrMemory}
@@ -252,13 +252,13 @@ pub record WasReturned (files : Watched shelf.History) (locks : Count) : Type 0 
   pub ours : files.new.ours ≡ false
   pub uncounted : locks.after ≡ locks.before
 
--- it was taken, and giving it back failed, behind a change that was done, or behind a first fault
+-- it was taken, and giving it back failed, behind a change that was done, or behind a first fault; where the shelf failed both times, both are counted
 pub record WasNotReturned (Does : Makes) (copy : Watched tree.History) (files : Watched shelf.History) (saved : Saved) (locks : Count) (fault : Option Fault) : Type 0 where
   pub told : IsTrue files.old.told → NotReturned files.old files.new
   pub uncounted : locks.after ≡ locks.before
   pub failed : Fails files
   pub first : (IsFaultOrMemory fault a_fault.ShelfFailed × (stretch : Stretch saved.old.history saved.new.history) × (lines : List ℕ) × IsDone Does files saved stretch.from stretch.to lines)
-      ⊎ ((met : Fault) × IsFaultOrMemory fault met × MetChanging Does copy files met)
+      ⊎ ((met : Fault) × IsFaultOrMemory fault met × MetChanging Does copy files met × (met ≡ a_fault.ShelfFailed → FailsTwice files))
 
 -- the lock was called for once, and one of these came of it
 abbrev pub IsLocked : Makes → Watched tree.History → Watched shelf.History → Saved → Count → Option Fault → Type 0
