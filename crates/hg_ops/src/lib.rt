@@ -32,6 +32,6 @@ mod wanted;
 
 pub use adding::add;
 pub use forgetting::forget;
-pub use laws::{one_add, one_forget};
+pub use laws::{one_add, one_forget, one_set_parents};
 pub use parents::set_parents;
 pub use refusal::{OpFault, Refusal};
