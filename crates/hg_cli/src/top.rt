@@ -1,22 +1,24 @@
 //! The top call: one command over a working copy, the files below `.hg`, and the standard streams.
 
 ghost use Rattle.std.specs.Prelude.{◌≡◌};
-ghost use Rattle.hg_session.specs.Answered.{IsAnswered};
+ghost use Rattle.hg_cli.specs.Run.{IsRun};
 ghost use Rattle.hg_shelf.specs.Images.{course};
 
 use hg_base::Words;
 use hg_ignore::Regexps;
-use hg_session::{Outcome, command};
+use hg_report::Fault;
+use hg_session::{Outcome, command, failed};
 use hg_shelf::Shelf;
 use hg_stream::{Sink, Source};
 use hg_tree::Tree;
+use hg_words::read;
 use std::alloc::Global;
 
 /// Runs one command: `words` come after the program's name. The rows of a status and the text of the record go to `out`, the warnings of a
 /// status, behind its rows, the lines of refused words, and the line of a fault to `err`, and `input` isn't looked at. `regexps` compiles the ignore patterns.
 ///
-/// A fault that is met before leaves the warnings and the refused words out: its line stands alone. Where the error stream fails while they
-/// are written, the fault is `ErrFailed`, and nothing more is written.
+/// Words that are no command are told as such, and nothing else is done. A fault that is met before leaves the warnings and the refused words
+/// out: its line stands alone. Where the error stream fails while they are written, the fault is `ErrFailed`, and nothing more is written.
 pub fn run<T: Tree, S: Shelf, G: Regexps, I: Source, O: Sink, E: Sink>(
     alloc: Global,
     words: &Words,
@@ -27,26 +29,27 @@ pub fn run<T: Tree, S: Shelf, G: Regexps, I: Source, O: Sink, E: Sink>(
     out: &mut O,
     err: &mut E,
 ) -> Outcome
-    // What the call did and answers: `IsAnswered` of `hg_session`, in specs/Answered.antt there, a sentence a field.
-    ensures answered { IsAnswered
+    // What the call did and answers: `IsRun` in specs/Run.antt, by what the words are; where they are a command `IsAnswered` of `hg_session`,
+    // in specs/Answered.antt there, a sentence a field.
+    ensures answered { IsRun
+        words.now
         (record {
-          words = words.now;
-          looked =
-              record {
-                tree = record { old = T.history tree.old; new = T.history tree.new; before = T.faults tree.old; after = T.faults tree.new };
-                shelf = record { old = S.history shelf.old; new = S.history shelf.new; before = S.faults shelf.old; after = S.faults shelf.new };
-                oversize = record { before = G.oversize regexps.old; after = G.oversize regexps.new };
-              };
-          saved = record { old = course (S.history shelf.old) (S.images shelf.old); new = course (S.history shelf.new) (S.images shelf.new) };
-          locks = record { before = S.held shelf.old; after = S.held shelf.new };
-          out = record { old = O.bytes out.old; new = O.bytes out.new; before = O.faults out.old; after = O.faults out.new };
-          err = record { old = E.bytes err.old; new = E.bytes err.new; before = E.faults err.old; after = E.faults err.new };
+          tree = record { old = T.history tree.old; new = T.history tree.new; before = T.faults tree.old; after = T.faults tree.new };
+          shelf = record { old = S.history shelf.old; new = S.history shelf.new; before = S.faults shelf.old; after = S.faults shelf.new };
+          oversize = record { before = G.oversize regexps.old; after = G.oversize regexps.new };
         })
+        (record { old = course (S.history shelf.old) (S.images shelf.old); new = course (S.history shelf.new) (S.images shelf.new) })
+        (record { before = S.held shelf.old; after = S.held shelf.new })
+        (record { old = O.bytes out.old; new = O.bytes out.new; before = O.faults out.old; after = O.faults out.new })
+        (record { old = E.bytes err.old; new = E.bytes err.new; before = E.faults err.old; after = E.faults err.new })
         result.status
         result.fault }
     // Nobody looks at the input.
     ensures unread { input.new ≡ input.old }
 {
     let _ = input;
-    command(alloc, words, tree, shelf, regexps, out, err)
+    match read(alloc, words) {
+        Ok(given) => command(alloc, &given, tree, shelf, regexps, out, err),
+        Err(fault) => failed(alloc, Fault::from(fault), err),
+    }
 }

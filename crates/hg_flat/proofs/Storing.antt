@@ -114,11 +114,12 @@ store_whole s whole = record {
   contents = whole.contents;
   asked = whole.asked ∙ ap (λ (l : List Asked). s.shelf_old.asked ++ l ++ whole.contents) (sym (take_all (length (asks_of s.id)) (asks_of s.id) (omega arith)));
   needed = inr whole.needed;
+  whole = inr refl;
   each = whole.each;
 }
 
 pub store_none : (s : Status) → s.shelf_new.asked ≡ s.shelf_old.asked → AsksStore s
-store_none s none = record { some = 0; contents = []; asked = none ∙ sym (append-nil s.shelf_old.asked) ∙ sym (append-nil (s.shelf_old.asked ++ [])); needed = inl refl; each = tt }
+store_none s none = record { some = 0; contents = []; asked = none ∙ sym (append-nil s.shelf_old.asked) ∙ sym (append-nil (s.shelf_old.asked ++ [])); needed = inl refl; whole = inl refl; each = tt }
 
 pub store_of : (s : Status) (loaded : Option Loaded) → HasAsked s loaded → AsksStore s
 store_of s None none = store_none s none
@@ -131,6 +132,7 @@ store_failed s old path none front asked = record {
   contents = [];
   asked = front.made ∙ ap (λ (l : List Asked). l ++ take front.some (asks_of s.id)) none ∙ sym (append-nil (s.shelf_old.asked ++ take front.some (asks_of s.id)));
   needed = inr (path, asked);
+  whole = inl refl;
   each = tt;
 }
 
@@ -141,6 +143,7 @@ store_longer s start later first second third store = record {
   contents = store.contents;
   asked = store.asked;
   needed = elim store.needed as (λ _. (store.some ≡ 0) ⊎ ((path : List ℕ) × WasAsked s.asks start later path)) [ inl none ↦ inl none | inr (path, was) ↦ inr (path, asked path was) ];
+  whole = store.whole;
   each = each_weaker (IsOfRow s) (IsOfRow (record s { tree_old = start; tree_new = later })) (λ ask of. record {
     path = of.path;
     asked = asked of.path of.asked;

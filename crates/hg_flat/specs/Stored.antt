@@ -1,5 +1,5 @@
 -- What a status asks below `.hg`: the manifest of the first parent once at most, and behind it contents that its rows name.
-use Rattle.std.specs.Prelude.{ℕ, ◌≡◌, ◌⊎◌, List, ◌++◌, take, Option, Some, Ok}
+use Rattle.std.specs.Prelude.{ℕ, ◌≡◌, ◌⊎◌, List, [], ◌++◌, length, take, Option, Some, Ok}
 use Rattle.std.specs.List.{AllByRecursion}
 use Rattle.hg_compare.specs.Alike.{contents_name}
 use Rattle.hg_flat.specs.Met.{Status, WasRead}
@@ -23,10 +23,12 @@ pub record IsOfRow (s : Status) (ask : Asked) : Type 0 where
   pub read : WasRead s (Ok rows)
   pub contents : IsContents (row_of rows path) ask
 
--- the manifest's size and then its bytes were asked for, or a front of that, if a path was compared; and behind it nothing but such contents
+-- the manifest's size and then its bytes were asked for, or a front of that, if a path was compared; and behind the whole of it nothing but such
+-- contents
 pub record AsksStore (s : Status) : Type 0 where
   pub some : ℕ
   pub contents : List Asked
   pub asked : s.shelf_new.asked ≡ s.shelf_old.asked ++ take some (asks_of s.id) ++ contents
   pub needed : (some ≡ 0) ⊎ ((path : List ℕ) × WasAsked s.asks s.tree_old s.tree_new path)
+  pub whole : (contents ≡ []) ⊎ (some ≡ length (asks_of s.id))
   pub each : AllByRecursion (IsOfRow s) contents

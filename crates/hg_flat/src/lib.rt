@@ -13,7 +13,7 @@
 //! ```
 //!
 //! What the first parent has of a path, and which paths are compared, stands in `specs/Parent.antt`; what the ignore patterns have to do with it in
-//! `specs/Patterns.antt`; what a fault of either comes from in `specs/Met.antt`.
+//! `specs/Patterns.antt`; what a fault of either comes from in `specs/Met.antt`; what is asked below `.hg` in `specs/Stored.antt`.
 #![tactic(auto)]
 
 mod comparing;

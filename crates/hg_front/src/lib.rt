@@ -13,6 +13,7 @@
 #![tactic(auto)]
 
 mod advice;
+mod carrying;
 mod further;
 mod guarding;
 mod marks;
@@ -24,7 +25,8 @@ mod requirement;
 mod start;
 
 pub use advice::say_more;
+pub use carrying::{Ran, carry};
 pub use guarding::{Refused, Why, guard};
 pub use own::{own_text, print};
-pub use placing::{placed, unreached, unread};
+pub use placing::{Placed, place, unreached, unread};
 pub use start::{stopped_inside, stopped_outside};

@@ -1,15 +1,12 @@
 -- A fault of a status: what was met behind the load was met in the call, and where nobody else steps what the first parent has stands there.
-use Rattle.std.proofs.Common.{ℕ, ◌≡◌, ◌<◌, ◌≤◌, Bool, true, false, cond, List, [], length, take, Option, Some, None, option_map, Result, Ok, Err, IsTrue, refl, sym, ap, ◌∙◌, subst, arith, le-ltb}
+use Rattle.std.proofs.Common.{ℕ, ◌≡◌, ◌<◌, ◌≤◌, Bool, false, cond, List, [], length, take, Option, Some, None, Result, Ok, Err, IsTrue, sym, ap, ◌∙◌, subst, arith, le-ltb}
 use Rattle.std.proofs.lemmas.Bool.{lt-ltb}
 use Rattle.std.proofs.Math.Seq.{take-length}
 use Rattle.hg_base.specs.declared.id.Id20.{Id20}
 use Rattle.hg_base.specs.declared.stat.Stat.{Stat}
-use Rattle.hg_base.specs.declared.time.Time.{Time}
 use Rattle.hg_compare.specs.Alike.{contents_name, is_alike}
-use Rattle.hg_compare.specs.Tracked.{is_file_or_link}
-use Rattle.hg_entry.specs.Table.{Flat}
 use Rattle.hg_flat.specs.Met.{LacksContents, Met, NeedsManifest, Shows, Status, WasRead}
-use Rattle.hg_flat.specs.Parent.{IsAsked, manifest_at}
+use Rattle.hg_flat.specs.Parent.{Asking, IsAsked, WasAsked, manifest_at}
 use Rattle.hg_listing.specs.declared.fault.StatusFault.{StatusFault}
 use Rattle.hg_listing.specs.declared.fault.StatusFault.TheVariants as a_fault
 use Rattle.hg_listing.specs.declared.row.Wanted.{Wanted}
@@ -18,23 +15,19 @@ use Rattle.hg_manifest.specs.Plain.{is_null, most, plain_name}
 use Rattle.hg_manifest.specs.Rows.{Rows, manifest_of}
 use Rattle.hg_manifest.specs.declared.fault.ManifestFault.{ManifestFault}
 use Rattle.hg_manifest.specs.declared.fault.ManifestFault.TheVariants as a_manifest_fault
-use Rattle.hg_manifest.specs.declared.row.FileRow.{FileRow}
 use Rattle.hg_shelf.specs.History as shelf
 use Rattle.hg_shelf.specs.Reads.{size_of}
 use Rattle.hg_tree.specs.History as tree
-use Rattle.hg_tree.specs.Moment.{Moment, stat_at, stat_of}
-use Rattle.hg_tree.specs.declared.thing.Placed.{Placed}
-use Rattle.hg_tree.specs.declared.thing.Thing.{Thing}
-use Rattle.hg_tree.specs.declared.thing.Thing.TheVariants as a_thing
+use Rattle.hg_tree.specs.Moment.{Moment, stat_at}
 
 -- ---- over a longer call
 
-module _ (wanted : Wanted) (flat : Flat) (id : Id20) (old new : tree.History) (start behind end : shelf.History) (before : shelf.Extends start behind) where
+module _ (wanted : Wanted) (asks : Asking) (id : Id20) (old new : tree.History) (start behind end : shelf.History) (before : shelf.Extends start behind) where
   abbrev part : Status
-  part = record { wanted = wanted; flat = flat; id = id; tree_old = old; tree_new = new; shelf_old = behind; shelf_new = end }
+  part = record { wanted = wanted; asks = asks; id = id; tree_old = old; tree_new = new; shelf_old = behind; shelf_new = end }
 
   abbrev whole : Status
-  whole = record { wanted = wanted; flat = flat; id = id; tree_old = old; tree_new = new; shelf_old = start; shelf_new = end }
+  whole = record { wanted = wanted; asks = asks; id = id; tree_old = old; tree_new = new; shelf_old = start; shelf_new = end }
 
   shows_longer : (P : Moment → Type 0) → Shows part P → Shows whole P
   shows_longer P shows = record { at = shows.at; from = shows.from; to = shows.to; so = shows.so }
@@ -58,18 +51,18 @@ module _ (wanted : Wanted) (flat : Flat) (id : Id20) (old new : tree.History) (s
   }
 
   needs_longer : NeedsManifest part → NeedsManifest whole
-  needs_longer needs = record { path = needs.path; asked = shows_longer (λ moment. IsAsked wanted flat moment needs.path) needs.asked; committed = needs.committed }
+  needs_longer needs = record { path = needs.path; asked = needs.asked; committed = needs.committed }
 
   lacks_longer : (gone : Id20) → LacksContents part gone → LacksContents whole gone
   lacks_longer gone lacks = record {
     path = lacks.path;
-    compared = lacks.compared;
+    asked = lacks.asked;
     rows = lacks.rows;
     read = read_longer (Ok lacks.rows) lacks.read;
     row = lacks.row;
     is = lacks.is;
     names = lacks.names;
-    alike = shows_longer (λ moment. (stat : Stat) × (stat_at moment lacks.path ≡ Some stat) × IsTrue (is_alike lacks.row stat)) lacks.alike;
+    alike = shows_longer (λ moment. IsAsked asks moment lacks.path × (stat : Stat) × (stat_at moment lacks.path ≡ Some stat) × IsTrue (is_alike lacks.row stat)) lacks.alike;
     absent = holds_longer (contents_name gone.0) (λ file. file ≡ None) lacks.absent;
     committed = lacks.committed;
   }
@@ -112,21 +105,6 @@ large_found id size (Some text) large sized =
     ap (λ (t : Bool). cond t (Err (a_manifest_fault.ManifestTooLarge (length text))) (manifest_of text)) (lt-ltb most (length text) (omega (arith, large, len)))
     ∙ ap (λ (n : ℕ). Err (a_manifest_fault.ManifestTooLarge n)) len
 
--- what has a row's kind and bit is a file or a link
-file_alike : (row : FileRow) (thing : Thing) (mtime : Time) (stat : Stat) → Some (stat_of thing mtime) ≡ Some stat → is_alike row stat ≡ true → (o : Placed) → o.thing ≡ thing → is_file_or_link (Some o) ≡ true
-file_alike row (a_thing.File exec bytes) mtime stat shown alike o is = ap (λ (t : Thing). is_file_or_link (Some (record o { thing = t }))) is
-file_alike row (a_thing.Link target) mtime stat shown alike o is = ap (λ (t : Thing). is_file_or_link (Some (record o { thing = t }))) is
-file_alike row a_thing.Dir mtime stat shown alike o is =
-    let same : stat_of a_thing.Dir mtime ≡ stat = cc (shown) in
-    let never : false ≡ true = ap (is_alike row) same ∙ alike in absurd (cc (never))
-file_alike row a_thing.Other mtime stat shown alike o is =
-    let same : stat_of a_thing.Other mtime ≡ stat = cc (shown) in
-    let never : false ≡ true = ap (is_alike row) same ∙ alike in absurd (cc (never))
-
-pub there_alike : (row : FileRow) (o : Option Placed) (stat : Stat) → option_map (λ placed. stat_of placed.thing placed.mtime) o ≡ Some stat → is_alike row stat ≡ true → is_file_or_link o ≡ true
-there_alike row None stat shown alike = absurd (cc (shown))
-there_alike row (Some placed) stat shown alike = file_alike row placed.thing placed.mtime stat shown alike placed refl
-
 -- ---- where nobody else steps
 
 module _ (s : Status) (copy : tree.Extends s.tree_old s.tree_new) (files : shelf.Extends s.shelf_old s.shelf_new) (same_tree : s.tree_new.last ≡ s.tree_old.last) (same_shelf : s.shelf_new.last ≡ s.shelf_old.last)
@@ -138,6 +116,13 @@ module _ (s : Status) (copy : tree.Extends s.tree_old s.tree_new) (files : shelf
   shows_now P shows =
       let at : shows.at ≡ s.tree_old.last = omega (arith, shows.from tree_told, shows.to tree_told, same_tree) in
       subst P (ap s.tree_new.at at ∙ copy.stay s.tree_old.last (omega arith)) (shows.so tree_told)
+
+  -- a path that was compared is compared there
+  pub asked_now : (path : List ℕ) → WasAsked s.asks s.tree_old s.tree_new path → IsAsked s.asks (tree.now s.tree_old) path
+  asked_now path was =
+      let at : was.at ≡ s.tree_old.last = omega (arith, was.from tree_told, was.to tree_told, same_tree) in
+      subst (λ (moment : Moment). IsAsked s.asks moment path) (ap s.tree_new.at at ∙ copy.stay s.tree_old.last (omega arith))
+      (subst (λ (moment : Moment). IsAsked s.asks moment path) (sym (was.is tree_told)) was.asked)
 
   pub holds_now : (name : List ℕ) (P : Option (List ℕ) → Type 0) → Was s.shelf_old s.shelf_new name P → P (there name)
   holds_now name P was =

@@ -1,5 +1,5 @@
 -- What a command that changes the record did, from what its parts did.
-use Rattle.std.proofs.Common.{ℕ, ◌≡◌, ◌≤◌, ◌⊎◌, true, false, List, [], ◌∷◌, Option, Some, None, is_some, Ok, Err, IsTrue, refl, sym, ap, ◌∙◌, subst, inl, inr, arith, true≢false}
+use Rattle.std.proofs.Common.{ℕ, ◌≡◌, ◌≤◌, ◌⊎◌, Bool, true, false, List, [], ◌∷◌, Option, Some, None, is_some, Ok, Err, IsTrue, refl, sym, ap, ◌∙◌, subst, inl, inr, arith}
 use Rattle.std.proofs.lemmas.Bool.{cases_Bool, cases_lt}
 use Rattle.hg_append.specs.Encoded.{HasCause}
 use Rattle.hg_append.specs.declared.fault.EncodeFault.{EncodeFault}
@@ -14,6 +14,7 @@ use Rattle.hg_mixed.specs.Held.{Held, table}
 use Rattle.hg_ops.proofs.Added.{same_table}
 use Rattle.hg_report.specs.Cause.{of_encode}
 use Rattle.hg_report.specs.declared.fault.Fault.{Fault}
+use Rattle.hg_report.specs.declared.fault.Fault.TheVariants as a_fault
 use Rattle.hg_save.specs.Leads.{Leads}
 use Rattle.hg_save.specs.Loads.{IsTry, Loads, Try, files_at, found_by}
 use Rattle.hg_save.specs.Record.{data_name, docket_in, id_in, reading}
@@ -22,17 +23,16 @@ use Rattle.hg_save.specs.declared.load_fault.LoadFault.{LoadFault}
 use Rattle.hg_save.specs.declared.loaded.Loaded.{Loaded}
 use Rattle.hg_save.proofs.Loads.{found_longer, last_within, tries_longer}
 use Rattle.hg_save.proofs.Published.{keeps_front}
-use Rattle.hg_session.specs.Acts.{AllIdle, AllSteps, IsActed}
+use Rattle.hg_save.proofs.Spans.{files_front}
+use Rattle.hg_session.specs.Acts.{Makes}
 use Rattle.hg_session.specs.Anew.{CanWrite, IsOpened, IsOverwritten, IsRecorded, LoadsOrRefuses, MetWriting, WritesOnly}
 use Rattle.hg_session.specs.Call.{Fails, Watched}
-use Rattle.hg_session.specs.Change.{FitsFirst, IsDone, IsKept, IsMade, IsPublished, IsReadFirst, IsSafe, IsUnwritten, MetChanging, up_to}
+use Rattle.hg_session.specs.Change.{FitsFirst, IsDone, IsKept, IsMade, IsPublished, IsReadFirst, IsReadSome, IsSafeHeld, IsUnwritten, IsWritten, MetChanging, up_to}
 use Rattle.hg_session.specs.Load.{by_load, of_read}
 use Rattle.hg_session.specs.Loaded.{NodesFind, Refuses}
-use Rattle.hg_session.specs.declared.acting.Changing.{Changing}
 use Rattle.hg_session.specs.declared.read_fault.ReadFault.{ReadFault}
 use Rattle.hg_session.specs.declared.read_fault.ReadFault.TheVariants as a_read
-use Rattle.hg_session.proofs.Acted.{idle_start, steps_start}
-use Rattle.hg_session.proofs.Locked.{end_remains, front_docket, front_found, front_latest, front_remains, none_front, unwritten, unwritten_then, whole_stretch}
+use Rattle.hg_session.proofs.Locked.{end_remains, front_docket, front_found, front_latest, front_remains, none_front, unwritten, unwritten_then}
 use Rattle.hg_session.proofs.Readings.{refused_by, sound_reading}
 use Rattle.hg_session.proofs.SameTables.{one_table}
 use Rattle.hg_shelf.specs.History as shelf
@@ -47,9 +47,9 @@ use Rattle.hg_tree.specs.History as tree
 pub refused_load : (old new : History) (tries : List Try) (fault : LoadFault) → Loads old new tries (Err fault) → Refuses old new tries (by_load fault)
 refused_load old new tries fault loads = record { tried = loads.tried; answer = refused_by fault old new tries loads }
 
-module _ (command : Changing) (words : List (List ℕ)) (copy : Watched tree.History) (files : Watched shelf.History) where
+module _ (Does : Makes) (copy : Watched tree.History) (files : Watched shelf.History) where
   -- the record could not be read
-  pub met_read : (fault : ReadFault) → (IsTrue files.old.told → (tried : Try) × Refuses files.old files.new (tried ∷ []) fault) → (fault ≡ a_read.Failed → Fails files) → MetChanging command words copy files (of_read fault)
+  pub met_read : (fault : ReadFault) → (IsTrue files.old.told → (tried : Try) × Refuses files.old files.new (tried ∷ []) fault) → (fault ≡ a_read.Failed → Fails files) → MetChanging Does copy files (of_read fault)
   met_read a_read.OutOfMemory met failed = tt
   met_read (a_read.Docket fault) met failed = λ told. let m = met told in (m.0 ∷ [], m.1)
   met_read (a_read.Node fault) met failed = λ told. let m = met told in (m.0 ∷ [], m.1)
@@ -59,7 +59,7 @@ module _ (command : Changing) (words : List (List ℕ)) (copy : Watched tree.His
   -- its nodes could not
   pub met_opened : {X : Type 0} (IsOf : Table → X → Type 0) (loaded : Loaded) (fault : ReadFault) → docket_refusal loaded.docket.items ≡ None
       → (IsTrue files.old.told → (tried : Try) × LoadsOrRefuses files.old files.new (tried ∷ []) (Ok loaded))
-      → NodesFind IsOf (Err fault) (data_reading (docket_of loaded.docket.items) loaded.nodes.items) → MetChanging command words copy files (of_read fault)
+      → NodesFind IsOf (Err fault) (data_reading (docket_of loaded.docket.items) loaded.nodes.items) → MetChanging Does copy files (of_read fault)
   met_opened IsOf loaded a_read.OutOfMemory sound loads finds = tt
   met_opened IsOf loaded (a_read.Node fault) sound loads finds = λ told.
       let m = loads told in (
@@ -125,10 +125,21 @@ module _ (a b c : Course) (passes : Passes a.history b.history) (goes : Goes b c
 
   -- ---- what the words made of it
 
-  module _ (command : Changing) (words : List (List ℕ)) (copy : Watched tree.History) (opened made : Held) (begun : IsOpened (docket_of loaded.docket.items) recorded opened) (image : IsOfSameImage opened made)
-      (lines : List ℕ) (acted : IsActed command copy.old copy.new words (table opened) (table made) opened.changed made.changed lines) where
-    abbrev steps_from : AllSteps command copy.old copy.new words acted.refused recorded (table made)
-    steps_from = steps_start command copy.old copy.new (table opened) recorded begun.same words acted.refused (table made) acted.steps
+  -- the words were met by no memory, or a working copy that failed behind it
+  pub met_acting : (Does : Makes) (copy : Watched tree.History) (before after : ℕ) (fault : Fault) → (fault ≡ a_fault.OutOfMemory) ⊎ (fault ≡ a_fault.TreeFailed) → (fault ≡ a_fault.TreeFailed → Fails copy)
+      → MetChanging Does copy (record { old = a.history; new = c.history; before = before; after = after }) fault
+  met_acting Does copy before after fault (inl is) failed = subst (MetChanging Does copy (record { old = a.history; new = c.history; before = before; after = after })) (sym is) tt
+  met_acting Does copy before after fault (inr is) failed =
+      subst (MetChanging Does copy (record { old = a.history; new = c.history; before = before; after = after })) (sym is) (failed is, λ told. (recorded, read_first told))
+
+  -- the working copy was looked at behind it
+  pub read_some : IsReadSome (record { old = a.history; new = c.history; before = 0; after = 0 })
+  read_some = λ told. (recorded, read_first told)
+
+  module _ (Does : Makes) (opened made : Held) (begun : IsOpened (docket_of loaded.docket.items) recorded opened) (image : IsOfSameImage opened made)
+      (lines : List ℕ) (acted : Does (table opened) (table made) lines made.changed) where
+    does_from : Does recorded (table made) lines made.changed
+    does_from = subst (λ (t : Table). Does t (table made) lines made.changed) (one_table (table opened) recorded begun.same) acted
 
     unwritten_still : c ≡ b → IsUnwritten a.history c.history
     unwritten_still none = subst (λ (x : Course). IsUnwritten a.history x.history) (sym none) (unwritten a.history b.history passes)
@@ -136,41 +147,36 @@ module _ (a b c : Course) (passes : Passes a.history b.history) (goes : Goes b c
     docket_is : made.docket ≡ docket_of loaded.docket.items
     docket_is = image.docket ∙ begun.contents
 
-    abbrev made_by : (before after : ℕ) → IsMade command words copy (record { old = a.history; new = c.history; before = before; after = after }) acted.refused (table made)
-    made_by before after = record { loaded = recorded; read = read_first; steps = steps_from }
+    abbrev made_by : (before after : ℕ) → IsMade Does (record { old = a.history; new = c.history; before = before; after = after }) (table made) lines made.changed
+    made_by before after = record { loaded = recorded; read = read_first; does = does_from }
 
-    -- where no word changed anything, no mark is set
-    unmarked_by : AllIdle command copy.old copy.new words acted.refused recorded (table made) steps_from → made.changed ≡ false
-    unmarked_by idle = acted.idle (idle_start command copy.old copy.new (table opened) recorded begun.same words acted.refused (table made) acted.steps idle) ∙ begun.unchanged
+    -- where something was changed
+    abbrev made_anew : (before after : ℕ) → made.changed ≡ true → IsMade Does (record { old = a.history; new = c.history; before = before; after = after }) (table made) lines true
+    made_anew before after set = record { loaded = recorded; read = read_first; does = subst (λ (changed : Bool). Does recorded (table made) lines changed) set does_from }
 
-    busy_by : made.changed ≡ true → AllIdle command copy.old copy.new words acted.refused recorded (table made) steps_from → ⊥
-    busy_by set idle = true≢false (sym set ∙ unmarked_by idle)
-
-    by_encode : (before after : ℕ) (fault : EncodeFault) → HasCause made fault → made.changed ≡ true → MetChanging command words copy (record { old = a.history; new = c.history; before = before; after = after }) (of_encode fault)
-    by_encode before after an_encode.OutOfMemory cause set = tt
-    by_encode before after (an_encode.TooLarge size) cause set = record {
-      refused = acted.refused;
+    by_encode : (copy : Watched tree.History) (before after : ℕ) (fault : EncodeFault) → HasCause made fault → made.changed ≡ true → MetChanging Does copy (record { old = a.history; new = c.history; before = before; after = after }) (of_encode fault)
+    by_encode copy before after an_encode.OutOfMemory cause set = tt
+    by_encode copy before after (an_encode.TooLarge size) cause set = record {
       made = table made;
-      is = made_by before after;
-      busy = busy_by set;
+      lines = lines;
+      is = made_anew before after set;
       held = made;
       same = same_table (table made);
       large = cause;
       next = λ told. ap (λ (id : List ℕ). is_some (next_name id)) (read_id told made.docket docket_is) ∙ ap (λ (o : Option (List ℕ)). is_some o) cause.next.1;
     }
-    by_encode before after an_encode.IdsSpent cause set = record {
-      refused = acted.refused;
+    by_encode copy before after an_encode.IdsSpent cause set = record {
       made = table made;
-      is = made_by before after;
-      busy = busy_by set;
+      lines = lines;
+      is = made_anew before after set;
       spent = λ told. ap next_name (read_id told made.docket docket_is) ∙ cause;
     }
 
     -- it was not written
-    pub met_writing : (before mid after : ℕ) (fault : Fault) → mid ≡ before → MetWriting made mid after fault → MetChanging command words copy (record { old = a.history; new = c.history; before = before; after = after }) fault
-    met_writing before mid after fault still (inl (e, is, cause, set)) = subst (MetChanging command words copy (record { old = a.history; new = c.history; before = before; after = after })) (sym is) (by_encode before after e cause set)
-    met_writing before mid after fault still (inr (is, rose)) =
-        subst (MetChanging command words copy (record { old = a.history; new = c.history; before = before; after = after })) (sym is) (subst (λ (n : ℕ). Rose n after) still rose)
+    pub met_writing : (copy : Watched tree.History) (before mid after : ℕ) (fault : Fault) → mid ≡ before → MetWriting made mid after fault → MetChanging Does copy (record { old = a.history; new = c.history; before = before; after = after }) fault
+    met_writing copy before mid after fault still (inl (e, is, cause, set)) = subst (MetChanging Does copy (record { old = a.history; new = c.history; before = before; after = after })) (sym is) (by_encode copy before after e cause set)
+    met_writing copy before mid after fault still (inr (is, rose)) =
+        subst (MetChanging Does copy (record { old = a.history; new = c.history; before = before; after = after })) (sym is) (subst (λ (n : ℕ). Rose n after) still rose)
 
     -- ---- what is left of it
 
@@ -227,14 +233,13 @@ module _ (a b c : Course) (passes : Passes a.history b.history) (goes : Goes b c
         | inr early ↦ (f, (front_remains a b c ours passes goes calm k from early).left f is, record { others = λ at p q r s. refl; named = inl refl })
       ]
 
-      published_by : IsOverwritten made b c → IsPublished command words copy (record { old = a; new = c })
+      published_by : IsOverwritten made b c → IsPublished Does c a.history.last c.history.last
       published_by over = record {
-        stretch = whole_stretch a.history c.history (omega (arith, passes.past.later, goes.past.later));
         loaded = recorded;
         there = there;
-        refused = acted.refused;
         made = table made;
-        steps = steps_from;
+        lines = lines;
+        does = subst (λ (changed : Bool). Does recorded (table made) lines changed) over.changed does_from;
         found = over.found;
         is = over.is;
         crash = λ latest. crash_over over.found (over.crash (front_latest a b c ours passes goes calm latest));
@@ -244,17 +249,17 @@ module _ (a b c : Course) (passes : Passes a.history b.history) (goes : Goes b c
         others = others_over (id_in (scene c a.history.last).files) over.id (subst (λ (i : List ℕ). Leads (KeepsOthers i over.id) b c) (sym id_there) over.others);
         spared = spared_over (id_in (scene c a.history.last).files) over.id (subst (λ (i : List ℕ). Leads (KeepsOthers i over.id) b c) (sym id_there) over.others);
         orderly = λ latest. keeps_front us c a.history.last b.history.last (none_front a b c passes goes) (over.orderly (front_latest a b c ours passes goes calm latest));
+        keeping = files_front us c.history a.history.last b.history.last (none_front a b c passes goes) over.keeping;
         latest = λ latest. over.latest (front_latest a b c ours passes goes calm latest);
       }
 
       -- nothing was written, or the table was over the record that stood
-      pub safe_by : (fault : Option Fault) → WritesOnly made b c fault → IsSafe command words copy (record { old = a; new = c }) fault
+      pub safe_by : (fault : Option Fault) → WritesOnly made b c fault → IsSafeHeld Does (record { old = a; new = c }) fault
       safe_by fault (inl none) = inl (unwritten_then a b c passes goes none)
       safe_by fault (inr (follows, over)) = inr (follows, published_by over)
 
-      kept_written : IsRecorded made c → IsKept recorded (table made) (record { old = a; new = c })
+      kept_written : IsRecorded made b c → IsKept recorded (table made) (record { old = a; new = c }) a.history.last c.history.last
       kept_written is = record {
-        stretch = whole_stretch a.history c.history (omega (arith, passes.past.later, goes.past.later));
         found = is.found;
         is = is.is;
         shown = is.records.shown;
@@ -262,37 +267,37 @@ module _ (a b c : Course) (passes : Passes a.history b.history) (goes : Goes b c
         gone =
             inl (λ some.
             subst (λ (id : List ℕ). (last_scene c).files (data_name id) ≡ None) (sym id_there) (is.gone (λ empty. some (id_there ∙ empty))));
+        bytes = inl (subst (λ (f : Files). IsWritten is.found f (last_scene c)) (end_remains a b c ours passes goes calm).shown is.bytes);
       }
 
-      kept_still : c ≡ b → IsSame (table made) recorded → IsKept recorded (table made) (record { old = a; new = c })
+      kept_still : c ≡ b → IsSame (table made) recorded → IsKept recorded (table made) (record { old = a; new = c }) a.history.last c.history.last
       kept_still none same = record {
-        stretch = whole_stretch a.history c.history (omega (arith, passes.past.later, goes.past.later));
         found = recorded;
         is = subst (λ (t : Table). IsSame t (table made)) (one_table (table made) recorded same) (same_table (table made));
         shown = subst (λ (x : Course). reading (last_scene x).files ≡ Some (Ok recorded)) (sym none) (ap reading (end_remains a b c ours passes goes calm).shown ∙ there);
         left = inr (same, unwritten_still none);
         gone = inr (unwritten_still none);
+        bytes = inr (unwritten_still none);
       }
 
-    same_by : (opened.changed ≡ false → made.changed ≡ false → IsSame (table made) (table opened)) → made.changed ≡ false → IsSame (table made) recorded
-    same_by stays none = subst (IsSame (table made)) (one_table (table opened) recorded begun.same) (stays begun.unchanged none)
+    same_by : (made.changed ≡ false → IsSame (table made) (table opened)) → made.changed ≡ false → IsSame (table made) recorded
+    same_by stays none = subst (IsSame (table made)) (one_table (table opened) recorded begun.same) (stays none)
 
-    -- the words were done, and what they made is recorded
-    pub done_by : (before after : ℕ) → a.history.ours ≡ true → (opened.changed ≡ false → made.changed ≡ false → IsSame (table made) (table opened))
-        → (made.changed ≡ true → CanWrite made) → (made.changed ≡ false → c ≡ b) → (Undisturbed a c → made.changed ≡ true → IsRecorded made c)
-        → IsDone command words copy (record { old = a.history; new = c.history; before = before; after = after }) (record { old = a; new = c }) lines
+    -- it was done, and what was made is recorded
+    pub done_by : (before after : ℕ) → a.history.ours ≡ true → (made.changed ≡ false → IsSame (table made) (table opened))
+        → (made.changed ≡ true → CanWrite made) → (made.changed ≡ false → c ≡ b) → (Undisturbed a c → made.changed ≡ true → IsRecorded made b c)
+        → IsDone Does (record { old = a.history; new = c.history; before = before; after = after }) (record { old = a; new = c }) a.history.last c.history.last lines
     done_by before after ours stays can none records = record {
-      refused = acted.refused;
       made = table made;
+      changed = made.changed;
       is = made_by before after;
-      text = acted.text;
       fits = λ told. elim (cases_Bool made.changed) [
         | inl set ↦ inr (fits_first made docket_is (can set) told)
-        | inr unset ↦ inl (same_by stays unset)
+        | inr unset ↦ inl (unset, same_by stays unset)
       ];
       kept = λ calm. elim (cases_Bool made.changed) [
         | inl set ↦ kept_written ours calm (records calm set)
         | inr unset ↦ kept_still ours calm (none unset) (same_by stays unset)
       ];
-      idle = λ idle. unwritten_still (none (unmarked_by idle));
+      idle = λ unset. unwritten_still (none unset);
     }

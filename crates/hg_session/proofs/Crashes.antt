@@ -1,23 +1,23 @@
 -- What a crash may leave at each moment of a whole call, from what was said of the stretch in which the lock was held.
-use Rattle.std.proofs.Common.{ℕ, ◌≡◌, ◌≤◌, List, Option, Some, Result, Ok, refl, sym, ◌∙◌, subst, arith, inl, inr, ◌⊎◌}
+use Rattle.std.proofs.Common.{ℕ, ◌≡◌, ◌≤◌, Option, Some, None, Result, Ok, refl, sym, ◌∙◌, subst, arith, inl, inr, ◌⊎◌}
 use Rattle.std.proofs.lemmas.Bool.{cases_lt}
 use Rattle.hg_entry.specs.Table.{Table}
 use Rattle.hg_image.specs.Reading.{RecordFault}
 use Rattle.hg_mixed.specs.Edits.{IsSame}
 use Rattle.hg_report.specs.declared.fault.Fault.{Fault}
 use Rattle.hg_save.proofs.Published.{keeps_front, keeps_later, latest_still, latest_until, left_until, published_earlier, published_later, published_sound}
+use Rattle.hg_save.proofs.Spans.{files_front}
 use Rattle.hg_save.specs.Others.{KeepsRecords, WasPublished}
 use Rattle.hg_save.specs.Record.{IsSound, reading}
 use Rattle.hg_save.specs.Saved.{IsLatest, ReadsAsBeforeOr}
-use Rattle.hg_session.specs.Call.{Saved, Watched}
-use Rattle.hg_session.specs.Change.{IsKept, IsPublished, IsSafe, IsUnwritten, NoneOurs}
-use Rattle.hg_session.specs.Crash.{IsCrashSafe, IsLasting, LeavesSound, MightBeLeft}
-use Rattle.hg_session.specs.declared.acting.Changing.{Changing}
+use Rattle.hg_session.specs.Acts.{Makes}
+use Rattle.hg_session.specs.Call.{Saved}
+use Rattle.hg_session.specs.Change.{IsKept, IsSafe, IsUnwritten, NoneOurs, Publishes, Stretch}
+use Rattle.hg_session.specs.Crash.{IsCrashSafe, IsLasting, LeavesSound, MightBeLeft, published_in}
 use Rattle.hg_shelf.proofs.Scenes.{only_later}
 use Rattle.hg_shelf.specs.History.{Files, others, us}
 use Rattle.hg_shelf.specs.Images.{Course, Goes, last_scene, scene}
 use Rattle.hg_shelf.specs.Polite.{Undisturbed}
-use Rattle.hg_tree.specs.History as tree
 
 -- none of the steps of a span is the caller's, so none of those of its front or its end is
 none_before : (c : Course) (from to early : ℕ) → early ≤ to → NoneOurs c.history from to → NoneOurs c.history from early
@@ -65,13 +65,13 @@ module _ (a b : Course) (goes : Goes a b) (calm : Undisturbed a b) (keep : Keeps
   known_sound Own own_sound sound k within r (inr (inl own)) = own_sound r own
   known_sound Own own_sound sound k within r (inr (inr was)) = published_sound b start k r keep within was
 
-  module _ (command : Changing) (words : List (List ℕ)) (copy : Watched tree.History) (first : IsLatest (last_scene a)) where
+  module _ (Does : Makes) (first : IsLatest (last_scene a)) where
     first_there : IsLatest (scene b start)
     first_there = latest_still (last_scene a) (scene b start) (goes.kept start (omega arith)) first
 
-    module _ (is : IsPublished command words copy saved) where
+    module _ (is : Publishes Does saved) where
       abbrev Own : Option (Result Table RecordFault) → Type 0
-      Own r = r ≡ Some (Ok is.found)
+      Own r = r ≡ Some (Ok is.is.found)
 
       latest_from : IsLatest (scene b is.stretch.from)
       latest_from = latest_until b start calm.others keep is.stretch.from is.stretch.start is.stretch.before (omega (arith, is.stretch.order, is.stretch.end)) first_there
@@ -79,13 +79,13 @@ module _ (a b : Course) (goes : Goes a b) (calm : Undisturbed a b) (keep : Keeps
       known_from : (f : Files) → (scene b is.stretch.from).leaves f → IsKnown Own is.stretch.from (reading f)
       known_from = known_before Own is.stretch.from is.stretch.start is.stretch.before (omega (arith, is.stretch.order, is.stretch.end))
 
-      known_by : (k : ℕ) (f : Files) → is.stretch.from ≤ k → ReadsAsBeforeOr (scene b is.stretch.from) (Some (Ok is.found)) f → IsKnown Own k (reading f)
+      known_by : (k : ℕ) (f : Files) → is.stretch.from ≤ k → ReadsAsBeforeOr (scene b is.stretch.from) (Some (Ok is.is.found)) f → IsKnown Own k (reading f)
       known_by k f after (inl was) =
           subst (IsKnown Own k) (sym was.2) (known_later Own is.stretch.from k (reading was.0) after (known_from was.0 was.1))
       known_by k f after (inr own) = inr (inl own)
 
       known_within : (k : ℕ) → is.stretch.from ≤ k → k ≤ is.stretch.to → (f : Files) → (scene b k).leaves f → IsKnown Own k (reading f)
-      known_within k after upto f left = known_by k f after (is.crash latest_from k f after upto left)
+      known_within k after upto f left = known_by k f after (is.is.crash latest_from k f after upto left)
 
       known_to : (f : Files) → (scene b is.stretch.to).leaves f → IsKnown Own is.stretch.to (reading f)
       known_to = known_within is.stretch.to is.stretch.order (omega arith)
@@ -105,9 +105,9 @@ module _ (a b : Course) (goes : Goes a b) (calm : Undisturbed a b) (keep : Keeps
       latest_end =
           let later : start ≤ is.stretch.to = omega (arith, is.stretch.start, is.stretch.order) in
           latest_until b is.stretch.to (only_later b start is.stretch.to later calm.others) (keeps_later others b start is.stretch.to later keep) b.history.last is.stretch.end is.stretch.behind (omega arith)
-          (is.latest latest_from)
+          (is.is.latest latest_from)
 
-    pub crash_safe : (fault : Option Fault) (safe : IsSafe command words copy saved fault) → IsCrashSafe command words copy saved fault safe
+    pub crash_safe : (fault : Option Fault) (safe : IsSafe Does saved fault) → IsCrashSafe (published_in Does saved fault safe) saved
     crash_safe fault (inl none) =
         let known : (k : ℕ) (f : Files) → start ≤ k → k ≤ b.history.last → (scene b k).leaves f → IsKnown (λ r. ⊥) k (reading f) =
         λ k f after within left. known_before (λ r. ⊥) k after (none_before b start b.history.last k within none.none) within f left in
@@ -115,25 +115,32 @@ module _ (a b : Course) (goes : Goes a b) (calm : Undisturbed a b) (keep : Keeps
           each = known;
           sound = λ sound k after within f left. known_sound (λ r. ⊥) (λ r never. absurd never) sound k within (reading f) (known k f after within left);
           orderly = record { each = λ k after before who. absurd (none.none k after before who) };
+          keeping = record { each = λ k after before who. absurd (none.none k after before who) };
           latest = latest_until b start calm.others keep b.history.last goes.past.later none.none (omega arith) first_there;
         }
     crash_safe fault (inr (may, is)) = record {
       each = known_each is;
-      sound = λ sound k after within f left. known_sound (Own is) (λ r own. (is.found, own)) sound k within (reading f) (known_each is k f after within left);
-      orderly = keeps_front us b start is.stretch.from is.stretch.before (is.orderly (latest_from is));
+      sound = λ sound k after within f left. known_sound (Own is) (λ r own. (is.is.found, own)) sound k within (reading f) (known_each is k f after within left);
+      orderly = keeps_front us b start is.stretch.from is.stretch.before (is.is.orderly (latest_from is));
+      keeping = files_front us b.history start is.stretch.from is.stretch.before is.is.keeping;
       latest = latest_end is;
     }
 
-  lasts_by : (loaded made : Table) (kept : IsKept loaded made saved)
-      → (((c : Files) → (scene b kept.stretch.to).leaves c → reading c ≡ Some (Ok kept.found)) ⊎ (IsSame made loaded × IsUnwritten a.history b.history)) → IsLasting loaded made saved kept
-  lasts_by loaded made kept (inl each) =
-      let later : start ≤ kept.stretch.to = omega (arith, kept.stretch.start, kept.stretch.order) in
+  -- also where the caller makes no step
+  pub crash_unwritten : IsUnwritten a.history b.history → IsLatest (last_scene a) → IsCrashSafe None saved
+  crash_unwritten none first = crash_safe (λ old new lines changed. ⊥) first None (inl none)
+
+  lasts_by : (loaded made : Table) (stretch : Stretch a.history b.history) (kept : IsKept loaded made saved stretch.from stretch.to)
+      → (((c : Files) → (scene b stretch.to).leaves c → reading c ≡ Some (Ok kept.found)) ⊎ (IsSame made loaded × IsUnwritten a.history b.history))
+      → IsLasting loaded made saved stretch.from stretch.to kept
+  lasts_by loaded made stretch kept (inl each) =
+      let later : start ≤ stretch.to = omega (arith, stretch.start, stretch.order) in
       inl (record {
         each = λ k f after within left.
-            left_until b kept.stretch.to (only_later b start kept.stretch.to later calm.others) (keeps_later others b start kept.stretch.to later keep) (λ r. r ≡ Some (Ok kept.found)) k after
-            (none_before b kept.stretch.to b.history.last k within kept.stretch.behind) within each f left;
+            left_until b stretch.to (only_later b start stretch.to later calm.others) (keeps_later others b start stretch.to later keep) (λ r. r ≡ Some (Ok kept.found)) k after
+            (none_before b stretch.to b.history.last k within stretch.behind) within each f left;
       })
-  lasts_by loaded made kept (inr same) = inr same
+  lasts_by loaded made stretch kept (inr same) = inr same
 
-  pub lasting : (loaded made : Table) (kept : IsKept loaded made saved) → IsLasting loaded made saved kept
-  lasting loaded made kept = lasts_by loaded made kept kept.left
+  pub lasting : (loaded made : Table) (stretch : Stretch a.history b.history) (kept : IsKept loaded made saved stretch.from stretch.to) → IsLasting loaded made saved stretch.from stretch.to kept
+  lasting loaded made stretch kept = lasts_by loaded made stretch kept kept.left

@@ -1,13 +1,15 @@
 pub mod Acted
+pub mod Asking
 pub mod Caused
 pub mod Causes
 pub mod Changes
-pub mod Commands
 pub mod Crashes
 pub mod Expectations
 pub mod Freed
 pub mod Listings
 pub mod Locked
+pub mod Locks
+pub mod Looks
 pub mod Overs
 pub mod Parents
 pub mod Printing
@@ -17,6 +19,5 @@ pub mod Records
 pub mod Refusals
 pub mod SameTables
 pub mod SoFar
-pub mod Spellings
 pub mod Texts
 pub mod Widening

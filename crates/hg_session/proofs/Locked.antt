@@ -1,11 +1,11 @@
 -- What stays while the caller holds the lock and makes no step: others only read.
-use Rattle.std.proofs.Common.{ℕ, ◌≡◌, ◌≤◌, true, refl, sym, ap, ◌∙◌, arith, inl, inr}
+use Rattle.std.proofs.Common.{ℕ, ◌≡◌, ◌≤◌, true, refl, sym, ap, ◌∙◌, subst, arith, inl, inr}
 use Rattle.std.proofs.lemmas.Bool.{cases_lt}
 use Rattle.hg_report.specs.declared.fault.Fault.{Fault}
 use Rattle.hg_save.specs.Loads.{During, IsTry, Try, files_at, found_by}
 use Rattle.hg_save.specs.Record.{docket_in, id_in, reading, record_in}
-use Rattle.hg_save.specs.Saved.{IsLatest, name_after}
-use Rattle.hg_session.specs.Change.{FailsOrUnwritten, IsUnwritten, NoneOurs, Stretch}
+use Rattle.hg_save.specs.Saved.{IsLatest, name_after, used_in}
+use Rattle.hg_session.specs.Change.{FailsOrUnwritten, IsUnwritten, NoneOurs}
 use Rattle.hg_shelf.specs.History.{By, Files, History, Passes, label, readers}
 use Rattle.hg_shelf.specs.Images.{Course, Goes, Remains, last_scene, scene}
 use Rattle.hg_shelf.specs.Polite.{Undisturbed}
@@ -40,18 +40,6 @@ unwritten_then a b c passes goes behind = record {
 pub unwritten_unless : (a b c : Course) → Passes a.history b.history → Goes b c → (fault : Fault) → FailsOrUnwritten b.history c.history fault → FailsOrUnwritten a.history c.history fault
 unwritten_unless a b c passes goes fault (inl failed) = inl failed
 unwritten_unless a b c passes goes fault (inr none) = inr (unwritten_then a b c passes goes none)
-
--- the lock was held all along
-abbrev pub whole_stretch : (old new : History) → old.last ≤ new.last → Stretch old new
-whole_stretch old new later = record {
-  from = old.last;
-  to = new.last;
-  start = omega arith;
-  order = later;
-  end = omega arith;
-  before = none_within new old.last;
-  behind = none_within new new.last;
-}
 
 -- ---- what the moments show
 
@@ -88,4 +76,5 @@ module _ (a b c : Course) (ours : a.history.ours ≡ true) (passes : Passes a.hi
   pub front_latest : IsLatest (scene c a.history.last) → IsLatest (last_scene b)
   front_latest latest = record {
     latest = λ f is n after. latest.latest f (end_remains.left f is) n (ap (λ (x : Files). name_after n (id_in x)) (sym end_remains.shown) ∙ after);
+    used = λ f is named. subst (λ (x : Files). used_in f ≤ used_in x) (sym end_remains.shown) (latest.used f (end_remains.left f is) (named ∙ ap id_in end_remains.shown));
   }

@@ -1,5 +1,5 @@
 -- What publishing a table leads to, in the words of a command.
-use Rattle.std.proofs.Common.{ℕ, ◌≡◌, List, [], Some, None, Result, Ok, sym, ap, ◌∙◌, subst}
+use Rattle.std.proofs.Common.{ℕ, ◌≡◌, true, List, [], Some, None, Result, Ok, sym, ap, ◌∙◌, subst}
 use Rattle.hg_append.specs.Encoded.{ReadsAs}
 use Rattle.hg_append.specs.declared.encoding.Encoded.{Encoded}
 use Rattle.hg_docket.specs.Docket.{docket_of}
@@ -8,9 +8,9 @@ use Rattle.hg_entry.specs.Table.{Table}
 use Rattle.hg_image.specs.Reading.{RecordFault, reading_of}
 use Rattle.hg_mixed.specs.Held.{Held, table}
 use Rattle.hg_save.specs.Leads.{Leads}
-use Rattle.hg_save.specs.Others.{KeepsRecords}
+use Rattle.hg_save.specs.Others.{KeepsFiles, KeepsRecords}
 use Rattle.hg_save.specs.Record.{IsSound, data_name}
-use Rattle.hg_save.specs.Saved.{IsFree, IsLatest, IsOver, KeepsOthers, LeavesOnly, Records, ShowsOnly, Stands, published}
+use Rattle.hg_save.specs.Saved.{HoldsExactly, IsFree, IsLatest, IsOver, KeepsOthers, LeavesOnly, Records, ShowsOnly, Stands, published}
 use Rattle.hg_save.proofs.Names.{next_free}
 use Rattle.hg_session.specs.Anew.{IsOverwritten, IsRecorded}
 use Rattle.hg_shelf.specs.History.{us}
@@ -20,26 +20,29 @@ module _ (held : Held) (new : Encoded) (reads : ReadsAs (table held) (reading_of
   published_is : published new ≡ Some (Ok reads.found)
   published_is = ap (λ (r : Result Table RecordFault). Some r) reads.is
 
-  pub recorded_by : (loaded : List ℕ) (c : Course) → held.docket.id ≡ (docket_of loaded).id → Records c (published new)
-      → (((docket_of loaded).id ≡ [] → ⊥) → (last_scene c).files (data_name (docket_of loaded).id) ≡ None) → IsRecorded held c
-  recorded_by loaded c same records gone = record {
+  pub recorded_by : (loaded : List ℕ) (a c : Course) → held.docket.id ≡ (docket_of loaded).id → IsOver loaded new → Stands loaded (last_scene a) → Records c (published new) → HoldsExactly new a c
+      → (((docket_of loaded).id ≡ [] → ⊥) → (last_scene c).files (data_name (docket_of loaded).id) ≡ None) → IsRecorded held a c
+  recorded_by loaded a c same over stands records exact gone = record {
     found = reads.found;
     is = reads.same;
     records = subst (Records c) published_is records;
+    bytes = record { new = new; over = subst (λ (docket : List ℕ). IsOver docket new) (sym stands) over; reads = reads.is; shown = exact.shown; left = exact.left };
     gone = λ some. subst (λ (id : List ℕ). (last_scene c).files (data_name id) ≡ None) (sym same) (gone (λ empty. some (same ∙ empty)));
   }
 
-  pub over_by : (loaded : List ℕ) (a b : Course) → held.docket.id ≡ (docket_of loaded).id → IsOver loaded new → Stands loaded (last_scene a)
+  pub over_by : (loaded : List ℕ) (a b : Course) → held.changed ≡ true → held.docket.id ≡ (docket_of loaded).id → IsOver loaded new → Stands loaded (last_scene a)
       → (IsFree new.id (last_scene a) → LeavesOnly a b (published new)) → (IsFree new.id (last_scene a) → ShowsOnly a b (published new)) → (IsLatest (last_scene a) → IsLatest (last_scene b))
-      → Leads (KeepsOthers (docket_of loaded).id new.id) a b → (IsLatest (last_scene a) → IsSound (published new) → KeepsRecords us b a.history.last)
+      → Leads (KeepsOthers (docket_of loaded).id new.id) a b → (IsLatest (last_scene a) → IsSound (published new) → KeepsRecords us b a.history.last) → KeepsFiles us b.history a.history.last
       → IsOverwritten held a b
-  over_by loaded a b same over stands crash shown latest others orderly = record {
+  over_by loaded a b changed same over stands crash shown latest others orderly keeping = record {
+    changed = changed;
     found = reads.found;
     is = reads.same;
     crash = λ l. subst (LeavesOnly a b) published_is (crash (next_free loaded (last_scene a) new.id stands l over.next));
     shown = λ l. subst (ShowsOnly a b) published_is (shown (next_free loaded (last_scene a) new.id stands l over.next));
     latest = latest;
     orderly = λ l. orderly l (reads.found, published_is);
+    keeping = keeping;
     id = new.id;
     next = ap next_name same ∙ over.next;
     others = subst (λ (i : List ℕ). Leads (KeepsOthers i new.id) a b) (sym same) others;

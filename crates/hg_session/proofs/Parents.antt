@@ -9,7 +9,7 @@ use Rattle.hg_compare.specs.declared.letter.Letter.{Letter}
 use Rattle.hg_compare.specs.declared.letter.Letter.TheVariants as a_letter
 use Rattle.hg_entry.specs.Table.{Flat, Marks}
 use Rattle.hg_listing.specs.Full.{HasLetterBy, IsFullFor, IsTold, wants}
-use Rattle.hg_flat.specs.Parent.{HasContents, IsAsked, IsLeft, IsServed, KeepsRow, is_compared, is_plain_entry, manifest_at, parent_rows, row_among, row_of}
+use Rattle.hg_flat.specs.Parent.{HasContents, IsAsked, IsLeft, IsServed, KeepsRow, asked_by, is_plain_entry, manifest_at, parent_rows, row_among, row_of}
 use Rattle.hg_flat.specs.Patterns.{ignored_at}
 use Rattle.hg_listing.specs.declared.row.Row.{Row}
 use Rattle.hg_listing.specs.declared.row.Wanted.{Wanted}
@@ -99,7 +99,7 @@ compared s t true letter same m c has = subst (λ (b : Bool). Some (cond b a_let
 compared true t false letter same m c has = let is : letter ≡ a_letter.C = cc (has) in let never = c is in absurd (cc (never))
 compared false t false letter same m c has = let is : letter ≡ a_letter.M = cc (has) in let never = m is in absurd (cc (never))
 
-free : (w p1 p2 copied there s t looked : Bool) (letter : Letter) → ((looked && (w && p1 && not p2 && not copied)) ≡ true → s ≡ t) → (letter ≡ a_letter.M → looked ≡ true) → (letter ≡ a_letter.C → looked ≡ true)
+free : (w p1 p2 copied there s t looked : Bool) (letter : Letter) → (((looked && (w && p1 && not p2 && not copied)) && there) ≡ true → s ≡ t) → (letter ≡ a_letter.M → looked ≡ true) → (letter ≡ a_letter.C → looked ≡ true)
     → chain w p1 p2 copied there s ≡ Some letter → chain w p1 p2 copied there t ≡ Some letter
 unfolding chain
 free false p1 p2 copied there s t looked letter same m c has = has
@@ -107,7 +107,7 @@ free true p1 p2 copied false s t looked letter same m c has = has
 free true p1 true copied true s t looked letter same m c has = has
 free true false false copied true s t looked letter same m c has = has
 free true true false true true s t looked letter same m c has = has
-free true true false false true s t looked letter same m c has = compared s t looked letter (λ is. same (ap (λ (b : Bool). b && true) is)) m c has
+free true true false false true s t looked letter same m c has = compared s t looked letter (λ is. same (ap (λ (b : Bool). (b && true) && true) is)) m c has
 
 module _ (wanted : Wanted) (flat : Flat) (moment : Moment) (a b : List ℕ → Option ParentRow) (Ignored : List ℕ → Type 0) (path : List ℕ) (letter : Letter) (asked : IsTrue (wants wanted letter)) where
   wants_m : letter ≡ a_letter.M → (wanted.m || wanted.c) ≡ true
@@ -116,7 +116,7 @@ module _ (wanted : Wanted) (flat : Flat) (moment : Moment) (a b : List ℕ → O
   wants_c : letter ≡ a_letter.C → (wanted.m || wanted.c) ≡ true
   wants_c is = or_right wanted.m wanted.c (subst (λ (l : Letter). IsTrue (wants wanted l)) is asked)
 
-  letter_by : (marks : Option Marks) → (IsTrue ((wanted.m || wanted.c) && is_plain_entry marks (is_some (flat.sources path))) → a path ≡ b path) → HasLetterBy marks flat moment a Ignored path letter
+  letter_by : (marks : Option Marks) → (IsTrue (((wanted.m || wanted.c) && is_plain_entry marks (is_some (flat.sources path))) && is_file_or_link (moment.things path)) → a path ≡ b path) → HasLetterBy marks flat moment a Ignored path letter
       → HasLetterBy marks flat moment b Ignored path letter
   letter_by None same has = has
   letter_by (Some marks) same has =
@@ -125,7 +125,7 @@ module _ (wanted : Wanted) (flat : Flat) (moment : Moment) (a b : List ℕ → O
       (wanted.m || wanted.c) letter (λ is. ap (λ (row : Option ParentRow). is_unchanged row (moment.things path)) (same is)) wants_m wants_c
       (chain_is (a path) marks (is_some (flat.sources path)) (moment.things path) ∙ has)
 
-told_rows : (wanted : Wanted) (flat : Flat) (moment : Moment) (a b : List ℕ → Option ParentRow) (Ignored : List ℕ → Type 0) (row : Row) → (IsTrue (is_compared wanted flat row.path) → a row.path ≡ b row.path)
+told_rows : (wanted : Wanted) (flat : Flat) (moment : Moment) (a b : List ℕ → Option ParentRow) (Ignored : List ℕ → Type 0) (row : Row) → (IsAsked (asked_by wanted flat) moment row.path → a row.path ≡ b row.path)
     → IsTold flat moment a Ignored wanted row → IsTold flat moment b Ignored wanted row
 told_rows wanted flat moment a b Ignored row same told =
     (told.0, letter_by wanted flat moment a b Ignored row.path row.letter told.0 (flat.marks row.path) same told.1, told.2)
@@ -138,12 +138,12 @@ contents_moved a b moment path (Some row) same has =
 
 -- ---- over a load
 
-module _ (wanted : Wanted) (flat : Flat) (id : Id20) (old new : tree.History) (start behind end : shelf.History) (before : shelf.Extends start behind) (after : shelf.Extends behind end) where
+module _ (wanted : Wanted) (flat : Flat) (id : Id20) (old new : tree.History) (start behind end : shelf.History) (copy : tree.Extends old new) (before : shelf.Extends start behind) (after : shelf.Extends behind end) where
   abbrev Left : List ℕ → Type 0
-  Left = IsLeft wanted flat id new old.last end start.last
+  Left = IsLeft wanted flat (asked_by wanted flat) id new old.last end start.last
 
   abbrev LeftBehind : List ℕ → Type 0
-  LeftBehind = IsLeft wanted flat id new old.last end behind.last
+  LeftBehind = IsLeft wanted flat (asked_by wanted flat) id new old.last end behind.last
 
   within : behind.last ≤ end.last
   within = after.later
@@ -155,6 +155,10 @@ module _ (wanted : Wanted) (flat : Flat) (id : Id20) (old new : tree.History) (s
     row = λ is. row_later end start.last behind.last id path before.later after.later (left.row is);
     patterns = left.patterns;
   }
+
+  -- a path that is compared at first
+  asked_first : (path : List ℕ) → IsAsked (asked_by wanted flat) (tree.now old) path → IsAsked (asked_by wanted flat) (new.at old.last) path
+  asked_first path asked = subst (λ (moment : Moment). IsAsked (asked_by wanted flat) moment path) (sym (copy.stay old.last (omega arith))) asked
 
   at_start : (end.at start.last).files ≡ (shelf.now start).files
   at_start = (after.stay start.last before.later).shown ∙ (before.stay start.last (omega arith)).shown
@@ -176,11 +180,11 @@ module _ (wanted : Wanted) (flat : Flat) (id : Id20) (old new : tree.History) (s
       → IsFullFor Left flat (tree.now old) (parent_rows (shelf.now start).files id) (ignored_at (tree.now old)) wanted rows
   full_moved rows is = record {
     sound = λ row has left.
-        told_rows wanted flat (tree.now old) (parent_rows (shelf.now behind).files id) (parent_rows (shelf.now start).files id) (ignored_at (tree.now old)) row (λ looked. rows_moved row.path (left.row looked))
+        told_rows wanted flat (tree.now old) (parent_rows (shelf.now behind).files id) (parent_rows (shelf.now start).files id) (ignored_at (tree.now old)) row (λ asked. rows_moved row.path (left.row (asked_first row.path asked)))
         (is.sound row has (left_behind row.path left));
     all = λ row left tells.
         is.all row (left_behind row.path left)
-        (told_rows wanted flat (tree.now old) (parent_rows (shelf.now start).files id) (parent_rows (shelf.now behind).files id) (ignored_at (tree.now old)) row (λ looked. sym (rows_moved row.path (left.row looked)))
+        (told_rows wanted flat (tree.now old) (parent_rows (shelf.now start).files id) (parent_rows (shelf.now behind).files id) (ignored_at (tree.now old)) row (λ asked. sym (rows_moved row.path (left.row (asked_first row.path asked))))
         tells);
     once = is.once;
     ascending = is.ascending;
@@ -200,10 +204,10 @@ module _ (wanted : Wanted) (flat : Flat) (id : Id20) (old new : tree.History) (s
           ap (λ (files : shelf.Files). files (contents_name row.id.0)) (sym at_behind) ∙ keeps behind.last before.later after.later
           ∙ ap (λ (files : shelf.Files). files (contents_name row.id.0)) at_start
 
-  pub served_moved : ((path : List ℕ) → LeftBehind path → IsAsked wanted flat (tree.now old) path → IsServed (shelf.now behind).files id (tree.now old) path)
-      → (path : List ℕ) → Left path → IsAsked wanted flat (tree.now old) path → IsServed (shelf.now start).files id (tree.now old) path
+  pub served_moved : ((path : List ℕ) → LeftBehind path → IsAsked (asked_by wanted flat) (tree.now old) path → IsServed (shelf.now behind).files id (tree.now old) path)
+      → (path : List ℕ) → Left path → IsAsked (asked_by wanted flat) (tree.now old) path → IsServed (shelf.now start).files id (tree.now old) path
   served_moved served path left asked =
-      let kept : KeepsRow end start.last id path = left.row asked.compared in
+      let kept : KeepsRow end start.last id path = left.row (asked_first path asked) in
       let s = served path (left_behind path left) asked in
       let formed : manifest_at (shelf.now start).files id ≡ Ok s.rows = sym (manifest_moved path kept) ∙ s.formed in record {
         rows = s.rows;

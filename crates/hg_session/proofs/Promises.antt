@@ -1,50 +1,35 @@
 -- What a command that changes the record promises, from what was done under the lock and told behind it.
-use Rattle.std.proofs.Common.{ℕ, ◌≡◌, ◌<◌, ◌≤◌, Bool, cond, true, false, ◌||◌, List, [], ◌∷◌, map, Option, Some, None, Ok, IfSome, is_some, refl, sym, ap, ◌∙◌, subst, arith, inl, inr, ◌⊎◌}
-use Rattle.std.specs.List.{AllByRecursion, list_any}
-use Rattle.std.specs.Prelude.{MatchBool}
+use Rattle.std.proofs.Common.{ℕ, ◌≡◌, ◌<◌, ◌≤◌, Bool, true, List, Option, Some, None, Ok, IfSome, IsTrue, is_some, refl, sym, ap, ◌∙◌, subst, arith, inl, inr, ◌⊎◌}
 use Rattle.std.proofs.lemmas.Bool.{cases_lt}
 use Rattle.hg_base.proofs.Faults.{steady_not_rose}
 use Rattle.hg_base.specs.Fault.{IsSteady}
 use Rattle.hg_docket.specs.Number.{next_name}
 use Rattle.hg_entry.specs.Table.{Table}
-use Rattle.hg_ops.specs.declared.refusal.Refusal.{Refusal}
-use Rattle.hg_report.specs.Fault.{has_line}
 use Rattle.hg_report.specs.declared.fault.Fault.{Fault}
 use Rattle.hg_report.specs.declared.fault.Fault.TheVariants as a_fault
 use Rattle.hg_save.proofs.Loads.{last_within, unstepped_found}
-use Rattle.hg_save.specs.Loads.{Try, files_at}
+use Rattle.hg_save.specs.Loads.{files_at}
 use Rattle.hg_save.specs.Record.{id_in, reading}
-use Rattle.hg_session.proofs.Acted.{as_many, no_lines, none_refused}
-use Rattle.hg_session.proofs.Commands.{not_without}
+use Rattle.hg_session.proofs.Looks.{not_without}
 use Rattle.hg_session.proofs.Crashes.{crash_safe, lasting}
-use Rattle.hg_session.proofs.Readings.{unstepped_refuses}
-use Rattle.hg_session.specs.Acts.{AllSteps, refusals_text}
-use Rattle.hg_session.specs.Call.{Call, Count, Fails, Saved, Serves, Watched}
-use Rattle.hg_session.specs.Change.{FailsOrUnwritten, Fits, FitsFirst, IsDone, IsFreed, IsMade, IsReadFirst, IsSafe, MayFollowWriting, MetChanging, MetLocking, NoneOurs, files_of, id_read, up_to}
-use Rattle.hg_session.specs.Changed.{IsExpectedChange, IsMadeOf, IsPartlyTold, IsUnlooked, IsUnwrittenUnless, OnlyLooks, RanChange, TellsFault, status_of}
-use Rattle.hg_session.specs.Command.{IsFaultOrMemory, IsSilent, TellsLine}
-use Rattle.hg_session.specs.Listed.{LoadMet}
-use Rattle.hg_session.specs.Loaded.{IsRefused}
+use Rattle.hg_session.proofs.Readings.{unreadable_now}
+use Rattle.hg_session.specs.Acts.{Makes}
+use Rattle.hg_session.specs.Call.{Call, Count, Fails, IsLeftAlone, Saved, Serves, Watched}
+use Rattle.hg_session.specs.Change.{FailsOrUnwritten, Fits, FitsFirst, IsDone, IsEarly, IsLocked, IsMade, IsReadFirst, IsReadSome, IsSafe, MayFollowWriting, MetChanging, MetLocking, NoneOurs, Stretch, id_read, makes_in, up_to}
+use Rattle.hg_session.specs.Changed.{IsChangeText, IsExpectedChange, IsMadeOf, OnlyLooks, RanChange, change_look, status_of}
+use Rattle.hg_session.proofs.Records.{puts_none}
+use Rattle.hg_session.specs.Look.{LeavesAt, Stage, at_first, at_saving, at_telling}
+use Rattle.hg_session.specs.Put.{IsFaultOrMemory, IsSilent, Tells, TellsLine}
+use Rattle.hg_session.specs.Loaded.{AsksRecord}
 use Rattle.hg_session.specs.declared.acting.Changing.{Changing}
 use Rattle.hg_session.specs.declared.acting.Changing.TheVariants as a_change
-use Rattle.hg_session.specs.declared.read_fault.ReadFault.{ReadFault}
 use Rattle.hg_session.specs.declared.read_fault.ReadFault.TheVariants as a_read
 use Rattle.hg_shelf.specs.History.{Extends, Files, History, IsOurs, now, readers, us}
 use Rattle.hg_shelf.specs.Images.{Course, Goes}
 use Rattle.hg_shelf.specs.Polite.{Undisturbed}
 use Rattle.hg_stream.specs.Stream.{Grown, GrownByFront}
 use Rattle.hg_tree.specs.History as tree
-
--- ---- the status
-
-none_some : (refused : List (Option Refusal)) → AllByRecursion (λ one. one ≡ None) refused → list_any is_some refused ≡ false
-none_some [] all = refl
-none_some (one ∷ more) all = λ i. is_some (all.0 i) || none_some more all.1 i
-
-some_or_none : (refused : List (Option Refusal)) → (list_any is_some refused ≡ true) ⊎ AllByRecursion (λ one. one ≡ None) refused
-some_or_none [] = inr tt
-some_or_none (Some refusal ∷ more) = inl refl
-some_or_none (None ∷ more) = elim (some_or_none more) [ inl some ↦ inl some | inr none ↦ inr (refl, none) ]
+use Rattle.hg_words.specs.declared.given.Command.{Command}
 
 -- ---- where nobody else steps
 
@@ -67,7 +52,7 @@ none_own old new k own later within none = elim (cases_lt old.last k) [
 extends_first : (old new : History) (k : ℕ) → Extends old new → old.last ≤ k → Extends old (up_to k new)
 extends_first old new k past later = record { told = past.told; later = later; who = past.who; stay = past.stay }
 
-module _ (command : Changing) (words : List (List ℕ)) (copy : Watched tree.History) (a b : Course) (before after : ℕ) (past : Extends a.history b.history) (own : IsOurs a.history b.history) where
+module _ (Does : Makes) (copy : Watched tree.History) (a b : Course) (before after : ℕ) (past : Extends a.history b.history) (own : IsOurs a.history b.history) where
   abbrev files : Watched History
   files = record { old = a.history; new = b.history; before = before; after = after }
 
@@ -89,31 +74,25 @@ module _ (command : Changing) (words : List (List ℕ)) (copy : Watched tree.His
       let at : is.read.tried.last.docket ≡ a.history.last = omega (arith, tried.from, tried.to, first) in
       sym (ap id_in (ap (files_at b.history) at ∙ (past.stay a.history.last (omega arith)).shown))
 
-  abbrev made_own : (refused : List (Option Refusal)) (made : Table) (is : IsMade command words copy files refused made) → IsMadeOf command words copy there is.loaded made
-  made_own refused made is = record { recorded = read_own is.loaded (is.read own.told); refused = refused; steps = is.steps }
+  abbrev made_own : (made : Table) (lines : List ℕ) (changed : Bool) → IsMade Does files made lines changed → IsMadeOf Does there made lines changed
+  made_own made lines changed is = record { loaded = is.loaded; recorded = read_own is.loaded (is.read own.told); does = is.does }
 
   fits_own : (made : Table) → FitsFirst a.history b.history made → Fits there made
   fits_own made is =
       let first = none_own a.history b.history is.at own is.later is.within is.none in
       subst (λ (f : Files). Fits f made) (ap (files_at b.history) first ∙ (past.stay a.history.last (omega arith)).shown) is.fits
 
-  pub done_own : (lines : List ℕ) → IsDone command words copy files saved lines → IsExpectedChange command words copy there None
-  done_own lines done = record {
-    loaded = done.is.loaded;
+  pub done_own : (from to : ℕ) (lines : List ℕ) → IsDone Does files saved from to lines → IsExpectedChange Does there None
+  done_own from to lines done = record {
     made = done.made;
-    is = made_own done.refused done.made done.is;
+    lines = lines;
+    changed = done.changed;
+    is = made_own done.made lines done.changed done.is;
     fits = elim (done.fits own.told) [ inl same ↦ inl same | inr fits ↦ inr (fits_own done.made fits) ];
   }
 
-  refused_own : (fault : ReadFault) → b.history.last ≡ a.history.last → LoadMet fault files → (tries : List Try) × IsRefused fault (map (λ tried. id_in there) tries) (reading there)
-  refused_own fault still met = let m = met own.told in (m.0, unstepped_refuses a.history b.history m.0 fault past still m.1)
-
-  all_same : (id : List ℕ) (tries : List Try) → AllByRecursion (λ other. other ≡ id) (map (λ tried. id) tries)
-  all_same id [] = tt
-  all_same id (one ∷ more) = (refl, all_same id more)
-
   -- a fault that can't be met once something was written
-  still_by : (fault : Fault) → (MayFollowWriting (Some fault) → ⊥) → IsSafe command words copy saved (Some fault) → b.history.last ≡ a.history.last
+  still_by : (fault : Fault) → (MayFollowWriting (Some fault) → ⊥) → IsSafe Does saved (Some fault) → b.history.last ≡ a.history.last
   still_by fault never (inl none) = none_own a.history b.history b.history.last own past.later (omega arith) none.none
   still_by fault never (inr (may, is)) = absurd (never may)
 
@@ -122,92 +101,41 @@ module _ (command : Changing) (words : List (List ℕ)) (copy : Watched tree.His
   apart fault shelf err memory (inr (inl is)) = err is
   apart fault shelf err memory (inr (inr is)) = memory is
 
-  pub met_own : (fault : Fault) → IsSafe command words copy saved (Some fault) → MetChanging command words copy files fault → Serves copy → Serves files → IsExpectedChange command words copy there (Some fault)
+  pub met_own : (fault : Fault) → IsSafe Does saved (Some fault) → MetChanging Does copy files fault → Serves copy → Serves files → IsExpectedChange Does there (Some fault)
   met_own a_fault.OutOfMemory safe met p q = tt
   met_own (a_fault.Docket fault) safe met p q =
-      (refused_own (a_read.Docket fault) (still_by (a_fault.Docket fault) (apart (a_fault.Docket fault) (λ is. cc is) (λ is. cc is) (λ is. cc is)) safe) met).1
+      unreadable_now files past (still_by (a_fault.Docket fault) (apart (a_fault.Docket fault) (λ is. cc is) (λ is. cc is) (λ is. cc is)) safe) own.told (a_read.Docket fault) met q
   met_own (a_fault.Node fault) safe met p q =
-      (refused_own (a_read.Node fault) (still_by (a_fault.Node fault) (apart (a_fault.Node fault) (λ is. cc is) (λ is. cc is) (λ is. cc is)) safe) met).1
+      unreadable_now files past (still_by (a_fault.Node fault) (apart (a_fault.Node fault) (λ is. cc is) (λ is. cc is) (λ is. cc is)) safe) own.told (a_read.Node fault) met q
   met_own (a_fault.DataGone ids) safe met p q =
-      let m = refused_own (a_read.DataGone ids) (still_by (a_fault.DataGone ids) (apart (a_fault.DataGone ids) (λ is. cc is) (λ is. cc is) (λ is. cc is)) safe) met in
-      (m.1.0, subst (AllByRecursion (λ id. id ≡ id_in there)) (sym m.1.1) (all_same (id_in there) m.0))
+      unreadable_now files past (still_by (a_fault.DataGone ids) (apart (a_fault.DataGone ids) (λ is. cc is) (λ is. cc is) (λ is. cc is)) safe) own.told (a_read.DataGone ids) met q
   met_own (a_fault.TooLarge size) safe met p q = record {
-    loaded = met.is.loaded;
     made = met.made;
-    is = made_own met.refused met.made met.is;
-    busy = met.busy;
+    lines = met.lines;
+    is = made_own met.made met.lines true met.is;
     held = met.held;
     same = met.same;
     large = met.large;
     next = ap (λ (id : List ℕ). is_some (next_name id)) (id_own met.is.loaded (met.is.read own.told)) ∙ met.next own.told;
   }
   met_own a_fault.IdsSpent safe met p q = record {
-    loaded = met.is.loaded;
     made = met.made;
-    is = made_own met.refused met.made met.is;
-    busy = met.busy;
+    lines = met.lines;
+    is = made_own met.made met.lines true met.is;
     spent = ap next_name (id_own met.is.loaded (met.is.read own.told)) ∙ met.spent own.told;
   }
-  met_own a_fault.TreeFailed safe met p q = steady_not_rose copy.before copy.after p met
+  met_own a_fault.TreeFailed safe met p q = steady_not_rose copy.before copy.after p met.0
   met_own a_fault.ShelfFailed safe met p q = steady_not_rose before after q met
-  met_own a_fault.NotBuilt safe met p q = met
-  met_own (a_fault.NoManifest id) safe met p q = met
-  met_own (a_fault.ManifestTooLarge size) safe met p q = met
-  met_own (a_fault.ManifestLine line) safe met p q = met
-  met_own (a_fault.ManifestOrder line) safe met p q = met
-  met_own (a_fault.NoContents id) safe met p q = met
-  met_own (a_fault.IgnoreTooLarge size) safe met p q = met
-  met_own (a_fault.IgnoreText at) safe met p q = met
-  met_own (a_fault.BadGlob line) safe met p q = met
-  met_own (a_fault.BadRegexp line) safe met p q = met
-  met_own (a_fault.RegexpTooBig line) safe met p q = met
-  met_own (a_fault.BadInclude line) safe met p q = met
-  met_own a_fault.Held safe met p q = met
-  met_own a_fault.OutFailed safe met p q = met
-  met_own a_fault.ErrFailed safe met p q = met
-
--- ---- what is told
-
--- a fault that is met before anything is told has a line
-changing_told : (command : Changing) (words : List (List ℕ)) (copy : Watched tree.History) (files : Watched History) (fault : Fault) → MetChanging command words copy files fault → has_line fault ≡ true
-changing_told command words copy files a_fault.OutOfMemory met = refl
-changing_told command words copy files (a_fault.Docket fault) met = refl
-changing_told command words copy files (a_fault.Node fault) met = refl
-changing_told command words copy files (a_fault.DataGone ids) met = refl
-changing_told command words copy files (a_fault.TooLarge size) met = refl
-changing_told command words copy files a_fault.IdsSpent met = refl
-changing_told command words copy files a_fault.TreeFailed met = refl
-changing_told command words copy files a_fault.ShelfFailed met = refl
-changing_told command words copy files a_fault.NotBuilt met = refl
-changing_told command words copy files (a_fault.NoManifest id) met = refl
-changing_told command words copy files (a_fault.ManifestTooLarge size) met = refl
-changing_told command words copy files (a_fault.ManifestLine line) met = refl
-changing_told command words copy files (a_fault.ManifestOrder line) met = refl
-changing_told command words copy files (a_fault.NoContents id) met = refl
-changing_told command words copy files (a_fault.IgnoreTooLarge size) met = refl
-changing_told command words copy files (a_fault.IgnoreText at) met = refl
-changing_told command words copy files (a_fault.BadGlob line) met = refl
-changing_told command words copy files (a_fault.BadRegexp line) met = refl
-changing_told command words copy files (a_fault.RegexpTooBig line) met = refl
-changing_told command words copy files (a_fault.BadInclude line) met = refl
-changing_told command words copy files a_fault.Held met = refl
-changing_told command words copy files a_fault.OutFailed met = refl
-changing_told command words copy files a_fault.ErrFailed met = absurd met
-
-pub locking_told : (command : Changing) (words : List (List ℕ)) (copy : Watched tree.History) (files : Watched History) (locks : Count) (fault : Fault) → MetLocking command words copy files locks fault → has_line fault ≡ true
-locking_told command words copy files locks fault (inl met) = changing_told command words copy files fault met
-locking_told command words copy files locks fault (inr (held, rose)) = ap has_line held
+  met_own fault safe met p q = absurd met
 
 -- ---- the whole command
 
-line_of_told : (command : Changing) (call : Call) (fault : Fault) → has_line fault ≡ true → TellsLine call.err.old call.err.new call.err.before call.err.after fault → TellsFault command call fault
-line_of_told command call fault told line = subst (λ (h : Bool). MatchBool h (TellsLine call.err.old call.err.new call.err.before call.err.after fault) (IsPartlyTold command call)) (sym told) line
-
-module _ (command : Changing) (words : List (List ℕ)) (copy : Watched tree.History) (a b : Course) (before after : ℕ) (locks oversize : Count) (out err : Watched (Option (List ℕ)))
-    (silent : IsSilent out) (uncounted : oversize.after ≡ oversize.before) (looks : OnlyLooks copy) (unlooked : command ≡ a_change.Forget → IsUnlooked copy) (kept : Goes a b) where
+module _ (command : Changing) (words : List (List ℕ)) (copy : Watched tree.History) (a b : Course) (before after : ℕ) (locks oversize : Count) (called : Command) (out err : Watched (Option (List ℕ)))
+    (silent : IsSilent out) (uncounted : oversize.after ≡ oversize.before) (looks : OnlyLooks copy) (unlooked : command ≡ a_change.Forget → IsLeftAlone copy)
+    (behind : IsLeftAlone copy ⊎ IsReadSome (record { old = a.history; new = b.history; before = before; after = after })) (asked : IsTrue a.history.told → AsksRecord a.history b.history) (kept : Goes a b) where
   abbrev call : Call
   call = record {
-    words = words;
+    command = called;
     looked = record { tree = copy; shelf = record { old = a.history; new = b.history; before = before; after = after }; oversize = oversize };
     saved = record { old = a; new = b };
     locks = locks;
@@ -215,175 +143,205 @@ module _ (command : Changing) (words : List (List ℕ)) (copy : Watched tree.His
     err = err;
   }
 
-  -- the lock is given back, or that failed, where this is the fault
-  abbrev pub FreesFor : Option Fault → Type 0
-  FreesFor fault = IsFreed command (files_of words) copy call.looked.shelf call.saved fault
+  abbrev Does : Makes
+  Does = makes_in command words call
+
+  -- what came of the lock, where this is the fault
+  abbrev pub LockedBy : Option Fault → Type 0
+  LockedBy fault = IsLocked Does copy call.looked.shelf call.saved locks fault
 
   -- so it is where another fault is told, or none
-  frees_as : (first told : Option Fault) → (told ≡ Some a_fault.ShelfFailed → first ≡ Some a_fault.ShelfFailed) → FreesFor first → FreesFor told
-  frees_as first told only freed = λ held. elim (freed held) [
-    | inl was ↦ inl was
-    | inr is ↦ inr (record { failed = is.failed; alone = λ one same. is.alone one (only same) })
-  ]
+  locked_as : (first told : Option Fault) → ((fault : Fault) → IsFaultOrMemory first fault → IsFaultOrMemory told fault) → LockedBy first → LockedBy told
+  locked_as first told same (inl is) = inl (record {
+    told = is.told;
+    ours = is.ours;
+    counted = is.counted;
+    unwritten = is.unwritten;
+    unasked = is.unasked;
+    unlooked = is.unlooked;
+    answer = same a_fault.Held is.answer;
+  })
+  locked_as first told same (inr (inl is)) = inr (inl (record {
+    told = is.told;
+    ours = is.ours;
+    uncounted = is.uncounted;
+    failed = is.failed;
+    unwritten = is.unwritten;
+    unasked = is.unasked;
+    unlooked = is.unlooked;
+    answer = same a_fault.ShelfFailed is.answer;
+  }))
+  locked_as first told same (inr (inr (inl is))) = inr (inr (inl is))
+  locked_as first told same (inr (inr (inr is))) = inr (inr (inr (record {
+    told = is.told;
+    uncounted = is.uncounted;
+    failed = is.failed;
+    first =
+        elim is.first [
+          | inl done ↦ inl (same a_fault.ShelfFailed done.0, done.1, done.2, done.3)
+          | inr met ↦ inr (met.0, same met.0 met.1, met.2, met.3)
+        ];
+  })))
 
-  pub ran_done : FreesFor None → (status : ℕ) (lines : List ℕ) (done : IsDone command (files_of words) copy call.looked.shelf call.saved lines) → Grown err.old err.new lines → status ≡ status_of done.refused
-      → (Undisturbed a b → IsSafe command (files_of words) copy call.saved None) → copy.after ≡ copy.before → after ≡ before → err.after ≡ err.before → (locks.before < locks.after → ⊥) → (copy.before < copy.after → ⊥)
-      → RanChange command call status None
-  ran_done freed status lines done grown is safe calm_tree calm_shelf calm_err unheld well = record {
-    stepped = λ none. record { lines = lines; done = done; told = grown; ends = is; lasts = λ calm keep. lasting a b kept calm keep done.is.loaded done.made (done.kept calm) };
+  -- where there is none there was none
+  never_none : {Q : Type 0} (fault : Fault) → IsFaultOrMemory None fault → Q
+  never_none fault is = not_without None fault is refl
+
+  change_text : (stretch : Stretch a.history b.history) (lines : List ℕ) → IsDone Does call.looked.shelf call.saved stretch.from stretch.to lines → IsChangeText Does call lines
+  change_text stretch lines done = record { stretch = stretch; done = done; lasts = λ calm keep. lasting a b kept calm keep done.is.loaded done.made stretch (done.kept calm) }
+
+  pub ran_done : LockedBy None → (status : ℕ) (stretch : Stretch a.history b.history) (lines : List ℕ) (done : IsDone Does call.looked.shelf call.saved stretch.from stretch.to lines) → Grown err.old err.new lines → status ≡ status_of lines
+      → (Undisturbed a b → IsSafe Does call.saved None) → copy.after ≡ copy.before → after ≡ before → err.after ≡ err.before → (locks.before < locks.after → ⊥) → (copy.before < copy.after → ⊥)
+      → RanChange command words call status None
+  ran_done locked status stretch lines done grown is safe calm_tree calm_shelf calm_err unheld well = record {
+    shows = record {
+      done = λ none. record { ready = tt; printed = puts_none out silent; told = record { text = lines; is = change_text stretch lines done; put = grown } };
+      left = tt;
+    };
+    ends = λ none. is;
     safe = safe;
-    crash = λ calm keep first. crash_safe a b kept calm keep command (files_of words) copy first None (safe calm);
-    unwritten = tt;
-    cause = tt;
+    crash = λ calm keep first. crash_safe a b kept calm keep Does first None (safe calm);
     held = λ rose. absurd (unheld rose);
     tree = λ rose. absurd (well rose);
-    complete = λ own p q r steady. done_own command (files_of words) copy a b before after kept.past own.shelf lines done;
+    complete = λ own p q r steady. done_own Does copy a b before after kept.past own.shelf stretch.from stretch.to lines done;
     calm_tree = λ none. calm_tree;
     calm_shelf = λ well. calm_shelf;
     calm_err = λ none. calm_err;
-    told = tt;
     silent = silent;
     uncounted = uncounted;
     looks = looks;
+    behind = behind;
+    early = λ never. absurd never;
     unlooked = unlooked;
+    asked = asked;
     kept = kept;
-    freed = freed;
+    locked = locked;
   }
 
-  safe_untold : IsSafe command (files_of words) copy call.saved None → IsSafe command (files_of words) copy call.saved (Some a_fault.ErrFailed)
+  safe_untold : IsSafe Does call.saved None → IsSafe Does call.saved (Some a_fault.ErrFailed)
   safe_untold (inl none) = inl none
   safe_untold (inr (may, is)) = inr (inr (inl refl), is)
 
   -- the error stream failed while the refused words were told
-  pub ran_untold : FreesFor None → (lines : List ℕ) (done : IsDone command (files_of words) copy call.looked.shelf call.saved lines) → GrownByFront err.old err.new lines → Fails err → after ≡ before
-      → (Undisturbed a b → IsSafe command (files_of words) copy call.saved None) → (locks.before < locks.after → ⊥) → (copy.before < copy.after → ⊥) → (status : ℕ) → RanChange command call status (Some a_fault.ErrFailed)
-  ran_untold freed lines done grown failed calm_shelf safe unheld well status = record {
-    stepped = λ none. absurd (cc none);
+  pub ran_untold : LockedBy None → (stretch : Stretch a.history b.history) (lines : List ℕ) (done : IsDone Does call.looked.shelf call.saved stretch.from stretch.to lines) → GrownByFront err.old err.new lines → Fails err → after ≡ before
+      → (Undisturbed a b → IsSafe Does call.saved None) → (locks.before < locks.after → ⊥) → (copy.before < copy.after → ⊥) → (status : ℕ) → RanChange command words call status (Some a_fault.ErrFailed)
+  ran_untold locked stretch lines done grown failed calm_shelf safe unheld well status = record {
+    shows = record {
+      done = λ none. absurd (cc none);
+      left = (at_telling, (tt, tt, puts_none out silent, record { text = lines; is = change_text stretch lines done; put = grown; failed = failed }, refl));
+    };
+    ends = λ none. absurd (cc none);
     safe = λ calm. safe_untold (safe calm);
-    crash = λ calm keep first. crash_safe a b kept calm keep command (files_of words) copy first (Some a_fault.ErrFailed) (safe_untold (safe calm));
-    unwritten = inl refl;
-    cause = inr (refl, failed);
+    crash = λ calm keep first. crash_safe a b kept calm keep Does first (Some a_fault.ErrFailed) (safe_untold (safe calm));
     held = λ rose. absurd (unheld rose);
     tree = λ rose. absurd (well rose);
     complete = λ own p q r steady. steady_not_rose err.before err.after r failed;
     calm_tree = λ none. absurd (cc none);
-    calm_shelf = λ behind. calm_shelf;
+    calm_shelf = λ told. calm_shelf;
     calm_err = λ none. absurd (cc none);
-    told = record { lines = lines; done = done; told = grown; failed = failed; lasts = λ calm keep. lasting a b kept calm keep done.is.loaded done.made (done.kept calm) };
     silent = silent;
     uncounted = uncounted;
     looks = looks;
+    behind = behind;
+    early = λ never. absurd never;
     unlooked = unlooked;
+    asked = asked;
     kept = kept;
-    freed = frees_as None (Some a_fault.ErrFailed) (λ is. absurd (cc is)) freed;
+    locked = locked_as None (Some a_fault.ErrFailed) (λ fault is. never_none fault is) locked;
   }
 
-  safe_any : (fault : Fault) → IsSafe command (files_of words) copy call.saved (Some fault) → IsSafe command (files_of words) copy call.saved (Some a_fault.OutOfMemory)
+  safe_any : (fault : Fault) → IsSafe Does call.saved (Some fault) → IsSafe Does call.saved (Some a_fault.OutOfMemory)
   safe_any fault (inl none) = inl none
   safe_any fault (inr (may, is)) = inr (inr (inr refl), is)
 
-  locked_own : (fault : Fault) → IsSafe command (files_of words) copy call.saved (Some fault) → MetLocking command (files_of words) copy call.looked.shelf locks fault → IsOurs a.history b.history → Serves copy → Serves call.looked.shelf
-      → IsSteady locks.before locks.after → IsExpectedChange command (files_of words) copy (now a.history).files (Some fault)
-  locked_own fault safe (inl met) own p q steady = met_own command (files_of words) copy a b before after kept.past own fault safe met p q
+  locked_own : (fault : Fault) → IsSafe Does call.saved (Some fault) → MetLocking Does copy call.looked.shelf locks fault → IsOurs a.history b.history → Serves copy → Serves call.looked.shelf
+      → IsSteady locks.before locks.after → IsExpectedChange Does (now a.history).files (Some fault)
+  locked_own fault safe (inl met) own p q steady = met_own Does copy a b before after kept.past own fault safe met p q
   locked_own fault safe (inr (held, rose)) own p q steady = absurd (steady_not_rose locks.before locks.after steady rose)
 
-  shelf_met : MetLocking command (files_of words) copy call.looked.shelf locks a_fault.ShelfFailed → Fails call.looked.shelf
+  shelf_met : MetLocking Does copy call.looked.shelf locks a_fault.ShelfFailed → Fails call.looked.shelf
   shelf_met (inl rose) = rose
   shelf_met (inr (held, rose)) = absurd (cc held)
 
-  shelf_fails : (fault : Fault) → fault ≡ a_fault.ShelfFailed → MetLocking command (files_of words) copy call.looked.shelf locks fault → Fails call.looked.shelf
-  shelf_fails fault is met = shelf_met (subst (MetLocking command (files_of words) copy call.looked.shelf locks) is met)
+  shelf_fails : (fault : Fault) → fault ≡ a_fault.ShelfFailed → MetLocking Does copy call.looked.shelf locks fault → Fails call.looked.shelf
+  shelf_fails fault is met = shelf_met (subst (MetLocking Does copy call.looked.shelf locks) is met)
 
-  err_met : MetLocking command (files_of words) copy call.looked.shelf locks a_fault.ErrFailed → ⊥
+  err_met : MetLocking Does copy call.looked.shelf locks a_fault.ErrFailed → ⊥
   err_met (inl met) = met
   err_met (inr (held, rose)) = cc held
 
   -- the error stream isn't told before the lines of the words
-  never_err : (fault : Fault) → MetLocking command (files_of words) copy call.looked.shelf locks fault → fault ≡ a_fault.ErrFailed → ⊥
-  never_err fault met is = err_met (subst (MetLocking command (files_of words) copy call.looked.shelf locks) is met)
+  never_err : (fault : Fault) → MetLocking Does copy call.looked.shelf locks fault → fault ≡ a_fault.ErrFailed → ⊥
+  never_err fault met is = err_met (subst (MetLocking Does copy call.looked.shelf locks) is met)
 
-  -- whether the fault is told, or want of memory for its line
-  unless_same : (fault : Fault) → MetLocking command (files_of words) copy call.looked.shelf locks fault → FailsOrUnwritten a.history b.history fault → IsUnwrittenUnless call fault
-  unless_same fault met (inl is) = inr (inl (shelf_fails fault is met, inl is))
-  unless_same fault met (inr none) = inr (inr none)
+  -- where it was met, whether it is told, or want of memory for its line
+  stage_same : (fault : Fault) → MetLocking Does copy call.looked.shelf locks fault → FailsOrUnwritten a.history b.history fault → Tells err fault
+      → (stage : Stage) × LeavesAt (change_look Does call) out err (Tells err) stage fault
+  stage_same fault met (inl is) line = (at_saving, ((shelf_fails fault is met, inl is), silent, line))
+  stage_same fault met (inr none) line = (at_first, ((none, met), silent, line))
 
-  unless_memory : (fault : Fault) → MetLocking command (files_of words) copy call.looked.shelf locks fault → FailsOrUnwritten a.history b.history fault → IsUnwrittenUnless call a_fault.OutOfMemory
-  unless_memory fault met (inl is) = inr (inl (shelf_fails fault is met, inr refl))
-  unless_memory fault met (inr none) = inr (inr none)
+  stage_memory : (fault : Fault) → MetLocking Does copy call.looked.shelf locks fault → FailsOrUnwritten a.history b.history fault → Tells err a_fault.OutOfMemory
+      → (stage : Stage) × LeavesAt (change_look Does call) out err (Tells err) stage a_fault.OutOfMemory
+  stage_memory fault met (inl is) line = (at_saving, ((shelf_fails fault is met, inr refl), silent, line))
+  stage_memory fault met (inr none) line = (at_first, ((none, inl tt), silent, line))
 
-  ran_fault : (status : ℕ) (fault answered : Fault) → FreesFor (Some fault) → (answered ≡ fault) ⊎ (answered ≡ a_fault.OutOfMemory) → MetLocking command (files_of words) copy call.looked.shelf locks fault
-      → (Undisturbed a b → IsSafe command (files_of words) copy call.saved (Some fault)) → FailsOrUnwritten a.history b.history fault → (locks.before < locks.after → fault ≡ a_fault.Held) → (copy.before < copy.after → fault ≡ a_fault.TreeFailed)
-      → TellsLine err.old err.new err.before err.after answered → RanChange command call status (Some answered)
-  ran_fault status fault answered freed (inl same) met safe written held failed line =
-      subst (λ (f : Fault). TellsLine err.old err.new err.before err.after f → RanChange command call status (Some f)) (sym same) (λ told. record {
-        stepped = λ none. absurd (cc none);
+  ran_fault : (status : ℕ) (fault answered : Fault) → LockedBy (Some fault) → (answered ≡ fault) ⊎ (answered ≡ a_fault.OutOfMemory) → MetLocking Does copy call.looked.shelf locks fault
+      → (Undisturbed a b → IsSafe Does call.saved (Some fault)) → FailsOrUnwritten a.history b.history fault → (locks.before < locks.after → fault ≡ a_fault.Held) → (copy.before < copy.after → fault ≡ a_fault.TreeFailed) → (IsEarly fault → IsLeftAlone copy)
+      → TellsLine err.old err.new err.before err.after answered → RanChange command words call status (Some answered)
+  ran_fault status fault answered locked (inl same) met safe written held failed early line =
+      subst (λ (f : Fault). TellsLine err.old err.new err.before err.after f → RanChange command words call status (Some f)) (sym same) (λ told. record {
+        shows = record { done = λ none. absurd (cc none); left = stage_same fault met written told };
+        ends = λ none. absurd (cc none);
         safe = safe;
-        crash = λ calm keep first. crash_safe a b kept calm keep command (files_of words) copy first (Some fault) (safe calm);
-        unwritten = unless_same fault met written;
-        cause = inl met;
+        crash = λ calm keep first. crash_safe a b kept calm keep Does first (Some fault) (safe calm);
         held = λ rose. inl (ap Some (held rose));
         tree = λ rose. inl (ap Some (failed rose));
         complete = λ own p q r steady. locked_own fault (safe (calm_own a b own.shelf)) met own.shelf p q steady;
         calm_tree = λ none. absurd (cc none);
-        calm_shelf = λ behind. elim behind [
+        calm_shelf = λ told_so. elim told_so [
           | inl none ↦ absurd (cc none)
           | inr is ↦ absurd (never_err fault met (cc is))
         ];
         calm_err = λ none. absurd (cc none);
-        told = line_of_told command call fault (locking_told command (files_of words) copy call.looked.shelf locks fault met) told;
         silent = silent;
         uncounted = uncounted;
         looks = looks;
+        behind = behind;
+        early = early;
         unlooked = unlooked;
+        asked = asked;
         kept = kept;
-        freed = freed;
+        locked = locked;
       }) line
-  ran_fault status fault answered freed (inr memory) met safe written held failed line =
-      subst (λ (f : Fault). TellsLine err.old err.new err.before err.after f → RanChange command call status (Some f)) (sym memory) (λ told. record {
-        stepped = λ none. absurd (cc none);
+  ran_fault status fault answered locked (inr memory) met safe written held failed early line =
+      subst (λ (f : Fault). TellsLine err.old err.new err.before err.after f → RanChange command words call status (Some f)) (sym memory) (λ told. record {
+        shows = record { done = λ none. absurd (cc none); left = stage_memory fault met written told };
+        ends = λ none. absurd (cc none);
         safe = λ calm. safe_any fault (safe calm);
-        crash = λ calm keep first. crash_safe a b kept calm keep command (files_of words) copy first (Some a_fault.OutOfMemory) (safe_any fault (safe calm));
-        unwritten = unless_memory fault met written;
-        cause = inl (inl tt);
+        crash = λ calm keep first. crash_safe a b kept calm keep Does first (Some a_fault.OutOfMemory) (safe_any fault (safe calm));
         held = λ rose. inr refl;
         tree = λ rose. inr refl;
         complete = λ own p q r steady. tt;
         calm_tree = λ none. absurd (cc none);
-        calm_shelf = λ behind. elim behind [
+        calm_shelf = λ told_so. elim told_so [
           | inl none ↦ absurd (cc none)
           | inr is ↦ absurd (cc is)
         ];
         calm_err = λ none. absurd (cc none);
-        told = line_of_told command call a_fault.OutOfMemory refl told;
         silent = silent;
         uncounted = uncounted;
         looks = looks;
+        behind = behind;
+        early = λ never. absurd never;
         unlooked = unlooked;
+        asked = asked;
         kept = kept;
-        freed = frees_as (Some fault) (Some a_fault.OutOfMemory) (λ is. absurd (cc is)) freed;
+        locked = locked_as (Some fault) (Some a_fault.OutOfMemory) (λ met is. inr refl) locked;
       }) line
 
-  pub ran_failed : (status : ℕ) (fault : Fault) (answered : Option Fault) → FreesFor (Some fault) → IsFaultOrMemory answered fault → MetLocking command (files_of words) copy call.looked.shelf locks fault
-      → (Undisturbed a b → IsSafe command (files_of words) copy call.saved (Some fault)) → FailsOrUnwritten a.history b.history fault → (locks.before < locks.after → fault ≡ a_fault.Held) → (copy.before < copy.after → fault ≡ a_fault.TreeFailed)
-      → IfSome answered (λ f. TellsLine err.old err.new err.before err.after f) → RanChange command call status answered
-  ran_failed status fault None freed is met safe written held failed line = not_without None fault is refl
-  ran_failed status fault (Some f) freed (inl same) met safe written held failed line = ran_fault status fault f freed (inl (cc same)) met safe written held failed line
-  ran_failed status fault (Some f) freed (inr memory) met safe written held failed line = ran_fault status fault f freed (inr (cc memory)) met safe written held failed line
-
-status_none : (command : Changing) (before after : tree.History) (words : List (List ℕ)) (refused : List (Option Refusal)) (old new : Table) → AllSteps command before after words refused old new
-    → refusals_text command words refused ≡ [] → 0 ≡ status_of refused
-status_none command before after words refused old new steps none =
-    sym (ap (λ (b : Bool). cond b 1 0) (none_some refused (no_lines command words refused (as_many command before after words refused old new steps) none)))
-
-status_some : (command : Changing) (words : List (List ℕ)) (refused : List (Option Refusal)) → (refusals_text command words refused ≡ [] → ⊥) → 1 ≡ status_of refused
-status_some command words refused some = elim (some_or_none refused) [
-  | inl is ↦ sym (ap (λ (b : Bool). cond b 1 0) is)
-  | inr none ↦ absurd (some (none_refused command words refused none))
-]
-
--- the status by the lines
-pub status_by : (command : Changing) (before after : tree.History) (words : List (List ℕ)) (refused : List (Option Refusal)) (old new : Table) → AllSteps command before after words refused old new
-    → (lines : List ℕ) → lines ≡ refusals_text command words refused → (status : ℕ) → (lines ≡ [] → status ≡ 0) → ((lines ≡ [] → ⊥) → status ≡ 1) → status ≡ status_of refused
-status_by command before after words refused old new steps [] is status none some = none refl ∙ status_none command before after words refused old new steps (sym is)
-status_by command before after words refused old new steps (x ∷ lines) is status none some =
-    some (λ empty. cc empty) ∙ status_some command words refused (λ empty. let never : x ∷ lines ≡ [] = is ∙ empty in cc never)
+  pub ran_failed : (status : ℕ) (fault : Fault) (answered : Option Fault) → LockedBy (Some fault) → IsFaultOrMemory answered fault → MetLocking Does copy call.looked.shelf locks fault
+      → (Undisturbed a b → IsSafe Does call.saved (Some fault)) → FailsOrUnwritten a.history b.history fault → (locks.before < locks.after → fault ≡ a_fault.Held) → (copy.before < copy.after → fault ≡ a_fault.TreeFailed) → (IsEarly fault → IsLeftAlone copy)
+      → IfSome answered (λ f. TellsLine err.old err.new err.before err.after f) → RanChange command words call status answered
+  ran_failed status fault None locked is met safe written held failed early line = not_without None fault is refl
+  ran_failed status fault (Some f) locked (inl same) met safe written held failed early line = ran_fault status fault f locked (inl (cc same)) met safe written held failed early line
+  ran_failed status fault (Some f) locked (inr memory) met safe written held failed early line = ran_fault status fault f locked (inr (cc memory)) met safe written held failed early line

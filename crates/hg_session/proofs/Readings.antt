@@ -1,24 +1,27 @@
 -- What reading the record finds, from what a load found and what its nodes lead to.
-use Rattle.std.proofs.Common.{ℕ, ◌≡◌, List, [], ◌∷◌, map, Option, Some, None, Result, Ok, Err, IsTrue, refl, sym, ap, ◌∙◌, subst, arith}
+use Rattle.std.proofs.Common.{ℕ, ◌≡◌, ◌≤◌, List, [], ◌∷◌, map, Option, Some, None, Result, Ok, Err, IfOk, IsTrue, refl, sym, ap, ◌∙◌, subst, arith, inl, inr, true≢false}
+use Rattle.std.specs.List.{AllByRecursion}
+use Rattle.std.proofs.lemmas.Bool.{cases_Bool}
+use Rattle.hg_base.proofs.Faults.{steady_not_rose}
 use Rattle.hg_base.specs.Fault.{HasCause}
 use Rattle.hg_docket.specs.Docket.{docket_of, docket_refusal}
 use Rattle.hg_docket.specs.declared.fault.DocketFault.{DocketFault}
 use Rattle.hg_entry.specs.Table.{Table}
 use Rattle.hg_image.specs.Reading.{RecordFault, data_reading, docket_reading, of_data, reading_of}
 use Rattle.hg_image.specs.declared.fault.NodeFault.{NodeFault}
-use Rattle.hg_save.proofs.Loads.{same_ids, unstepped_found}
+use Rattle.hg_save.proofs.Loads.{found_longer, same_ids, tries_longer, unstepped_found}
 use Rattle.hg_save.specs.Loads.{Loads, Try, found_by, id_by}
 use Rattle.hg_save.specs.Record.{id_in, record_in}
 use Rattle.hg_save.specs.declared.load_fault.LoadFault.{LoadFault}
 use Rattle.hg_save.specs.declared.load_fault.LoadFault.TheVariants as a_load
 use Rattle.hg_save.specs.declared.loaded.Loaded.{Loaded}
-use Rattle.hg_session.specs.Call.{Fails, Watched}
-use Rattle.hg_session.specs.Listed.{MetReading}
-use Rattle.hg_session.specs.Load.{by_load}
-use Rattle.hg_session.specs.Loaded.{Answers, IsRefused, NodesFind, Reads, Refuses}
+use Rattle.hg_session.specs.Call.{Fails, Serves, Watched}
+use Rattle.hg_session.specs.Change.{IsReadSome, up_to}
+use Rattle.hg_session.specs.Load.{by_load, of_read}
+use Rattle.hg_session.specs.Loaded.{Answers, IsLoaded, IsRead, IsRefused, IsUnreadable, LoadMet, MetReading, NodesFind, Reads, Refuses, WasLoaded}
 use Rattle.hg_session.specs.declared.read_fault.ReadFault.{ReadFault}
 use Rattle.hg_session.specs.declared.read_fault.ReadFault.TheVariants as a_fault
-use Rattle.hg_shelf.specs.History.{Extends, History, now}
+use Rattle.hg_shelf.specs.History.{Extends, Files, History, now}
 
 -- an answer that says nothing of the shelf, behind a call in which its count stood still
 pub cause_still : {X : Type 0} (IsOf : Table → X → Type 0) (before now : ℕ) (result : Result X ReadFault) (found : Result Table NodeFault) → now ≡ before → NodesFind IsOf result found → HasCause before now result (λ e. e ≡ a_fault.Failed)
@@ -28,6 +31,11 @@ cause_still IsOf before now (Err (a_fault.Node fault)) found still finds = recor
 cause_still IsOf before now (Err (a_fault.Docket fault)) found still finds = absurd finds
 cause_still IsOf before now (Err (a_fault.DataGone ids)) found still finds = absurd finds
 cause_still IsOf before now (Err a_fault.Failed) found still finds = absurd finds
+
+-- what was made was made of some table
+pub some_found : {X : Type 0} (IsOf : Table → X → Type 0) (result : Result X ReadFault) (found : Result Table NodeFault) → NodesFind IsOf result found → IfOk result (λ made. (table : Table) × IsOf table made)
+some_found IsOf (Ok made) found finds = (finds.0, finds.2)
+some_found IsOf (Err fault) found finds = tt
 
 by_nodes : {X : Type 0} (IsOf : Table → X → Type 0) (result : Result X ReadFault) (ids : List (List ℕ)) (found : Result Table NodeFault) → NodesFind IsOf result found → Answers IsOf result ids (Some (of_data found))
 by_nodes IsOf (Ok made) ids found finds = (finds.0, ap (λ (r : Result Table NodeFault). Some (of_data r)) finds.1, finds.2)
@@ -62,6 +70,32 @@ refused_by a_load.Failed old new tries loads = tt
 pub unread : {X : Type 0} (IsOf : Table → X → Type 0) (old new : History) (tried : Try) (fault : LoadFault) → Loads old new (tried ∷ []) (Err fault) → Reads IsOf old new (tried ∷ []) (Err (by_load fault))
 unread IsOf old new tried fault loads = record { tried = loads.tried; answer = refused_by fault old new (tried ∷ []) loads }
 
+-- what was found before the shelf was asked more
+read_longer : (old mid new : History) (table : Table) → Extends mid new → IsRead old mid table → IsRead old new table
+read_longer old mid new table second r = record {
+  tries = r.tries;
+  tried = tries_longer old mid new r.tries second r.tried;
+  found = found_longer old mid new r.tries second r.tried ∙ r.found;
+}
+
+-- the table that was loaded, which something was made of
+pub loaded_as : {X : Type 0} (IsOf : Table → X → Type 0) (files : Watched History) (mid : History) (made : X) → Extends mid files.new
+    → (IsTrue files.old.told → (tried : Try) × Reads IsOf files.old mid (tried ∷ []) (Ok made)) → ((table : Table) × IsOf table made) → (table : Table) × IsLoaded files table × IsOf table made
+loaded_as IsOf files mid made second found some = elim (cases_Bool files.old.told) [
+  | inl told ↦
+      let m = found told in
+      (m.1.answer.0, (λ is. read_longer files.old mid files.new m.1.answer.0 second (record { tries = m.0 ∷ []; tried = m.1.tried; found = m.1.answer.1 })), m.1.answer.2)
+  | inr not ↦ (some.0, (λ told. absurd (true≢false (sym told ∙ not))), some.1)
+]
+
+-- what was read before the caller made a step was read
+extends_up_to : (h : History) (upto : ℕ) → upto ≤ h.last → Extends (up_to upto h) h
+extends_up_to h upto within = record { told = refl; later = within; who = λ k less. refl; stay = λ k less. record { shown = refl } }
+
+pub was_loaded : (files : Watched History) → IsReadSome files → WasLoaded files
+was_loaded files some told =
+    let s = some told in (s.0, read_longer files.old (up_to s.1.upto files.new) files.new s.0 (extends_up_to files.new s.1.upto s.1.within) s.1.read)
+
 -- why a reading was refused
 pub met_reading : {X : Type 0} (IsOf : Table → X → Type 0) (files : Watched History) (fault : ReadFault) → (IsTrue files.old.told → (tried : Try) × Reads IsOf files.old files.new (tried ∷ []) (Err fault))
     → (fault ≡ a_fault.Failed → Fails files) → MetReading files fault
@@ -77,3 +111,29 @@ pub unstepped_refuses : (old new : History) (tries : List Try) (fault : ReadFaul
 unstepped_refuses old new tries fault past none refuses =
     subst (λ (ids : List (List ℕ)). IsRefused fault ids (record_in (now old).files (now old).files)) (same_ids old new tries past none refuses.tried.within)
     (subst (IsRefused fault (map (id_by new) tries)) (unstepped_found old new tries past none refuses.tried) refuses.answer)
+
+-- ---- where nobody else steps
+
+module _ (files : Watched History) (past : Extends files.old files.new) (still : files.new.last ≡ files.old.last) (told : IsTrue files.old.told) where
+  abbrev there : Files
+  there = (now files.old).files
+
+  pub read_now : (table : Table) → IsRead files.old files.new table → record_in there there ≡ Some (Ok table)
+  read_now table read = sym (unstepped_found files.old files.new read.tries past still read.tried) ∙ read.found
+
+  met_now : (fault : ReadFault) → LoadMet fault files → (tries : List Try) × IsRefused fault (map (λ tried. id_in there) tries) (record_in there there)
+  met_now fault met = let m = met told in (m.0, unstepped_refuses files.old files.new m.0 fault past still m.1)
+
+  all_same : (id : List ℕ) (tries : List Try) → AllByRecursion (λ other. other ≡ id) (map (λ tried. id) tries)
+  all_same id [] = tt
+  all_same id (one ∷ more) = (refl, all_same id more)
+
+  -- why the record wasn't read stands there
+  pub unreadable_now : (fault : ReadFault) → MetReading files fault → Serves files → IsUnreadable there (of_read fault)
+  unreadable_now a_fault.OutOfMemory met p = tt
+  unreadable_now (a_fault.Docket fault) met p = (met_now (a_fault.Docket fault) met).1
+  unreadable_now (a_fault.Node fault) met p = (met_now (a_fault.Node fault) met).1
+  unreadable_now (a_fault.DataGone ids) met p =
+      let m = met_now (a_fault.DataGone ids) met in
+      (m.1.0, subst (AllByRecursion (λ id. id ≡ id_in there)) (sym m.1.1) (all_same (id_in there) m.0))
+  unreadable_now a_fault.Failed met p = absurd (steady_not_rose files.before files.after p met)

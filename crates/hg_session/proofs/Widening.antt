@@ -1,26 +1,29 @@
 -- What was done while the lock was held, said of the whole call.
-use Rattle.std.proofs.Common.{ℕ, ◌≡◌, ◌≤◌, List, ◌∷◌, [], map, Option, Some, None, is_some, Result, Ok, IsTrue, refl, sym, ap, ◌∙◌, subst, arith, inl, inr}
+use Rattle.std.proofs.Common.{ℕ, ◌≡◌, ◌≤◌, Bool, true, List, ◌∷◌, [], map, Option, Some, None, is_some, Result, Ok, IsTrue, refl, sym, ap, ◌∙◌, subst, arith, inl, inr}
 use Rattle.std.specs.List.{AllByRecursion}
 use Rattle.std.proofs.lemmas.Bool.{cases_lt}
 use Rattle.hg_base.specs.Fault.{Rose}
 use Rattle.hg_docket.specs.Number.{next_name}
 use Rattle.hg_entry.specs.Table.{Table}
 use Rattle.hg_image.specs.Reading.{RecordFault}
-use Rattle.hg_ops.specs.declared.refusal.Refusal.{Refusal}
 use Rattle.hg_report.specs.declared.fault.Fault.{Fault}
 use Rattle.hg_report.specs.declared.fault.Fault.TheVariants as a_fault
 use Rattle.hg_save.proofs.Loads.{found_longer, last_within, tries_longer}
 use Rattle.hg_save.proofs.Published.{keeps_longer}
+use Rattle.hg_save.proofs.Spans.{files_longer}
+use Rattle.hg_save.specs.Leads.{IsHeld}
 use Rattle.hg_save.specs.Loads.{IsTry, Tries, Try, found_by, id_by}
 use Rattle.hg_save.specs.Record.{data_name, id_in, reading}
-use Rattle.hg_save.specs.Saved.{IsLatest, KeepsOthers, ReadsAsBeforeOr, name_after}
+use Rattle.hg_save.specs.Saved.{IsExact, IsLatest, KeepsOthers, ReadsAsBeforeOr, name_after, used_in}
+use Rattle.hg_session.specs.Acts.{Makes}
 use Rattle.hg_session.specs.Call.{Watched}
-use Rattle.hg_session.specs.Change.{Fits, FitsFirst, IsDone, IsKept, IsMade, IsPublished, IsReadFirst, IsSafe, IsUnwritten, MetChanging, NoneOurs, Stretch, id_read, up_to}
-use Rattle.hg_session.specs.Listed.{LoadMet}
+use Rattle.hg_session.specs.Change.{Fits, FitsFirst, IsDone, IsKept, IsMade, IsPublished, IsReadFirst, IsSafe, IsSafeHeld, IsUnwritten, IsWritten, MetChanging, NoneOurs, Stretch, id_read, up_to}
+use Rattle.hg_session.specs.Loaded.{LoadMet}
 use Rattle.hg_session.specs.Loaded.{IsRefused}
-use Rattle.hg_session.specs.declared.acting.Changing.{Changing}
+use Rattle.hg_session.specs.Locks.{TakenAt}
 use Rattle.hg_session.specs.declared.read_fault.ReadFault.{ReadFault}
 use Rattle.hg_session.specs.declared.read_fault.ReadFault.TheVariants as a_read
+use Rattle.hg_session.proofs.Locked.{none_within}
 use Rattle.hg_shelf.proofs.Scenes.{first_part, second_part}
 use Rattle.hg_shelf.specs.History.{Extends, Files, History, Waits, us}
 use Rattle.hg_shelf.specs.Images.{Course, Goes, Remains, Scene, scene}
@@ -31,6 +34,7 @@ use Rattle.hg_tree.specs.History as tree
 latest_same : (a b : Scene) → Remains a b → Remains b a → IsLatest a → IsLatest b
 latest_same a b to back is = record {
   latest = λ c left n named. is.latest c (to.left c left) n (ap (λ (f : Files). name_after n (id_in f)) (sym to.shown) ∙ named);
+  used = λ c left named. subst (λ (f : Files). used_in c ≤ used_in f) (sym to.shown) (is.used c (to.left c left) (named ∙ ap id_in to.shown));
 }
 
 reads_same : (a b : Scene) (table : Option (Result Table RecordFault)) (c : Files) → Remains b a → ReadsAsBeforeOr a table c → ReadsAsBeforeOr b table c
@@ -75,20 +79,21 @@ ids_longer old mid new (one ∷ more) past within = λ i. id_in ((past.stay one.
 
 -- ---- a call that takes the lock, changes the record and gives the lock back
 
-module _ (a b c d : Course) (lock : Waits a.history b.history) (unlock : Waits c.history d.history) (p : Goes a b) (q : Goes b c) (r : Goes c d) where
-  later : a.history.last ≤ b.history.last
+module _ (a b c d : Course) (lock : Waits a.history b.history) (unlock : Waits c.history d.history) (p : Goes a b) (q : Goes b c) (r : Goes c d)
+    (taken : IsTrue a.history.told → TakenAt a.history d.history b.history.last c.history.last) (held : IsTrue b.history.told → IsHeld b.history c.history) where
+  pub later : a.history.last ≤ b.history.last
   later = p.past.later
 
   pub calm_within : Undisturbed a d → Undisturbed b c
   calm_within calm = first_part b c d r (second_part a b d p calm)
 
-  none_wide : (k : ℕ) → k ≤ c.history.last → NoneOurs c.history b.history.last k → NoneOurs d.history a.history.last k
+  pub none_wide : (k : ℕ) → k ≤ c.history.last → NoneOurs c.history b.history.last k → NoneOurs d.history a.history.last k
   none_wide k within none = λ j from to is. elim (cases_lt j b.history.last) [
     | inl early ↦ lock.none j from early (sym (q.past.who j early) ∙ sym (r.past.who j (omega (arith, to, within))) ∙ is)
     | inr late ↦ none j late to (sym (r.past.who j (omega (arith, to, within))) ∙ is)
   ]
 
-  none_behind : (k : ℕ) → NoneOurs c.history k c.history.last → NoneOurs d.history k d.history.last
+  pub none_behind : (k : ℕ) → NoneOurs c.history k c.history.last → NoneOurs d.history k d.history.last
   none_behind k none = λ j from to is. elim (cases_lt j c.history.last) [
     | inl early ↦ none j from early (sym (r.past.who j early) ∙ is)
     | inr late ↦ unlock.none j late to is
@@ -102,15 +107,17 @@ module _ (a b c d : Course) (lock : Waits a.history b.history) (unlock : Waits c
     ];
   }
 
-  abbrev stretch_wide : Stretch b.history c.history → Stretch a.history d.history
-  stretch_wide s = record {
-    from = s.from;
-    to = s.to;
-    start = omega (arith, later, s.start);
-    order = s.order;
-    end = omega (arith, s.end, r.past.later);
-    before = none_wide s.from (omega (arith, s.order, s.end)) s.before;
-    behind = none_behind s.to s.behind;
+  abbrev pub held_stretch : Stretch a.history d.history
+  held_stretch = record {
+    from = b.history.last;
+    to = c.history.last;
+    start = later;
+    order = q.past.later;
+    end = r.past.later;
+    before = none_wide b.history.last q.past.later (none_within c.history b.history.last);
+    behind = none_behind c.history.last (none_within c.history c.history.last);
+    taken = taken;
+    held = λ told k from to. let who = r.past.who k to in elim ((held (p.past.told ∙ told)).each k from to) [ inl own ↦ inl (who ∙ own) | inr read ↦ inr (who ∙ read) ];
   }
 
   -- a moment of the change, seen from the end
@@ -139,6 +146,9 @@ module _ (a b c d : Course) (lock : Waits a.history b.history) (unlock : Waits c
         };
       }
 
+  pub read_some_wide : (IsTrue b.history.told → (loaded : Table) × IsReadFirst b.history c.history loaded) → IsTrue a.history.told → (loaded : Table) × IsReadFirst a.history d.history loaded
+  read_some_wide is told = let read = is (p.past.told ∙ told) in (read.0, read_wide read.0 read.1)
+
   -- the identifier that was read is the same, seen from the end
   id_wide : (loaded : Table) (is : IsReadFirst b.history c.history loaded) → id_read (read_wide loaded is) ≡ id_read is
   id_wide loaded is =
@@ -154,7 +164,19 @@ module _ (a b c d : Course) (lock : Waits a.history b.history) (unlock : Waits c
       subst (λ (f : Files). (scene d to).files (data_name (id_in f)) ≡ None) (sym (to_end from near).shown)
       (subst (λ (f : Files). f (data_name (id_in (scene c from).files)) ≡ None) (sym (to_end to far).shown) (gone (λ empty. some (ap id_in (to_end from near).shown ∙ empty))))
 
-  module _ (command : Changing) (words : List (List ℕ)) (copy : Watched tree.History) (before after start end : ℕ) where
+  written_wide : (found : Table) (from to : ℕ) → from ≤ c.history.last → to ≤ c.history.last → IsWritten found (scene c from).files (scene c to) → IsWritten found (scene d from).files (scene d to)
+  written_wide found from to near far is =
+      subst (λ (f : Files). IsWritten found f (scene d to)) (sym (to_end from near).shown)
+      (record {
+        new = is.new;
+        over = is.over;
+        reads = is.reads;
+        shown = subst (IsExact is.new (scene c from).files) (sym (to_end to far).shown) is.shown;
+        left = λ f left. is.left f ((to_end to far).left f left);
+      })
+
+  module _ (Part Whole : Makes) (wide : (old new : Table) (lines : List ℕ) (changed : Bool) → Part old new lines changed → Whole old new lines changed)
+      (copy : Watched tree.History) (before after start end : ℕ) where
     abbrev part : Watched History
     part = record { old = b.history; new = c.history; before = before; after = after }
 
@@ -164,8 +186,8 @@ module _ (a b c d : Course) (lock : Waits a.history b.history) (unlock : Waits c
     told_part : IsTrue a.history.told → IsTrue b.history.told
     told_part told = p.past.told ∙ told
 
-    abbrev made_wide : (refused : List (Option Refusal)) (made : Table) → IsMade command words copy part refused made → IsMade command words copy whole refused made
-    made_wide refused made is = record { loaded = is.loaded; read = λ told. read_wide is.loaded (is.read (told_part told)); steps = is.steps }
+    abbrev made_wide : (made : Table) (lines : List ℕ) (changed : Bool) → IsMade Part part made lines changed → IsMade Whole whole made lines changed
+    made_wide made lines changed is = record { loaded = is.loaded; read = λ told. read_wide is.loaded (is.read (told_part told)); does = wide is.loaded made lines changed is.does }
 
     fits_wide : (made : Table) → FitsFirst b.history c.history made → FitsFirst a.history d.history made
     fits_wide made is = record {
@@ -176,74 +198,77 @@ module _ (a b c d : Course) (lock : Waits a.history b.history) (unlock : Waits c
       fits = subst (λ (f : Files). Fits f made) (sym (r.past.stay is.at is.within).shown) is.fits;
     }
 
-    kept_wide : (loaded made : Table) → IsKept loaded made (record { old = b; new = c }) → IsKept loaded made (record { old = a; new = d })
+    kept_wide : (loaded made : Table) → IsKept loaded made (record { old = b; new = c }) b.history.last c.history.last → IsKept loaded made (record { old = a; new = d }) b.history.last c.history.last
     kept_wide loaded made is = record {
-      stretch = stretch_wide is.stretch;
       found = is.found;
       is = is.is;
-      shown = reading_wide is.stretch.to is.stretch.end ∙ is.shown;
+      shown = reading_wide c.history.last (omega arith) ∙ is.shown;
       left =
           elim is.left [
-            | inl each ↦ inl (λ f left. each f ((to_end is.stretch.to is.stretch.end).left f left))
+            | inl each ↦ inl (λ f left. each f ((to_end c.history.last (omega arith)).left f left))
             | inr same ↦ inr (same.0, unwritten_wide same.1)
           ];
       gone =
           elim is.gone [
-            | inl gone ↦ inl (gone_wide is.stretch.from is.stretch.to (omega (arith, is.stretch.order, is.stretch.end)) is.stretch.end gone)
+            | inl gone ↦ inl (gone_wide b.history.last c.history.last q.past.later (omega arith) gone)
+            | inr none ↦ inr (unwritten_wide none)
+          ];
+      bytes =
+          elim is.bytes [
+            | inl written ↦ inl (written_wide is.found b.history.last c.history.last q.past.later (omega arith) written)
             | inr none ↦ inr (unwritten_wide none)
           ];
     }
 
-    pub done_wide : (lines : List ℕ) → IsDone command words copy part (record { old = b; new = c }) lines → IsDone command words copy whole (record { old = a; new = d }) lines
+    pub done_wide : (lines : List ℕ) → IsDone Part part (record { old = b; new = c }) b.history.last c.history.last lines → IsDone Whole whole (record { old = a; new = d }) b.history.last c.history.last lines
     done_wide lines done = record {
-      refused = done.refused;
       made = done.made;
-      is = made_wide done.refused done.made done.is;
-      text = done.text;
+      changed = done.changed;
+      is = made_wide done.made lines done.changed done.is;
       fits = λ told. elim (done.fits (told_part told)) [ inl same ↦ inl same | inr fits ↦ inr (fits_wide done.made fits) ];
       kept = λ calm. kept_wide done.is.loaded done.made (done.kept (calm_within calm));
       idle = λ idle. unwritten_wide (done.idle idle);
     }
 
-    published_wide : IsPublished command words copy (record { old = b; new = c }) → IsPublished command words copy (record { old = a; new = d })
+    published_wide : IsPublished Part c b.history.last c.history.last → IsPublished Whole d b.history.last c.history.last
     published_wide is =
-        let from = is.stretch.from in
-        let near : from ≤ c.history.last = omega (arith, is.stretch.order, is.stretch.end) in
+        let from = b.history.last in
+        let near : from ≤ c.history.last = q.past.later in
         let latest : IsLatest (scene d from) → IsLatest (scene c from) = latest_same (scene d from) (scene c from) (from_end from near) (to_end from near) in
         record {
-          stretch = stretch_wide is.stretch;
           loaded = is.loaded;
           there = reading_wide from near ∙ is.there;
-          refused = is.refused;
           made = is.made;
-          steps = is.steps;
+          lines = is.lines;
+          does = wide is.loaded is.made is.lines true is.does;
           found = is.found;
           is = is.is;
           crash = λ first k f after upto left.
               reads_same (scene c from) (scene d from) (Some (Ok is.found)) f (from_end from near)
-              (is.crash (latest first) k f after upto ((to_end k (omega (arith, upto, is.stretch.end))).left f left));
+              (is.crash (latest first) k f after upto ((to_end k upto).left f left));
           shown = λ first k after upto. elim (is.shown (latest first) k after upto) [
-            | inl same ↦ inl (reading_wide k (omega (arith, upto, is.stretch.end)) ∙ same ∙ sym (reading_wide from near))
-            | inr new ↦ inr (reading_wide k (omega (arith, upto, is.stretch.end)) ∙ new)
+            | inl same ↦ inl (reading_wide k upto ∙ same ∙ sym (reading_wide from near))
+            | inr new ↦ inr (reading_wide k upto ∙ new)
           ];
           id = is.id;
           next = ap (λ (f : Files). next_name (id_in f)) (to_end from near).shown ∙ is.next;
           others = λ k after upto.
               subst (λ (f : Files). KeepsOthers (id_in f) is.id f (scene d k).files) (sym (to_end from near).shown)
-              (subst (λ (f : Files). KeepsOthers (id_in (scene c from).files) is.id (scene c from).files f) (sym (to_end k (omega (arith, upto, is.stretch.end))).shown) (is.others k after upto));
+              (subst (λ (f : Files). KeepsOthers (id_in (scene c from).files) is.id (scene c from).files f) (sym (to_end k upto).shown) (is.others k after upto));
           spared = λ k f after upto left.
-              let was = is.spared k f after upto ((to_end k (omega (arith, upto, is.stretch.end))).left f left) in (
+              let was = is.spared k f after upto ((to_end k upto).left f left) in (
                 was.0,
                 (from_end from near).left was.0 was.1,
                 subst (λ (x : Files). KeepsOthers (id_in x) is.id was.0 f) (sym (to_end from near).shown) was.2,
               );
           orderly = λ first. keeps_longer us c d from r unlock.none (is.orderly (latest first));
-          latest = λ first. latest_same (scene c is.stretch.to) (scene d is.stretch.to) (to_end is.stretch.to is.stretch.end) (from_end is.stretch.to is.stretch.end) (is.latest (latest first));
+          keeping = files_longer us c.history d.history from r.past unlock.none is.keeping;
+          latest = λ first. latest_same (scene c c.history.last) (scene d c.history.last) (to_end c.history.last (omega arith)) (from_end c.history.last (omega arith)) (is.latest (latest first));
         }
 
-    pub safe_wide : (fault : Option Fault) → IsSafe command words copy (record { old = b; new = c }) fault → IsSafe command words copy (record { old = a; new = d }) fault
+    pub safe_wide : (fault : Option Fault) → IsSafeHeld Part (record { old = b; new = c }) fault → IsSafe Whole (record { old = a; new = d }) fault
     safe_wide fault (inl none) = inl (unwritten_wide none)
-    safe_wide fault (inr (may, is)) = inr (may, published_wide is)
+    safe_wide fault (inr (may, is)) = inr (may, record { stretch = held_stretch; is = published_wide is })
 
     refuses_wide : (fault : ReadFault) → LoadMet fault part → LoadMet fault whole
     refuses_wide fault met told =
@@ -259,42 +284,26 @@ module _ (a b c d : Course) (lock : Waits a.history b.history) (unlock : Waits c
           },
         )
 
-    pub met_wide : (fault : Fault) → (Rose before after → Rose start end) → MetChanging command words copy part fault → MetChanging command words copy whole fault
+    pub met_wide : (fault : Fault) → (Rose before after → Rose start end) → MetChanging Part copy part fault → MetChanging Whole copy whole fault
     met_wide a_fault.OutOfMemory rose met = tt
     met_wide (a_fault.Docket fault) rose met = refuses_wide (a_read.Docket fault) met
     met_wide (a_fault.Node fault) rose met = refuses_wide (a_read.Node fault) met
     met_wide (a_fault.DataGone ids) rose met = refuses_wide (a_read.DataGone ids) met
     met_wide (a_fault.TooLarge size) rose met = record {
-      refused = met.refused;
       made = met.made;
-      is = made_wide met.refused met.made met.is;
-      busy = met.busy;
+      lines = met.lines;
+      is = made_wide met.made met.lines true met.is;
       held = met.held;
       same = met.same;
       large = met.large;
       next = λ told. ap (λ (id : List ℕ). is_some (next_name id)) (id_wide met.is.loaded (met.is.read (told_part told))) ∙ met.next (told_part told);
     }
     met_wide a_fault.IdsSpent rose met = record {
-      refused = met.refused;
       made = met.made;
-      is = made_wide met.refused met.made met.is;
-      busy = met.busy;
+      lines = met.lines;
+      is = made_wide met.made met.lines true met.is;
       spent = λ told. ap next_name (id_wide met.is.loaded (met.is.read (told_part told))) ∙ met.spent (told_part told);
     }
-    met_wide a_fault.TreeFailed rose met = met
+    met_wide a_fault.TreeFailed rose met = (met.0, read_some_wide met.1)
     met_wide a_fault.ShelfFailed rose met = rose met
-    met_wide a_fault.NotBuilt rose met = met
-    met_wide (a_fault.NoManifest id) rose met = met
-    met_wide (a_fault.ManifestTooLarge size) rose met = met
-    met_wide (a_fault.ManifestLine line) rose met = met
-    met_wide (a_fault.ManifestOrder line) rose met = met
-    met_wide (a_fault.NoContents id) rose met = met
-    met_wide (a_fault.IgnoreTooLarge size) rose met = met
-    met_wide (a_fault.IgnoreText at) rose met = met
-    met_wide (a_fault.BadGlob line) rose met = met
-    met_wide (a_fault.BadRegexp line) rose met = met
-    met_wide (a_fault.RegexpTooBig line) rose met = met
-    met_wide (a_fault.BadInclude line) rose met = met
-    met_wide a_fault.Held rose met = met
-    met_wide a_fault.OutFailed rose met = met
-    met_wide a_fault.ErrFailed rose met = met
+    met_wide fault rose met = absurd met

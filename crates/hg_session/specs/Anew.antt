@@ -15,11 +15,11 @@ use Rattle.hg_report.specs.declared.fault.Fault.{Fault}
 use Rattle.hg_report.specs.declared.fault.Fault.TheVariants as a_fault
 use Rattle.hg_save.specs.Leads.{Leads}
 use Rattle.hg_save.specs.Loads.{Loads, Try}
-use Rattle.hg_save.specs.Others.{KeepsRecords}
+use Rattle.hg_save.specs.Others.{KeepsFiles, KeepsRecords}
 use Rattle.hg_save.specs.Record.{data_name}
 use Rattle.hg_save.specs.Saved.{IsLatest, KeepsOthers, LeavesOnly, Records, ShowsOnly}
 use Rattle.hg_save.specs.declared.loaded.Loaded.{Loaded}
-use Rattle.hg_session.specs.Change.{IsUnwritten, MayFollowWriting}
+use Rattle.hg_session.specs.Change.{IsUnwritten, IsWritten, MayFollowWriting}
 use Rattle.hg_session.specs.Loaded.{Refuses}
 use Rattle.hg_session.specs.declared.read_fault.ReadFault.{ReadFault}
 use Rattle.hg_shelf.specs.History.{History, us}
@@ -51,12 +51,14 @@ pub record CanWrite (held : Held) : Type 0 where
 -- leaves what it might have left or the table; no file is changed but the docket, the one that is written first, the data file that the docket names
 -- and the one with the identifier that follows; each step keeps to how a record is published, and the next one finds its identifier free
 pub record IsOverwritten (held : Held) (old new : Course) : Type 0 where
+  pub changed : held.changed ≡ true
   pub found : Table
   pub is : IsSame found (table held)
   pub crash : IsLatest (last_scene old) → LeavesOnly old new (Some (Ok found))
   pub shown : IsLatest (last_scene old) → ShowsOnly old new (Some (Ok found))
   pub latest : IsLatest (last_scene old) → IsLatest (last_scene new)
   pub orderly : IsLatest (last_scene old) → KeepsRecords us new old.history.last
+  pub keeping : KeepsFiles us new.history old.history.last
   pub id : List ℕ
   pub next : next_name held.docket.id ≡ Some id
   pub others : Leads (KeepsOthers held.docket.id id) old new
@@ -65,12 +67,13 @@ pub record IsOverwritten (held : Held) (old new : Course) : Type 0 where
 abbrev pub WritesOnly : Held → Course → Course → Option Fault → Type 0
 WritesOnly held old new fault = IsUnwritten old.history new.history ⊎ (MayFollowWriting fault × IsOverwritten held old new)
 
--- a table is recorded, whatever a crash leaves records it, and the data file that the docket named is gone
-pub record IsRecorded (held : Held) (c : Course) : Type 0 where
+-- a table is recorded, whatever a crash leaves records it, by exactly its bytes, and the data file that the docket named is gone
+pub record IsRecorded (held : Held) (old new : Course) : Type 0 where
   pub found : Table
   pub is : IsSame found (table held)
-  pub records : Records c (Some (Ok found))
-  pub gone : (held.docket.id ≡ [] → ⊥) → (last_scene c).files (data_name held.docket.id) ≡ None
+  pub records : Records new (Some (Ok found))
+  pub bytes : IsWritten found (last_scene old).files (last_scene new)
+  pub gone : (held.docket.id ≡ [] → ⊥) → (last_scene new).files (data_name held.docket.id) ≡ None
 
 -- why a table wasn't written: something was changed in it and it can't be, or the shelf failed
 abbrev pub MetWriting : Held → ℕ → ℕ → Fault → Type 0

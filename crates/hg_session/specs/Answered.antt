@@ -1,32 +1,61 @@
 -- What is promised of a call: one record of facts over what happened in it, a sentence a field.
-use Rattle.std.specs.Prelude.{◌≡◌, ◌⊎◌, None, Option, ℕ, IfSome, MatchOption}
+use Rattle.std.specs.Prelude.{ℕ, ◌≡◌, ◌⊎◌, None, Option, IfSome, MatchOption}
 use Rattle.hg_report.specs.declared.fault.Fault.{Fault}
-use Rattle.hg_session.specs.Call.{Call}
+use Rattle.hg_report.specs.declared.fault.Fault.TheVariants as a_fault
+use Rattle.hg_session.specs.Call.{Call, Count, IsLeftAlone, Looked, Saved, Sink}
 use Rattle.hg_session.specs.Cause.{CommandCause}
-use Rattle.hg_session.specs.Change.{changing_of}
+use Rattle.hg_session.specs.Change.{IsUnwritten}
 use Rattle.hg_session.specs.Changed.{RanChange}
-use Rattle.hg_session.specs.Command.{Ran, Tells}
+use Rattle.hg_session.specs.Commands.{changing_of}
+use Rattle.hg_session.specs.Crash.{IsSafeFromCrashes}
+use Rattle.hg_session.specs.Debug.{RanRecord}
+use Rattle.hg_session.specs.Look.{IsCalm, IsLook}
+use Rattle.hg_session.specs.Put.{IsFaultOrMemory, IsSilent, Tells}
+use Rattle.hg_session.specs.Status.{RanStatus}
+use Rattle.hg_session.specs.declared.acting.Changing.TheVariants as a_change
+use Rattle.hg_shelf.specs.Images.{Goes}
+use Rattle.hg_words.specs.declared.given.Command.{Command}
+use Rattle.hg_words.specs.declared.given.Command.TheVariants as a_command
 
--- a call that only looks ended with this status and this fault, or with none
-pub record Looks (call : Call) (code : ℕ) (fault : Option Fault) : Type 0 where
-  -- what it answers and leaves, by its words
-  pub ran : Ran call fault
-  -- what stands on the error stream
-  pub told : Tells call fault
-  -- where that stream failed there is a fault
-  pub steady_err : fault ≡ None → call.err.after ≡ call.err.before
-  -- the status is 0 without a fault, and 255 with one
-  pub status : MatchOption fault (code ≡ 0) (λ f. code ≡ 255)
+-- every device but the error stream is as it was, and no count of theirs rose
+pub record IsIdle (looked : Looked) (saved : Saved) (locks : Count) (out : Sink) : Type 0 where
+  pub copy : IsLeftAlone looked.tree
+  pub files : looked.shelf.new ≡ looked.shelf.old
+  pub files_count : looked.shelf.after ≡ looked.shelf.before
+  pub kept : Goes saved.old saved.new
+  pub unwritten : IsUnwritten saved.old.history saved.new.history
+  pub held : locks.after ≡ locks.before
+  pub regexps : looked.oversize.after ≡ looked.oversize.before
+  pub silent : IsSilent out
+
+-- what is done for a command that isn't built: it is answered as such, whatever else holds, and its line is told
+pub record IsUnbuilt (call : Call) (fault : Option Fault) : Type 0 where
+  pub answered : IsFaultOrMemory fault a_fault.NotBuilt
+  pub told : IfSome fault (Tells call.err)
+  pub idle : IsIdle call.looked call.saved call.locks call.out
+
+-- what a command did that ended with this status and this fault, or with none
+abbrev pub Ran : Command → Call → ℕ → Option Fault → Type 0
+Ran (a_command.Status flags) call code fault = RanStatus flags call fault
+Ran (a_command.Add files) call code fault = RanChange a_change.Add files call code fault
+Ran (a_command.Forget files) call code fault = RanChange a_change.Forget files call code fault
+Ran a_command.DebugDirstate call code fault = RanRecord call fault
+Ran command call code fault = IsUnbuilt call fault
 
 -- a call ended with this status and this fault, or with none
 pub record IsAnswered (call : Call) (code : ℕ) (fault : Option Fault) : Type 0 where
-  -- what a command that only looks did
-  pub looked : changing_of call.words ≡ None → Looks call code fault
-  -- what one that changes the record did
-  pub changed : IfSome (changing_of call.words) (λ command. RanChange command call code fault)
+  -- what its command did
+  pub ran : Ran call.command call code fault
+  -- where that doesn't change the record, nothing below `.hg` is changed, and no lock asked for
+  pub look : changing_of call.command ≡ None → IsLook call code fault
   -- each fault comes only for its cause
   pub cause : IfSome fault (CommandCause call)
-  -- where the error stream failed there is a fault
-  pub steady_err : fault ≡ None → call.err.after ≡ call.err.before
+  -- where a device failed there is a fault
+  pub calm : fault ≡ None → IsCalm call.looked call.out call.err
+  -- the moments so far stay, with what a crash may leave of them
+  pub kept : Goes call.saved.old call.saved.new
+  -- at each moment of the call a crash leaves a record of what it might have left at the start, of what the call published, or of what others
+  -- published since; and the premise holds at the end, so that this can be said of the next call
+  pub crash : IsSafeFromCrashes call.saved
   -- the status is 0 without a fault, or 1, and 255 with one
   pub status : MatchOption fault ((code ≡ 0) ⊎ (code ≡ 1)) (λ f. code ≡ 255)

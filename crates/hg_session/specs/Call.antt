@@ -1,9 +1,10 @@
 -- What happened in a call: each device before and after it.
-use Rattle.std.specs.Prelude.{ℕ, ◌≡◌, ◌+◌, ◌<◌, ◌-◌, ◌^◌, List, Option}
+use Rattle.std.specs.Prelude.{ℕ, ◌≡◌, ◌+◌, ◌≤◌, ◌-◌, ◌^◌, min, List, Option}
 use Rattle.hg_base.specs.Fault.{IsSteady, Rose}
 use Rattle.hg_shelf.specs.History as shelf
 use Rattle.hg_shelf.specs.Images.{Course}
 use Rattle.hg_tree.specs.History as tree
+use Rattle.hg_words.specs.declared.given.Command.{Command}
 
 -- a device before and after a call: what it tells, and how often it failed
 pub record Watched {ℓ} (Told : Type ℓ) : Type ℓ where
@@ -16,13 +17,18 @@ pub record Watched {ℓ} (Told : Type ℓ) : Type ℓ where
 abbrev pub Fails {ℓ} : {Told : Type ℓ} → Watched Told → Type 0
 Fails device = Rose device.before device.after
 
--- its count of failures rose by one, and doesn't stand at its end, so one call alone failed
-abbrev pub FailsOnce {ℓ} : {Told : Type ℓ} → Watched Told → Type 0
-FailsOnce device = (device.after ≡ device.before + 1) × (device.after < 2 ^ 64 - 1)
+-- it rose at least twice, or stands at its end
+abbrev pub FailsTwice {ℓ} : {Told : Type ℓ} → Watched Told → Type 0
+FailsTwice device = min (device.before + 2) (2 ^ 64 - 1) ≤ device.after
 
 -- it never failed
 abbrev pub Serves {ℓ} : {Told : Type ℓ} → Watched Told → Type 0
 Serves device = IsSteady device.before device.after
+
+-- a tree wasn't asked for anything, and is as it was
+pub record IsLeftAlone (copy : Watched tree.History) : Type 0 where
+  pub history : copy.new ≡ copy.old
+  pub count : copy.after ≡ copy.before
 
 -- a count before and after a call
 pub record Count : Type 0 where
@@ -40,11 +46,15 @@ pub record Saved : Type 1 where
   pub old : Course
   pub new : Course
 
--- a command: its words, what is looked at, what is saved, how many locks were refused, standard output and the error stream
+-- a sink: the bytes that were put into it, where it tells them
+abbrev pub Sink : Type 0
+Sink = Watched (Option (List ℕ))
+
+-- a call: its command, what is looked at, what is saved, how many locks were refused, standard output and the error stream
 pub record Call : Type 1 where
-  pub words : List (List ℕ)
+  pub command : Command
   pub looked : Looked
   pub saved : Saved
   pub locks : Count
-  pub out : Watched (Option (List ℕ))
-  pub err : Watched (Option (List ℕ))
+  pub out : Sink
+  pub err : Sink

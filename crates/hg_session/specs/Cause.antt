@@ -1,37 +1,34 @@
 -- Why a command met a fault: one table, a line a fault, for every command.
-use Rattle.std.specs.Prelude.{◌≡◌, false, List, None, Some, ℕ, IsTrue}
+use Rattle.std.specs.Prelude.{◌≡◌, false, Some}
 use Rattle.hg_base.specs.Fault.{Rose}
 use Rattle.hg_listing.specs.declared.fault.StatusFault.{StatusFault}
 use Rattle.hg_listing.specs.declared.fault.StatusFault.TheVariants as a_status
 use Rattle.hg_report.specs.declared.fault.Fault.{Fault}
 use Rattle.hg_report.specs.declared.fault.Fault.TheVariants as a_fault
 use Rattle.hg_session.specs.Call.{Call, Fails}
-use Rattle.hg_session.specs.Change.{MetLarge, MetSpent, changing_of, files_of}
-use Rattle.hg_session.specs.Command.{wanted_in}
-use Rattle.hg_session.specs.Debug.{is_debug}
-use Rattle.hg_session.specs.Flags.{is_status}
-use Rattle.hg_session.specs.Listed.{LoadMet, StatusMet}
+use Rattle.hg_session.specs.Change.{MetLarge, MetSpent, makes_in}
+use Rattle.hg_session.specs.Commands.{changing_of}
+use Rattle.hg_session.specs.Flags.{wanted_of}
+use Rattle.hg_session.specs.Listed.{StatusMet}
+use Rattle.hg_session.specs.Loaded.{LoadMet, WasLoaded}
 use Rattle.hg_session.specs.declared.acting.Changing.{Changing}
 use Rattle.hg_session.specs.declared.read_fault.ReadFault.TheVariants as a_read
+use Rattle.hg_words.specs.Given.{files_of, is_built}
+use Rattle.hg_words.specs.declared.flags.StatusFlags.{StatusFlags}
+use Rattle.hg_words.specs.declared.given.Command.TheVariants as a_command
 
--- the words are those of no command
-pub record IsNoCommand (words : List (List ℕ)) : Type 0 where
-  pub status : is_status words ≡ false
-  pub debug : is_debug words ≡ false
-  pub changing : changing_of words ≡ None
-
--- the words are a status, whose listing met this fault
+-- the command is a status, whose listing met this fault
 abbrev pub MetByStatus : Call → StatusFault → Type 0
-MetByStatus call fault = IsTrue (is_status call.words) × StatusMet call.looked (wanted_in call) fault
+MetByStatus call fault = (flags : StatusFlags) × (call.command ≡ a_command.Status flags) × StatusMet call.looked (wanted_of flags) fault
 
--- the words are a command that changes the record, which met its fault so
+-- the command changes the record, and met its fault so
 abbrev pub MetByChange : Call → (Changing → Type 0) → Type 0
-MetByChange call IsMet = (command : Changing) × (changing_of call.words ≡ Some command) × IsMet command
+MetByChange call IsMet = (command : Changing) × (changing_of call.command ≡ Some command) × IsMet command
 
--- each fault comes only for its cause; want of memory needs none
+-- each fault comes only for its cause; want of memory needs none, and no fault of the words comes once they are a command
 abbrev pub CommandCause : Call → Fault → Type 0
 CommandCause call a_fault.OutOfMemory = Unit {0}
-CommandCause call a_fault.NotBuilt = IsNoCommand call.words
+CommandCause call a_fault.NotBuilt = is_built call.command ≡ false
 CommandCause call (a_fault.Docket fault) = LoadMet (a_read.Docket fault) call.looked.shelf
 CommandCause call (a_fault.Node fault) = LoadMet (a_read.Node fault) call.looked.shelf
 CommandCause call (a_fault.DataGone ids) = LoadMet (a_read.DataGone ids) call.looked.shelf
@@ -47,9 +44,10 @@ CommandCause call (a_fault.BadRegexp line) = MetByStatus call (a_status.BadRegex
 CommandCause call (a_fault.RegexpTooBig line) = MetByStatus call (a_status.RegexpTooBig line) × Rose call.looked.oversize.before call.looked.oversize.after
 CommandCause call (a_fault.BadInclude line) = MetByStatus call (a_status.BadInclude line)
 CommandCause call a_fault.Held = MetByChange call (λ command. Rose call.locks.before call.locks.after)
-CommandCause call (a_fault.TooLarge size) = MetByChange call (λ command. MetLarge command (files_of call.words) call.looked.tree call.looked.shelf size)
-CommandCause call a_fault.IdsSpent = MetByChange call (λ command. MetSpent command (files_of call.words) call.looked.tree call.looked.shelf)
-CommandCause call a_fault.TreeFailed = Fails call.looked.tree
+CommandCause call (a_fault.TooLarge size) = MetByChange call (λ command. MetLarge (makes_in command (files_of call.command) call) call.looked.shelf size)
+CommandCause call a_fault.IdsSpent = MetByChange call (λ command. MetSpent (makes_in command (files_of call.command) call) call.looked.shelf)
+CommandCause call a_fault.TreeFailed = Fails call.looked.tree × WasLoaded call.looked.shelf
 CommandCause call a_fault.ShelfFailed = Fails call.looked.shelf
 CommandCause call a_fault.OutFailed = Fails call.out
 CommandCause call a_fault.ErrFailed = Fails call.err
+CommandCause call fault = ⊥

@@ -1,52 +1,32 @@
 -- What a command that changes the record answers and leaves, and why.
-use Rattle.std.specs.Prelude.{ℕ, ◌≡◌, ◌⊎◌, ◌≤◌, ◌<◌, ◌^◌, Bool, true, if◌then◌else◌, List, [], ◌∷◌, drop, take, Option, Some, None, Result, Ok, Err, IsTrue, codes, is_some}
-use Rattle.std.specs.List.{list_any}
-use Rattle.std.specs.Str.{bytes_eq}
+use Rattle.std.specs.Prelude.{ℕ, ◌≡◌, ◌⊎◌, ◌≤◌, ◌<◌, ◌^◌, Bool, true, false, List, [], Option, Some, None, Result, Ok, Err, IsTrue, is_some}
 use Rattle.hg_append.specs.Encoded.{IsTooLarge}
 use Rattle.hg_append.specs.Layout.{size_of}
 use Rattle.hg_append.specs.Tree.{IsTreeOf, Tree}
+use Rattle.hg_append.specs.declared.encoding.Encoded.{Encoded}
 use Rattle.hg_base.specs.Fault.{Rose}
 use Rattle.hg_docket.specs.Number.{next_name}
 use Rattle.hg_entry.specs.Table.{Table}
+use Rattle.hg_image.specs.Reading.{reading_of}
 use Rattle.hg_mixed.specs.Edits.{IsSame}
 use Rattle.hg_mixed.specs.Held.{Held, table}
-use Rattle.hg_ops.specs.declared.refusal.Refusal.{Refusal}
 use Rattle.hg_report.specs.declared.fault.Fault.{Fault}
 use Rattle.hg_report.specs.declared.fault.Fault.TheVariants as a_fault
 use Rattle.hg_save.specs.Loads.{files_at}
-use Rattle.hg_save.specs.Others.{KeepsRecords}
-use Rattle.hg_save.specs.Record.{data_name, id_in, reading}
-use Rattle.hg_save.specs.Saved.{IsLatest, KeepsOthers, ReadsAsBeforeOr}
-use Rattle.hg_session.specs.Acts.{AllIdle, AllSteps, refusals_text}
-use Rattle.hg_session.specs.Call.{Call, Count, Fails, FailsOnce, Saved, Watched}
-use Rattle.hg_session.specs.Debug.{IsRead}
-use Rattle.hg_session.specs.Listed.{LoadMet}
+use Rattle.hg_save.specs.Others.{KeepsFiles, KeepsRecords}
+use Rattle.hg_save.specs.Record.{data_name, docket_in, id_in, reading}
+use Rattle.hg_save.specs.Saved.{IsExact, IsLatest, IsOver, KeepsOthers, ReadsAsBeforeOr}
+use Rattle.hg_session.specs.Acts.{IsActed, Makes}
+use Rattle.hg_session.specs.Call.{Call, Count, Fails, FailsTwice, IsLeftAlone, Saved, Watched}
+use Rattle.hg_session.specs.Loaded.{IsRead, LoadMet}
+use Rattle.hg_session.specs.Locks.{NotReturned, NotTaken, Refused, Returned, TakenAt}
+use Rattle.hg_session.specs.Put.{IsFaultOrMemory}
 use Rattle.hg_session.specs.declared.acting.Changing.{Changing}
-use Rattle.hg_session.specs.declared.acting.Changing.TheVariants as a_change
 use Rattle.hg_session.specs.declared.read_fault.ReadFault.TheVariants as a_read
 use Rattle.hg_shelf.specs.History as shelf
-use Rattle.hg_shelf.specs.Images.{scene}
+use Rattle.hg_shelf.specs.Images.{Course, Scene, scene}
 use Rattle.hg_shelf.specs.Polite.{Undisturbed}
 use Rattle.hg_tree.specs.History as tree
-
--- ---- the words
-
--- a word that begins with a dash
-abbrev pub is_dashed : List ℕ → Bool
-is_dashed word = bytes_eq (take 1 word) (codes "-")
-
-abbrev pub changing_named : List ℕ → Option Changing
-changing_named name = if bytes_eq name (codes "add") then Some a_change.Add else (if bytes_eq name (codes "forget") then Some a_change.Forget else None)
-
--- the command that changes the record, where file words follow its name, none of which begins with a dash
-abbrev pub changing_of : List (List ℕ) → Option Changing
-changing_of [] = None
-changing_of (name ∷ []) = None
-changing_of (name ∷ word ∷ words) = if list_any is_dashed (word ∷ words) then None else changing_named name
-
--- the file words
-abbrev pub files_of : List (List ℕ) → List (List ℕ)
-files_of words = drop 1 words
 
 -- ---- what the words make of the record
 
@@ -70,13 +50,13 @@ pub record IsReadFirst (old new : shelf.History) (loaded : Table) : Type 0 where
 abbrev pub id_read : {old new : shelf.History} {loaded : Table} → IsReadFirst old new loaded → List ℕ
 id_read {new = new} is = id_in (files_at new is.read.tried.last.docket)
 
--- the words make this of the record that was read in the call, and these are refused
-pub record IsMade (command : Changing) (words : List (List ℕ)) (copy : Watched tree.History) (files : Watched shelf.History) (refused : List (Option Refusal)) (made : Table) : Type 0 where
+-- a command made this of the record that was read in the call
+pub record IsMade (Does : Makes) (files : Watched shelf.History) (made : Table) (lines : List ℕ) (changed : Bool) : Type 0 where
   pub loaded : Table
   pub read : IsTrue files.old.told → IsReadFirst files.old files.new loaded
-  pub steps : AllSteps command copy.old copy.new words refused loaded made
+  pub does : Does loaded made lines changed
 
--- a stretch of a call from where the caller got the lock to where it gave it back; outside it the caller makes no step
+-- a stretch of a call from where the caller took the lock to where it gave it back; outside it the caller makes no step
 pub record Stretch (old new : shelf.History) : Type 0 where
   pub from : ℕ
   pub to : ℕ
@@ -85,6 +65,9 @@ pub record Stretch (old new : shelf.History) : Type 0 where
   pub end : to ≤ new.last
   pub before : NoneOurs new old.last from
   pub behind : NoneOurs new to new.last
+  pub taken : IsTrue old.told → TakenAt old new from to
+  -- within it each step is the caller's, or of one who may only read
+  pub held : IsTrue old.told → (k : ℕ) → from ≤ k → k < to → (new.who k ≡ shelf.us) ⊎ (new.who k ≡ shelf.readers)
 
 -- the caller wrote nothing
 pub record IsUnwritten (old new : shelf.History) : Type 0 where
@@ -94,45 +77,58 @@ pub record IsUnwritten (old new : shelf.History) : Type 0 where
 abbrev pub FailsOrUnwritten : shelf.History → shelf.History → Fault → Type 0
 FailsOrUnwritten old new fault = (fault ≡ a_fault.ShelfFailed) ⊎ IsUnwritten old new
 
--- the record was published over the one that stood where the lock was got
-pub record IsPublished (command : Changing) (words : List (List ℕ)) (copy : Watched tree.History) (saved : Saved) : Type 0 where
-  pub stretch : Stretch saved.old.history saved.new.history
+-- between two moments a record was published over the one that stood at the first
+pub record IsPublished (Does : Makes) (c : Course) (from to : ℕ) : Type 0 where
   pub loaded : Table
-  pub there : reading (scene saved.new stretch.from).files ≡ Some (Ok loaded)
-  pub refused : List (Option Refusal)
+  pub there : reading (scene c from).files ≡ Some (Ok loaded)
   pub made : Table
-  pub steps : AllSteps command copy.old copy.new words refused loaded made
+  pub lines : List ℕ
+  pub does : Does loaded made lines true
   -- what is recorded once it is published
   pub found : Table
   pub is : IsSame found made
-  -- a crash leaves a record of what it might have left where the lock was got, or the new one, and reads show the one or the other
-  pub crash : IsLatest (scene saved.new stretch.from) → (k : ℕ) (c : shelf.Files) → stretch.from ≤ k → k ≤ stretch.to → (scene saved.new k).leaves c → ReadsAsBeforeOr (scene saved.new stretch.from) (Some (Ok found)) c
-  pub shown : IsLatest (scene saved.new stretch.from) → (k : ℕ) → stretch.from ≤ k → k ≤ stretch.to
-      → (reading (scene saved.new k).files ≡ reading (scene saved.new stretch.from).files) ⊎ (reading (scene saved.new k).files ≡ Some (Ok found))
+  -- a crash leaves a record of what it might have left at the first moment, or the new one, and reads show the one or the other
+  pub crash : IsLatest (scene c from) → (k : ℕ) (f : shelf.Files) → from ≤ k → k ≤ to → (scene c k).leaves f → ReadsAsBeforeOr (scene c from) (Some (Ok found)) f
+  pub shown : IsLatest (scene c from) → (k : ℕ) → from ≤ k → k ≤ to
+      → (reading (scene c k).files ≡ reading (scene c from).files) ⊎ (reading (scene c k).files ≡ Some (Ok found))
   -- the data file that is written has the identifier that follows that of the docket that stood
   pub id : List ℕ
-  pub next : next_name (id_in (scene saved.new stretch.from).files) ≡ Some id
+  pub next : next_name (id_in (scene c from).files) ≡ Some id
   -- no file is changed but the docket, the one that is written first and the data files with these two identifiers, of which the old one at most goes:
   -- reads show each other file as it was, and a crash leaves it as it might have left it
-  pub others : (k : ℕ) → stretch.from ≤ k → k ≤ stretch.to
-      → KeepsOthers (id_in (scene saved.new stretch.from).files) id (scene saved.new stretch.from).files (scene saved.new k).files
-  pub spared : (k : ℕ) (c : shelf.Files) → stretch.from ≤ k → k ≤ stretch.to → (scene saved.new k).leaves c
-      → (d : shelf.Files) × (scene saved.new stretch.from).leaves d × KeepsOthers (id_in (scene saved.new stretch.from).files) id d c
-  -- each step of the call keeps to how a record is published
-  pub orderly : IsLatest (scene saved.new stretch.from) → KeepsRecords shelf.us saved.new stretch.from
+  pub others : (k : ℕ) → from ≤ k → k ≤ to → KeepsOthers (id_in (scene c from).files) id (scene c from).files (scene c k).files
+  pub spared : (k : ℕ) (f : shelf.Files) → from ≤ k → k ≤ to → (scene c k).leaves f
+      → (d : shelf.Files) × (scene c from).leaves d × KeepsOthers (id_in (scene c from).files) id d f
+  -- each step of the caller's keeps to how a record is published, and the data that dockets name
+  pub orderly : IsLatest (scene c from) → KeepsRecords shelf.us c from
+  pub keeping : KeepsFiles shelf.us c.history from
   -- the next one finds its identifier free
-  pub latest : IsLatest (scene saved.new stretch.from) → IsLatest (scene saved.new stretch.to)
+  pub latest : IsLatest (scene c from) → IsLatest (scene c to)
 
--- where the lock was given back, reads show a record of this table, and so does whatever a crash leaves, unless nothing was to be published
-pub record IsKept (loaded made : Table) (saved : Saved) : Type 0 where
+-- a record was published while the lock was held
+pub record Publishes (Does : Makes) (saved : Saved) : Type 0 where
   pub stretch : Stretch saved.old.history saved.new.history
+  pub is : IsPublished Does saved.new stretch.from stretch.to
+
+-- reads show exactly the bytes of this table, written anew over these files under the next identifier, and a crash leaves exactly them
+pub record IsWritten (found : Table) (before : shelf.Files) (behind : Scene) : Type 0 where
+  pub new : Encoded
+  pub over : IsOver (docket_in before) new
+  pub reads : reading_of new.docket.items new.bytes.items ≡ Ok found
+  pub shown : IsExact new before behind.files
+  pub left : (f : shelf.Files) → behind.leaves f → IsExact new before f
+
+-- at the second of two moments reads show a record of this table, and so does whatever a crash leaves, unless nothing was to be published
+pub record IsKept (loaded made : Table) (saved : Saved) (from to : ℕ) : Type 0 where
   pub found : Table
   pub is : IsSame found made
-  pub shown : reading (scene saved.new stretch.to).files ≡ Some (Ok found)
-  pub left : ((c : shelf.Files) → (scene saved.new stretch.to).leaves c → reading c ≡ Some (Ok found)) ⊎ (IsSame made loaded × IsUnwritten saved.old.history saved.new.history)
-  -- and the data file that the docket named where the lock was got is gone
-  pub gone : ((id_in (scene saved.new stretch.from).files ≡ [] → ⊥) → (scene saved.new stretch.to).files (data_name (id_in (scene saved.new stretch.from).files)) ≡ None)
+  pub shown : reading (scene saved.new to).files ≡ Some (Ok found)
+  pub left : ((c : shelf.Files) → (scene saved.new to).leaves c → reading c ≡ Some (Ok found)) ⊎ (IsSame made loaded × IsUnwritten saved.old.history saved.new.history)
+  -- and the data file that the docket named at the first is gone
+  pub gone : ((id_in (scene saved.new from).files ≡ [] → ⊥) → (scene saved.new to).files (data_name (id_in (scene saved.new from).files)) ≡ None)
       ⊎ IsUnwritten saved.old.history saved.new.history
+  -- the new bytes stand there exactly, over what stood at the first
+  pub bytes : IsWritten found (scene saved.new from).files (scene saved.new to) ⊎ IsUnwritten saved.old.history saved.new.history
 
 -- a table can be written anew over the record in these files: an identifier is left, and it isn't too large
 pub record Fits (files : shelf.Files) (made : Table) : Type 0 where
@@ -151,90 +147,123 @@ pub record FitsFirst (old new : shelf.History) (made : Table) : Type 0 where
   pub none : NoneOurs new old.last at
   pub fits : Fits (files_at new at) made
 
--- the words were done, and what they made is recorded
-pub record IsDone (command : Changing) (words : List (List ℕ)) (copy : Watched tree.History) (files : Watched shelf.History) (saved : Saved) (lines : List ℕ) : Type 0 where
-  pub refused : List (Option Refusal)
+-- it was done between two moments, and what it made is recorded
+pub record IsDone (Does : Makes) (files : Watched shelf.History) (saved : Saved) (from to : ℕ) (lines : List ℕ) : Type 0 where
   pub made : Table
-  pub is : IsMade command words copy files refused made
-  pub text : lines ≡ refusals_text command words refused
-  pub fits : IsTrue files.old.told → IsSame made is.loaded ⊎ FitsFirst files.old files.new made
-  pub kept : Undisturbed saved.old saved.new → IsKept is.loaded made saved
-  -- where no word changed anything, nothing is written
-  pub idle : AllIdle command copy.old copy.new words refused is.loaded made is.steps → IsUnwritten saved.old.history saved.new.history
+  pub changed : Bool
+  pub is : IsMade Does files made lines changed
+  pub fits : IsTrue files.old.told → ((changed ≡ false) × IsSame made is.loaded) ⊎ FitsFirst files.old files.new made
+  pub kept : Undisturbed saved.old saved.new → IsKept is.loaded made saved from to
+  -- where nothing was changed nothing is written
+  pub idle : changed ≡ false → IsUnwritten saved.old.history saved.new.history
 
 -- ---- why it met a fault
 
--- some word changed something, an identifier is left, and the new record would take so many bytes, which are too many
-pub record MetLarge (command : Changing) (words : List (List ℕ)) (copy : Watched tree.History) (files : Watched shelf.History) (size : ℕ) : Type 0 where
-  pub refused : List (Option Refusal)
+-- something was changed, an identifier is left, and the new record would take so many bytes, which are too many
+pub record MetLarge (Does : Makes) (files : Watched shelf.History) (size : ℕ) : Type 0 where
   pub made : Table
-  pub is : IsMade command words copy files refused made
-  pub busy : AllIdle command copy.old copy.new words refused is.loaded made is.steps → ⊥
+  pub lines : List ℕ
+  pub is : IsMade Does files made lines true
   pub held : Held
   pub same : IsSame (table held) made
   pub large : IsTooLarge held size
   pub next : (told : IsTrue files.old.told) → is_some (next_name (id_read (is.read told))) ≡ true
 
--- some word changed something, and the docket that was read names the last identifier
-pub record MetSpent (command : Changing) (words : List (List ℕ)) (copy : Watched tree.History) (files : Watched shelf.History) : Type 0 where
-  pub refused : List (Option Refusal)
+-- something was changed, and the docket that was read names the last identifier
+pub record MetSpent (Does : Makes) (files : Watched shelf.History) : Type 0 where
   pub made : Table
-  pub is : IsMade command words copy files refused made
-  pub busy : AllIdle command copy.old copy.new words refused is.loaded made is.steps → ⊥
+  pub lines : List ℕ
+  pub is : IsMade Does files made lines true
   pub spent : (told : IsTrue files.old.told) → next_name (id_read (is.read told)) ≡ None
 
--- before anything was published, or while it was: what stood in the files, or a device that failed. Want of memory needs no reason
-abbrev pub MetChanging : Changing → List (List ℕ) → Watched tree.History → Watched shelf.History → Fault → Type 0
-MetChanging command words copy files a_fault.OutOfMemory = Unit {0}
-MetChanging command words copy files (a_fault.Docket fault) = LoadMet (a_read.Docket fault) files
-MetChanging command words copy files (a_fault.Node fault) = LoadMet (a_read.Node fault) files
-MetChanging command words copy files (a_fault.DataGone ids) = LoadMet (a_read.DataGone ids) files
-MetChanging command words copy files (a_fault.TooLarge size) = MetLarge command words copy files size
-MetChanging command words copy files a_fault.IdsSpent = MetSpent command words copy files
-MetChanging command words copy files a_fault.TreeFailed = Fails copy
-MetChanging command words copy files a_fault.ShelfFailed = Fails files
-MetChanging command words copy files a_fault.NotBuilt = ⊥
-MetChanging command words copy files (a_fault.NoManifest id) = ⊥
-MetChanging command words copy files (a_fault.ManifestTooLarge size) = ⊥
-MetChanging command words copy files (a_fault.ManifestLine line) = ⊥
-MetChanging command words copy files (a_fault.ManifestOrder line) = ⊥
-MetChanging command words copy files (a_fault.NoContents id) = ⊥
-MetChanging command words copy files (a_fault.IgnoreTooLarge size) = ⊥
-MetChanging command words copy files (a_fault.IgnoreText at) = ⊥
-MetChanging command words copy files (a_fault.BadGlob line) = ⊥
-MetChanging command words copy files (a_fault.BadRegexp line) = ⊥
-MetChanging command words copy files (a_fault.RegexpTooBig line) = ⊥
-MetChanging command words copy files (a_fault.BadInclude line) = ⊥
-MetChanging command words copy files a_fault.Held = ⊥
-MetChanging command words copy files a_fault.OutFailed = ⊥
-MetChanging command words copy files a_fault.ErrFailed = ⊥
+-- the record was read in the call, where the files are told
+abbrev pub IsReadSome : Watched shelf.History → Type 0
+IsReadSome files = IsTrue files.old.told → (loaded : Table) × IsReadFirst files.old files.new loaded
+
+-- before anything was published, or while it was: what stood in the files, or a device that failed, a working copy behind a record that was read.
+-- Want of memory needs no reason
+abbrev pub MetChanging : Makes → Watched tree.History → Watched shelf.History → Fault → Type 0
+MetChanging Does copy files a_fault.OutOfMemory = Unit {0}
+MetChanging Does copy files (a_fault.Docket fault) = LoadMet (a_read.Docket fault) files
+MetChanging Does copy files (a_fault.Node fault) = LoadMet (a_read.Node fault) files
+MetChanging Does copy files (a_fault.DataGone ids) = LoadMet (a_read.DataGone ids) files
+MetChanging Does copy files (a_fault.TooLarge size) = MetLarge Does files size
+MetChanging Does copy files a_fault.IdsSpent = MetSpent Does files
+MetChanging Does copy files a_fault.TreeFailed = Fails copy × IsReadSome files
+MetChanging Does copy files a_fault.ShelfFailed = Fails files
+MetChanging Does copy files fault = ⊥
+
+-- a fault that is met before the working copy is looked at: what stood in the files, or a lock that was refused
+abbrev pub IsEarly : Fault → Type 0
+IsEarly (a_fault.Docket fault) = Unit {0}
+IsEarly (a_fault.Node fault) = Unit {0}
+IsEarly (a_fault.DataGone ids) = Unit {0}
+IsEarly a_fault.Held = Unit {0}
+IsEarly fault = ⊥
 
 -- or a lock that was refused
-abbrev pub MetLocking : Changing → List (List ℕ) → Watched tree.History → Watched shelf.History → Count → Fault → Type 0
-MetLocking command words copy files locks fault = MetChanging command words copy files fault ⊎ ((fault ≡ a_fault.Held) × Rose locks.before locks.after)
+abbrev pub MetLocking : Makes → Watched tree.History → Watched shelf.History → Count → Fault → Type 0
+MetLocking Does copy files locks fault = MetChanging Does copy files fault ⊎ ((fault ≡ a_fault.Held) × Rose locks.before locks.after)
 
--- or an error stream that failed while the refused words were told
-abbrev pub ChangeCause : Changing → Call → Fault → Type 0
-ChangeCause command call fault =
-    MetLocking command (files_of call.words) call.looked.tree call.looked.shelf call.locks fault ⊎ ((fault ≡ a_fault.ErrFailed) × Fails call.err)
+-- what a call makes of the record
+abbrev pub makes_in : Changing → List (List ℕ) → Call → Makes
+makes_in command words call = IsActed command words call.looked.tree call.looked.shelf
 
 -- a fault that may be met once something was written: a shelf or an error stream that failed; for the line of the one there may be no memory
 abbrev pub MayFollowWriting : Option Fault → Type 0
 MayFollowWriting None = Unit {0}
 MayFollowWriting (Some fault) = (fault ≡ a_fault.ShelfFailed) ⊎ ((fault ≡ a_fault.ErrFailed) ⊎ (fault ≡ a_fault.OutOfMemory))
 
--- nothing was written, or a record was published
-abbrev pub IsSafe : Changing → List (List ℕ) → Watched tree.History → Saved → Option Fault → Type 0
-IsSafe command words copy saved fault = IsUnwritten saved.old.history saved.new.history ⊎ (MayFollowWriting fault × IsPublished command words copy saved)
+-- nothing was written, or a record was published while the lock was held
+abbrev pub IsSafe : Makes → Saved → Option Fault → Type 0
+IsSafe Does saved fault = IsUnwritten saved.old.history saved.new.history ⊎ (MayFollowWriting fault × Publishes Does saved)
 
--- a call below `.hg` failed; where no other one did, and that is the fault, the words were done: it was giving the lock back that failed
-pub record IsStuck (command : Changing) (words : List (List ℕ)) (copy : Watched tree.History) (files : Watched shelf.History) (saved : Saved) (fault : Option Fault) : Type 0 where
+-- so it is where the lock is held all along
+abbrev pub IsSafeHeld : Makes → Saved → Option Fault → Type 0
+IsSafeHeld Does saved fault =
+    IsUnwritten saved.old.history saved.new.history ⊎ (MayFollowWriting fault × IsPublished Does saved.new saved.old.history.last saved.new.history.last)
+
+-- ---- the lock
+
+-- the lock was refused, which is counted, and nothing else was done
+pub record WasRefused (copy : Watched tree.History) (files : Watched shelf.History) (locks : Count) (fault : Option Fault) : Type 0 where
+  pub told : IsTrue files.old.told → Refused files.old files.new
+  pub ours : files.new.ours ≡ files.old.ours
+  pub counted : Rose locks.before locks.after
+  pub unwritten : IsUnwritten files.old files.new
+  pub unasked : files.new.asked ≡ files.old.asked
+  pub unlooked : IsLeftAlone copy
+  pub answer : IsFaultOrMemory fault a_fault.Held
+
+-- taking it failed, and nothing else was done
+pub record WasNotTaken (copy : Watched tree.History) (files : Watched shelf.History) (locks : Count) (fault : Option Fault) : Type 0 where
+  pub told : IsTrue files.old.told → NotTaken files.old files.new
+  pub ours : files.new.ours ≡ files.old.ours
+  pub uncounted : locks.after ≡ locks.before
   pub failed : Fails files
-  pub alone : FailsOnce files → fault ≡ Some a_fault.ShelfFailed → (lines : List ℕ) × IsDone command words copy files saved lines
+  pub unwritten : IsUnwritten files.old files.new
+  pub unasked : files.new.asked ≡ files.old.asked
+  pub unlooked : IsLeftAlone copy
+  pub answer : IsFaultOrMemory fault a_fault.ShelfFailed
 
--- the lock is held at the end only where it was at the start, or a call below `.hg` failed; where one alone did, as `IsStuck` says
-abbrev pub IsFreed : Changing → List (List ℕ) → Watched tree.History → Watched shelf.History → Saved → Option Fault → Type 0
-IsFreed command words copy files saved fault = IsTrue saved.new.history.ours → IsTrue saved.old.history.ours ⊎ IsStuck command words copy files saved fault
+-- it was taken and given back, after a fault too
+pub record WasReturned (files : Watched shelf.History) (locks : Count) : Type 0 where
+  pub told : IsTrue files.old.told → Returned files.old files.new
+  pub ours : files.new.ours ≡ false
+  pub uncounted : locks.after ≡ locks.before
+
+-- it was taken, and giving it back failed, behind a change that was done, or behind a first fault; where the shelf failed both times, both are counted
+pub record WasNotReturned (Does : Makes) (copy : Watched tree.History) (files : Watched shelf.History) (saved : Saved) (locks : Count) (fault : Option Fault) : Type 0 where
+  pub told : IsTrue files.old.told → NotReturned files.old files.new
+  pub uncounted : locks.after ≡ locks.before
+  pub failed : Fails files
+  pub first : (IsFaultOrMemory fault a_fault.ShelfFailed × (stretch : Stretch saved.old.history saved.new.history) × (lines : List ℕ) × IsDone Does files saved stretch.from stretch.to lines)
+      ⊎ ((met : Fault) × IsFaultOrMemory fault met × MetChanging Does copy files met × (met ≡ a_fault.ShelfFailed → FailsTwice files))
+
+-- the lock was called for once, and one of these came of it
+abbrev pub IsLocked : Makes → Watched tree.History → Watched shelf.History → Saved → Count → Option Fault → Type 0
+IsLocked Does copy files saved locks fault =
+    WasRefused copy files locks fault ⊎ (WasNotTaken copy files locks fault ⊎ (WasReturned files locks ⊎ WasNotReturned Does copy files saved locks fault))
 
 -- what is answered once the lock was given back, or couldn't be: the first fault
 abbrev pub once_freed : {A U E : Type 0} → Result A Fault → Result U E → Result A Fault

@@ -1,173 +1,140 @@
 -- What the commands that change the record promise.
-use Rattle.std.specs.Prelude.{ℕ, true, ◌≡◌, ◌⊎◌, ◌<◌, if◌then◌else◌, List, Option, Some, None, Ok, Err, IsTrue, IfSome, MatchBool, is_some}
-use Rattle.std.specs.List.{AllByRecursion, list_any}
+use Rattle.std.specs.Prelude.{ℕ, Bool, true, false, ◌≡◌, ◌⊎◌, ◌<◌, List, [], ◌∷◌, Option, Some, None, Ok, IsTrue, IsSomeAnd, is_some}
 use Rattle.hg_append.specs.Encoded.{IsTooLarge}
 use Rattle.hg_base.specs.Fault.{IsSteady}
 use Rattle.hg_docket.specs.Number.{next_name}
 use Rattle.hg_entry.specs.Table.{Table}
-use Rattle.hg_image.specs.Reading as a_record_fault
 use Rattle.hg_mixed.specs.Edits.{IsSame}
 use Rattle.hg_mixed.specs.Held.{Held, table}
-use Rattle.hg_ops.specs.declared.refusal.Refusal.{Refusal}
-use Rattle.hg_report.specs.Fault.{has_line}
 use Rattle.hg_report.specs.declared.fault.Fault.{Fault}
 use Rattle.hg_report.specs.declared.fault.Fault.TheVariants as a_fault
 use Rattle.hg_save.specs.Others.{KeepsRecords}
 use Rattle.hg_save.specs.Record.{id_in, reading}
 use Rattle.hg_save.specs.Saved.{IsLatest}
-use Rattle.hg_session.specs.Acts.{AllIdle, AllSteps}
-use Rattle.hg_session.specs.Call.{Call, Fails, Serves, Watched}
-use Rattle.hg_session.specs.Change.{ChangeCause, Fits, IsDone, IsFreed, IsSafe, IsUnwritten, files_of}
-use Rattle.hg_session.specs.Command.{IsFaultOrMemory, IsSilent, TellsLine}
-use Rattle.hg_session.specs.Crash.{IsCrashSafe, IsLasting}
+use Rattle.hg_session.specs.Acts.{Makes}
+use Rattle.hg_session.specs.Call.{Call, Fails, IsLeftAlone, Serves, Watched}
+use Rattle.hg_session.specs.Change.{Fits, IsDone, IsEarly, IsLocked, IsReadSome, IsSafe, IsUnwritten, MetLocking, Stretch, makes_in}
+use Rattle.hg_session.specs.Loaded.{AsksRecord, IsUnreadable}
+use Rattle.hg_session.specs.Look.{Look, Looks}
+use Rattle.hg_session.specs.Put.{IsEmpty, IsFaultOrMemory, IsSilent}
+use Rattle.hg_session.specs.Crash.{IsCrashSafe, IsLasting, published_in}
 use Rattle.hg_session.specs.Listed.{IsOwn}
 use Rattle.hg_session.specs.declared.acting.Changing.{Changing}
 use Rattle.hg_session.specs.declared.acting.Changing.TheVariants as a_change
 use Rattle.hg_shelf.specs.History as shelf
 use Rattle.hg_shelf.specs.Images.{Goes, last_scene}
 use Rattle.hg_shelf.specs.Polite.{Undisturbed}
-use Rattle.hg_stream.specs.Stream.{Grown, GrownByFront}
 use Rattle.hg_tree.specs.History as tree
 
--- 1 where a word was refused, and else 0
-abbrev pub status_of : List (Option Refusal) → ℕ
-status_of refused = if list_any is_some refused then 1 else 0
+-- 1 where a line is told, and else 0
+abbrev pub status_of : List ℕ → ℕ
+status_of [] = 0
+status_of (byte ∷ lines) = 1
 
--- the words were done, the refused ones told, and the status says whether there are some
-pub record IsStepped (command : Changing) (call : Call) (status : ℕ) : Type 0 where
-  pub lines : List ℕ
-  pub done : IsDone command (files_of call.words) call.looked.tree call.looked.shelf call.saved lines
-  pub told : Grown call.err.old call.err.new lines
-  pub ends : status ≡ status_of done.refused
+-- these are the lines of a change that was done while the lock was held
+pub record IsChangeText (Does : Makes) (call : Call) (lines : List ℕ) : Type 0 where
+  pub stretch : Stretch call.saved.old.history call.saved.new.history
+  pub done : IsDone Does call.looked.shelf call.saved stretch.from stretch.to lines
   -- what was published is what a crash leaves from then on, until others publish
   pub lasts : (calm : Undisturbed call.saved.old call.saved.new) → KeepsRecords shelf.others call.saved.new call.saved.old.history.last
-      → IsLasting done.is.loaded done.made call.saved (done.kept calm)
+      → IsLasting done.is.loaded done.made call.saved stretch.from stretch.to (done.kept calm)
 
--- the words were done, the lines of the refused ones were told, or a front of them, and the stream failed
-pub record IsPartlyTold (command : Changing) (call : Call) : Type 0 where
-  pub lines : List ℕ
-  pub done : IsDone command (files_of call.words) call.looked.tree call.looked.shelf call.saved lines
-  pub told : GrownByFront call.err.old call.err.new lines
-  pub failed : Fails call.err
-  -- what was published is what a crash leaves from then on, until others publish
-  pub lasts : (calm : Undisturbed call.saved.old call.saved.new) → KeepsRecords shelf.others call.saved.new call.saved.old.history.last
-      → IsLasting done.is.loaded done.made call.saved (done.kept calm)
-
--- with a fault its line alone is told; where the error stream failed while the refused words were told, a front of these
-abbrev pub TellsFault : Changing → Call → Fault → Type 0
-TellsFault command call fault = MatchBool (has_line fault) (TellsLine call.err.old call.err.new call.err.before call.err.after fault) (IsPartlyTold command call)
-
--- the caller wrote nothing, unless the shelf failed, for whose line there may be no memory, or the error stream did behind the change
-abbrev pub IsUnwrittenUnless : Call → Fault → Type 0
-IsUnwrittenUnless call fault =
-    (fault ≡ a_fault.ErrFailed)
-    ⊎ ((Fails call.looked.shelf × ((fault ≡ a_fault.ShelfFailed) ⊎ (fault ≡ a_fault.OutOfMemory))) ⊎ IsUnwritten call.saved.old.history call.saved.new.history)
+-- a command that changes the record prints nothing, and tells its lines once it is done; the caller wrote nothing before a fault, whatever others do,
+-- unless the shelf failed while it saved, for whose line there may be no memory
+abbrev pub change_look : Makes → Call → Look
+change_look Does call = record {
+  Before = λ fault. IsUnwritten call.saved.old.history call.saved.new.history × MetLocking Does call.looked.tree call.looked.shelf call.locks fault;
+  Ready = Unit {0};
+  Printing = ⊥;
+  Text = IsEmpty;
+  Telling = Unit {0};
+  Told = IsChangeText Does call;
+  Saving = λ fault. Fails call.looked.shelf × ((fault ≡ a_fault.ShelfFailed) ⊎ (fault ≡ a_fault.OutOfMemory));
+}
 
 -- the tree is asked for no bytes and no names, and nothing of it is changed
 pub record OnlyLooks (copy : Watched tree.History) : Type 0 where
   pub passes : tree.Passes copy.old copy.new
   pub asked : IsTrue copy.old.told → copy.new.asked ≡ copy.old.asked
 
--- the tree isn't asked at all: what it tells and its count of failures stay
-pub record IsUnlooked (copy : Watched tree.History) : Type 0 where
-  pub same : copy.new ≡ copy.old
-  pub count : copy.after ≡ copy.before
-
 -- ---- what has to be answered
 
--- the words make this of the record in these files, and these are refused
-pub record IsMadeOf (command : Changing) (words : List (List ℕ)) (copy : Watched tree.History) (files : shelf.Files) (loaded made : Table) : Type 0 where
+-- this is made of the record in these files
+pub record IsMadeOf (Does : Makes) (files : shelf.Files) (made : Table) (lines : List ℕ) (changed : Bool) : Type 0 where
+  pub loaded : Table
   pub recorded : reading files ≡ Some (Ok loaded)
-  pub refused : List (Option Refusal)
-  pub steps : AllSteps command copy.old copy.new words refused loaded made
+  pub does : Does loaded made lines changed
 
--- the words leave the record as it is, or make one that can be written
-pub record CanBeDone (command : Changing) (words : List (List ℕ)) (copy : Watched tree.History) (files : shelf.Files) : Type 0 where
-  pub loaded : Table
+-- the record is left as it is, or one is made that can be written
+pub record CanBeDone (Does : Makes) (files : shelf.Files) : Type 0 where
   pub made : Table
-  pub is : IsMadeOf command words copy files loaded made
-  pub fits : IsSame made loaded ⊎ Fits files made
+  pub lines : List ℕ
+  pub changed : Bool
+  pub is : IsMadeOf Does files made lines changed
+  pub fits : ((changed ≡ false) × IsSame made is.loaded) ⊎ Fits files made
 
--- the words change the record, an identifier is left, and what they make takes so many bytes, which are too many
-pub record IsTooLargeFor (command : Changing) (words : List (List ℕ)) (copy : Watched tree.History) (files : shelf.Files) (size : ℕ) : Type 0 where
-  pub loaded : Table
+-- the record is changed, an identifier is left, and what is made takes so many bytes, which are too many
+pub record IsTooLargeFor (Does : Makes) (files : shelf.Files) (size : ℕ) : Type 0 where
   pub made : Table
-  pub is : IsMadeOf command words copy files loaded made
-  pub busy : AllIdle command copy.old copy.new words is.refused loaded made is.steps → ⊥
+  pub lines : List ℕ
+  pub is : IsMadeOf Does files made lines true
   pub held : Held
   pub same : IsSame (table held) made
   pub large : IsTooLarge held size
   pub next : is_some (next_name (id_in files)) ≡ true
 
--- the words change the record, and no identifier is left
-pub record IsSpentFor (command : Changing) (words : List (List ℕ)) (copy : Watched tree.History) (files : shelf.Files) : Type 0 where
-  pub loaded : Table
+-- the record is changed, and no identifier is left
+pub record IsSpentFor (Does : Makes) (files : shelf.Files) : Type 0 where
   pub made : Table
-  pub is : IsMadeOf command words copy files loaded made
-  pub busy : AllIdle command copy.old copy.new words is.refused loaded made is.steps → ⊥
+  pub lines : List ℕ
+  pub is : IsMadeOf Does files made lines true
   pub spent : next_name (id_in files) ≡ None
 
--- the answer to these words where the files stand so, nobody else steps, no device fails and no lock is refused; want of memory may come at any time
-abbrev pub IsExpectedChange : Changing → List (List ℕ) → Watched tree.History → shelf.Files → Option Fault → Type 0
-IsExpectedChange command words copy files None = CanBeDone command words copy files
-IsExpectedChange command words copy files (Some a_fault.OutOfMemory) = Unit {0}
-IsExpectedChange command words copy files (Some (a_fault.Docket fault)) = reading files ≡ Some (Err (a_record_fault.Docket fault))
-IsExpectedChange command words copy files (Some (a_fault.Node fault)) = reading files ≡ Some (Err (a_record_fault.Node fault))
-IsExpectedChange command words copy files (Some (a_fault.DataGone ids)) = (reading files ≡ None) × AllByRecursion (λ id. id ≡ id_in files) ids
-IsExpectedChange command words copy files (Some (a_fault.TooLarge size)) = IsTooLargeFor command words copy files size
-IsExpectedChange command words copy files (Some a_fault.IdsSpent) = IsSpentFor command words copy files
-IsExpectedChange command words copy files (Some a_fault.NotBuilt) = ⊥
-IsExpectedChange command words copy files (Some (a_fault.NoManifest id)) = ⊥
-IsExpectedChange command words copy files (Some (a_fault.ManifestTooLarge size)) = ⊥
-IsExpectedChange command words copy files (Some (a_fault.ManifestLine line)) = ⊥
-IsExpectedChange command words copy files (Some (a_fault.ManifestOrder line)) = ⊥
-IsExpectedChange command words copy files (Some (a_fault.NoContents id)) = ⊥
-IsExpectedChange command words copy files (Some (a_fault.IgnoreTooLarge size)) = ⊥
-IsExpectedChange command words copy files (Some (a_fault.IgnoreText at)) = ⊥
-IsExpectedChange command words copy files (Some (a_fault.BadGlob line)) = ⊥
-IsExpectedChange command words copy files (Some (a_fault.BadRegexp line)) = ⊥
-IsExpectedChange command words copy files (Some (a_fault.RegexpTooBig line)) = ⊥
-IsExpectedChange command words copy files (Some (a_fault.BadInclude line)) = ⊥
-IsExpectedChange command words copy files (Some a_fault.Held) = ⊥
-IsExpectedChange command words copy files (Some a_fault.TreeFailed) = ⊥
-IsExpectedChange command words copy files (Some a_fault.ShelfFailed) = ⊥
-IsExpectedChange command words copy files (Some a_fault.OutFailed) = ⊥
-IsExpectedChange command words copy files (Some a_fault.ErrFailed) = ⊥
+-- the answer where the files stand so, nobody else steps, no device fails and no lock is refused; want of memory may come at any time
+abbrev pub IsExpectedChange : Makes → shelf.Files → Option Fault → Type 0
+IsExpectedChange Does files None = CanBeDone Does files
+IsExpectedChange Does files (Some (a_fault.TooLarge size)) = IsTooLargeFor Does files size
+IsExpectedChange Does files (Some a_fault.IdsSpent) = IsSpentFor Does files
+IsExpectedChange Does files (Some fault) = IsUnreadable files fault
 
 -- ---- the command
 
 -- what a command that changes the record did that ended with this status and this fault, or with none
-pub record RanChange (command : Changing) (call : Call) (status : ℕ) (fault : Option Fault) : Type 0 where
-  -- without a fault each word did what it says to the record that was read, the refused ones were told, and the rest is recorded
-  pub stepped : fault ≡ None → IsStepped command call status
+pub record RanChange (command : Changing) (words : List (List ℕ)) (call : Call) (status : ℕ) (fault : Option Fault) : Type 0 where
+  -- without a fault each word did what it says to the record that was read, the refused ones were told, and the rest is recorded; and with one: where it
+  -- was met, why, and what stands in both streams
+  pub shows : Looks (change_look (makes_in command words call) call) call.out call.err fault
+  -- without a fault the status is 1 exactly where a line was told
+  pub ends : (none : fault ≡ None) → status ≡ status_of (shows.done none).told.text
   -- whatever the answer, at each moment of the call a crash leaves the record as it was or as it is after, and so do reads
-  pub safe : Undisturbed call.saved.old call.saved.new → IsSafe command (files_of call.words) call.looked.tree call.saved fault
+  pub safe : Undisturbed call.saved.old call.saved.new → IsSafe (makes_in command words call) call.saved fault
   -- and where others keep to how a record is published, also before the lock was got and behind it: at each moment since the call's start a crash
   -- leaves a record of what it might have left then, of what the call published, or of what others published since
   pub crash : (calm : Undisturbed call.saved.old call.saved.new) → KeepsRecords shelf.others call.saved.new call.saved.old.history.last → IsLatest (last_scene call.saved.old)
-      → IsCrashSafe command (files_of call.words) call.looked.tree call.saved fault (safe calm)
-  -- after a fault that comes before a publication nothing is written, whatever others do
-  pub unwritten : IfSome fault (IsUnwrittenUnless call)
-  -- each fault comes only for its cause
-  pub cause : IfSome fault (ChangeCause command call)
+      → IsCrashSafe (published_in (makes_in command words call) call.saved fault (safe calm)) call.saved
   -- a lock that was refused is told as such
   pub held : call.locks.before < call.locks.after → IsFaultOrMemory fault a_fault.Held
   -- and so is a tree that failed, whatever else failed behind it
   pub tree : call.looked.tree.before < call.looked.tree.after → IsFaultOrMemory fault a_fault.TreeFailed
   -- where nobody else steps, no count rises and no lock is refused, the answer is the expected one, or there was no memory
   pub complete : IsOwn call.looked → Serves call.looked.tree → Serves call.looked.shelf → Serves call.err → IsSteady call.locks.before call.locks.after
-      → IsExpectedChange command (files_of call.words) call.looked.tree (shelf.now call.looked.shelf.old).files fault
+      → IsExpectedChange (makes_in command words call) (shelf.now call.looked.shelf.old).files fault
   -- where a device failed there is a fault, and another one than of the error stream where the shelf did
   pub calm_tree : fault ≡ None → call.looked.tree.after ≡ call.looked.tree.before
   pub calm_shelf : (fault ≡ None) ⊎ (fault ≡ Some a_fault.ErrFailed) → call.looked.shelf.after ≡ call.looked.shelf.before
   pub calm_err : fault ≡ None → call.err.after ≡ call.err.before
-  -- what stands on the error stream after a fault; nothing is printed, and no regexp compiled
-  pub told : IfSome fault (TellsFault command call)
+  -- nothing is printed, and no regexp compiled
   pub silent : IsSilent call.out
   pub uncounted : call.looked.oversize.after ≡ call.looked.oversize.before
   pub looks : OnlyLooks call.looked.tree
+  -- it is looked at only behind a record that was read
+  pub behind : IsLeftAlone call.looked.tree ⊎ IsReadSome call.looked.shelf
+  pub early : IsSomeAnd fault IsEarly → IsLeftAlone call.looked.tree
   -- where files are forgotten the tree isn't asked
-  pub unlooked : command ≡ a_change.Forget → IsUnlooked call.looked.tree
-  -- what was so far stays, and the lock is held behind it only as `IsFreed` says
+  pub unlooked : command ≡ a_change.Forget → IsLeftAlone call.looked.tree
+  -- below `.hg` it asks for no more than a load does
+  pub asked : IsTrue call.looked.shelf.old.told → AsksRecord call.looked.shelf.old call.looked.shelf.new
+  -- what was so far stays
   pub kept : Goes call.saved.old call.saved.new
-  pub freed : IsFreed command (files_of call.words) call.looked.tree call.looked.shelf call.saved fault
+  -- the lock was called for once, also where nothing was to be changed
+  pub locked : IsLocked (makes_in command words call) call.looked.tree call.looked.shelf call.saved call.locks fault

@@ -1,19 +1,19 @@
--- What a crash may leave at each moment of a call that changes the record, also where others publish before or behind the change.
-use Rattle.std.specs.Prelude.{ℕ, ◌≡◌, ◌⊎◌, ◌≤◌, List, Option, Some, Result, Ok}
+-- What a crash may leave at each moment of a call, also where others publish before or behind its change.
+use Rattle.std.specs.Prelude.{ℕ, ◌≡◌, ◌⊎◌, ◌≤◌, Option, Some, None, Result, Ok, IsSomeAnd}
 use Rattle.std.proofs.Common.{inl, inr}
 use Rattle.hg_entry.specs.Table.{Table}
 use Rattle.hg_image.specs.Reading.{RecordFault}
 use Rattle.hg_mixed.specs.Edits.{IsSame}
 use Rattle.hg_report.specs.declared.fault.Fault.{Fault}
-use Rattle.hg_save.specs.Others.{KeepsRecords, WasPublished}
+use Rattle.hg_save.specs.Others.{KeepsFiles, KeepsRecords, WasPublished}
 use Rattle.hg_save.specs.Record.{IsSound, reading}
 use Rattle.hg_save.specs.Saved.{IsLatest}
-use Rattle.hg_session.specs.Call.{Saved, Watched}
+use Rattle.hg_session.specs.Acts.{Makes}
+use Rattle.hg_session.specs.Call.{Saved}
 use Rattle.hg_session.specs.Change.{IsKept, IsSafe, IsUnwritten}
-use Rattle.hg_session.specs.declared.acting.Changing.{Changing}
-use Rattle.hg_shelf.specs.History.{Files, us}
+use Rattle.hg_shelf.specs.History.{Files, others, us}
 use Rattle.hg_shelf.specs.Images.{Scene, last_scene, scene}
-use Rattle.hg_tree.specs.History as tree
+use Rattle.hg_shelf.specs.Polite.{Undisturbed}
 
 -- a crash might have left this record
 abbrev pub MightBeLeft : Scene → Option (Result Table RecordFault) → Type 0
@@ -23,28 +23,36 @@ MightBeLeft s recorded = (d : Files) × s.leaves d × (recorded ≡ reading d)
 abbrev pub LeavesSound : Scene → Type 0
 LeavesSound s = (c : Files) → s.leaves c → IsSound (reading c)
 
--- the call published this record
-abbrev pub IsOwnRecord : (command : Changing) (words : List (List ℕ)) (copy : Watched tree.History) (saved : Saved) (fault : Option Fault) → IsSafe command words copy saved fault
-    → Option (Result Table RecordFault) → Type 0
-IsOwnRecord command words copy saved fault (inl none) recorded = ⊥
-IsOwnRecord command words copy saved fault (inr (may, is)) recorded = recorded ≡ Some (Ok is.found)
+-- the table that a change published, where it published one
+abbrev pub published_in : (Does : Makes) (saved : Saved) (fault : Option Fault) → IsSafe Does saved fault → Option Table
+published_in Does saved fault (inl none) = None
+published_in Does saved fault (inr (may, is)) = Some is.is.found
 
--- at each moment from the call's start to its end, whatever a crash leaves records what it might have left at the start, what the call published, or
+-- that is what is recorded
+abbrev pub IsOwnRecord : Option Table → Option (Result Table RecordFault) → Type 0
+IsOwnRecord own recorded = IsSomeAnd own (λ table. recorded ≡ Some (Ok table))
+
+-- at each moment from the call's start to its end, whatever a crash leaves records what it might have left at the start, what the call published (own), or
 -- what others published since the start; it is sound where that at the start was; each step of the call keeps to how a record is published, as those
--- of others do, so that this can be said beside another call; and no docket that a crash might leave at the end is ahead of the one that stands, so
+-- of others do, and keeps the data that dockets name, so that this can be said beside another call; and no docket that a crash might leave at the end is ahead of the one that stands, so
 -- that it can be said of the next one
-pub record IsCrashSafe (command : Changing) (words : List (List ℕ)) (copy : Watched tree.History) (saved : Saved) (fault : Option Fault) (safe : IsSafe command words copy saved fault) : Type 0 where
+pub record IsCrashSafe (own : Option Table) (saved : Saved) : Type 0 where
   pub each : (k : ℕ) (c : Files) → saved.old.history.last ≤ k → k ≤ saved.new.history.last → (scene saved.new k).leaves c
-      → MightBeLeft (last_scene saved.old) (reading c) ⊎ (IsOwnRecord command words copy saved fault safe (reading c) ⊎ WasPublished saved.new saved.old.history.last k (reading c))
+      → MightBeLeft (last_scene saved.old) (reading c) ⊎ (IsOwnRecord own (reading c) ⊎ WasPublished saved.new saved.old.history.last k (reading c))
   pub sound : LeavesSound (last_scene saved.old) → (k : ℕ) → saved.old.history.last ≤ k → k ≤ saved.new.history.last → LeavesSound (scene saved.new k)
   pub orderly : KeepsRecords us saved.new saved.old.history.last
+  pub keeping : KeepsFiles us saved.new.history saved.old.history.last
   pub latest : IsLatest (last_scene saved.new)
 
--- from where the lock was given back to the call's end, whatever a crash leaves records what the words made, or what others published since
-pub record Lasts (loaded made : Table) (saved : Saved) (kept : IsKept loaded made saved) : Type 0 where
-  pub each : (k : ℕ) (c : Files) → kept.stretch.to ≤ k → k ≤ saved.new.history.last → (scene saved.new k).leaves c
-      → (reading c ≡ Some (Ok kept.found)) ⊎ WasPublished saved.new kept.stretch.to k (reading c)
+-- where others keep to how a record is published, and no docket that a crash might have left at the start was ahead of the one that stood
+abbrev pub IsSafeFromCrashes : Saved → Type 0
+IsSafeFromCrashes saved =
+    Undisturbed saved.old saved.new → KeepsRecords others saved.new saved.old.history.last → IsLatest (last_scene saved.old) → (own : Option Table) × IsCrashSafe own saved
+
+-- from a moment to the call's end, whatever a crash leaves records what was made, or what others published since
+pub record Lasts (saved : Saved) (to : ℕ) (found : Table) : Type 0 where
+  pub each : (k : ℕ) (c : Files) → to ≤ k → k ≤ saved.new.history.last → (scene saved.new k).leaves c → (reading c ≡ Some (Ok found)) ⊎ WasPublished saved.new to k (reading c)
 
 -- so it does, unless nothing was to be published
-abbrev pub IsLasting : (loaded made : Table) (saved : Saved) → IsKept loaded made saved → Type 0
-IsLasting loaded made saved kept = Lasts loaded made saved kept ⊎ (IsSame made loaded × IsUnwritten saved.old.history saved.new.history)
+abbrev pub IsLasting : (loaded made : Table) (saved : Saved) (from to : ℕ) → IsKept loaded made saved from to → Type 0
+IsLasting loaded made saved from to kept = Lasts saved to kept.found ⊎ (IsSame made loaded × IsUnwritten saved.old.history saved.new.history)

@@ -3,11 +3,10 @@ use Rattle.std.specs.Prelude.{ℕ, ◌≡◌, ◌⊎◌, true, List, Some, Resul
 use Rattle.hg_base.specs.Fault.{Rose}
 use Rattle.hg_base.specs.declared.id.Id20.{Id20}
 use Rattle.hg_entry.specs.Table.{Table, flat_of}
-use Rattle.hg_entry.specs.Table as plain
 use Rattle.hg_flat.specs.Asked.{AsksAll, AsksBehind, AsksNothing, IsListedDir, pattern_reads}
 use Rattle.hg_listing.specs.Full.{IsFull, IsFullFor}
 use Rattle.hg_flat.specs.Met.{Met, Status}
-use Rattle.hg_flat.specs.Parent.{IsAsked, IsLeft, IsServed, is_compared, parent_rows}
+use Rattle.hg_flat.specs.Parent.{Asking, IsAsked, IsLeft, IsServed, asked_by, parent_rows}
 use Rattle.hg_flat.specs.Patterns.{HadPatterns, Warns, ignored_at, is_of_parent}
 use Rattle.hg_listing.specs.declared.fault.StatusFault.{StatusFault}
 use Rattle.hg_listing.specs.declared.fault.StatusFault.TheVariants as a_status
@@ -19,152 +18,115 @@ use Rattle.hg_tree.specs.History as tree
 use Rattle.hg_tree.specs.Moment.{Moment}
 use Rattle.hg_session.specs.Call.{Fails, Looked, Watched}
 use Rattle.hg_save.specs.Record.{record_in}
-use Rattle.hg_save.specs.Loads.{Tries, Try, found_by}
-use Rattle.hg_session.specs.Loaded.{Refuses}
+use Rattle.hg_session.specs.Loaded.{IsLoaded, MetReading, WasLoaded}
 use Rattle.hg_session.specs.declared.list_fault.ListFault.{ListFault}
 use Rattle.hg_session.specs.declared.list_fault.ListFault.TheVariants as a_list
-use Rattle.hg_session.specs.declared.read_fault.ReadFault.{ReadFault}
-use Rattle.hg_session.specs.declared.read_fault.ReadFault.TheVariants as a_read
 
--- ---- what was read
+-- the first parent that a table records
+abbrev pub first_parent : Table → Id20
+first_parent table = record { 0 = (flat_of table).p1 }
 
--- the files below `.hg`, at moments of the call, record a table with this flat map
-pub record IsRecorded (old new : shelf.History) (flat : plain.Flat) : Type 0 where
-  pub tries : List Try
-  pub tried : Tries old new tries
-  pub table : Table
-  pub found : found_by new tried.last ≡ Some (Ok table)
-  pub flat_is : flat_of table ≡ flat
-
--- the flat map was loaded in the call, where the files are told
-abbrev pub IsLoaded : Watched shelf.History → plain.Flat → Type 0
-IsLoaded files flat = IsTrue files.old.told → IsRecorded files.old files.new flat
-
--- some flat map was
-abbrev pub Loaded : Watched shelf.History → Type 0
-Loaded files = IsTrue files.old.told → ((flat : plain.Flat) × IsRecorded files.old files.new flat)
-
--- the record at moments of the call was refused so, where the files are told
-abbrev pub LoadMet : ReadFault → Watched shelf.History → Type 0
-LoadMet fault files = IsTrue files.old.told → ((tries : List Try) × Refuses files.old files.new tries fault)
-
--- why the record wasn't read: what stood in the files, or a shelf that failed. Want of memory needs no reason
-abbrev pub MetReading : Watched shelf.History → ReadFault → Type 0
-MetReading files a_read.OutOfMemory = Unit {0}
-MetReading files (a_read.Docket fault) = LoadMet (a_read.Docket fault) files
-MetReading files (a_read.Node fault) = LoadMet (a_read.Node fault) files
-MetReading files (a_read.DataGone ids) = LoadMet (a_read.DataGone ids) files
-MetReading files a_read.Failed = Fails files
-
--- the first parent of a flat map
-abbrev pub first_parent : plain.Flat → Id20
-first_parent flat = record { 0 = flat.p1 }
+-- which paths a status over a table compares, by what a moment shows
+abbrev pub asking : Wanted → Table → Asking
+asking wanted table = asked_by wanted (flat_of table)
 
 -- ---- paths that are left alone
 
--- nobody touches the path during the call, nor what the first parent has of it where its bytes are compared, nor the ignore patterns where
--- they decide its letter
-abbrev pub IsUntouched : Looked → Wanted → plain.Flat → List ℕ → Type 0
-IsUntouched looked wanted flat = IsLeft wanted flat (first_parent flat) looked.tree.new looked.tree.old.last looked.shelf.new looked.shelf.old.last
+-- nobody touches the path during the call, nor what the first parent has of it where it is compared, nor the ignore patterns where they
+-- decide its letter
+abbrev pub IsUntouched : Looked → Wanted → Table → List ℕ → Type 0
+IsUntouched looked wanted table =
+    IsLeft wanted (flat_of table) (asking wanted table) (first_parent table) looked.tree.new looked.tree.old.last looked.shelf.new looked.shelf.old.last
+
+-- a path is compared at a moment
+abbrev pub IsAskedAt : Wanted → Table → Moment → List ℕ → Type 0
+IsAskedAt wanted table moment path = IsAsked (asking wanted table) moment path
 
 -- what the comparisons of a listing ask for was there at the start of the call, for each path that is left alone
-abbrev pub IsServedFor : Looked → Wanted → plain.Flat → Type 0
-IsServedFor looked wanted flat =
-    (path : List ℕ) → IsUntouched looked wanted flat path → IsAsked wanted flat (tree.now looked.tree.old) path
-    → IsServed (shelf.now looked.shelf.old).files (first_parent flat) (tree.now looked.tree.old) path
+abbrev pub IsServedFor : Looked → Wanted → Table → Type 0
+IsServedFor looked wanted table =
+    (path : List ℕ) → IsUntouched looked wanted table path → IsAskedAt wanted table (tree.now looked.tree.old) path
+    → IsServed (shelf.now looked.shelf.old).files (first_parent table) (tree.now looked.tree.old) path
 
--- a listing met no fault: a flat map was loaded, the ignore patterns were read and fine where they are needed, and what was compared was there
+-- a listing met no fault: a table was loaded, the ignore patterns were read and fine where they are needed, and what was compared was there
 pub record IsListable (looked : Looked) (wanted : Wanted) : Type 0 where
-  pub flat : plain.Flat
-  pub loaded : IsLoaded looked.shelf flat
+  pub table : Table
+  pub loaded : IsLoaded looked.shelf table
   pub patterns : HadPatterns wanted looked.tree.old looked.tree.new
-  pub served : IsServedFor looked wanted flat
+  pub served : IsServedFor looked wanted table
 
 -- ---- why a listing met a fault
 
--- the status over a flat map, from the start to the end of the call
-abbrev pub status_over : Looked → Wanted → plain.Flat → Status
-status_over looked wanted flat = record {
+-- the status over a table, from the start to the end of the call
+abbrev pub status_over : Looked → Wanted → Table → Status
+status_over looked wanted table = record {
   wanted = wanted;
-  flat = flat;
-  id = first_parent flat;
+  asks = asking wanted table;
+  id = first_parent table;
   tree_old = looked.tree.old;
   tree_new = looked.tree.new;
   shelf_old = looked.shelf.old;
   shelf_new = looked.shelf.new;
 }
 
--- a status over the flat map that was loaded met this fault; one of the first parent was met behind patterns that were fine
+-- a status over the table that was loaded met this fault; one of the first parent was met behind patterns that were fine
 pub record StatusMet (looked : Looked) (wanted : Wanted) (fault : StatusFault) : Type 0 where
-  pub flat : plain.Flat
-  pub loaded : IsLoaded looked.shelf flat
+  pub table : Table
+  pub loaded : IsLoaded looked.shelf table
   pub behind : is_of_parent fault ≡ true → HadPatterns wanted looked.tree.old looked.tree.new
-  pub met : Met (status_over looked wanted flat) fault
+  pub met : Met (status_over looked wanted table) fault
 
--- what stood in the files or at the root, or a device that failed; and that no earlier fault was found. Want of memory needs no reason
+-- a device that failed, or what stood in the files or at the root; and that no earlier fault was found. Want of memory needs no reason
 abbrev pub ListingCause : Looked → Wanted → ListFault → Type 0
 ListingCause looked wanted (a_list.Read fault) = MetReading looked.shelf fault
 ListingCause looked wanted (a_list.Status a_status.OutOfMemory) = Unit {0}
-ListingCause looked wanted (a_list.Status a_status.TreeFailed) = Fails looked.tree × Loaded looked.shelf
+ListingCause looked wanted (a_list.Status a_status.TreeFailed) = Fails looked.tree × WasLoaded looked.shelf
 ListingCause looked wanted (a_list.Status a_status.ShelfFailed) = Fails looked.shelf
-ListingCause looked wanted (a_list.Status (a_status.NoManifest id)) = StatusMet looked wanted (a_status.NoManifest id)
-ListingCause looked wanted (a_list.Status (a_status.ManifestTooLarge size)) = StatusMet looked wanted (a_status.ManifestTooLarge size)
-ListingCause looked wanted (a_list.Status (a_status.ManifestLine line)) = StatusMet looked wanted (a_status.ManifestLine line)
-ListingCause looked wanted (a_list.Status (a_status.ManifestOrder line)) = StatusMet looked wanted (a_status.ManifestOrder line)
-ListingCause looked wanted (a_list.Status (a_status.NoContents id)) = StatusMet looked wanted (a_status.NoContents id)
-ListingCause looked wanted (a_list.Status (a_status.IgnoreTooLarge size)) = StatusMet looked wanted (a_status.IgnoreTooLarge size)
-ListingCause looked wanted (a_list.Status (a_status.IgnoreText at)) = StatusMet looked wanted (a_status.IgnoreText at)
-ListingCause looked wanted (a_list.Status (a_status.BadGlob line)) = StatusMet looked wanted (a_status.BadGlob line)
-ListingCause looked wanted (a_list.Status (a_status.BadRegexp line)) = StatusMet looked wanted (a_status.BadRegexp line)
-ListingCause looked wanted (a_list.Status (a_status.RegexpTooBig line)) = StatusMet looked wanted (a_status.RegexpTooBig line) × Rose looked.oversize.before looked.oversize.after
-ListingCause looked wanted (a_list.Status (a_status.BadInclude line)) = StatusMet looked wanted (a_status.BadInclude line)
+ListingCause looked wanted (a_list.Status (a_status.RegexpTooBig line)) =
+    StatusMet looked wanted (a_status.RegexpTooBig line) × Rose looked.oversize.before looked.oversize.after
+ListingCause looked wanted (a_list.Status fault) = StatusMet looked wanted fault
 
 -- ---- the rows
 
--- for paths that are left alone the rows are the full listing at the start of the call, by the flat map that was loaded in it, what the
--- files at the start of the call have of its first parent, and the ignore patterns there
+-- for paths that are left alone the rows are the full listing at the start of the call, by the table that was loaded in it, what the files at
+-- the start of the call have of its first parent, and the ignore patterns there
 pub record IsListedFor (looked : Looked) (wanted : Wanted) (rows : List Row) : Type 0 where
-  pub flat : plain.Flat
-  pub loaded : IsLoaded looked.shelf flat
-  pub full : IsFullFor (IsUntouched looked wanted flat) flat (tree.now looked.tree.old) (parent_rows (shelf.now looked.shelf.old).files (first_parent flat)) (ignored_at (tree.now looked.tree.old)) wanted rows
+  pub table : Table
+  pub loaded : IsLoaded looked.shelf table
+  pub full : IsFullFor (IsUntouched looked wanted table) (flat_of table) (tree.now looked.tree.old) (parent_rows (shelf.now looked.shelf.old).files (first_parent table)) (ignored_at (tree.now looked.tree.old)) wanted rows
 
--- the rows are the full listing of the working copy at a moment, by the dirstate in these files, its first parent there, and the ignore patterns of that moment
+-- the rows are the full listing of the working copy at a moment, by the table in these files, its first parent there, and the ignore patterns of that moment
 pub record IsListed (files : shelf.Files) (moment : Moment) (wanted : Wanted) (rows : List Row) : Type 0 where
   pub table : Table
   pub recorded : record_in files files ≡ Some (Ok table)
-  pub full : IsFull (flat_of table) moment (parent_rows files (first_parent (flat_of table))) (ignored_at moment) wanted rows
+  pub full : IsFull (flat_of table) moment (parent_rows files (first_parent table)) (ignored_at moment) wanted rows
 
 -- nobody but the caller makes a step
 pub record IsOwn (looked : Looked) : Type 0 where
   pub tree : tree.IsOurs looked.tree.old looked.tree.new
   pub shelf : shelf.IsOurs looked.shelf.old looked.shelf.new
 
--- a path whose bytes are compared
-abbrev pub IsCompared : Wanted → plain.Flat → List ℕ → Type 0
-IsCompared wanted flat path = IsTrue (is_compared wanted flat path)
+-- the tree was asked by a listing over a table: the ignore patterns were read where they are needed and a file of them was seen, then paths that
+-- are compared were read, and where `?` or I is wanted directories were listed, each once at most; where nobody else steps, visible ones alone,
+-- and without I none that is ignored
+abbrev pub AsksOver : Table → Wanted → Watched tree.History → Type 0
+AsksOver table wanted copy = AsksAll wanted (asking wanted table) (IsListedDir wanted copy.old copy.new) copy.old copy.new
 
--- the tree was asked by a listing over a flat map: the ignore patterns were read where they are needed and a file of them was seen, then paths whose
--- bytes are compared were read, and where `?` or I is wanted directories were listed, each once at most; where nobody else steps, visible ones alone, and
--- without I none that is ignored
-abbrev pub AsksOver : plain.Flat → Wanted → Watched tree.History → Type 0
-AsksOver flat wanted copy = AsksAll wanted (IsCompared wanted flat) (IsListedDir wanted copy.old copy.new) copy.old copy.new
-
--- it was asked nothing, or by a listing over the flat map that was loaded
+-- it was asked nothing, or by a listing over the table that was loaded
 abbrev pub AsksLittle : Looked → Wanted → Type 0
 AsksLittle looked wanted =
-    IsTrue looked.tree.old.told → AsksNothing looked.tree.old looked.tree.new ⊎ ((flat : plain.Flat) × IsLoaded looked.shelf flat × AsksOver flat wanted looked.tree)
+    IsTrue looked.tree.old.told → AsksNothing looked.tree.old looked.tree.new ⊎ ((table : Table) × IsLoaded looked.shelf table × AsksOver table wanted looked.tree)
 
 -- where nobody else steps, it was asked by a listing that read the ignore patterns exactly where they are needed and stand there
 abbrev pub AsksOwn : Looked → Wanted → Type 0
 AsksOwn looked wanted =
     tree.IsOurs looked.tree.old looked.tree.new
-    → (flat : plain.Flat) × IsLoaded looked.shelf flat
-    × AsksBehind (pattern_reads wanted (tree.now looked.tree.old)) (IsCompared wanted flat) (IsListedDir wanted looked.tree.old looked.tree.new) looked.tree.old looked.tree.new
+    → (table : Table) × IsLoaded looked.shelf table
+    × AsksBehind (pattern_reads wanted (tree.now looked.tree.old)) (asking wanted table) (IsListedDir wanted looked.tree.old looked.tree.new) looked.tree.old looked.tree.new
 
 -- what a listing does: it only asks, and answers the rows and the warnings, or a fault
 pub record Lists (looked : Looked) (wanted : Wanted) (result : Result Listed ListFault) : Type 0 where
   pub tree : tree.Passes looked.tree.old looked.tree.new
-  pub shelf : shelf.Passes looked.shelf.old looked.shelf.new
   pub still : IfOk result (λ listed. IsListedFor looked wanted listed.rows)
   pub warns : IfOk result (λ listed. Warns wanted looked.tree.old looked.tree.new listed.warnings)
   pub listable : OnOk result (IsListable looked wanted)

@@ -1,23 +1,56 @@
--- What reading the record answers, by what a load found.
-use Rattle.std.specs.Prelude.{ℕ, ◌≡◌, List, map, Option, Some, None, Result, Ok, Err, Vec}
+-- What was read of the record, and what reading it answers, by what a load found.
+use Rattle.std.specs.Prelude.{ℕ, ◌≡◌, List, ◌∷◌, map, Option, Some, None, Result, Ok, Err, IsTrue, Vec}
+use Rattle.std.specs.List.{AllByRecursion}
 use Rattle.std.specs.declared.alloc.Global.{Global}
+use Rattle.hg_docket.specs.Docket.{docket_of}
 use Rattle.hg_entry.specs.Table.{Table, flat_of}
 use Rattle.hg_flat.specs.Recorded.{Records}
-use Rattle.hg_flat.specs.Shown.{flat_in, kept_of}
+use Rattle.hg_flat.specs.Shown.{flat_in, rows_of}
 use Rattle.hg_flat.specs.declared.flat.Flat.{Flat}
 use Rattle.hg_image.specs.Reading.{RecordFault}
 use Rattle.hg_image.specs.Reading as a_record_fault
 use Rattle.hg_image.specs.declared.fault.NodeFault.{NodeFault}
 use Rattle.hg_report.specs.Debug.{IsDebugText}
-use Rattle.hg_save.specs.Loads.{Tries, Try, found_by, id_by}
+use Rattle.hg_report.specs.declared.fault.Fault.{Fault}
+use Rattle.hg_report.specs.declared.fault.Fault.TheVariants as a_session_fault
+use Rattle.hg_save.specs.Asked.{docket_ask, named_asks}
+use Rattle.hg_save.specs.Loads.{During, Tries, Try, files_at, found_by, id_by}
+use Rattle.hg_save.specs.Record.{docket_in, id_in, record_in}
+use Rattle.hg_session.specs.Call.{Fails, Watched}
 use Rattle.hg_session.specs.declared.read_fault.ReadFault.{ReadFault}
 use Rattle.hg_session.specs.declared.read_fault.ReadFault.TheVariants as a_fault
-use Rattle.hg_shelf.specs.History.{History}
+use Rattle.hg_shelf.specs.Asks.{AsksFrontOf}
+use Rattle.hg_shelf.specs.History.{Files, History}
+
+-- ---- what was read
+
+-- the files below `.hg`, at moments of the call, record this table
+pub record IsRead (old new : History) (table : Table) : Type 0 where
+  pub tries : List Try
+  pub tried : Tries old new tries
+  pub found : found_by new tried.last ≡ Some (Ok table)
+
+-- the table was read in the call, where the files are told
+abbrev pub IsLoaded : Watched History → Table → Type 0
+IsLoaded files table = IsTrue files.old.told → IsRead files.old files.new table
+
+-- some table was
+abbrev pub WasLoaded : Watched History → Type 0
+WasLoaded files = IsTrue files.old.told → (table : Table) × IsRead files.old files.new table
+
+-- the files below `.hg` were asked for no more than a load asks for: the docket as it stood at a moment of the call, and the data file that it names,
+-- each once
+pub record AsksRecord (old new : History) : Type 0 where
+  pub at : ℕ
+  pub during : During old new at
+  pub asks : AsksFrontOf (docket_ask ∷ named_asks (docket_in (files_at new at))) old new
+
+-- ---- what reading it answers
 
 -- a flat map is that of a table, and keeps its entries and sources
 pub record IsFlatOf (table : Table) (loaded : Flat) : Type 0 where
   pub flat : flat_in loaded ≡ flat_of table
-  pub records : Records table (kept_of loaded)
+  pub records : Records table (rows_of loaded)
 
 -- bytes are the text of a table
 abbrev pub IsBytesOf : Table → Vec ℕ Global → Type 0
@@ -47,11 +80,27 @@ pub record Refuses (old new : History) (tries : List Try) (fault : ReadFault) : 
   pub tried : Tries old new tries
   pub answer : IsRefused fault (map (id_by new) tries) (found_by new tried.last)
 
+-- the record at moments of the call was refused so, where the files are told
+abbrev pub LoadMet : ReadFault → Watched History → Type 0
+LoadMet fault files = IsTrue files.old.told → ((tries : List Try) × Refuses files.old files.new tries fault)
+
+-- why the record wasn't read: a shelf that failed, or what stood in the files. Want of memory needs no reason
+abbrev pub MetReading : Watched History → ReadFault → Type 0
+MetReading files a_fault.OutOfMemory = Unit {0}
+MetReading files a_fault.Failed = Fails files
+MetReading files fault = LoadMet fault files
+
+-- what these files record can't be read, for this fault, where nobody else steps and no device fails; want of memory needs no reason
+abbrev pub IsUnreadable : Files → Fault → Type 0
+IsUnreadable files a_session_fault.OutOfMemory = Unit {0}
+IsUnreadable files (a_session_fault.Docket fault) = record_in files files ≡ Some (Err (a_record_fault.Docket fault))
+IsUnreadable files (a_session_fault.Node fault) = record_in files files ≡ Some (Err (a_record_fault.Node fault))
+IsUnreadable files (a_session_fault.DataGone ids) = (record_in files files ≡ None) × AllByRecursion (λ id. id ≡ id_in files) ids
+IsUnreadable files fault = ⊥
+
 -- what the nodes of a data file lead to
 abbrev pub NodesFind : {X : Type 0} → (Table → X → Type 0) → Result X ReadFault → Result Table NodeFault → Type 0
 NodesFind IsOf (Ok made) found = (table : Table) × (found ≡ Ok table) × IsOf table made
 NodesFind IsOf (Err (a_fault.Node fault)) found = found ≡ Err fault
 NodesFind IsOf (Err a_fault.OutOfMemory) found = Unit {0}
-NodesFind IsOf (Err (a_fault.Docket fault)) found = ⊥
-NodesFind IsOf (Err (a_fault.DataGone ids)) found = ⊥
-NodesFind IsOf (Err a_fault.Failed) found = ⊥
+NodesFind IsOf (Err fault) found = ⊥

@@ -1,6 +1,6 @@
 //! The words of a command that changes the record, one after another.
 
-ghost use Rattle.std.specs.Prelude.{◌≡◌, ◌<◌, ◌++◌, ◌⊎◌, Err, IfErr, IfOk, IsTrue, OnOk, drop, false, true};
+ghost use Rattle.std.specs.Prelude.{◌≡◌, ◌<◌, ◌++◌, ◌⊎◌, Err, IfErr, IfOk, IsTrue, OnOk, false, true};
 ghost use Rattle.hg_base.specs.Fault.{HasCause};
 ghost use Rattle.hg_mixed.specs.Edits.{IsOfSameImage, IsSame, Marks};
 ghost use Rattle.hg_mixed.specs.Held.{table};
@@ -8,7 +8,9 @@ ghost use Rattle.hg_ops.specs.Cause.{HasOpCause};
 ghost use Rattle.hg_ops.specs.declared.refusal.OpFault.TheVariants as an_op_fault;
 ghost use Rattle.hg_report.specs.declared.fault.Fault.TheVariants as a_fault;
 ghost use Rattle.hg_session.specs.Acts.{IsActed, Steps, name, refused_line};
+ghost use Rattle.hg_session.specs.Call.{Watched};
 ghost use Rattle.hg_session.specs.declared.acting.Changing.TheVariants as a_command;
+ghost use Rattle.hg_shelf.specs.History as shelf;
 ghost use Rattle.hg_tree.specs.History.{Passes};
 
 use hg_base::{OutOfMemory, Words};
@@ -42,7 +44,7 @@ fn step<T: Tree>(
     mixed: &mut Mixed<'_>,
     tree: &mut T,
 ) -> Result<Option<Refusal>, OpFault>
-    ensures stepped { IfOk result (λ refused. Steps command (T.history tree.old) (T.history tree.new) word.now (table mixed.old) refused (table mixed.new)) }
+    ensures stepped { (files : Watched shelf.History) → IfOk result (λ refused. Steps command files (T.history tree.old) (T.history tree.new) word.now (table mixed.old) refused (table mixed.new)) }
     ensures changed { OnOk result (Marks (IsSame (table mixed.new) (table mixed.old)) mixed.old.changed mixed.new.changed) }
     ensures image { IsOfSameImage mixed.old mixed.new }
     ensures passes { Passes (T.history tree.old) (T.history tree.new) }
@@ -77,7 +79,7 @@ fn put_refused(
     }
 }
 
-/// Does what a command says for each word behind the first, in order, and answers the lines of those that were refused.
+/// Does what a command says for each word, in order, and answers the lines of those that were refused.
 pub(crate) fn act<T: Tree>(
     alloc: Global,
     command: Changing,
@@ -85,10 +87,21 @@ pub(crate) fn act<T: Tree>(
     mixed: &mut Mixed<'_>,
     tree: &mut T,
 ) -> Result<Vec<u8>, Fault>
-    ensures acts { IfOk result (λ lines. IsActed command (T.history tree.old) (T.history tree.new) (drop 1 words.now) (table mixed.old) (table mixed.new) mixed.old.changed mixed.new.changed lines.items) }
-    // The mark that something was changed stays where it was set; where it isn't set, nothing was changed.
+    // `IsActed` in specs/Acts.antt, whatever stands below `.hg`; of a table in which nothing was changed before.
+    ensures acts { (files : Watched shelf.History) → mixed.old.changed ≡ false
+        → IfOk
+        result
+        (λ lines. IsActed
+        command
+        words.now
+        (record { old = T.history tree.old; new = T.history tree.new; before = T.faults tree.old; after = T.faults tree.new })
+        files
+        (table mixed.old)
+        (table mixed.new)
+        lines.items
+        mixed.new.changed) }
+    // The mark that something was changed stays where it was set.
     ensures marked { OnOk result (mixed.old.changed ≡ true → mixed.new.changed ≡ true) }
-    ensures changed { OnOk result (mixed.old.changed ≡ false → mixed.new.changed ≡ false → IsSame (table mixed.new) (table mixed.old)) }
     ensures image { IsOfSameImage mixed.old mixed.new }
     ensures passes { Passes (T.history tree.old) (T.history tree.new) }
     ensures asked { IsTrue (T.history tree.old).told → (T.history tree.new).asked ≡ (T.history tree.old).asked }
@@ -101,7 +114,7 @@ pub(crate) fn act<T: Tree>(
     ensures failed { T.faults tree.old < T.faults tree.new → result ≡ Err a_fault.TreeFailed }
 {
     let mut lines = Vec::new(alloc);
-    for i in 1..words.len() {
+    for i in 0..words.len() {
         let word = words.at(i).as_str();
         let refused = step(command, word, mixed, tree)?;
         put_refused(alloc, command, word, &refused, &mut lines)?;

@@ -1,19 +1,22 @@
 //! A command that changes the record: the lock, the record, what its words make of it, a publication.
 
-ghost use Rattle.std.specs.Prelude.{◌≡◌, ◌<◌, ◌≤◌, ◌∷◌, [], Err, IfErr, IfOk, IsTrue, None, OnOk, false, length, true};
+ghost use Rattle.std.specs.Prelude.{◌≡◌, ◌⊎◌, ◌<◌, ◌≤◌, ◌∷◌, [], Err, IfErr, IfOk, IsTrue, None, OnOk, false, length, true};
 ghost use Rattle.std.specs.Result.{result_err};
 ghost use Rattle.hg_base.specs.Fault.{HasCause};
 ghost use Rattle.hg_docket.specs.Docket.{docket_of, docket_refusal};
 ghost use Rattle.hg_image.specs.Reading.{data_reading};
 ghost use Rattle.hg_report.specs.declared.fault.Fault.TheVariants as a_fault;
+ghost use Rattle.hg_save.specs.Leads.{IsHeld};
 ghost use Rattle.hg_save.specs.Loads.{Try};
 ghost use Rattle.hg_save.specs.Saved.{Stands};
+ghost use Rattle.hg_session.specs.Acts.{IsActed};
 ghost use Rattle.hg_session.specs.Anew.{CanWrite, IsOpened, IsRecorded, LoadsOrRefuses, MetWriting, WritesOnly};
-ghost use Rattle.hg_session.specs.Change.{FailsOrUnwritten, IsDone, IsSafe, MetChanging, files_of};
+ghost use Rattle.hg_session.specs.Change.{FailsOrUnwritten, IsDone, IsEarly, IsReadSome, IsSafeHeld, MetChanging};
 ghost use Rattle.hg_session.specs.Changed.{OnlyLooks};
-ghost use Rattle.hg_session.specs.Loaded.{NodesFind};
+ghost use Rattle.hg_session.specs.Loaded.{AsksRecord, NodesFind};
 ghost use Rattle.hg_session.specs.declared.acting.Changing.TheVariants as a_command;
 ghost use Rattle.hg_session.specs.declared.read_fault.ReadFault.TheVariants as a_read;
+ghost use Rattle.hg_shelf.specs.Asks.{AsksNothing};
 ghost use Rattle.hg_shelf.specs.History.{Passes};
 ghost use Rattle.hg_shelf.specs.Images.{Goes, course, last_scene};
 ghost use Rattle.hg_shelf.specs.Polite.{Undisturbed};
@@ -37,6 +40,7 @@ fn read<S: Shelf>(alloc: Global, shelf: &mut S) -> Result<Loaded, ReadFault>
     ensures few { IfOk result (λ l. length l.docket.items ≤ 512) }
     ensures whole { IfOk result (λ l. docket_refusal l.docket.items ≡ None) }
     ensures cause { HasCause (S.faults shelf.old) (S.faults shelf.new) result (λ e. e ≡ a_read.Failed) }
+    ensures asked { IsTrue (S.history shelf.old).told → AsksRecord (S.history shelf.old) (S.history shelf.new) }
     ensures kept { Goes (course (S.history shelf.old) (S.images shelf.old)) (course (S.history shelf.new) (S.images shelf.new)) }
     ensures locks { S.held shelf.new ≡ S.held shelf.old }
 {
@@ -72,7 +76,11 @@ fn save<S: Shelf>(
     ensures still { table.now.changed ≡ false → shelf.new ≡ shelf.old }
     ensures fits { OnOk result (table.now.changed ≡ true → CanWrite table.now) }
     ensures recorded { Undisturbed (course (S.history shelf.old) (S.images shelf.old)) (course (S.history shelf.new) (S.images shelf.new))
-        → OnOk result (table.now.changed ≡ true → IsRecorded table.now (course (S.history shelf.new) (S.images shelf.new))) }
+        → Stands loaded.now.docket.items (last_scene (course (S.history shelf.old) (S.images shelf.old)))
+        → OnOk
+        result
+        (table.now.changed ≡ true
+        → IsRecorded table.now (course (S.history shelf.old) (S.images shelf.old)) (course (S.history shelf.new) (S.images shelf.new))) }
     ensures safe { Undisturbed (course (S.history shelf.old) (S.images shelf.old)) (course (S.history shelf.new) (S.images shelf.new))
         → Stands loaded.now.docket.items (last_scene (course (S.history shelf.old) (S.images shelf.old)))
         → WritesOnly
@@ -86,6 +94,8 @@ fn save<S: Shelf>(
     ensures later { S.faults shelf.old ≤ S.faults shelf.new }
     ensures kept { Goes (course (S.history shelf.old) (S.images shelf.old)) (course (S.history shelf.new) (S.images shelf.new)) }
     ensures ours { (S.history shelf.new).ours ≡ (S.history shelf.old).ours }
+    ensures lock { IsTrue (S.history shelf.old).told → IsHeld (S.history shelf.old) (S.history shelf.new) }
+    ensures unasked { AsksNothing (S.history shelf.old) (S.history shelf.new) }
     ensures locks { S.held shelf.new ≡ S.held shelf.old }
 {
     if !table.changed() {
@@ -110,35 +120,50 @@ pub(crate) fn change_locked<T: Tree, S: Shelf>(
     ensures done { IfOk
         result
         (λ lines. IsDone
+        (IsActed
         command
-        (files_of words.now)
+        words.now
         (record { old = T.history tree.old; new = T.history tree.new; before = T.faults tree.old; after = T.faults tree.new })
+        (record { old = S.history shelf.old; new = S.history shelf.new; before = S.faults shelf.old; after = S.faults shelf.new }))
         (record { old = S.history shelf.old; new = S.history shelf.new; before = S.faults shelf.old; after = S.faults shelf.new })
         (record { old = course (S.history shelf.old) (S.images shelf.old); new = course (S.history shelf.new) (S.images shelf.new) })
+        (S.history shelf.old).last
+        (S.history shelf.new).last
         lines.items) }
     ensures met { IfErr
         result
         (MetChanging
+        (IsActed
         command
-        (files_of words.now)
+        words.now
+        (record { old = T.history tree.old; new = T.history tree.new; before = T.faults tree.old; after = T.faults tree.new })
+        (record { old = S.history shelf.old; new = S.history shelf.new; before = S.faults shelf.old; after = S.faults shelf.new }))
         (record { old = T.history tree.old; new = T.history tree.new; before = T.faults tree.old; after = T.faults tree.new })
         (record { old = S.history shelf.old; new = S.history shelf.new; before = S.faults shelf.old; after = S.faults shelf.new })) }
     ensures safe { Undisturbed (course (S.history shelf.old) (S.images shelf.old)) (course (S.history shelf.new) (S.images shelf.new))
-        → IsSafe
+        → IsSafeHeld
+        (IsActed
         command
-        (files_of words.now)
+        words.now
         (record { old = T.history tree.old; new = T.history tree.new; before = T.faults tree.old; after = T.faults tree.new })
+        (record { old = S.history shelf.old; new = S.history shelf.new; before = S.faults shelf.old; after = S.faults shelf.new }))
         (record { old = course (S.history shelf.old) (S.images shelf.old); new = course (S.history shelf.new) (S.images shelf.new) })
         (result_err result) }
     ensures unwritten { IfErr result (FailsOrUnwritten (S.history shelf.old) (S.history shelf.new)) }
     ensures looks { OnlyLooks (record { old = T.history tree.old; new = T.history tree.new; before = T.faults tree.old; after = T.faults tree.new }) }
     ensures failed { T.faults tree.old < T.faults tree.new → result ≡ Err a_fault.TreeFailed }
     ensures unlooked { command ≡ a_command.Forget → tree.new ≡ tree.old }
+    ensures behind { (tree.new ≡ tree.old)
+        ⊎ IsReadSome (record { old = S.history shelf.old; new = S.history shelf.new; before = S.faults shelf.old; after = S.faults shelf.new }) }
+    ensures early { IfErr result (λ fault. IsEarly fault → tree.new ≡ tree.old) }
     ensures calm_tree { OnOk result (T.faults tree.new ≡ T.faults tree.old) }
     ensures calm_shelf { OnOk result (S.faults shelf.new ≡ S.faults shelf.old) }
     ensures later { S.faults shelf.old ≤ S.faults shelf.new }
     ensures kept { Goes (course (S.history shelf.old) (S.images shelf.old)) (course (S.history shelf.new) (S.images shelf.new)) }
     ensures ours { (S.history shelf.new).ours ≡ (S.history shelf.old).ours }
+    ensures asked { IsTrue (S.history shelf.old).told → AsksRecord (S.history shelf.old) (S.history shelf.new) }
+    ensures lock { IsTrue (S.history shelf.old).told → IsHeld (S.history shelf.old) (S.history shelf.new) }
+    ensures uncalled { (S.history shelf.new).locks ≡ (S.history shelf.old).locks }
     ensures locks { S.held shelf.new ≡ S.held shelf.old }
 {
     let loaded = read(alloc, shelf)?;

@@ -1,70 +1,29 @@
 //! One command over a working copy, the files below `.hg`, and the standard streams.
 
-ghost use Rattle.std.specs.Prelude.{◌≡◌, drop};
-ghost use Rattle.std.specs.List.{list_any};
 ghost use Rattle.hg_session.specs.Answered.{IsAnswered};
-ghost use Rattle.hg_session.specs.Change as changes_are;
-ghost use Rattle.hg_session.specs.Change.{changing_named, changing_of};
 ghost use Rattle.hg_shelf.specs.Images.{course};
 
 use crate::acting::Changing;
-use crate::ending::Outcome;
+use crate::debug::print_record;
+use crate::ending::{Outcome, failed};
 use crate::locking::change_record;
-use crate::looking::look;
-use hg_base::Words;
+use crate::looking::{ended, status};
 use hg_ignore::Regexps;
+use hg_report::Fault;
 use hg_shelf::Shelf;
 use hg_stream::Sink;
 use hg_tree::Tree;
+use hg_words::Command;
 use std::alloc::Global;
 
-// Whether a word begins with a dash.
-fn is_dashed(word: &str) -> bool
-    ensures { result ≡ changes_are.is_dashed word.now }
-{
-    word.starts_with('-')
-}
-
-// Whether a word behind the first begins with a dash.
-fn has_dashed(words: &Words) -> bool
-    ensures { result ≡ list_any changes_are.is_dashed (drop 1 words.now) }
-{
-    for i in 1..words.len() {
-        if is_dashed(words.at(i).as_str()) {
-            return true;
-        }
-    }
-    false
-}
-
-fn named(name: &str) -> Option<Changing>
-    ensures { result ≡ changing_named name.now }
-{
-    match name {
-        "add" => Some(Changing::Add),
-        "forget" => Some(Changing::Forget),
-        _ => None,
-    }
-}
-
-// Which command that changes the record the words ask for.
-fn changing(words: &Words) -> Option<Changing>
-    ensures { result ≡ changing_of words.now }
-{
-    if words.len() < 2 || has_dashed(words) {
-        return None;
-    }
-    named(words.at(0).as_str())
-}
-
-/// Runs one command: `words` come after the program's name. The rows of a status and the text of the record go to `out`, the warnings of a
-/// status, behind its rows, the lines of refused words, and the line of a fault to `err`. `regexps` compiles the ignore patterns.
+/// Runs one command. The rows of a status and the text of the record go to `out`, the warnings of a status, behind its rows, the lines of
+/// refused words, and the line of a fault to `err`. `regexps` compiles the ignore patterns.
 ///
 /// A fault that is met before leaves the warnings and the refused words out: its line stands alone. Where the error stream fails while they
-/// are written, the fault is `ErrFailed`, and nothing more is written.
+/// are written, the fault is `ErrFailed`, and nothing more is written. A command that isn't built is answered as such.
 pub fn command<T: Tree, S: Shelf, G: Regexps, O: Sink, E: Sink>(
     alloc: Global,
-    words: &Words,
+    command: &Command,
     tree: &mut T,
     shelf: &mut S,
     regexps: &mut G,
@@ -74,7 +33,7 @@ pub fn command<T: Tree, S: Shelf, G: Regexps, O: Sink, E: Sink>(
     // What the call did and answers: `IsAnswered` in specs/Answered.antt, a sentence a field.
     ensures { IsAnswered
         (record {
-          words = words.now;
+          command = command.now;
           looked =
               record {
                 tree = record { old = T.history tree.old; new = T.history tree.new; before = T.faults tree.old; after = T.faults tree.new };
@@ -89,8 +48,24 @@ pub fn command<T: Tree, S: Shelf, G: Regexps, O: Sink, E: Sink>(
         result.status
         result.fault }
 {
-    match changing(words) {
-        None => look(alloc, words, tree, shelf, regexps, out, err),
-        Some(command) => change_record(alloc, command, words, tree, shelf, err),
+    match command {
+        Command::Status(flags) => {
+            let done = status(alloc, *flags, tree, shelf, regexps, out, err);
+            ended(alloc, done, err)
+        }
+        Command::DebugDirstate => {
+            let done = print_record(alloc, shelf, out);
+            ended(alloc, done, err)
+        }
+        Command::Add { files } => change_record(alloc, Changing::Add, files, tree, shelf, err),
+        Command::Forget { files } => change_record(
+            alloc,
+            Changing::Forget,
+            files,
+            tree,
+            shelf,
+            err,
+        ),
+        _ => failed(alloc, Fault::NotBuilt, err),
     }
 }

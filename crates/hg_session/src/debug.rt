@@ -5,10 +5,11 @@ ghost use Rattle.hg_base.specs.Fault.{HasCause};
 ghost use Rattle.hg_docket.specs.Docket.{docket_of, docket_refusal};
 ghost use Rattle.hg_entry.specs.Table.{Table};
 ghost use Rattle.hg_image.specs.Reading.{data_reading};
-ghost use Rattle.hg_shelf.specs.History.{Passes};
-ghost use Rattle.hg_session.specs.Debug.{PrintsRecord};
+ghost use Rattle.hg_shelf.specs.Images.{course};
+ghost use Rattle.hg_session.specs.Debug.{DoesRecord};
+ghost use Rattle.hg_session.specs.Look.{OnlyReads};
 ghost use Rattle.hg_save.specs.Loads.{Try};
-ghost use Rattle.hg_session.specs.Loaded.{IsBytesOf, NodesFind, Reads};
+ghost use Rattle.hg_session.specs.Loaded.{AsksRecord, IsBytesOf, NodesFind, Reads};
 ghost use Rattle.hg_session.specs.declared.read_fault.ReadFault.TheVariants as a_fault;
 
 use crate::read_fault::ReadFault;
@@ -33,9 +34,13 @@ fn text_in(alloc: Global, loaded: &Loaded) -> Result<Vec<u8>, ReadFault>
 
 // Loads the dirstate, and answers the text of all that it records.
 fn load_text<S: Shelf>(alloc: Global, shelf: &mut S) -> Result<Vec<u8>, ReadFault>
-    ensures passes { Passes (S.history shelf.old) (S.history shelf.new) }
+    ensures only { OnlyReads
+        (record { old = S.history shelf.old; new = S.history shelf.new; before = S.faults shelf.old; after = S.faults shelf.new })
+        (record { old = course (S.history shelf.old) (S.images shelf.old); new = course (S.history shelf.new) (S.images shelf.new) })
+        (record { before = S.held shelf.old; after = S.held shelf.new }) }
     ensures found { IsTrue (S.history shelf.old).told → ((tried : Try) × Reads IsBytesOf (S.history shelf.old) (S.history shelf.new) (tried ∷ []) result) }
     ensures some { IfOk result (λ text. (table : Table) × IsBytesOf table text) }
+    ensures asked { IsTrue (S.history shelf.old).told → AsksRecord (S.history shelf.old) (S.history shelf.new) }
     ensures cause { HasCause (S.faults shelf.old) (S.faults shelf.new) result (λ e. e ≡ a_fault.Failed) }
 {
     let loaded = load(alloc, shelf)?;
@@ -48,10 +53,14 @@ pub(crate) fn print_record<S: Shelf, O: Sink>(
     shelf: &mut S,
     out: &mut O,
 ) -> Result<(), Fault>
-    ensures { PrintsRecord
+    ensures does { DoesRecord
         (record { old = S.history shelf.old; new = S.history shelf.new; before = S.faults shelf.old; after = S.faults shelf.new })
         (record { old = O.bytes out.old; new = O.bytes out.new; before = O.faults out.old; after = O.faults out.new })
         result }
+    ensures only { OnlyReads
+        (record { old = S.history shelf.old; new = S.history shelf.new; before = S.faults shelf.old; after = S.faults shelf.new })
+        (record { old = course (S.history shelf.old) (S.images shelf.old); new = course (S.history shelf.new) (S.images shelf.new) })
+        (record { before = S.held shelf.old; after = S.held shelf.new }) }
 {
     let text = load_text(alloc, shelf)?;
     match put_all(out, text.as_slice()) {

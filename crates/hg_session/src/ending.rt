@@ -2,7 +2,7 @@
 
 ghost use Rattle.std.specs.Prelude.{◌≡◌, IfSome};
 ghost use Rattle.hg_report.specs.Fault as faults_are;
-ghost use Rattle.hg_session.specs.Command.{IsFaultOrMemory, IsTold, TellsLine};
+ghost use Rattle.hg_session.specs.Put.{IsFaultOrMemory, IsTold, TellsLine};
 
 use hg_report::{Fault, fault_text};
 use hg_stream::{Sink, put_all};

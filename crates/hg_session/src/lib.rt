@@ -5,7 +5,7 @@
 //! last. The first fault is the one that is answered, and after a fault the lock is given back too.
 //!
 //! ```text
-//! let outcome = command(alloc, &words, &mut tree, &mut shelf, &mut regexps, &mut out, &mut err);
+//! let outcome = command(alloc, &command, &mut tree, &mut shelf, &mut regexps, &mut out, &mut err);
 //! ```
 //!
 //! All that is promised of a command stands in the contract of `command`; that the text of which it speaks is one, in those of `one_text` and

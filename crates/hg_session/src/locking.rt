@@ -1,15 +1,19 @@
 //! The lock round a change of the record, and what is told of it.
 
-ghost use Rattle.std.specs.Prelude.{◌≡◌, ◌⊎◌, ◌<◌, List, Option, ℕ, IfErr, IfOk, MatchOption, None, OnOk, Err, []};
+ghost use Rattle.std.specs.Prelude.{◌≡◌, ◌⊎◌, ◌<◌, List, Option, ℕ, IfErr, IfOk, IsTrue, MatchOption, None, OnOk, Err};
 ghost use Rattle.std.specs.Result.{result_err};
 ghost use Rattle.hg_report.specs.declared.fault.Fault.TheVariants as a_fault;
-ghost use Rattle.hg_session.specs.Call.{Count, Watched};
-ghost use Rattle.hg_session.specs.Change.{FailsOrUnwritten, IsDone, IsFreed, IsSafe, MetLocking, files_of, once_freed};
+ghost use Rattle.hg_session.specs.Acts.{IsActed};
+ghost use Rattle.hg_session.specs.Call.{Count, Sink};
+ghost use Rattle.hg_session.specs.Change.{FailsOrUnwritten, IsDone, IsEarly, IsLocked, IsReadSome, IsSafe, MetLocking, Stretch, once_freed};
+ghost use Rattle.hg_session.specs.Changed as changed_is;
 ghost use Rattle.hg_session.specs.Changed.{OnlyLooks, RanChange};
-ghost use Rattle.hg_session.specs.Command.{IsSilent};
+ghost use Rattle.hg_session.specs.Loaded.{AsksRecord};
+ghost use Rattle.hg_session.specs.Put.{IsSilent};
 ghost use Rattle.hg_session.specs.declared.acting.Changing.TheVariants as a_command;
 ghost use Rattle.hg_shelf.specs.Images.{Goes, course};
 ghost use Rattle.hg_shelf.specs.Polite.{Undisturbed};
+ghost use Rattle.hg_words.specs.declared.given.Command.{Command};
 
 use crate::acting::Changing;
 use crate::changing::change_locked;
@@ -44,42 +48,59 @@ fn change<T: Tree, S: Shelf>(
 ) -> Result<Vec<u8>, Fault>
     ensures done { IfOk
         result
-        (λ lines. IsDone
+        (λ lines. (stretch : Stretch (S.history shelf.old) (S.history shelf.new)) × IsDone
+        (IsActed
         command
-        (files_of words.now)
+        words.now
         (record { old = T.history tree.old; new = T.history tree.new; before = T.faults tree.old; after = T.faults tree.new })
+        (record { old = S.history shelf.old; new = S.history shelf.new; before = S.faults shelf.old; after = S.faults shelf.new }))
         (record { old = S.history shelf.old; new = S.history shelf.new; before = S.faults shelf.old; after = S.faults shelf.new })
         (record { old = course (S.history shelf.old) (S.images shelf.old); new = course (S.history shelf.new) (S.images shelf.new) })
+        stretch.from
+        stretch.to
         lines.items) }
     ensures met { IfErr
         result
         (MetLocking
+        (IsActed
         command
-        (files_of words.now)
+        words.now
+        (record { old = T.history tree.old; new = T.history tree.new; before = T.faults tree.old; after = T.faults tree.new })
+        (record { old = S.history shelf.old; new = S.history shelf.new; before = S.faults shelf.old; after = S.faults shelf.new }))
         (record { old = T.history tree.old; new = T.history tree.new; before = T.faults tree.old; after = T.faults tree.new })
         (record { old = S.history shelf.old; new = S.history shelf.new; before = S.faults shelf.old; after = S.faults shelf.new })
         (record { before = S.held shelf.old; after = S.held shelf.new })) }
     ensures safe { Undisturbed (course (S.history shelf.old) (S.images shelf.old)) (course (S.history shelf.new) (S.images shelf.new))
         → IsSafe
+        (IsActed
         command
-        (files_of words.now)
+        words.now
         (record { old = T.history tree.old; new = T.history tree.new; before = T.faults tree.old; after = T.faults tree.new })
+        (record { old = S.history shelf.old; new = S.history shelf.new; before = S.faults shelf.old; after = S.faults shelf.new }))
         (record { old = course (S.history shelf.old) (S.images shelf.old); new = course (S.history shelf.new) (S.images shelf.new) })
         (result_err result) }
     ensures unwritten { IfErr result (FailsOrUnwritten (S.history shelf.old) (S.history shelf.new)) }
     ensures held { S.held shelf.old < S.held shelf.new → result ≡ Err a_fault.Held }
     ensures failed { T.faults tree.old < T.faults tree.new → result ≡ Err a_fault.TreeFailed }
     ensures unlooked { command ≡ a_command.Forget → tree.new ≡ tree.old }
+    ensures behind { (tree.new ≡ tree.old)
+        ⊎ IsReadSome (record { old = S.history shelf.old; new = S.history shelf.new; before = S.faults shelf.old; after = S.faults shelf.new }) }
+    ensures early { IfErr result (λ fault. IsEarly fault → tree.new ≡ tree.old) }
     ensures looks { OnlyLooks (record { old = T.history tree.old; new = T.history tree.new; before = T.faults tree.old; after = T.faults tree.new }) }
     ensures calm_tree { OnOk result (T.faults tree.new ≡ T.faults tree.old) }
     ensures calm_shelf { OnOk result (S.faults shelf.new ≡ S.faults shelf.old) }
     ensures kept { Goes (course (S.history shelf.old) (S.images shelf.old)) (course (S.history shelf.new) (S.images shelf.new)) }
-    ensures freed { IsFreed
+    ensures asked { IsTrue (S.history shelf.old).told → AsksRecord (S.history shelf.old) (S.history shelf.new) }
+    ensures locked { IsLocked
+        (IsActed
         command
-        (files_of words.now)
+        words.now
+        (record { old = T.history tree.old; new = T.history tree.new; before = T.faults tree.old; after = T.faults tree.new })
+        (record { old = S.history shelf.old; new = S.history shelf.new; before = S.faults shelf.old; after = S.faults shelf.new }))
         (record { old = T.history tree.old; new = T.history tree.new; before = T.faults tree.old; after = T.faults tree.new })
         (record { old = S.history shelf.old; new = S.history shelf.new; before = S.faults shelf.old; after = S.faults shelf.new })
         (record { old = course (S.history shelf.old) (S.images shelf.old); new = course (S.history shelf.new) (S.images shelf.new) })
+        (record { before = S.held shelf.old; after = S.held shelf.new })
         (result_err result) }
 {
     match shelf.lock() {
@@ -95,8 +116,7 @@ fn change<T: Tree, S: Shelf>(
 
 // The status by the lines of the words that were refused.
 fn status_of(lines: &[u8]) -> u8
-    ensures none { lines.now ≡ [] → result ≡ 0 }
-    ensures some { (lines.now ≡ [] → ⊥) → result ≡ 1 }
+    ensures { result ≡ changed_is.status_of lines.now }
 {
     if lines.is_empty() { 0 } else { 1 }
 }
@@ -111,11 +131,12 @@ pub(crate) fn change_record<T: Tree, S: Shelf, E: Sink>(
     err: &mut E,
 ) -> Outcome
     // `RanChange` in specs/Changed.antt, whatever else a call has that isn't touched.
-    ensures ran { (out : Watched (Option (List ℕ))) (oversize : Count) → IsSilent out → oversize.after ≡ oversize.before
+    ensures ran { (called : Command) (out : Sink) (oversize : Count) → IsSilent out → oversize.after ≡ oversize.before
         → RanChange
         command
+        words.now
         (record {
-          words = words.now;
+          command = called;
           looked =
               record {
                 tree = record { old = T.history tree.old; new = T.history tree.new; before = T.faults tree.old; after = T.faults tree.new };

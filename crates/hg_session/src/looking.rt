@@ -1,60 +1,47 @@
-//! The commands that only look: `status`, and `debugdirstate`.
+//! A command that only looks: `status`, and how each such command ends.
 
-ghost use Rattle.std.specs.Prelude.{◌≡◌};
-ghost use Rattle.hg_session.specs.Answered.{Looks};
-ghost use Rattle.hg_session.specs.Command.{Does, Prints};
-ghost use Rattle.hg_session.specs.Debug.{is_debug};
+ghost use Rattle.hg_session.specs.Look.{EndsAs, OnlyReads};
+ghost use Rattle.hg_session.specs.Status.{DoesStatus};
 ghost use Rattle.hg_shelf.specs.Images.{course};
 
-use crate::debug::print_record;
 use crate::ending::{Outcome, failed, has_line};
-use crate::flags::{is_status, style, wanted};
+use crate::flags::{style, wanted};
 use crate::listing::list;
-use hg_base::Words;
 use hg_ignore::Regexps;
 use hg_report::{Fault, status_text, warnings_text};
 use hg_shelf::Shelf;
 use hg_stream::{Sink, put_all};
 use hg_tree::Tree;
+use hg_words::StatusFlags;
 use std::alloc::Global;
 
-fn is_debug_alone(words: &Words) -> bool
-    ensures { result ≡ is_debug words.now }
-{
-    words.len() == 1 && words.at(0).as_str() == "debugdirstate"
-}
-
-// Lists, prints the rows, then the warnings.
-fn status<T: Tree, S: Shelf, G: Regexps, O: Sink, E: Sink>(
+/// Lists, prints the rows, then the warnings.
+pub(crate) fn status<T: Tree, S: Shelf, G: Regexps, O: Sink, E: Sink>(
     alloc: Global,
-    words: &Words,
+    flags: StatusFlags,
     tree: &mut T,
     shelf: &mut S,
     regexps: &mut G,
     out: &mut O,
     err: &mut E,
 ) -> Result<(), Fault>
-    ensures { Prints
+    ensures does { DoesStatus
+        flags
         (record {
-          words = words.now;
-          looked =
-              record {
-                tree = record { old = T.history tree.old; new = T.history tree.new; before = T.faults tree.old; after = T.faults tree.new };
-                shelf = record { old = S.history shelf.old; new = S.history shelf.new; before = S.faults shelf.old; after = S.faults shelf.new };
-                oversize = record { before = G.oversize regexps.old; after = G.oversize regexps.new };
-              };
-          saved = record { old = course (S.history shelf.old) (S.images shelf.old); new = course (S.history shelf.new) (S.images shelf.new) };
-          locks = record { before = S.held shelf.old; after = S.held shelf.new };
-          out = record { old = O.bytes out.old; new = O.bytes out.new; before = O.faults out.old; after = O.faults out.new };
-          err = record { old = E.bytes err.old; new = E.bytes err.new; before = E.faults err.old; after = E.faults err.new };
+          tree = record { old = T.history tree.old; new = T.history tree.new; before = T.faults tree.old; after = T.faults tree.new };
+          shelf = record { old = S.history shelf.old; new = S.history shelf.new; before = S.faults shelf.old; after = S.faults shelf.new };
+          oversize = record { before = G.oversize regexps.old; after = G.oversize regexps.new };
         })
+        (record { old = O.bytes out.old; new = O.bytes out.new; before = O.faults out.old; after = O.faults out.new })
+        (record { old = E.bytes err.old; new = E.bytes err.new; before = E.faults err.old; after = E.faults err.new })
         result }
+    ensures only { OnlyReads
+        (record { old = S.history shelf.old; new = S.history shelf.new; before = S.faults shelf.old; after = S.faults shelf.new })
+        (record { old = course (S.history shelf.old) (S.images shelf.old); new = course (S.history shelf.new) (S.images shelf.new) })
+        (record { before = S.held shelf.old; after = S.held shelf.new }) }
 {
-    if !is_status(words) {
-        return Err(Fault::NotBuilt);
-    }
-    let listed = list(alloc, tree, shelf, regexps, wanted(words))?;
-    let text = status_text(alloc, &listed.rows, style(words))?;
+    let listed = list(alloc, tree, shelf, regexps, wanted(flags))?;
+    let text = status_text(alloc, &listed.rows, style(flags))?;
     let warnings = warnings_text(alloc, &listed.warnings)?;
     match put_all(out, text.as_slice()) {
         Err(_) => Err(Fault::OutFailed),
@@ -65,66 +52,15 @@ fn status<T: Tree, S: Shelf, G: Regexps, O: Sink, E: Sink>(
     }
 }
 
-// Does what the words ask for.
-fn carry_out<T: Tree, S: Shelf, G: Regexps, O: Sink, E: Sink>(
-    alloc: Global,
-    words: &Words,
-    tree: &mut T,
-    shelf: &mut S,
-    regexps: &mut G,
-    out: &mut O,
-    err: &mut E,
-) -> Result<(), Fault>
-    ensures { Does
-        (record {
-          words = words.now;
-          looked =
-              record {
-                tree = record { old = T.history tree.old; new = T.history tree.new; before = T.faults tree.old; after = T.faults tree.new };
-                shelf = record { old = S.history shelf.old; new = S.history shelf.new; before = S.faults shelf.old; after = S.faults shelf.new };
-                oversize = record { before = G.oversize regexps.old; after = G.oversize regexps.new };
-              };
-          saved = record { old = course (S.history shelf.old) (S.images shelf.old); new = course (S.history shelf.new) (S.images shelf.new) };
-          locks = record { before = S.held shelf.old; after = S.held shelf.new };
-          out = record { old = O.bytes out.old; new = O.bytes out.new; before = O.faults out.old; after = O.faults out.new };
-          err = record { old = E.bytes err.old; new = E.bytes err.new; before = E.faults err.old; after = E.faults err.new };
-        })
-        result }
-{
-    if is_debug_alone(words) {
-        return print_record(alloc, shelf, out);
-    }
-    status(alloc, words, tree, shelf, regexps, out, err)
-}
-
-// Prints a status or the record, and how that ends.
-pub(crate) fn look<T: Tree, S: Shelf, G: Regexps, O: Sink, E: Sink>(
-    alloc: Global,
-    words: &Words,
-    tree: &mut T,
-    shelf: &mut S,
-    regexps: &mut G,
-    out: &mut O,
-    err: &mut E,
-) -> Outcome
-    ensures { Looks
-        (record {
-          words = words.now;
-          looked =
-              record {
-                tree = record { old = T.history tree.old; new = T.history tree.new; before = T.faults tree.old; after = T.faults tree.new };
-                shelf = record { old = S.history shelf.old; new = S.history shelf.new; before = S.faults shelf.old; after = S.faults shelf.new };
-                oversize = record { before = G.oversize regexps.old; after = G.oversize regexps.new };
-              };
-          saved = record { old = course (S.history shelf.old) (S.images shelf.old); new = course (S.history shelf.new) (S.images shelf.new) };
-          locks = record { before = S.held shelf.old; after = S.held shelf.new };
-          out = record { old = O.bytes out.old; new = O.bytes out.new; before = O.faults out.old; after = O.faults out.new };
-          err = record { old = E.bytes err.old; new = E.bytes err.new; before = E.faults err.old; after = E.faults err.new };
-        })
+/// How such a command ends by what it did: the line of a fault is told, where it has one.
+pub(crate) fn ended<E: Sink>(alloc: Global, done: Result<(), Fault>, err: &mut E) -> Outcome
+    ensures { EndsAs
+        (record { old = E.bytes err.old; new = E.bytes err.new; before = E.faults err.old; after = E.faults err.new })
+        done
         result.status
         result.fault }
 {
-    match carry_out(alloc, words, tree, shelf, regexps, out, err) {
+    match done {
         Ok(()) => Outcome {
             status: 0,
             fault: None,

@@ -1,32 +1,25 @@
 -- The arguments of a command as `clap` builds them, and one word of flags.
-use Rattle.std.proofs.Common.{ℕ, ◌≡◌, ◌+◌, ◌<◌, ◌≤◌, zero, suc, pred, Bool, true, false, cond, not, ◌||◌, ◌&&◌, List, [], ◌∷◌, ◌++◌, map, length, drop, Option, Some, None, is_some, refl, sym, ap, ◌∙◌, true≢false, arith, eqb, ltb, IsUtf8, subst, length-append}
+use Rattle.std.proofs.Common.{ℕ, ◌≡◌, ◌<◌, ◌≤◌, pred, Bool, true, false, cond, not, ◌||◌, ◌&&◌, List, [], ◌∷◌, ◌++◌, map, length, Option, Some, None, is_some, refl, sym, ap, ◌∙◌, arith, eqb, ltb, IsUtf8, subst, length-append}
 use Rattle.std.specs.Prelude.{codes, find, slice_get, encode_utf8, encode_utf8_all}
 use Rattle.std.specs.List.{list_all, list_any}
 use Rattle.std.specs.Option.{option_and_then, option_map, option_map_or}
 use Rattle.std.specs.Str.{bytes_eq, chars, all_scalars}
 use lib.Utf8.{scalar}
-use Rattle.std.proofs.lemmas.Bool.{and_parts, and_from, not-true, ltb-true, lt-ltb, ne_eqb}
-use Rattle.std.proofs.lemmas.Str.{IsUtf8-past_char, chars_past_char, char_from_byte, encode_ascii, length-encode, len_utf8_bounds}
+use Rattle.std.proofs.lemmas.Bool.{and_parts, not-true, ltb-true, lt-ltb, ne_eqb}
+use Rattle.std.proofs.lemmas.Str.{chars_past_char, char_from_byte, encode_ascii, length-encode, len_utf8_bounds}
 use Rattle.hg_words.specs.Command.{Flag, by_letter, by_name, named_by_letters}
-use Rattle.hg_words.proofs.Rows.{gone_flagged, gone_keeps, gone_row, given, is_flagged, put_flagged, put_keeps, put_row, put_word, word_id}
-use Rattle.clap.specs.Facts.{unwrap_or_range}
+use Rattle.hg_words.proofs.Rows.{gone_flagged, gone_keeps, gone_row, is_flagged, put_flagged, put_keeps, put_row}
+use Rattle.hg_words.specs.Clapped.{flag_arg, given, is_good, word_arg, word_id}
 use Rattle.clap.specs.Kinds.{Kinds, or_else}
-use Rattle.clap.specs.Faults.{bundle_fault, flags_fault, react_fault, settle_fault, short_fault, use_fault}
-use Rattle.clap.specs.Simple.{filled, new_rule, with_index}
-use Rattle.clap.specs.Walk.{Held, Outcome, Row, Rule, Text, arg_by_id, arg_by_index, arg_by_long, arg_by_short, bundle_met, done, has_row, is_empty, reacted, reading_by, settled, short_met, used_by_id, with_values, without}
-use Rattle.clap.specs.declared.builder.action.ArgAction.TheVariants.{Append, SetTrue}
+use Rattle.clap.specs.Faults.{flags_fault, react_fault, settle_fault, short_fault, use_fault}
+use Rattle.clap.specs.Simple.{filled, with_index}
+use Rattle.clap.specs.Walk.{Held, Outcome, Row, Rule, Text, arg_by_id, arg_by_index, arg_by_long, arg_by_short, bundle_met, done, has_row, reacted, reading_by, settled, short_met, used_by_id, with_values, without}
 use Rattle.clap.specs.declared.parser.matches.ValueSource.TheVariants.{CommandLine}
 use Rattle.clap.specs.declared.error.kind.ErrorKind.TheVariants as kind
 use Rattle.clap.proofs.FaultLemmas.{fault_ends, fault_reads}
 use Rattle.clap.proofs.WalkLemmas.{bundle_ends, bundle_reads}
 
--- ---- the arguments, as they are given and as they are built
-
-abbrev pub flag_arg : Flag → Rule
-flag_arg f = record (new_rule f.name) { short = Some f.letter; long = Some f.name; action = Some SetTrue }
-
-abbrev pub word_arg : Rule
-word_arg = record (new_rule word_id) { action = Some Append }
+-- ---- the arguments as they are built
 
 abbrev pub flag_rule : Flag → Rule
 flag_rule f = with_index 1 (filled (flag_arg f))
@@ -36,10 +29,6 @@ word_rule = with_index 1 (filled word_arg)
 
 abbrev pub rules : List Flag → List Rule
 rules flags = map flag_rule flags ++ word_rule ∷ []
-
--- a letter in ASCII, and a name that isn't that of the words and has no `=`
-abbrev pub is_good : Flag → Bool
-is_good f = ltb f.letter 128 && (not (bytes_eq f.name word_id) && not (list_any (λ b. eqb b 61) f.name))
 
 ge_from_ltb : (x : ℕ) → ltb x 128 ≡ false → 128 ≤ x
 ge_from_ltb x e = grind (arith, e, lt-ltb x 128)
@@ -75,7 +64,7 @@ pub by_index : (flags : List Flag) → arg_by_index (rules flags) 1 ≡ Some wor
 by_index [] = refl
 by_index (f ∷ flags) = by_index flags
 
-good_name : (f : Flag) → is_good f ≡ true → bytes_eq f.name word_id ≡ false
+pub good_name : (f : Flag) → is_good f ≡ true → bytes_eq f.name word_id ≡ false
 good_name f good = not-true (bytes_eq f.name word_id) (and_parts (not (bytes_eq f.name word_id)) (not (list_any (λ b. eqb b 61) f.name)) (and_parts (ltb f.letter 128) (not (bytes_eq f.name word_id) && not (list_any (λ b. eqb b 61) f.name)) good).1).0
 
 pub by_id : (flags : List Flag) → list_all is_good flags ≡ true → arg_by_id (rules flags) word_id ≡ Some word_rule
@@ -98,8 +87,10 @@ good_found p (g ∷ flags) f good e = by (p g) refl (good_found p flags f parts.
   where
     parts : (is_good g ≡ true) × (list_all is_good flags ≡ true)
     parts = and_parts (is_good g) (list_all is_good flags) good
+
     some_same : (a b : Flag) → Some a ≡ Some b → a ≡ b
     some_same a b e = cc
+
     by : (t : Bool) → p g ≡ t → (find p flags ≡ Some f → is_good f ≡ true) → is_good f ≡ true
     by true is rest = ap is_good (sym (some_same g f (ap (λ (t : Bool). cond t (Some g) (find p flags)) (sym is) ∙ e))) ∙ parts.0
     by false is rest = rest (ap (λ (t : Bool). cond t (Some g) (find p flags)) (sym is) ∙ e)
@@ -141,6 +132,7 @@ sets_one f rows good = record {
     by_true : (t : Bool) → (t || true) ≡ true
     by_true true = refl
     by_true false = refl
+
     by : (name : Text) (t : Bool) → bytes_eq f.name name ≡ t → (t || has_row name (without f.name rows)) ≡ ((t || false) || has_row name rows)
     by name true e = refl
     by name false e = gone_row f.name name rows e
@@ -222,7 +214,7 @@ module _ (flags : List Flag) (good : list_all is_good flags ≡ true) where
           let same : x ≡ b = char_from_byte (b ∷ letters) rest x parts (ltb-true b 128 e) some in
           absurd (omega (arith, high, same, ltb-true b 128 e))
       by false e = ap (λ (o : Option Flag). named_from o (named_by_letters flags letters)) (none_high flags b good (ge_from_ltb b e))
-  
+
   named_is : (x : ℕ) (letters rest : Text) → letters ≡ encode_utf8 x ++ rest → 0 < length letters
       → named_by_letters flags letters ≡ named_from (by_letter flags x) (named_by_letters flags rest)
   named_is x letters rest parts some = by (ltb x 128) refl
@@ -245,6 +237,7 @@ module _ (flags : List Flag) (good : list_all is_good flags ≡ true) where
       some_named : (name : Text) (o : Option (List Text)) → is_some o ≡ is_some (option_map (λ names. name ∷ names) o)
       some_named name None = refl
       some_named name (Some names) = refl
+
       by : (found : Option Flag) → is_fine (short_fault (rules flags) true (option_map flag_rule found) rest (held rows pending) (flags_fault (rules flags) true (pred k) rest 0))
           ≡ is_some (named_from found (named_by_letters flags rest))
       by None = refl
@@ -297,6 +290,7 @@ module _ (flags : List Flag) (good : list_all is_good flags ≡ true) where
     where
       some_same : (a b : List Text) → Some a ≡ Some b → a ≡ b
       some_same a b e = cc
+
       by : (found : Option Flag) → by_letter flags x ≡ found → (o : Option (List Text)) → named_by_letters flags rest ≡ o → named_from found o ≡ Some names
           → Meets names k letters (held rows pending) so_far (now pending rows)
       by None is o rest_is e = absurd (cc)

@@ -1,6 +1,13 @@
+pub mod Again
+pub mod Answering
+pub mod Building
 pub mod Commands
 pub mod Leading
 pub mod Letters
+pub mod Parsed
 pub mod Paths
+pub mod Readings
+pub mod Refused
 pub mod Rows
+pub mod Telling
 pub mod Turns

@@ -1,33 +1,15 @@
 -- What the rows of a parse say of flags and of words.
-use Rattle.std.proofs.Common.{ℕ, ◌≡◌, Bool, true, false, cond, ◌||◌, ◌&&◌, List, [], ◌∷◌, ◌++◌, Option, Some, None, refl, sym, ap, ◌∙◌, true≢false}
+use Rattle.std.proofs.Common.{◌≡◌, Bool, true, false, cond, ◌||◌, List, [], ◌∷◌, ◌++◌, Some, None, refl, sym, ap, ◌∙◌, true≢false}
 use Rattle.std.specs.Prelude.{codes, find, slice_get}
-use Rattle.std.specs.List.{list_all, list_any}
-use Rattle.std.specs.Option.{option_and_then, option_map_or}
+use Rattle.std.specs.List.{list_all}
+use Rattle.std.specs.Option.{option_and_then}
 use Rattle.std.specs.Str.{bytes_eq}
 use Rattle.std.proofs.lemmas.Bool.{and_parts, and_from}
-use Rattle.hg_base.proofs.Within.{same_bytes, equal_bytes}
-use Rattle.clap.specs.Walk.{Row, Text, all_of, at_row, first_of, has_row, more_values, with_values, without}
+use Rattle.hg_base.proofs.Within.{same_bytes}
+use Rattle.hg_words.specs.Clapped.{given, is_set, is_true, values_of_row, word_id}
+use Rattle.clap.specs.Walk.{Row, Text, has_row, more_values, with_values, without}
 use Rattle.clap.specs.declared.builder.value_parser.Reading.{Reading}
 use Rattle.clap.specs.declared.parser.matches.ValueSource.{ValueSource}
-
--- what the words that are no flags are known by
-abbrev pub word_id : Text
-word_id = codes "WORD"
-
-abbrev pub is_true : Option Text → Bool
-is_true text = option_map_or (λ t. bytes_eq t (codes "true")) text false
-
--- a flag is set
-abbrev pub is_set : Text → List Row → Bool
-is_set name rows = is_true (first_of name rows)
-
-abbrev pub values_of_row : Option Row → List Text
-values_of_row None = []
-values_of_row (Some r) = r.values
-
--- the words so far
-abbrev pub given : List Row → List Text
-given rows = values_of_row (find (λ r. bytes_eq r.id word_id) rows)
 
 abbrev pub begins_true : List Text → Bool
 begins_true [] = false
@@ -59,6 +41,7 @@ set_where_row name (r ∷ rows) other all = by (bytes_eq r.id name) (set_where_r
   where
     parts : (is_flagged r ≡ true) × (list_all is_flagged rows ≡ true)
     parts = and_parts (is_flagged r) (list_all is_flagged rows) all
+
     by : (t : Bool) → is_set name rows ≡ has_row name rows → bytes_eq r.id name ≡ t
         → is_true (option_and_then (λ (x : Row). slice_get x.values 0) (cond t (Some r) (find (λ (x : Row). bytes_eq x.id name) rows))) ≡ (t || has_row name rows)
     by true rest e = begins_sets r.values (or_second (bytes_eq r.id word_id) (begins_true r.values) (other_name r.id name word_id e other) parts.0)
@@ -103,6 +86,7 @@ module _ (id : Text) (how : Reading) (s : ValueSource) (values : List Text) wher
     where
       parts : (is_flagged r ≡ true) × (list_all is_flagged rows ≡ true)
       parts = and_parts (is_flagged r) (list_all is_flagged rows) all
+
       by : (t : Bool) → list_all is_flagged (with_values id how s values rows) ≡ true → list_all is_flagged (cond t (more_values s values r ++ rows) (r ∷ with_values id how s values rows)) ≡ true
       by true rest = and_from (bytes_eq r.id word_id || begins_true (r.values ++ values)) (list_all is_flagged rows) (more_true r parts.0) parts.1
       by false rest = and_from (is_flagged r) (list_all is_flagged (with_values id how s values rows)) parts.0 rest
@@ -114,10 +98,12 @@ module _ (id : Text) (how : Reading) (s : ValueSource) (values : List Text) wher
     where
       skips : bytes_eq r.id id ≡ true → bytes_eq r.id word_id ≡ false
       skips e = other_name r.id id word_id e other
+
       by_word : (t : Bool) → given (with_values id how s values rows) ≡ given rows → values_of_row (cond t (Some r) (find (λ (x : Row). bytes_eq x.id word_id) (with_values id how s values rows)))
           ≡ values_of_row (cond t (Some r) (find (λ (x : Row). bytes_eq x.id word_id) rows))
       by_word true rest = refl
       by_word false rest = rest
+
       by : (t : Bool) → given (with_values id how s values rows) ≡ given rows → bytes_eq r.id id ≡ t → given (cond t (more_values s values r ++ rows) (r ∷ with_values id how s values rows)) ≡ given (r ∷ rows)
       by true rest e = rw (skips e) refl
       by false rest e = by_word (bytes_eq r.id word_id) rest
@@ -165,6 +151,7 @@ module _ (id : Text) where
     where
       parts : (is_flagged r ≡ true) × (list_all is_flagged rows ≡ true)
       parts = and_parts (is_flagged r) (list_all is_flagged rows) all
+
       by : (t : Bool) → list_all is_flagged (without id rows) ≡ true → list_all is_flagged (cond t ([] ++ rows) (r ∷ without id rows)) ≡ true
       by true rest = parts.1
       by false rest = and_from (is_flagged r) (list_all is_flagged (without id rows)) parts.0 rest
@@ -177,6 +164,7 @@ module _ (id : Text) where
           ≡ values_of_row (cond t (Some r) (find (λ (x : Row). bytes_eq x.id word_id) rows))
       by_word true rest = refl
       by_word false rest = rest
+
       by : (t : Bool) → given (without id rows) ≡ given rows → bytes_eq r.id id ≡ t → given (cond t ([] ++ rows) (r ∷ without id rows)) ≡ given (r ∷ rows)
       by true rest e = rw (other_name r.id id word_id e other) refl
       by false rest e = by_word (bytes_eq r.id word_id) rest

@@ -1,6 +1,5 @@
 -- One word of a command, as `clap` reads it.
-use Rattle.std.proofs.Common.{ℕ, ◌≡◌, ◌<◌, Bool, true, false, cond, not, ◌||◌, ◌&&◌, List, [], ◌∷◌, ◌++◌, map, length, take, drop, suc, ◌+◌, Option, Some, None, is_some, refl, sym, ap, ap₂, ◌∙◌, true≢false, arith, eqb, ltb, eqb-true, IsUtf8, subst}
-use Rattle.std.specs.Prelude.{codes, find}
+use Rattle.std.proofs.Common.{ℕ, ◌≡◌, ◌<◌, Bool, true, false, cond, not, ◌||◌, ◌&&◌, List, [], ◌∷◌, ◌++◌, length, take, drop, suc, ◌+◌, Option, Some, None, is_some, refl, sym, ap, ap₂, ◌∙◌, true≢false, arith, eqb, ltb, eqb-true, IsUtf8, subst}
 use Rattle.std.specs.List.{after_first, before_first, list_all, list_any, prefix_len}
 use Rattle.std.specs.Option.{option_map, option_map_or}
 use Rattle.std.specs.Str.{bytes_eq}
@@ -8,13 +7,13 @@ use Rattle.std.proofs.lemmas.Bool.{and_parts, not-true}
 use Rattle.std.proofs.lemmas.Str.{IsUtf8-past_char, encode_ascii}
 use Rattle.hg_base.proofs.Within.{same_bytes}
 use Rattle.hg_words.specs.Command.{Flag, by_name, is_dashed, named_behind, named_by_letters}
-use Rattle.hg_words.proofs.Letters.{Sets, by_id, by_index, by_long, fine_both, good_found, held, is_fine, is_good, letters_fault, letters_met, now, past_none, react_none, reacted_is, rules, flag_rule, set, sets_one, settle_none, settled_is, word_rule}
-use Rattle.hg_words.proofs.Rows.{word_id}
+use Rattle.hg_words.proofs.Letters.{Sets, by_index, by_long, fine_both, good_found, held, is_fine, letters_fault, letters_met, now, react_none, reacted_is, rules, flag_rule, set, sets_one, settle_none, settled_is, word_rule}
+use Rattle.hg_words.specs.Clapped.{is_good, word_id}
 use Rattle.clap.specs.Kinds.{Kinds, or_else}
 use Rattle.clap.specs.Faults.{bundle_fault, flag_word_fault, long_fault, other_fault, positional_fault, step_fault, stray_fault, turn_fault, word_fault}
 use Rattle.clap.specs.Lexer.{long_of, name_and_value, short_of}
 use Rattle.clap.specs.Simple.{Shape, new_shape}
-use Rattle.clap.specs.Walk.{Held, Outcome, Row, Rule, Step, Text, Waiting, Walk, after_flag, after_step, bundle, done, idle, long_met, long_or_other, next, plain, plain_word, positional, positional_held, pushed, settled, short_or_plain, subcommand_met, subcommand_or_other, to_positional, trailing, value, walked, word_met}
+use Rattle.clap.specs.Walk.{Held, Outcome, Row, Step, Text, Waiting, Walk, after_flag, after_step, bundle, idle, long_met, long_or_other, next, plain, plain_word, positional, pushed, short_or_plain, subcommand_met, subcommand_or_other, to_positional, trailing, value, walked, word_met}
 
 -- the command as it is built
 abbrev pub top : Text → List Flag → Shape
@@ -91,6 +90,7 @@ module _ (name : Text) (flags : List Flag) (good : list_all is_good flags ≡ tr
     where
       pushed_on : Held → Walk
       pushed_on h = record { held = pushed word_id word h; waiting = positional; position = 1; is_trailing = is_trailing; stopped = None }
+
       by : (is_trailing : Bool) (pending : Option Text)
           → to_positional (rules flags) (Some word_rule) word (at is_trailing rows pending waits) (held rows pending) ≡ at is_trailing (now pending rows) (Some word) true
       by true None = refl
@@ -189,9 +189,11 @@ module _ (name : Text) (flags : List Flag) (good : list_all is_good flags ≡ tr
         where
           some_same : (a b : Flag) → Some a ≡ Some b → a ≡ b
           some_same a b e = cc
+
           at_head : (t : Bool) → bytes_eq g.name text ≡ t → cond t (Some g) (by_name flags text) ≡ Some f → (by_name flags text ≡ Some f → bytes_eq f.name text ≡ true) → bytes_eq f.name text ≡ true
           at_head true is e rest = ap (λ (f : Flag). bytes_eq f.name text) (sym (some_same g f e)) ∙ is
           at_head false is e rest = rest e
+
       by : (found : Option Flag) → by_name flags text ≡ found → found ≡ None
       by None is = refl
       by (Some f) is =
@@ -215,7 +217,7 @@ module _ (name : Text) (flags : List Flag) (good : list_all is_good flags ≡ tr
       ∙ ap (λ (o : Option (Text × Option Text)). flag_word_fault (rules flags) true o word (held rows pending)) looks.long
       ∙ ap (λ (o : Option Text). option_map_or (λ letters. bundle_fault (rules flags) true letters (held rows pending)) o []) looks.short in
       let met : other_met (bytes_eq word dashes) rows pending waits word
-          ≡ after_flag (rules flags) (wait_of waits) word (bundle (rules flags) (c ∷ rest) (held rows pending)).0 (bundle (rules flags) (c ∷ rest) (held rows pending)).1 =
+      ≡ after_flag (rules flags) (wait_of waits) word (bundle (rules flags) (c ∷ rest) (held rows pending)).0 (bundle (rules flags) (c ∷ rest) (held rows pending)).1 =
       ap (λ (t : Bool). other_met t rows pending waits word) other
       ∙ ap (λ (o : Option (Text × Option Text)). long_or_other (rules flags) (wait_of waits) word o (held rows pending)) looks.long
       ∙ ap (λ (o : Option Text). short_or_plain (rules flags) (wait_of waits) word o (held rows pending)) looks.short in
@@ -225,16 +227,18 @@ module _ (name : Text) (flags : List Flag) (good : list_all is_good flags ≡ tr
       record {
         fault = by (named_by_letters flags (c ∷ rest)) refl none met fine named;
         met = λ names is.
-            let meets = letters_met flags good (c ∷ rest) (length (c ∷ rest)) rows pending plain names text some (omega arith) (sym named ∙ is) in
-            (meets.after, meets.sets,
+            let meets = letters_met flags good (c ∷ rest) (length (c ∷ rest)) rows pending plain names text some (omega arith) (sym named ∙ is) in (
+              meets.after,
+              meets.sets,
               walk_is rows pending waits word (held meets.after None, next idle)
-              (met ∙ ap (λ (m : Held × Outcome). after_flag (rules flags) (wait_of waits) word m.0 m.1) meets.met));
+                  (met ∙ ap (λ (m : Held × Outcome). after_flag (rules flags) (wait_of waits) word m.0 m.1) meets.met),
+            );
       }
     where
       by : (o : Option (List Text)) → named_by_letters flags (c ∷ rest) ≡ o
           → plain_fault (bytes_eq (b ∷ c ∷ rest) dashes) rows pending (b ∷ c ∷ rest) ≡ bundle_fault (rules flags) true (c ∷ rest) (held rows pending)
           → other_met (bytes_eq (b ∷ c ∷ rest) dashes) rows pending waits (b ∷ c ∷ rest)
-              ≡ after_flag (rules flags) (wait_of waits) (b ∷ c ∷ rest) (bundle (rules flags) (c ∷ rest) (held rows pending)).0 (bundle (rules flags) (c ∷ rest) (held rows pending)).1
+          ≡ after_flag (rules flags) (wait_of waits) (b ∷ c ∷ rest) (bundle (rules flags) (c ∷ rest) (held rows pending)).0 (bundle (rules flags) (c ∷ rest) (held rows pending)).1
           → is_fine (bundle_fault (rules flags) true (c ∷ rest) (held rows pending)) ≡ is_some (named_by_letters flags (c ∷ rest))
           → named_behind flags (c ∷ rest) ≡ named_by_letters flags (c ∷ rest)
           → is_fine (turn_fault (top name flags) [] (at false rows pending waits) (b ∷ c ∷ rest)) ≡ is_some (named_behind flags (c ∷ rest))
@@ -255,28 +259,35 @@ module _ (name : Text) (flags : List Flag) (good : list_all is_good flags ≡ tr
     where
       word : Text
       word = b ∷ c ∷ d ∷ rest
+
       named : named_behind flags (c ∷ d ∷ rest) ≡ option_map (λ f. f.name ∷ []) (by_name flags (d ∷ rest))
       named = rw second refl
+
       faults : (p : Text × Option Text) → name_and_value (d ∷ rest) ≡ p
           → plain_fault (bytes_eq word dashes) rows pending word ≡ long_fault (rules flags) true (option_map flag_rule (by_name flags p.0)) p.1 (held rows pending)
       faults p is = ap (λ (t : Bool). plain_fault t rows pending word) other
           ∙ ap (λ (o : Option (Text × Option Text)). flag_word_fault (rules flags) true o word (held rows pending)) (name_looks b c d rest first second ∙ ap (λ (p : Text × Option Text). Some p) is)
           ∙ ap (λ o. long_fault (rules flags) true o p.1 (held rows pending)) (by_long flags p.0)
+
       mets : (p : Text × Option Text) → name_and_value (d ∷ rest) ≡ p → other_met (bytes_eq word dashes) rows pending waits word
           ≡ after_flag (rules flags) (wait_of waits) word (long_met (rules flags) (option_map flag_rule (by_name flags p.0)) p.1 (held rows pending)).0
           (long_met (rules flags) (option_map flag_rule (by_name flags p.0)) p.1 (held rows pending)).1
       mets p is = ap (λ (t : Bool). other_met t rows pending waits word) other
           ∙ ap (λ (o : Option (Text × Option Text)). long_or_other (rules flags) (wait_of waits) word o (held rows pending)) (name_looks b c d rest first second ∙ ap (λ (p : Text × Option Text). Some p) is)
           ∙ ap (λ o. after_flag (rules flags) (wait_of waits) word (long_met (rules flags) o p.1 (held rows pending)).0 (long_met (rules flags) o p.1 (held rows pending)).1) (by_long flags p.0)
+
       refused : (k : Kinds) → plain_fault (bytes_eq word dashes) rows pending word ≡ k → is_fine k ≡ false
           → is_fine (turn_fault (top name flags) [] (at false rows pending waits) word) ≡ false
       refused k is bad = ap is_fine (turn_is rows pending waits word) ∙ fine_both _ _
           ∙ ap (λ (t : Bool). t && is_fine (step_fault (top name flags) 1 (other_met (bytes_eq word dashes) rows pending waits word).0 (other_met (bytes_eq word dashes) rows pending waits word).1)) (ap is_fine is ∙ bad)
+
       long_refused : (found : Option Flag) (v : Text) → is_fine (long_fault (rules flags) true (option_map flag_rule found) (Some v) (held rows pending)) ≡ false
       long_refused None v = refl
       long_refused (Some f) v = refl
+
       some_same : (a b : List Text) → Some a ≡ Some b → a ≡ b
       some_same a b e = cc
+
       by_found : (found : Option Flag) → by_name flags (d ∷ rest) ≡ found → list_any (λ b. eqb b 61) (d ∷ rest) ≡ false → Flagged word rows pending waits
       by_found None is none = record {
         fault = refused (long_fault (rules flags) true None None (held rows pending))
@@ -296,11 +307,14 @@ module _ (name : Text) (flags : List Flag) (good : list_all is_good flags ≡ tr
           ∙ ap (λ (h : Held). (h, next idle)) (reacted_is flags good f rows pending) in
           record {
             fault = ap is_fine (turn_is rows pending waits word ∙ ap₂ turned fine met) ∙ sym (ap is_some (named ∙ ap (option_map (λ (f : Flag). f.name ∷ [])) is));
-            met = λ names named_so. (set f (now pending rows),
-                subst (λ (n : List Text). Sets n (now pending rows) (set f (now pending rows)))
-                (some_same (f.name ∷ []) names (sym (named ∙ ap (option_map (λ (f : Flag). f.name ∷ [])) is) ∙ named_so)) (sets_one f (now pending rows) f_good),
-                walk_is rows pending waits word (held (set f (now pending rows)) None, next idle) met);
+            met = λ names named_so. (
+              set f (now pending rows),
+              subst (λ (n : List Text). Sets n (now pending rows) (set f (now pending rows)))
+                  (some_same (f.name ∷ []) names (sym (named ∙ ap (option_map (λ (f : Flag). f.name ∷ [])) is) ∙ named_so)) (sets_one f (now pending rows) f_good),
+              walk_is rows pending waits word (held (set f (now pending rows)) None, next idle) met,
+            );
           }
+
       by : (t : Bool) → list_any (λ b. eqb b 61) (d ∷ rest) ≡ t → Flagged word rows pending waits
       by true has =
           let none = named ∙ ap (option_map (λ (f : Flag). f.name ∷ [])) (no_equals (d ∷ rest) has) in

@@ -126,9 +126,12 @@ set_parents (first ∷ second ∷ []) = parents (node_of first) (node_of second)
 set_parents words = Err a_fault.Usage
 
 -- a number from 1 to 2,000
-abbrev pub load : List (List ℕ) → Result Command WordsFault
-load (word ∷ []) =
+abbrev pub load_of : List ℕ → Result Command WordsFault
+load_of word =
     if is_number word && (nat_le 1 (number_of word) && nat_le (number_of word) 2000) then Ok (a_command.DebugLoad (number_of word)) else Err a_fault.Usage
+
+abbrev pub load : List (List ℕ) → Result Command WordsFault
+load (word ∷ []) = load_of word
 load words = Err a_fault.Usage
 
 -- what may stand behind the name of a command, and what it then tells; where no most is told, any number of words may stand there
@@ -158,25 +161,61 @@ status_flags =
 abbrev pub remove_flags : List Flag
 remove_flags = record { letter = 65; name = codes "after" } ∷ []
 
+abbrev pub status_form : Form
+status_form = record { name = codes "status"; flags = status_flags; least = 0; most = Some 0; told = status }
+
+abbrev pub add_form : Form
+add_form = record { name = codes "add"; flags = []; least = 1; most = None; told = λ p. Ok (a_command.Add p.words) }
+
+abbrev pub forget_form : Form
+forget_form = record { name = codes "forget"; flags = []; least = 1; most = None; told = λ p. Ok (a_command.Forget p.words) }
+
+abbrev pub remove_form : Form
+remove_form = record {
+  name = codes "remove";
+  flags = remove_flags;
+  least = 1;
+  most = None;
+  told = λ p. Ok (a_command.Remove (is_given (codes "after") p) p.words);
+}
+
+abbrev pub copy_form : Form
+copy_form = record { name = codes "copy"; flags = []; least = 2; most = Some 2; told = λ p. copy p.words }
+
+abbrev pub parents_form : Form
+parents_form = record { name = codes "debugsetparents"; flags = []; least = 1; most = Some 2; told = λ p. set_parents p.words }
+
+abbrev pub dirstate_form : Form
+dirstate_form = record { name = codes "debugdirstate"; flags = []; least = 0; most = Some 0; told = λ p. Ok a_command.DebugDirstate }
+
+abbrev pub script_form : Form
+script_form = record { name = codes "debugscript"; flags = []; least = 0; most = Some 0; told = λ p. Ok a_command.DebugScript }
+
+abbrev pub load_form : Form
+load_form = record { name = codes "debugload"; flags = []; least = 1; most = Some 1; told = λ p. load p.words }
+
 abbrev pub forms : List Form
 forms =
-    record { name = codes "status"; flags = status_flags; least = 0; most = Some 0; told = status }
-    ∷ record { name = codes "add"; flags = []; least = 1; most = None; told = λ p. Ok (a_command.Add p.words) }
-    ∷ record { name = codes "forget"; flags = []; least = 1; most = None; told = λ p. Ok (a_command.Forget p.words) }
-    ∷ record { name = codes "remove"; flags = remove_flags; least = 1; most = None; told = λ p. Ok (a_command.Remove (is_given (codes "after") p) p.words) }
-    ∷ record { name = codes "copy"; flags = []; least = 2; most = Some 2; told = λ p. copy p.words }
-    ∷ record { name = codes "debugsetparents"; flags = []; least = 1; most = Some 2; told = λ p. set_parents p.words }
-    ∷ record { name = codes "debugdirstate"; flags = []; least = 0; most = Some 0; told = λ p. Ok a_command.DebugDirstate }
-    ∷ record { name = codes "debugscript"; flags = []; least = 0; most = Some 0; told = λ p. Ok a_command.DebugScript }
-    ∷ record { name = codes "debugload"; flags = []; least = 1; most = Some 1; told = λ p. load p.words }
+    status_form
+    ∷ add_form
+    ∷ forget_form
+    ∷ remove_form
+    ∷ copy_form
+    ∷ parents_form
+    ∷ dirstate_form
+    ∷ script_form
+    ∷ load_form
     ∷ []
 
 abbrev pub form_of : List ℕ → Option Form
 form_of name = find (λ form. bytes_eq form.name name) forms
 
 -- a number of words behind a command is neither too few nor too many
+abbrev pub is_between : ℕ → Option ℕ → ℕ → Bool
+is_between least most n = nat_le least n && option_map_or (nat_le n) most true
+
 abbrev pub is_enough : Form → ℕ → Bool
-is_enough form n = nat_le form.least n && option_map_or (nat_le n) form.most true
+is_enough form n = is_between form.least form.most n
 
 -- the command, where the words are parted
 abbrev pub told_by : Form → Option Parted → Result Command WordsFault

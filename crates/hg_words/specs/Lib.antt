@@ -1,3 +1,4 @@
+pub mod Clapped
 pub mod Command
-pub mod Located
+pub mod Given
 pub mod Told

@@ -1,5 +1,8 @@
 //! A command, as its words tell it.
 
+ghost use Rattle.std.specs.Prelude.{◌≡◌, ◌<◌, Some, length, slice_get};
+ghost use Rattle.hg_words.specs.Given as given;
+
 use crate::flags::StatusFlags;
 use hg_base::{Id20, Text, Words};
 
@@ -24,4 +27,92 @@ pub enum Command {
     DebugScript,
     /// Runs a status over a working copy of so many directories, 1 to 2,000.
     DebugLoad { n: u32 },
+}
+
+impl Command {
+    /// How many file words it has.
+    pub fn files(&self) -> usize
+        ensures { result ≡ length (given.files_of self.now) }
+    {
+        match self {
+            Command::Add { files } => files.len(),
+            Command::Forget { files } => files.len(),
+            Command::Remove { files, .. } => files.len(),
+            Command::Copy { .. } => 2,
+            _ => 0,
+        }
+    }
+
+    /// The file word at a place below that number.
+    pub fn file(&self, i: usize) -> &Text
+        requires { i < length (given.files_of self.now) }
+        ensures { slice_get (given.files_of self.now) i ≡ Some result.now }
+    {
+        match self {
+            Command::Add { files } => files.at(i),
+            Command::Forget { files } => files.at(i),
+            Command::Remove { files, .. } => files.at(i),
+            Command::Copy { source, target } => { if i == 0 { source } else { target } }
+            _ => unreachable!(),
+        }
+    }
+
+    /// Whether it changes the record.
+    pub fn changes(&self) -> bool
+        ensures { result ≡ given.changes self.now }
+    {
+        match self {
+            Command::Status(_) | Command::DebugDirstate | Command::DebugLoad { .. } => false,
+            Command::Add { .. }
+            | Command::Forget { .. }
+            | Command::Remove { .. }
+            | Command::Copy { .. }
+            | Command::SetParents { .. }
+            | Command::DebugScript => true,
+        }
+    }
+
+    /// Its name.
+    pub fn name(&self) -> &'static str
+        ensures { result.now ≡ given.name_of self.now }
+    {
+        match self {
+            Command::Status(_) => "status",
+            Command::Add { .. } => "add",
+            Command::Forget { .. } => "forget",
+            Command::Remove { .. } => "remove",
+            Command::Copy { .. } => "copy",
+            Command::SetParents { .. } => "debugsetparents",
+            Command::DebugDirstate => "debugdirstate",
+            Command::DebugScript => "debugscript",
+            Command::DebugLoad { .. } => "debugload",
+        }
+    }
+
+    /// Whether it is built.
+    pub fn is_built(&self) -> bool
+        ensures { result ≡ given.is_built self.now }
+    {
+        match self {
+            Command::Status(_)
+            | Command::Add { .. }
+            | Command::Forget { .. }
+            | Command::DebugDirstate => true,
+            Command::Remove { .. }
+            | Command::Copy { .. }
+            | Command::SetParents { .. }
+            | Command::DebugScript
+            | Command::DebugLoad { .. } => false,
+        }
+    }
+
+    // Whether it is about files that are gone.
+    pub(crate) fn is_after(&self) -> bool
+        ensures { result ≡ given.is_after self.now }
+    {
+        match self {
+            Command::Remove { after, .. } => *after,
+            _ => false,
+        }
+    }
 }

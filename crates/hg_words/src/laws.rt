@@ -1,8 +1,10 @@
 //! Laws of the definitions.
 
-ghost use Rattle.std.specs.Prelude.{◌≡◌, ◌≤◌, ◌+◌, ◌++◌, ◌∷◌, [], IsTrue, ℕ, List, Some, false, length};
+ghost use Rattle.std.specs.Prelude.{◌≡◌, ◌≤◌, ◌+◌, ◌++◌, ◌∷◌, ◌<◌, [], IsTrue, ℕ, List, Ok, Some, length, map};
 ghost use Rattle.hg_base.specs.PathText.{components, is_path};
-ghost use Rattle.hg_words.specs.Located.{has_file_words, located};
+ghost use Rattle.hg_words.specs.Command.{command_of};
+ghost use Rattle.hg_words.specs.Given.{changes, files_of, is_built, located, spelled};
+ghost use Rattle.hg_words.specs.declared.given.Command.{Command};
 ghost use Rattle.hg_words.specs.Told.{from_folder, led};
 
 /// At the root a path is told by itself.
@@ -26,7 +28,18 @@ pub fn path_leads()
     ensures { (folder word : List ℕ) → IsTrue (is_path (from_folder folder word)) → led folder (components word) ≡ Some (from_folder folder word) }
 {}
 
-/// Words without file words stay as they are, whatever the folder.
+/// A command that has file words and is spelled again reads as itself.
+pub fn spelled_reads()
+    ensures { (c : Command) → 0 < length (files_of c) → command_of (spelled c) ≡ Ok c }
+{}
+
+/// A command in a folder is the same command, with each file word told from there.
+pub fn located_keeps()
+    ensures { (folder : List ℕ) (c : Command)
+        → (files_of (located folder c) ≡ map (from_folder folder) (files_of c)) × (changes (located folder c) ≡ changes c) × (is_built (located folder c) ≡ is_built c) }
+{}
+
+/// A command without file words stays as it is, whatever the folder.
 pub fn located_without_files()
-    ensures { (folder : List ℕ) (words : List (List ℕ)) → has_file_words words ≡ false → located folder words ≡ words }
+    ensures { (folder : List ℕ) (c : Command) → length (files_of c) ≡ 0 → located folder c ≡ c }
 {}

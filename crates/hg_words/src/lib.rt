@@ -27,15 +27,19 @@
 mod fault;
 mod flags;
 mod folder;
+mod forms;
 mod given;
 mod laws;
-mod locating;
 mod reading;
+mod spelling;
 
 pub use fault::WordsFault;
 pub use flags::StatusFlags;
 pub use folder::from_folder;
 pub use given::Command;
-pub use laws::{located_without_files, path_at_root, path_below, path_in_folder, path_leads};
-pub use locating::{has_file_words, located};
+pub use laws::{
+    located_keeps, located_without_files, path_at_root, path_below, path_in_folder, path_leads,
+    spelled_reads,
+};
 pub use reading::read;
+pub use spelling::{located, spelled};

@@ -1,4 +1,4 @@
-use Rattle.std.proofs.Common.{◌≡◌, ◌-◌, ◌++◌, Some, drop, take, refl, sym, ap, ◌∙◌, arith}
+use Rattle.std.proofs.Common.{◌≡◌, ◌++◌, Some, take, refl, sym, ap, ◌∙◌}
 use Rattle.std.specs.List.{slice_get}
 use Rattle.hg_session.specs.Acts.{refused_line}
 use Rattle.hg_session.proofs.SoFar.{goes_on, goes_on_at, none_yet}
@@ -7,7 +7,6 @@ use Rattle.hg_session.proofs.acting.act.Goals as goal
 pub loop-i-init : goal.loop-i-init
 loop-i-init g c = record {
   unlooked = λ is. refl;
-  from = omega arith;
   so_far = none_yet c.args.command (g.T.Tree.history c.args.tree.now) c.args.mixed.now c.new-lines.result.items (g.T.Tree.faults c.args.tree.now) c.new-lines.ensures.items;
 }
 
@@ -16,15 +15,14 @@ loop-i-preserved g c =
     let start = g.T.Tree.history c.args.tree.now in
     let mid = g.T.Tree.history c.loop-i.tree in
     let at = g.T.Tree.history c.step.new.tree in
-    let words = take (c.loop-i.i - 1) (drop 1 c.args.words.now) in
+    let words = take c.loop-i.i c.args.words.now in
     let is : slice_get c.args.words.now c.loop-i.i ≡ Some c.as_str-word.result.now = c.at.ensures ∙ ap Some (sym c.as_str-word.ensures) in
     record {
       unlooked = λ is. c.step.ensures.unlooked is ∙ c.loop-i.invariant.unlooked is;
-      from = omega (arith, c.loop-i.invariant.from);
       so_far =
           goes_on_at c.args.command start at c.args.words.now c.loop-i.i c.as_str-word.result.now c.args.mixed.now c.step.new.mixed
           (c.loop-i.lines.items ++ refused_line c.args.command c.as_str-word.result.now c.in_ok-refused.refused) c.put_refused.new.lines.items (g.T.Tree.faults c.args.tree.now) (g.T.Tree.faults c.step.new.tree)
-          c.loop-i.invariant.from is c.in_ok-put_refused.ensures
+          is c.in_ok-put_refused.ensures
           (goes_on c.args.command start mid at c.args.mixed.now c.loop-i.mixed c.step.new.mixed words c.as_str-word.result.now c.loop-i.lines.items c.in_ok-refused.refused
           (g.T.Tree.faults c.args.tree.now) (g.T.Tree.faults c.loop-i.tree) (g.T.Tree.faults c.step.new.tree)
           c.loop-i.invariant.so_far c.in_ok-refused.ensures.stepped

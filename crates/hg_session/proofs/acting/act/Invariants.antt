@@ -1,4 +1,4 @@
-use Rattle.std.proofs.Common.{◌≡◌, ◌≤◌, ◌-◌, drop, take}
+use Rattle.std.proofs.Common.{◌≡◌, take}
 use Rattle.hg_session.specs.declared.acting.Changing.TheVariants as a_command
 use Rattle.hg_session.proofs.SoFar.{SoFar}
 use Rattle.hg_session.proofs.acting.act.Given as goal
@@ -7,7 +7,6 @@ use Rattle.hg_session.proofs.acting.act.Given as goal
 abbrev pub invariant-loop-i : goal.invariant-loop-i
 invariant-loop-i g l = record {
   unlooked : l.command ≡ a_command.Forget → l.tree ≡ l.initial.tree;
-  from : 1 ≤ l.i;
-  so_far : SoFar l.command (g.T.Tree.history l.initial.tree) (g.T.Tree.history l.tree) (take (l.i - 1) (drop 1 l.words)) l.initial.mixed l.mixed l.lines.items
+  so_far : SoFar l.command (g.T.Tree.history l.initial.tree) (g.T.Tree.history l.tree) (take l.i l.words) l.initial.mixed l.mixed l.lines.items
       (g.T.Tree.faults l.initial.tree) (g.T.Tree.faults l.tree);
 }

@@ -1,12 +1,47 @@
--- The answer of a call, by what its words ask for.
-use Rattle.std.proofs.Common.{refl, sym}
-use Rattle.hg_session.proofs.Caused.{answered_changed, answered_looked}
+-- The answer of a call, by its command.
+use Rattle.std.proofs.Common.{refl}
+use Rattle.hg_session.proofs.Caused.{answered_add, answered_forget, answered_record, answered_status, answered_unbuilt}
+use Rattle.hg_session.proofs.Locked.{unwritten, unwritten_here}
+use Rattle.hg_shelf.proofs.Histories.{passes_same}
+use Rattle.hg_shelf.proofs.Scenes.{goes_same}
+use Rattle.hg_shelf.specs.Images.{course}
 use Rattle.hg_session.proofs.choosing.command.Goals as goal
 
-pub returns-in-None : goal.returns-in-None
-returns-in-None g c = answered_looked _ c.look.result.status c.look.result.fault (sym c.in-None.ensures) c.look.ensures
+pub returns-in-Status : goal.returns-in-Status
+returns-in-Status g c =
+    answered_status c.args.command.now c.in-Status.flags _ _ _ _ _ _ refl refl c.status-done.result c.ended.result.status c.ended.result.fault c.in-Status.is c.status-done.ensures.does c.status-done.ensures.only (unwritten _ _ c.status-done.ensures.only.passes) c.ended.ensures
 
-pub returns-in-Some : goal.returns-in-Some
-returns-in-Some g c =
-    answered_changed _ c.change_record.result.status c.change_record.result.fault c.in-Some.command (sym c.in-Some.ensures)
-    (c.change_record.ensures.ran _ _ (record { bytes = refl; count = refl }) refl) c.change_record.ensures.steady_err c.change_record.ensures.status
+pub returns-in-DebugDirstate : goal.returns-in-DebugDirstate
+returns-in-DebugDirstate g c =
+    answered_record c.args.command.now _ _ _ _ _ _ (record { old = g.E.Sink.bytes c.args.err.now; new = g.E.Sink.bytes c.args.err.now; before = g.E.Sink.faults c.args.err.now; after = g.E.Sink.faults c.args.err.now }) _ refl refl
+    c.print_record-done.result c.ended-in-DebugDirstate.result.status c.ended-in-DebugDirstate.result.fault c.in-DebugDirstate.is
+    (record { history = refl; count = refl }) refl (record { bytes = refl; count = refl }) c.print_record-done.ensures.does c.print_record-done.ensures.only (unwritten _ _ c.print_record-done.ensures.only.passes) c.ended-in-DebugDirstate.ensures
+
+pub returns-in-Add : goal.returns-in-Add
+returns-in-Add g c =
+    answered_add c.args.command.now c.in-Add.files _ c.change_record.result.status c.change_record.result.fault c.in-Add.is refl
+    (c.change_record.ensures.ran c.args.command.now _ _ (record { bytes = refl; count = refl }) refl) c.change_record.ensures.status
+
+pub returns-in-Forget : goal.returns-in-Forget
+returns-in-Forget g c =
+    answered_forget c.args.command.now c.in-Forget.files _ c.change_record-in-Forget.result.status c.change_record-in-Forget.result.fault c.in-Forget.is refl
+    (c.change_record-in-Forget.ensures.ran c.args.command.now _ _ (record { bytes = refl; count = refl }) refl) c.change_record-in-Forget.ensures.status
+
+pub returns-in_default : goal.returns-in_default
+returns-in_default g c =
+    answered_unbuilt _ c.failed.result.status c.failed.result.fault
+    (record {
+      answered = c.failed.ensures.fault;
+      told = c.failed.ensures.told;
+      idle = record {
+        copy = record { history = refl; count = refl };
+        files = refl;
+        files_count = refl;
+        kept = goes_same (course (g.S.Shelf.history c.args.shelf.now) (g.S.Shelf.images c.args.shelf.now));
+        unwritten = unwritten_here (g.S.Shelf.history c.args.shelf.now);
+        held = refl;
+        regexps = refl;
+        silent = record { bytes = refl; count = refl };
+      };
+    })
+    c.in_default.not-Status c.in_default.not-Add c.in_default.not-Forget c.in_default.not-DebugDirstate (passes_same (g.S.Shelf.history c.args.shelf.now)) c.failed.ensures.status

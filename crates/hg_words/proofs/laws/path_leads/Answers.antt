@@ -1,5 +1,4 @@
 use Rattle.hg_words.proofs.Paths.{path_leads}
-use Rattle.hg_words.proofs.Turns.{at, flags_turn}
 use Rattle.hg_words.proofs.laws.path_leads.Goals as goal
 
 pub returns : goal.returns

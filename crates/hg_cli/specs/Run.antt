@@ -1,0 +1,76 @@
+-- What a run answers by its words, and what holds of lists of runs.
+use Rattle.std.specs.Prelude.{ℕ, ◌≡◌, ◌⊎◌, List, Option, Ok, Err, IfSome, IsTrue}
+use Rattle.hg_base.specs.Runs.{RunsEach}
+use Rattle.hg_entry.specs.Table.{Table}
+use Rattle.hg_report.specs.Cause.{of_words}
+use Rattle.hg_report.specs.declared.fault.Fault.{Fault}
+use Rattle.hg_save.specs.Loads.{files_at}
+use Rattle.hg_save.specs.Others.{HasData, KeepData, KeepsFiles, KeepsRecords}
+use Rattle.hg_save.specs.Saved.{IsLatest}
+use Rattle.hg_session.specs.Answered.{IsAnswered, IsIdle}
+use Rattle.hg_session.specs.Call.{Count, Looked, Saved, Sink}
+use Rattle.hg_session.specs.Crash.{IsCrashSafe}
+use Rattle.hg_session.specs.Put.{IsFaultOrMemory, Tells}
+use Rattle.hg_shelf.specs.History.{others, us}
+use Rattle.hg_shelf.specs.Images.{Course, last_scene}
+use Rattle.hg_shelf.specs.Polite.{OthersOnlyRead}
+use Rattle.hg_words.specs.Command.{command_of}
+use Rattle.hg_words.specs.declared.fault.WordsFault.{WordsFault}
+use Rattle.hg_words.specs.declared.fault.WordsFault.TheVariants as a_words
+use Rattle.hg_words.specs.declared.given.Command.{Command}
+
+-- ---- one run
+
+-- the words weren't read as a command, for this fault: they are none, or there was no memory. Its line is told, and nothing else is done
+pub record IsUnread (words : List (List ℕ)) (looked : Looked) (saved : Saved) (locks : Count) (out err : Sink) (code : ℕ) (fault : Option Fault) : Type 0 where
+  pub met : WordsFault
+  pub why : (met ≡ a_words.OutOfMemory) ⊎ (command_of words ≡ Err met)
+  pub answered : IsFaultOrMemory fault (of_words met)
+  pub told : IfSome fault (Tells err)
+  pub idle : IsIdle looked saved locks out
+  pub status : code ≡ 255
+
+-- the words are a command, which was answered so, or they weren't read as one
+abbrev pub IsRun : List (List ℕ) → Looked → Saved → Count → Sink → Sink → ℕ → Option Fault → Type 0
+IsRun words looked saved locks out err code fault =
+    ((command : Command) × (command_of words ≡ Ok command)
+    × IsAnswered (record { command = command; looked = looked; saved = saved; locks = locks; out = out; err = err }) code fault)
+    ⊎ IsUnread words looked saved locks out err code fault
+
+-- ---- lists of runs, each over the files that the one before it left
+
+-- the files below `.hg` with what a crash may leave of them, before and after
+abbrev pub saved_by : {S : Type 0} → (S → Course) → S → S → Saved
+saved_by course_of old new = record { old = course_of old; new = course_of new }
+
+-- a run over these words leads from one shelf to another, whatever the other devices
+abbrev pub Runs : {S : Type 0} → (S → Course) → List (List ℕ) → S → S → Type 0
+Runs course_of words old new =
+    (looked : Looked) × (locks : Count) × (out : Sink) × (err : Sink) × (code : ℕ) × (fault : Option Fault) × IsRun words looked (saved_by course_of old new) locks out err code fault
+
+-- from a first course on others only read while the lock is held, and publish as a record is published
+pub record OthersKeep (first last : Course) : Type 0 where
+  pub told : IsTrue last.history.told
+  pub only : OthersOnlyRead last first.history.last
+  pub keep : KeepsRecords others last first.history.last
+
+-- at each moment of a run a crash leaves a record of what it might have left at its start, of what it published, or of what others published since
+abbrev pub IsSafe : {S : Type 0} → (S → Course) → List (List ℕ) → S → S → Type 0
+IsSafe course_of words old new = (own : Option Table) × IsCrashSafe own (saved_by course_of old new)
+
+-- what holds of a list of runs as one
+pub record KeepsAll (first last : Course) : Type 0 where
+  -- no docket that a crash might leave is ahead of the one that stands
+  pub latest : IsLatest (last_scene last)
+  -- each step of the runs keeps the data that dockets name
+  pub keeping : KeepsFiles us last.history first.history.last
+
+-- so it is of each run of every list of runs, with others publishing between and beside them, from a first shelf on of which no docket that a crash
+-- might leave is ahead; and then none is at the end. Where the standing docket's data file is there at first, and others keep the data that dockets name
+-- too, it is kept throughout, which is what a load asks of others
+abbrev pub EachIsSafe : {S : Type 0} → (S → Course) → Type 0
+EachIsSafe {S = S} course_of =
+    (calls : List (List (List ℕ))) (first last : S) → IsLatest (last_scene (course_of first)) → OthersKeep (course_of first) (course_of last) → RunsEach (Runs course_of) calls first last
+    → RunsEach (IsSafe course_of) calls first last × KeepsAll (course_of first) (course_of last)
+    × (HasData (files_at (course_of last).history (course_of first).history.last) → KeepsFiles others (course_of last).history (course_of first).history.last
+    → KeepData (course_of last).history (course_of first).history.last)

@@ -1,0 +1,100 @@
+-- How a command ends that only looks, from what it did and what is told behind it.
+use Rattle.std.proofs.Common.{ℕ, ◌≡◌, true, false, List, Option, Some, None, Result, Ok, Err, IfSome, OnOk, refl, sym, ap, ◌∙◌, subst, inl, inr, true≢false}
+use Rattle.hg_report.specs.Fault.{has_line}
+use Rattle.hg_report.specs.declared.fault.Fault.{Fault}
+use Rattle.hg_report.specs.declared.fault.Fault.TheVariants as a_fault
+use Rattle.hg_base.specs.Fault.{Rose}
+use Rattle.hg_stream.specs.Stream.{GrownByFront}
+use Rattle.hg_session.specs.Call.{Looked, Sink}
+use Rattle.hg_session.specs.Look.{EndsAs, IsCalm, IsUntold, LeavesAt, Look, Looks, Shows, Stage, at_first, at_printing, at_saving, at_telling}
+use Rattle.hg_session.specs.Put.{IsFaultOrMemory, IsSilent, Puts, PutsFront, Tells, TellsLine}
+
+pub not_without : {Q : Type 0} (answered : Option Fault) (fault : Fault) → IsFaultOrMemory answered fault → answered ≡ None → Q
+not_without answered fault (inl same) none = absurd (cc (same, none))
+not_without answered fault (inr memory) none = absurd (cc (memory, none))
+
+-- a fault with a line isn't that of the error stream
+told_apart : {Q : Type 0} (fault : Fault) → has_line fault ≡ true → fault ≡ a_fault.ErrFailed → Q
+told_apart fault told is = absurd (true≢false (sym told ∙ ap has_line is))
+
+module _ (mid tail : Sink) (bytes : tail.old ≡ mid.new) (count : tail.before ≡ mid.after) where
+  -- the error stream from before what was done to behind the line of a fault
+  abbrev pub joined : Sink
+  joined = record { old = mid.old; new = tail.new; before = mid.before; after = tail.after }
+
+  puts_joined : (IsText : List ℕ → Type 0) → IsSilent tail → Puts IsText mid → Puts IsText joined
+  puts_joined IsText silent puts = record { text = puts.text; is = puts.is; put = silent.bytes ∙ bytes ∙ puts.put }
+
+  front_joined : (IsText : List ℕ → Type 0) → IsSilent tail → PutsFront IsText mid → PutsFront IsText joined
+  front_joined IsText silent puts = record {
+    text = puts.text;
+    is = puts.is;
+    put = subst (λ (new : Option (List ℕ)). GrownByFront mid.old new puts.text) (sym (silent.bytes ∙ bytes)) puts.put;
+    failed = subst (λ (n : ℕ). Rose mid.before n) (sym (silent.count ∙ count)) puts.failed;
+  }
+
+  line_joined : (fault : Fault) → IsSilent mid → Tells tail fault → Tells joined fault
+  line_joined fault silent told =
+      subst (λ (old : Option (List ℕ)). TellsLine old tail.new mid.before tail.after fault) (bytes ∙ silent.bytes)
+      (subst (λ (n : ℕ). TellsLine tail.old tail.new n tail.after fault) (count ∙ silent.count) told)
+
+  module _ (look : Look) (out : Sink) (memory : look.Before a_fault.OutOfMemory) (saving : (fault : Fault) → look.Saving fault → look.Saving a_fault.OutOfMemory) where
+    abbrev Left : Fault → Type 0
+    Left fault = (stage : Stage) × LeavesAt look out joined (Tells joined) stage fault
+
+    -- the fault that was met, with its line or without one
+    left_told : (fault : Fault) → has_line fault ≡ true → Tells tail fault → (stage : Stage) × LeavesAt look out mid (IsUntold mid) stage fault → Left fault
+    left_told fault has line (at_first, (is, silent, untold)) = (at_first, (is, silent, line_joined fault untold.silent line))
+    left_told fault has line (at_printing, (printing, ready, front, kind, untold)) = (at_printing, (printing, ready, front, kind, line_joined fault untold.silent line))
+    left_told fault has line (at_telling, (telling, ready, puts, front, is)) = told_apart fault has is
+    left_told fault has line (at_saving, (is, silent, untold)) = (at_saving, (is, silent, line_joined fault untold.silent line))
+
+    -- or want of memory for its line
+    left_memory : (fault : Fault) → has_line fault ≡ true → Tells tail a_fault.OutOfMemory → (stage : Stage) × LeavesAt look out mid (IsUntold mid) stage fault → Left a_fault.OutOfMemory
+    left_memory fault has line (at_first, (is, silent, untold)) = (at_first, (memory, silent, line_joined a_fault.OutOfMemory untold.silent line))
+    left_memory fault has line (at_printing, (printing, ready, front, kind, untold)) = (at_printing, (printing, ready, front, inr refl, line_joined a_fault.OutOfMemory untold.silent line))
+    left_memory fault has line (at_telling, (telling, ready, puts, front, is)) = told_apart fault has is
+    left_memory fault has line (at_saving, (is, silent, untold)) = (at_saving, (saving fault is, silent, line_joined a_fault.OutOfMemory untold.silent line))
+
+    left_untold : (fault : Fault) → has_line fault ≡ false → IsSilent tail → (stage : Stage) × LeavesAt look out mid (IsUntold mid) stage fault → Left fault
+    left_untold fault none silent (at_first, (is, quiet, untold)) = absurd (true≢false (sym untold.told ∙ none))
+    left_untold fault none silent (at_printing, (printing, ready, front, kind, untold)) = absurd (true≢false (sym untold.told ∙ none))
+    left_untold fault none silent (at_telling, (telling, ready, puts, front, is)) = (at_telling, (telling, ready, puts, front_joined look.Told silent front, is))
+    left_untold fault none silent (at_saving, (is, quiet, untold)) = absurd (true≢false (sym untold.told ∙ none))
+
+    looks_err : (fault answered : Fault) → Left answered → Looks look out joined (Some answered)
+    looks_err fault answered left = record { done = λ none. absurd (cc none); left = left }
+
+    answered_as : (fault : Fault) (answered : Option Fault) → has_line fault ≡ true → IsFaultOrMemory answered fault → IfSome answered (Tells tail)
+        → (stage : Stage) × LeavesAt look out mid (IsUntold mid) stage fault → Looks look out joined answered
+    answered_as fault None has is line left = not_without None fault is refl
+    answered_as fault (Some answered) has (inl same) line left =
+        let is : answered ≡ fault = cc same in
+        subst (λ (f : Fault). Tells tail f → Looks look out joined (Some f)) (sym is) (λ told. looks_err fault fault (left_told fault has told left)) line
+    answered_as fault (Some answered) has (inr none) line left =
+        let is : answered ≡ a_fault.OutOfMemory = cc none in
+        subst (λ (f : Fault). Tells tail f → Looks look out joined (Some f)) (sym is) (λ told. looks_err fault a_fault.OutOfMemory (left_memory fault has told left)) line
+
+    pub looks_by : (done : Result Unit Fault) (code : ℕ) (fault : Option Fault) → Shows look out mid done → EndsAs tail done code fault → Looks look out joined fault
+    looks_by (Ok u) code fault shows ends = subst (λ (f : Option Fault). Looks look out joined f) (sym ends.well.0) (record {
+      done = λ none. record { ready = shows.done.ready; printed = shows.done.printed; told = puts_joined look.Told ends.well.1 shows.done.told };
+      left = tt;
+    })
+    looks_by (Err met) code fault shows ends = elim ends.ill [
+      | inl (has, is, line) ↦ answered_as met fault has is line shows.left
+      | inr (none, is, silent) ↦ subst (λ (f : Option Fault). Looks look out joined f) (sym is) (looks_err met met (left_untold met none silent shows.left))
+    ]
+
+  -- without a fault there was none before the line of one would be told
+  pub from_well : (P : Type 0) (done : Result Unit Fault) (code : ℕ) (fault : Option Fault) → EndsAs tail done code fault → OnOk done P → fault ≡ None → P
+  from_well P (Ok u) code fault ends has none = has
+  from_well P (Err met) code fault ends has none = elim ends.ill [
+    | inl (told, is, line) ↦ not_without fault met is none
+    | inr (other, is, silent) ↦ absurd (cc (is, none))
+  ]
+
+  pub calm_by : (looked : Looked) (out : Sink) (done : Result Unit Fault) (code : ℕ) (fault : Option Fault) → EndsAs tail done code fault → OnOk done (IsCalm looked out mid) → fault ≡ None
+      → IsCalm looked out joined
+  calm_by looked out (Ok u) code fault ends c none =
+      record { tree = c.tree; shelf = c.shelf; regexps = c.regexps; out = c.out; err = ends.well.1.count ∙ count ∙ c.err }
+  calm_by looked out (Err met) code fault ends c none = from_well (IsCalm looked out joined) (Err met) code fault ends tt none

@@ -1,0 +1,101 @@
+-- Where a command meets a fault, and what stands in its streams then; and what every command does that only looks.
+use Rattle.std.specs.Prelude.{ℕ, ◌≡◌, ◌⊎◌, true, false, List, Option, Some, None, Result, IfErr, IfSome, MatchOption, OnOk}
+use Rattle.hg_report.specs.Fault.{has_line}
+use Rattle.hg_report.specs.declared.fault.Fault.{Fault}
+use Rattle.hg_report.specs.declared.fault.Fault.TheVariants as a_fault
+use Rattle.hg_save.specs.Others.{KeepsRecords}
+use Rattle.hg_save.specs.Saved.{IsLatest}
+use Rattle.hg_session.specs.Call.{Call, Count, Looked, Saved, Sink, Watched}
+use Rattle.hg_session.specs.Crash.{IsCrashSafe}
+use Rattle.hg_session.specs.Put.{IsFaultOrMemory, IsSilent, Puts, PutsFront, Tells}
+use Rattle.hg_shelf.specs.History as shelf
+use Rattle.hg_shelf.specs.Images.{Goes, last_scene}
+use Rattle.hg_shelf.specs.Polite.{Undisturbed}
+
+-- where a command meets a fault: before it prints or saves, while it prints, while it tells its lines behind that, while it saves; one that changes the
+-- record saves before it tells its lines
+pub data Stage : Type 0 where
+  at_first : Stage
+  at_printing : Stage
+  at_telling : Stage
+  at_saving : Stage
+
+-- what a command is about: why it meets a fault before it prints or saves, what is so where it met none, the text that it prints, where it prints one,
+-- the lines behind it, where it tells some, and why it meets a fault while it saves
+pub record Look : Type 1 where
+  pub Before : Fault → Type 0
+  pub Ready : Type 0
+  pub Printing : Type 0
+  pub Text : List ℕ → Type 0
+  pub Telling : Type 0
+  pub Told : List ℕ → Type 0
+  pub Saving : Fault → Type 0
+
+-- a fault that printing may meet; for the line of the one there may be no memory
+abbrev pub IsOutFault : Fault → Type 0
+IsOutFault fault = (fault ≡ a_fault.OutFailed) ⊎ (fault ≡ a_fault.OutOfMemory)
+
+-- the table of stages: what a fault means, and what stands in standard output and on the error stream, by the stage at which it was met; Line is
+-- what stands on the error stream where nothing but the line of the fault is told
+abbrev pub LeavesAt : Look → Sink → Sink → (Fault → Type 0) → Stage → Fault → Type 0
+LeavesAt look out err Line at_first fault = look.Before fault × IsSilent out × Line fault
+LeavesAt look out err Line at_printing fault = look.Printing × look.Ready × PutsFront look.Text out × IsOutFault fault × Line fault
+LeavesAt look out err Line at_telling fault = look.Telling × look.Ready × Puts look.Text out × PutsFront look.Told err × (fault ≡ a_fault.ErrFailed)
+LeavesAt look out err Line at_saving fault = look.Saving fault × IsSilent out × Line fault
+
+-- no fault was met: the text was printed, and the lines behind it were told
+pub record IsShown (look : Look) (out err : Sink) : Type 0 where
+  pub ready : look.Ready
+  pub printed : Puts look.Text out
+  pub told : Puts look.Told err
+
+-- the line of a fault isn't told yet
+pub record IsUntold (err : Sink) (fault : Fault) : Type 0 where
+  pub told : has_line fault ≡ true
+  pub silent : IsSilent err
+
+-- what was done before the line of a fault is told
+pub record Shows (look : Look) (out err : Sink) (result : Result Unit Fault) : Type 0 where
+  pub done : OnOk result (IsShown look out err)
+  pub left : IfErr result (λ fault. (stage : Stage) × LeavesAt look out err (IsUntold err) stage fault)
+
+-- how a command ends that only looks, by what it did: the line of a fault is told, where it has one
+pub record EndsAs (err : Sink) (done : Result Unit Fault) (code : ℕ) (fault : Option Fault) : Type 0 where
+  pub well : OnOk done ((fault ≡ None) × IsSilent err)
+  pub ill : IfErr done (λ f. ((has_line f ≡ true) × IsFaultOrMemory fault f × IfSome fault (Tells err)) ⊎ ((has_line f ≡ false) × (fault ≡ Some f) × IsSilent err))
+  pub status : MatchOption fault (code ≡ 0) (λ f. code ≡ 255)
+
+-- a command that ended with this fault, or with none
+pub record Looks (look : Look) (out err : Sink) (fault : Option Fault) : Type 0 where
+  -- without a fault the text was printed, and the lines behind it were told
+  pub done : fault ≡ None → IsShown look out err
+  -- and with one: where it was met, why, and what stands in both streams
+  pub left : IfSome fault (λ f. (stage : Stage) × LeavesAt look out err (Tells err) stage f)
+
+-- ---- what every such command leaves as it was
+
+-- the files below `.hg` are only asked: the caller makes no step, its lock stays, the moments so far stay with what a crash may leave, and no lock
+-- was refused
+pub record OnlyReads (files : Watched shelf.History) (saved : Saved) (locks : Count) : Type 0 where
+  pub passes : shelf.Passes files.old files.new
+  pub kept : Goes saved.old saved.new
+  pub held : locks.after ≡ locks.before
+
+-- no count rose
+pub record IsCalm (looked : Looked) (output errors : Sink) : Type 0 where
+  pub tree : looked.tree.after ≡ looked.tree.before
+  pub shelf : looked.shelf.after ≡ looked.shelf.before
+  pub regexps : looked.oversize.after ≡ looked.oversize.before
+  pub out : output.after ≡ output.before
+  pub err : errors.after ≡ errors.before
+
+-- what a call did whose command doesn't change the record
+pub record IsLook (call : Call) (code : ℕ) (fault : Option Fault) : Type 0 where
+  pub only : OnlyReads call.looked.shelf call.saved call.locks
+  -- and a crash leaves nothing that the call published
+  pub crash : Undisturbed call.saved.old call.saved.new → KeepsRecords shelf.others call.saved.new call.saved.old.history.last → IsLatest (last_scene call.saved.old)
+      → IsCrashSafe None call.saved
+  -- where a device failed, or a regexp was too big, there is a fault
+  pub calm : fault ≡ None → IsCalm call.looked call.out call.err
+  -- the status is 0 without a fault, and 255 with one
+  pub status : MatchOption fault (code ≡ 0) (λ f. code ≡ 255)
