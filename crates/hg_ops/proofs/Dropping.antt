@@ -6,13 +6,13 @@ use Rattle.std.specs.Str.{bytes_eq}
 use Rattle.std.proofs.lemmas.Bool.{cases_Bool, and_parts, and_from, both_ways, not-true, or_left, or_right}
 use Rattle.std.proofs.lemmas.List.{take_all}
 use Rattle.hg_base.proofs.Within.{equal_bytes, same_bytes, within_itself, within_trans}
-use Rattle.hg_base.specs.Within.{is_within}
+use Rattle.hg_base.specs.Within.{is_above, is_within}
 use Rattle.hg_entry.specs.Entry.{EntryData, StampData}
 use Rattle.hg_entry.specs.Table.{Table}
 use Rattle.hg_mixed.specs.Drop.{IsPruned, after_clear}
-use Rattle.hg_mixed.specs.Held.{Held, table}
+use Rattle.hg_mixed.specs.Held.{Held, is_lent, source_at, table, text_at}
 use Rattle.hg_ops.proofs.Collecting.{or_cases}
-use Rattle.hg_ops.proofs.Setting.{among_next}
+use Rattle.hg_ops.proofs.Setting.{among_next, lent_off, lent_on}
 use Rattle.hg_ops.specs.Dropping.{AreDropping, Drops, DropsOne, GoesWith, LeadsTo}
 use Rattle.hg_ops.specs.Setting.{Wanted, is_among, is_among_first}
 
@@ -180,8 +180,32 @@ module _ (want : Wanted) (old now new : Held) (done : List ℕ → Bool) (are : 
     nodes = λ at. p.nodes at ∙ ap (λ (b : Bool). b && not (p.gone at)) (are.nodes at) ∙ node_twice (base.nodes at) (are.gone at) (p.gone at);
     caches = λ at. p.caches at ∙ ap (cond (p.gone at || p.stale at) None) (are.caches at) ∙ cache_twice (are.gone at) (are.stale at) (p.gone at) (p.stale at) (base.caches at);
     marks = inr (drops.changed, (path, here));
+    lends = record {
+      kept = λ dir apart.
+          drops.lent dir
+          ∙ lent_on (is_lent now dir) (is_above dir path) (apart path here)
+          ∙ are.lends.kept dir (λ at lost. apart at (or_left (are.lost at) (bytes_eq path at) lost));
+      ended = λ dir at is above. elim (or_cases (are.lost at) (bytes_eq path at) is) [
+        | inl before ↦ drops.lent dir ∙ ap (λ (b : Bool). b && not (is_above dir path)) (are.lends.ended dir at before above)
+        | inr own ↦ drops.lent dir ∙ lent_off (is_lent now dir) (is_above dir path) (ap (is_above dir) (same_bytes path at own) ∙ above)
+      ];
+      over = λ dir off. drops.lent dir ∙ ap (λ (b : Bool). b && not (is_above dir path)) (are.lends.over dir off);
+      texts = λ at node.
+          drops.places.texts at
+          ∙ ap (λ (b : Bool). cond b (text_at now at) None) node
+          ∙ are.lends.texts at (and_parts ((table now).nodes at) (not (p.gone at)) (sym (p.nodes at) ∙ node)).0;
+      texts_gone = λ at is. drops.places.texts at ∙ ap (λ (b : Bool). cond b (text_at now at) None) (p.nodes at ∙ no_node (are.gone at) (p.gone at) ((table now).nodes at) (base.nodes at) (are.nodes at) is);
+      sources = λ at. drops.places.sources at ∙ twice (are.lost at) (bytes_eq path at) (source_at now at) (source_at old at) (are.lends.sources at);
+    };
   }
     where
+      no_node : (before now node first : Bool) → node ≡ (first && not before) → (before || now) ≡ true → (node && not now) ≡ false
+      no_node true now node true is h = ap (λ (b : Bool). b && not now) is
+      no_node true now node false is h = ap (λ (b : Bool). b && not now) is
+      no_node false true true first is h = refl
+      no_node false true false first is h = refl
+      no_node false false node first is h = absurd (true≢false (sym h))
+
       had : is_some (base.entries path) ≡ true
       had = elim (cases_Bool (are.lost path)) [
         | inl lost ↦ (are.unwanted path lost).0
@@ -250,6 +274,7 @@ module _ (want : Wanted) (old now new : Held) (done more_done : List ℕ → Boo
     nodes = are.nodes;
     caches = are.caches;
     marks = are.marks;
+    lends = are.lends;
   }
     where
       own_lost : is_some base_entry ≡ true → want path base_entry ≡ None → are.lost path ≡ true
@@ -292,6 +317,14 @@ drop_first want old = record {
   nodes = λ at. all_stay ((table old).nodes at);
   caches = λ at. refl;
   marks = inl (λ at. refl, refl);
+  lends = record {
+    kept = λ dir apart. refl;
+    ended = λ dir at h above. absurd (true≢false (sym h));
+    over = λ dir h. h;
+    texts = λ at node. refl;
+    texts_gone = λ at h. absurd (true≢false (sym h));
+    sources = λ at. refl;
+  };
 }
   where
     all_stay : (b : Bool) → b ≡ (b && not false)
@@ -318,6 +351,7 @@ drop_fewer want old now done fewer goes are = record {
   nodes = are.nodes;
   caches = are.caches;
   marks = are.marks;
+  lends = are.lends;
 }
 
 pub drop_none : (want : Wanted) (old : Held) (paths : List (List ℕ)) → AreDropping want old old (is_among_first 0 paths)

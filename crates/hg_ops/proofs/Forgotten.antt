@@ -55,10 +55,10 @@ source_gone path old mid new copied (Err fault) h = inr (record {
   caches = λ at. h.table.caches at ∙ copied.caches at;
 })
 
-there : {X : Type 0} (path : List ℕ) (value other : X) → cond (bytes_eq path path) value other ≡ value
+pub there : {X : Type 0} (path : List ℕ) (value other : X) → cond (bytes_eq path path) value other ≡ value
 there path value other = subst (λ (b : Bool). cond b value other ≡ value) (sym (equal_bytes path)) refl
 
-apart : (was left : EntryData) → was.w ≡ true → left.w ≡ false → Some left ≡ Some was → ⊥
+pub apart : (was left : EntryData) → was.w ≡ true → left.w ≡ false → Some left ≡ Some was → ⊥
 apart was left tracked untracked same = absurd (true≢false (sym tracked ∙ sym (ap w_of same) ∙ untracked))
   where
     w_of : Option EntryData → Bool

@@ -5,18 +5,18 @@ use Rattle.std.specs.Map.{keys_of, lookup}
 use Rattle.std.specs.Str.{bytes_eq}
 use Rattle.std.proofs.lemmas.Bool.{cases_Bool, and_parts, both_ways, false_from_ne_true, or_left, or_right}
 use Rattle.hg_base.proofs.Within.{within_split, within_trans}
-use Rattle.hg_base.specs.Within.{is_within}
+use Rattle.hg_base.specs.Within.{is_above, is_within}
 use Rattle.hg_entry.specs.Entry.{EntryData, StampData}
 use Rattle.hg_entry.specs.Table.{Table}
 use Rattle.hg_manifest.specs.Plain.{is_null}
 use Rattle.hg_manifest.specs.Rows.{Rows}
 use Rattle.hg_manifest.specs.declared.row.FileRow.{FileRow}
 use Rattle.hg_mixed.specs.Clash.{is_tracked_entry}
-use Rattle.hg_mixed.specs.Edits.{IsFormed, IsSame, Marks, after_ids}
-use Rattle.hg_mixed.specs.Held.{Held, table}
+use Rattle.hg_mixed.specs.Edits.{ArePlacedAsBefore, IsFormed, IsSame, Marks, after_ids}
+use Rattle.hg_mixed.specs.Held.{Held, is_lent, source_at, table}
 use Rattle.hg_ops.proofs.Setting.{wanted_again, wanted_now}
 use Rattle.hg_ops.specs.Dropping.{AreDropping, LeadsTo}
-use Rattle.hg_ops.specs.Parents.{HasParents, IsEmptied, LostWithin, entry_by, is_other_file, row_at}
+use Rattle.hg_ops.specs.Parents.{HasParents, IsEmptied, LendsParents, LostWithin, PlacesParents, entry_by, is_other_file, row_at}
 use Rattle.hg_ops.specs.Setting.{AreAll, AreSetting, IsWantedAsIs, Wanted, is_among}
 
 -- ---- what is done
@@ -324,3 +324,46 @@ module _ (merged : Bool) (m1 m2 : Rows) where
               | inl untouched ↦ ids.marked (λ same. other (then_same (table new) (table mid) (table old) same (then_same (table mid) (table base) (table old) (mid_same none.0) untouched.0)))
             ]
           ]
+
+      -- ---- lists and texts
+
+      pub has_lends : ((dir : Option (List ℕ)) → is_lent new dir ≡ is_lent mid dir) → LendsParents old new
+      has_lends lent = record {
+        kept = λ dir same.
+            lent dir
+            ∙ drops.lends.kept dir (λ at lost. false_from_ne_true (is_above dir at) (λ above. absurd (true≢false (sym (old_of_lost at lost) ∙ ap is_some (sym (same at above).0 ∙ made.entries at ∙ lost_entry at lost)))))
+            ∙ sets.lends.kept dir (λ at above. (sym (entries at) ∙ sym (made.entries at) ∙ (same at above).0, sym (same at above).1 ∙ has_parents.sources at));
+        ended = λ dir at above differs.
+            lent dir
+            ∙ elim (cases_Bool (drops.lost at)) [
+              | inl lost ↦ drops.lends.ended dir at lost above
+              | inr kept ↦ drops.lends.over dir (sets.lends.ended dir at above (λ e f. differs (made.entries at ∙ kept_entry at kept ∙ e) (made.sources at ∙ kept_source at kept ∙ f)))
+            ];
+      }
+        where
+          kept_source : (at : List ℕ) → drops.lost at ≡ false → (table mid).sources at ≡ (table base).sources at
+          kept_source at kept = drops.sources at ∙ ap (λ (b : Bool). cond b None ((table base).sources at)) kept
+
+      pub has_places : ArePlacedAsBefore mid new → PlacesParents old new
+      unfolding has_parents
+      has_places places = record {
+        texts = λ at node. places.texts at ∙ drops.lends.texts at (sym (made.nodes at) ∙ node) ∙ sets.lends.texts at;
+        texts_gone = λ at had none. places.texts at ∙ drops.lends.texts_gone at (went (drops.gone at) (sym (has_parents.nodes_left at had) ∙ none));
+        sources = λ at none stays.
+            places.sources at ∙ drops.lends.sources at
+            ∙ ap (λ (b : Bool). cond b None (source_at base at)) (false_from_ne_true (drops.lost at) (λ lost. absurd (true≢false (sym (old_of_lost at lost) ∙ ap is_some (stays (made.entries at ∙ lost_entry at lost))))))
+            ∙ sets.lends.source_kept at none;
+        sources_lost = λ at had. places.sources at ∙ drops.lends.sources at ∙ elim (cases_Bool (drops.lost at)) [
+          | inl lost ↦ ap (λ (b : Bool). cond b None (source_at base at)) lost
+          | inr kept ↦
+              ap (λ (b : Bool). cond b None (source_at base at)) kept
+              ∙ sets.lends.source_lost at (λ e. had (sym e ∙ sym (drops.sources at ∙ ap (λ (b : Bool). cond b None ((table base).sources at)) kept) ∙ sym (made.sources at) ∙ has_parents.sources at))
+        ];
+        sources_gone = λ at some none.
+            places.sources at ∙ drops.lends.sources at
+            ∙ ap (λ (b : Bool). cond b None (source_at base at)) (lost_of at some (sym (made.entries at) ∙ none));
+      }
+        where
+          went : (b : Bool) → not b ≡ false → b ≡ true
+          went true h = refl
+          went false h = absurd (true≢false h)

@@ -1,5 +1,5 @@
 -- What the parents want is set, path by path.
-use Rattle.std.proofs.Common.{ℕ, ◌+◌, ◌≡◌, ◌<◌, ◌≤◌, Bool, true, false, cond, ◌&&◌, ◌||◌, ◌⊎◌, inl, inr, List, [], ◌∷◌, ◌++◌, length, take, get_or, option_map, Option, Some, None, refl, sym, ap, ◌∙◌, subst, true≢false}
+use Rattle.std.proofs.Common.{ℕ, not, ◌&&◌, ◌+◌, ◌≡◌, ◌<◌, ◌≤◌, Bool, true, false, cond, ◌&&◌, ◌||◌, ◌⊎◌, inl, inr, List, [], ◌∷◌, ◌++◌, length, take, get_or, option_map, Option, Some, None, refl, sym, ap, ◌∙◌, subst, true≢false}
 use Rattle.std.specs.Prelude.{is_some, slice_get}
 use Rattle.std.specs.List.{list_any}
 use Rattle.std.specs.Str.{bytes_eq}
@@ -9,12 +9,12 @@ use Rattle.std.proofs.lemmas.List.Folds.{list_any-append}
 use Rattle.std.proofs.lemmas.Option.{get_or_from_slice_get, slice_get-get_or, slice_get-map, slice_get_within}
 use Rattle.std.specs.Map.{keys_of}
 use Rattle.hg_base.proofs.Within.{equal_bytes, same_bytes}
-use Rattle.hg_base.specs.Within.{is_within}
+use Rattle.hg_base.specs.Within.{is_above, is_within}
 use Rattle.hg_entry.specs.Entry.{EntryData}
 use Rattle.hg_manifest.specs.Rows.{Rows}
 use Rattle.hg_mixed.specs.Clash.{is_tracked_entry}
 use Rattle.hg_mixed.specs.Edits.{ArePlacedAsBefore, IsOfSameImage, IsSame, Lends, Marks, after_set}
-use Rattle.hg_mixed.specs.Held.{Held, table}
+use Rattle.hg_mixed.specs.Held.{Held, is_lent, source_at, table}
 use Rattle.hg_ops.proofs.Added.{same_table}
 use Rattle.hg_ops.proofs.Collecting.{or_cases}
 use Rattle.hg_ops.specs.Parents.{entry_by, entry_of_parents, fallback_in, is_other_file, row_at}
@@ -28,6 +28,14 @@ there path value other = subst (λ (b : Bool). cond b value other ≡ value) (sy
 
 elsewhere : {X : Type 0} (path at : List ℕ) (value other : X) → bytes_eq path at ≡ false → cond (bytes_eq path at) value other ≡ other
 elsewhere path at value other h = subst (λ (b : Bool). cond b value other ≡ other) (sym h) refl
+
+pub lent_on : (lent above : Bool) → above ≡ false → (lent && not above) ≡ lent
+lent_on true above h = ap not h
+lent_on false above h = refl
+
+pub lent_off : (lent above : Bool) → above ≡ true → (lent && not above) ≡ false
+lent_off true above h = ap not h
+lent_off false above h = refl
 
 no_some : {X : Type 0} (x : X) → None ≡ Some x → ⊥
 no_some x h = absurd (cc h)
@@ -62,6 +70,13 @@ setting_first want old = record {
   kept = λ at h. h;
   made = λ at h. inl h;
   marks = inl (same_table (table old), refl);
+  lends = record {
+    kept = λ dir as_is. refl;
+    ended = λ dir at above other. absurd (other refl refl);
+    texts = λ at. refl;
+    source_kept = λ at none. refl;
+    source_lost = λ at other. absurd (other refl);
+  };
 }
 
 -- fewer paths are said to be done
@@ -77,6 +92,7 @@ setting_fewer want old now done fewer goes are = record {
   kept = are.kept;
   made = are.made;
   marks = are.marks;
+  lends = are.lends;
 }
 
 module _ (want : Wanted) (old : Held) where
@@ -116,15 +132,30 @@ module _ (want : Wanted) (old : Held) where
       ]
       | inr within ↦ inr (path, some_is ((table new).entries path) entry now_entry, within)
     ];
-    marks = inr (
-      other.changed,
-      λ as_is. elim (are.entries path) [
-        | inl left ↦ other.differs (left.0 ∙ sym (as_is path).0 ∙ goal)
-        | inr set ↦ other.differs (set.0 ∙ goal)
-      ],
-    );
+    marks = inr (other.changed, λ as_is. touched (as_is path).0);
+    lends = record {
+      kept = λ dir as_is. elim (cases_Bool (is_above dir path)) [
+        | inl above ↦ absurd (touched (as_is path above).0)
+        | inr apart ↦ other.lent dir ∙ lent_on (is_lent now dir) (is_above dir path) apart ∙ are.lends.kept dir as_is
+      ];
+      ended = λ dir at above differs. elim (cases_Bool (bytes_eq path at)) [
+        | inl here ↦ other.lent dir ∙ lent_off (is_lent now dir) (is_above dir path) (ap (is_above dir) (same_bytes path at here) ∙ above)
+        | inr apart ↦
+            other.lent dir
+            ∙ ap (λ (b : Bool). b && not (is_above dir path)) (are.lends.ended dir at above (λ e f. differs (entry_at at apart ∙ e) (other.made.sources at ∙ f)))
+      ];
+      texts = λ at. other.places.texts at ∙ are.lends.texts at;
+      source_kept = λ at none. other.places.sources at ∙ are.lends.source_kept at none;
+      source_lost = λ at differs. other.places.sources at ∙ are.lends.source_lost at (λ e. differs (other.made.sources at ∙ e));
+    };
   }
     where
+      touched : Goal path ≡ (table old).entries path → ⊥
+      touched as_is = elim (are.entries path) [
+        | inl left ↦ other.differs (left.0 ∙ sym as_is ∙ goal)
+        | inr set ↦ other.differs (set.0 ∙ goal)
+      ]
+
       now_entry : (table new).entries path ≡ Some entry
       now_entry = other.made.entries path ∙ there path (Some entry) ((table now).entries path)
 
@@ -155,13 +186,13 @@ module _ (want : Wanted) (old : Held) where
       | inl here ↦
           let same : path ≡ at = same_bytes path at here in
           inr (ap (table new).sources (sym same) ∙ gone, ap (λ (p : List ℕ). is_some (Goal p)) (sym same) ∙ some_is (Goal path) entry goal)
-      | inr apart ↦ elim (are.sources at) [ inl left ↦ inl (source_at at apart ∙ left) | inr none ↦ inr (source_at at apart ∙ none.0, none.1) ]
+      | inr apart ↦ elim (are.sources at) [ inl left ↦ inl (other_source at apart ∙ left) | inr none ↦ inr (other_source at apart ∙ none.0, none.1) ]
     ];
     settled = λ at is some. let s = are.settled at is some in (
       loses.made.entries at ∙ s.0,
       elim (cases_Bool (bytes_eq path at)) [
         | inl here ↦ ap (table new).sources (sym (same_bytes path at here)) ∙ gone
-        | inr apart ↦ source_at at apart ∙ s.1
+        | inr apart ↦ other_source at apart ∙ s.1
       ],
     );
     kept = λ at is. loses.made.nodes at ∙ are.kept at is;
@@ -169,20 +200,43 @@ module _ (want : Wanted) (old : Held) where
       | inl first ↦ inl first
       | inr more ↦ inr (more.0, ap is_some (loses.made.entries more.0) ∙ more.1, more.2)
     ];
-    marks = inr (
-      loses.changed,
-      λ as_is. elim (are.sources path) [
-        | inl left ↦ loses.differs (left ∙ (as_is path).1)
-        | inr none ↦ loses.differs none.0
-      ],
-    );
+    marks = inr (loses.changed, λ as_is. touched (as_is path).1);
+    lends = record {
+      kept = λ dir as_is. elim (cases_Bool (is_above dir path)) [
+        | inl above ↦ absurd (touched (as_is path above).1)
+        | inr apart ↦ loses.lent dir ∙ lent_on (is_lent now dir) (is_above dir path) apart ∙ are.lends.kept dir as_is
+      ];
+      ended = λ dir at above differs. elim (cases_Bool (bytes_eq path at)) [
+        | inl here ↦ loses.lent dir ∙ lent_off (is_lent now dir) (is_above dir path) (ap (is_above dir) (same_bytes path at here) ∙ above)
+        | inr apart ↦
+            loses.lent dir
+            ∙ ap (λ (b : Bool). b && not (is_above dir path)) (are.lends.ended dir at above (λ e f. differs (loses.made.entries at ∙ e) (other_source at apart ∙ f)))
+      ];
+      texts = λ at. loses.texts at ∙ are.lends.texts at;
+      source_kept = λ at none. loses.places at ∙ place_kept at none (cases_Bool (bytes_eq path at));
+      source_lost = λ at differs. loses.places at ∙ place_lost at differs (cases_Bool (bytes_eq path at));
+    };
   }
     where
       gone : (table new).sources path ≡ None
       gone = loses.made.sources path ∙ there path None ((table now).sources path)
 
-      source_at : (at : List ℕ) → bytes_eq path at ≡ false → (table new).sources at ≡ (table now).sources at
-      source_at at apart = loses.made.sources at ∙ elsewhere path at None ((table now).sources at) apart
+      touched : (table old).sources path ≡ None → ⊥
+      touched as_is = elim (are.sources path) [ inl left ↦ loses.differs (left ∙ as_is) | inr none ↦ loses.differs none.0 ]
+
+      place_kept : (at : List ℕ) → (table old).sources at ≡ None → (bytes_eq path at ≡ true) ⊎ (bytes_eq path at ≡ false)
+          → cond (bytes_eq path at) None (source_at now at) ≡ source_at old at
+      place_kept at none (inl here) = absurd (touched (ap (table old).sources (same_bytes path at here) ∙ none))
+      place_kept at none (inr apart) = elsewhere path at None (source_at now at) apart ∙ are.lends.source_kept at none
+
+      place_lost : (at : List ℕ) → ((table new).sources at ≡ (table old).sources at → ⊥) → (bytes_eq path at ≡ true) ⊎ (bytes_eq path at ≡ false)
+          → cond (bytes_eq path at) None (source_at now at) ≡ None
+      place_lost at differs (inl here) = ap (λ (b : Bool). cond b None (source_at now at)) here
+      place_lost at differs (inr apart) =
+          elsewhere path at None (source_at now at) apart ∙ are.lends.source_lost at (λ e. differs (loses.made.sources at ∙ elsewhere path at None ((table now).sources at) apart ∙ e))
+
+      other_source : (at : List ℕ) → bytes_eq path at ≡ false → (table new).sources at ≡ (table now).sources at
+      other_source at apart = loses.made.sources at ∙ elsewhere path at None ((table now).sources at) apart
 
   -- one path more is done
   with_done : (path : List ℕ) (now : Held) (done : List ℕ → Bool) → IsSettled want (table old) (table now) path → AreSetting want old now done
@@ -200,6 +254,7 @@ module _ (want : Wanted) (old : Held) where
     kept = are.kept;
     made = are.made;
     marks = are.marks;
+    lends = are.lends;
   }
 
   both_set : (path : List ℕ) (entry : EntryData) (now mid new : Held) (done : List ℕ → Bool) → AreSetting want old now done → Goal path ≡ Some entry

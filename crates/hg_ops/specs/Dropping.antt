@@ -1,12 +1,12 @@
 -- What goes where several entries are dropped, one after the other.
 use Rattle.std.specs.Prelude.{ℕ, ◌≡◌, Bool, true, false, not, ◌&&◌, ◌||◌, ◌⊎◌, if◌then◌else◌, List, Option, Some, None, is_some}
 use Rattle.hg_base.specs.PathText.{parent_of}
-use Rattle.hg_base.specs.Within.{is_within}
+use Rattle.hg_base.specs.Within.{is_above, is_within}
 use Rattle.hg_entry.specs.Entry.{EntryData}
 use Rattle.hg_entry.specs.Table.{Table}
 use Rattle.hg_mixed.specs.Drop.{IsPruned, PlacesDrop, after_clear}
 use Rattle.hg_mixed.specs.Edits.{EndsAbove}
-use Rattle.hg_mixed.specs.Held.{Held, table}
+use Rattle.hg_mixed.specs.Held.{Held, is_lent, source_at, table, text_at}
 use Rattle.hg_ops.specs.Setting.{Wanted}
 
 -- a path lost its entry
@@ -31,6 +31,15 @@ pub record GoesWith (lost : List ℕ → Bool) (t : Table) (at : List ℕ) : Typ
   pub way : LeadsTo lost at
   pub alone : (other : List ℕ) → is_within at other ≡ true → t.nodes other ≡ true → LeadsTo lost other × ((lost other ≡ true) ⊎ (t.entries other ≡ None))
 
+-- which lists and texts are lent still: no list of a directory above what is lost, and no text of a node that is gone or of a source that is lost
+pub record IsLendingLess (lost gone : List ℕ → Bool) (old now : Held) : Type 0 where
+  pub kept : (dir : Option (List ℕ)) → ((at : List ℕ) → lost at ≡ true → is_above dir at ≡ false) → is_lent now dir ≡ is_lent old dir
+  pub ended : (dir : Option (List ℕ)) (at : List ℕ) → lost at ≡ true → is_above dir at ≡ true → is_lent now dir ≡ false
+  pub over : (dir : Option (List ℕ)) → is_lent old dir ≡ false → is_lent now dir ≡ false
+  pub texts : (at : List ℕ) → (table now).nodes at ≡ true → text_at now at ≡ text_at old at
+  pub texts_gone : (at : List ℕ) → gone at ≡ true → text_at now at ≡ None
+  pub sources : (at : List ℕ) → source_at now at ≡ (if lost at then None else source_at old at)
+
 -- of some paths those were dropped whose entry isn't wanted, with what goes with them
 pub record AreDropping (want : Wanted) (old now : Held) (done : List ℕ → Bool) : Type 0 where
   pub lost : List ℕ → Bool
@@ -50,3 +59,4 @@ pub record AreDropping (want : Wanted) (old now : Held) (done : List ℕ → Boo
   pub nodes : (at : List ℕ) → (table now).nodes at ≡ ((table old).nodes at && not (gone at))
   pub caches : (at : List ℕ) → (table now).caches at ≡ (if gone at || stale at then None else (table old).caches at)
   pub marks : (((at : List ℕ) → lost at ≡ false) × (now.changed ≡ old.changed)) ⊎ ((now.changed ≡ true) × ((path : List ℕ) × (lost path ≡ true)))
+  pub lends : IsLendingLess lost gone old now

@@ -5,3 +5,4 @@ pub mod Look
 pub mod Parents
 pub mod Setting
 pub mod Step
+pub mod Untracked

@@ -3,13 +3,14 @@ use Rattle.std.specs.Prelude.{ℕ, ◌≡◌, Bool, true, false, not, ◌&&◌, 
 use Rattle.std.specs.Map.{lookup}
 use Rattle.std.specs.Str.{bytes_eq}
 use Rattle.hg_base.specs.PathText.{parent_of}
-use Rattle.hg_base.specs.Within.{is_within}
+use Rattle.hg_base.specs.Within.{is_above, is_within}
 use Rattle.hg_entry.specs.Entry.{EntryData}
 use Rattle.hg_entry.specs.Table.{Table}
 use Rattle.hg_manifest.specs.Plain.{is_null}
 use Rattle.hg_manifest.specs.Rows.{Rows}
 use Rattle.hg_manifest.specs.declared.row.FileRow.{FileRow}
 use Rattle.hg_mixed.specs.Clash.{is_tracked_entry}
+use Rattle.hg_mixed.specs.Held.{Held, is_lent, source_at, table, text_at}
 
 -- what a manifest says of a path
 abbrev pub row_at : Rows → List ℕ → Option FileRow
@@ -90,3 +91,20 @@ pub record HasParents (p1 p2 : List ℕ) (m1 m2 : Rows) (old new : Table) : Type
   pub nodes_made : (at : List ℕ) → new.nodes at ≡ true → (old.nodes at ≡ true) ⊎ ((path : List ℕ) × (is_some (new.entries path) ≡ true) × (is_within at path ≡ true))
   pub nodes_held : (at path : List ℕ) → is_some (new.entries path) ≡ true → is_within at path ≡ true → new.nodes at ≡ true
   pub caches : (at : List ℕ) → new.caches at ≡ (if gone at || stale at || is_some (new.entries at) then None else old.caches at)
+
+-- which lists are lent still: none of a directory above a path whose entry or source is another, and all others
+pub record LendsParents (old new : Held) : Type 0 where
+  pub kept : (dir : Option (List ℕ))
+      → ((at : List ℕ) → is_above dir at ≡ true → ((table new).entries at ≡ (table old).entries at) × ((table new).sources at ≡ (table old).sources at))
+      → is_lent new dir ≡ is_lent old dir
+  pub ended : (dir : Option (List ℕ)) (at : List ℕ) → is_above dir at ≡ true
+      → ((table new).entries at ≡ (table old).entries at → (table new).sources at ≡ (table old).sources at → ⊥)
+      → is_lent new dir ≡ false
+
+-- the texts that are lent are where they were, but for those of nodes that are gone and of sources that are lost
+pub record PlacesParents (old new : Held) : Type 0 where
+  pub texts : (at : List ℕ) → (table new).nodes at ≡ true → text_at new at ≡ text_at old at
+  pub texts_gone : (at : List ℕ) → (table old).nodes at ≡ true → (table new).nodes at ≡ false → text_at new at ≡ None
+  pub sources : (at : List ℕ) → (table old).sources at ≡ None → ((table new).entries at ≡ None → (table old).entries at ≡ None) → source_at new at ≡ source_at old at
+  pub sources_lost : (at : List ℕ) → ((table old).sources at ≡ None → ⊥) → source_at new at ≡ None
+  pub sources_gone : (at : List ℕ) → is_some ((table old).entries at) ≡ true → (table new).entries at ≡ None → source_at new at ≡ None

@@ -1,13 +1,13 @@
 -- The course of new parents, path by path: all that stays is set first, and then the rest is dropped.
-use Rattle.std.specs.Prelude.{ℕ, ◌≡◌, Bool, true, ◌⊎◌, List, take, Option, Some, None, is_some}
+use Rattle.std.specs.Prelude.{ℕ, false, ◌≡◌, Bool, true, ◌⊎◌, List, take, Option, Some, None, is_some}
 use Rattle.std.specs.List.{list_any}
 use Rattle.std.specs.Map.{update}
 use Rattle.std.specs.Str.{bytes_eq}
-use Rattle.hg_base.specs.Within.{is_within}
+use Rattle.hg_base.specs.Within.{is_above, is_within}
 use Rattle.hg_entry.specs.Entry.{EntryData}
 use Rattle.hg_entry.specs.Table.{Table}
 use Rattle.hg_mixed.specs.Edits.{ArePlacedAsBefore, EndsAbove, IsSame, after_copy, after_set}
-use Rattle.hg_mixed.specs.Held.{Held, source_at, table, text_at}
+use Rattle.hg_mixed.specs.Held.{Held, is_lent, source_at, table, text_at}
 
 -- a path is among some
 abbrev pub is_among : List (List ℕ) → List ℕ → Bool
@@ -73,6 +73,18 @@ IsWantedAsIs want old = (at : List ℕ) → (want at (old.entries at) ≡ old.en
 abbrev pub MarksSetting : Wanted → Held → Held → Type 0
 MarksSetting want old now = (IsSame (table now) (table old) × (now.changed ≡ old.changed)) ⊎ ((now.changed ≡ true) × (IsWantedAsIs want (table old) → ⊥))
 
+-- which lists and texts are lent still, so far: no list of a directory above a path that was touched, and all others
+pub record IsLending (want : Wanted) (old now : Held) : Type 0 where
+  pub kept : (dir : Option (List ℕ))
+      → ((at : List ℕ) → is_above dir at ≡ true → (want at ((table old).entries at) ≡ (table old).entries at) × ((table old).sources at ≡ None))
+      → is_lent now dir ≡ is_lent old dir
+  pub ended : (dir : Option (List ℕ)) (at : List ℕ) → is_above dir at ≡ true
+      → ((table now).entries at ≡ (table old).entries at → (table now).sources at ≡ (table old).sources at → ⊥)
+      → is_lent now dir ≡ false
+  pub texts : (at : List ℕ) → text_at now at ≡ text_at old at
+  pub source_kept : (at : List ℕ) → (table old).sources at ≡ None → source_at now at ≡ source_at old at
+  pub source_lost : (at : List ℕ) → ((table now).sources at ≡ (table old).sources at → ⊥) → source_at now at ≡ None
+
 -- some paths that stay are as they are wanted, and each other is so or as it was
 pub record AreSetting (want : Wanted) (old now : Held) (done : List ℕ → Bool) : Type 0 where
   pub p1 : (table now).p1 ≡ (table old).p1
@@ -85,3 +97,4 @@ pub record AreSetting (want : Wanted) (old now : Held) (done : List ℕ → Bool
   pub made : (at : List ℕ) → (table now).nodes at ≡ true
       → ((table old).nodes at ≡ true) ⊎ ((path : List ℕ) × (is_some ((table now).entries path) ≡ true) × (is_within at path ≡ true))
   pub marks : MarksSetting want old now
+  pub lends : IsLending want old now

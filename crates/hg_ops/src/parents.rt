@@ -6,7 +6,7 @@ ghost use Rattle.hg_entry.specs.Entry.{view};
 ghost use Rattle.hg_manifest.specs.Plain.{is_null};
 ghost use Rattle.hg_mixed.specs.Edits.{IsFormed, IsOfSameImage, IsSame, Marks};
 ghost use Rattle.hg_mixed.specs.Held.{Held, table};
-ghost use Rattle.hg_ops.specs.Parents.{HasParents, entry_by};
+ghost use Rattle.hg_ops.specs.Parents.{HasParents, LendsParents, PlacesParents, entry_by};
 ghost use Rattle.hg_ops.specs.Dropping.{AreDropping, Drops};
 ghost use Rattle.hg_ops.specs.Setting.{AreSetting, ClearsSource, SetsTo, Settles, is_among};
 
@@ -184,6 +184,8 @@ pub fn set_parents(
 ) -> Result<(), OutOfMemory>
     ensures parents { OnOk result (HasParents p1.0 p2.0 m1.now m2.now (table mixed.old) (table mixed.new)) }
     ensures changed { OnOk result (Marks (IsSame (table mixed.new) (table mixed.old)) mixed.old.changed mixed.new.changed) }
+    ensures lent { OnOk result (LendsParents mixed.old mixed.new) }
+    ensures places { OnOk result (PlacesParents mixed.old mixed.new) }
     ensures image { IsOfSameImage mixed.old mixed.new }
 {
     let merged = !is_null(&p2);
