@@ -1,6 +1,7 @@
 -- What a command that changes the record answers and leaves, and why.
 use Rattle.std.specs.Prelude.{ℕ, ◌≡◌, ◌⊎◌, ◌≤◌, ◌<◌, ◌^◌, Bool, true, false, List, [], Option, Some, None, Result, Ok, Err, IsTrue, is_some}
 use Rattle.hg_append.specs.Encoded.{IsTooLarge}
+use Rattle.hg_append.specs.Encoded as anew
 use Rattle.hg_append.specs.Layout.{size_of}
 use Rattle.hg_append.specs.Tree.{IsTreeOf, Tree}
 use Rattle.hg_append.specs.declared.encoding.Encoded.{Encoded}
@@ -115,6 +116,10 @@ pub record IsWritten (found : Table) (before : shelf.Files) (behind : Scene) : T
   pub new : Encoded
   pub over : IsOver (docket_in before) new
   pub reads : reading_of new.docket.items new.bytes.items ≡ Ok found
+  -- they are the encoding of a table in memory that is the same
+  pub held : Held
+  pub same : IsSame (table held) found
+  pub encoded : anew.IsWritten held new
   pub shown : IsExact new before behind.files
   pub left : (f : shelf.Files) → behind.leaves f → IsExact new before f
 
