@@ -1,4 +1,4 @@
-pub mod Acting
+pub mod Calls
 pub mod After
 pub mod Children
 pub mod DueTurns
@@ -17,3 +17,4 @@ pub mod Stillness
 pub mod Telling
 pub mod Times
 pub mod Toward
+pub mod Touching

@@ -20,6 +20,7 @@
 //! `Stillness`, and of faces and times `Faces` and `Telling`.
 #![tactic(auto)]
 
+mod acting;
 mod asked;
 mod coming;
 mod device;
@@ -31,6 +32,7 @@ mod name;
 mod own;
 mod thing;
 mod things;
+mod touched;
 
 pub use asked::{Asked, Change, Due, Outside, Own};
 pub use device::Tree;
@@ -39,3 +41,4 @@ pub use honest::{faces_are_listed, faces_stay, faces_tell, honest_past, stays_pa
 pub use memory::MemTree;
 pub use name::Name;
 pub use thing::{Placed, Thing};
+pub use touched::steps_touch;

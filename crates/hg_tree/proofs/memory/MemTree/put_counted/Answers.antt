@@ -1,5 +1,5 @@
 -- The caller's own change stands behind what was due.
-use Rattle.hg_tree.proofs.Acting.{called_passes, put_acts}
+use Rattle.hg_tree.proofs.Calls.{called_passes, put_acts}
 use Rattle.hg_tree.proofs.memory.MemTree.put_counted.Goals as goal
 
 pub returns-then-not-can_put-clause-done : goal.returns-then-not-can_put-clause-done

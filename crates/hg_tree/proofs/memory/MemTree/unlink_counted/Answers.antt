@@ -1,6 +1,6 @@
 -- The caller's own change stands behind what was due.
 use Rattle.std.proofs.Common.{sym, ◌∙◌}
-use Rattle.hg_tree.proofs.Acting.{called_passes, none_is, unlink_acts}
+use Rattle.hg_tree.proofs.Calls.{called_passes, none_is, unlink_acts}
 use Rattle.hg_tree.proofs.memory.MemTree.unlink_counted.Goals as goal
 
 pub returns-then-not-has_contents-clause-done : goal.returns-then-not-has_contents-clause-done

@@ -1,5 +1,5 @@
 -- What was due is of others.
-use Rattle.hg_tree.proofs.Acting.{listed_passes}
+use Rattle.hg_tree.proofs.Calls.{listed_passes}
 use Rattle.hg_tree.proofs.memory.MemTreeTree.list.Goals as goal
 
 pub returns-in_err-begin_listing-clause-passes : goal.returns-in_err-begin_listing-clause-passes

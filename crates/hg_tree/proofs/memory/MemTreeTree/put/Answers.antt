@@ -1,5 +1,5 @@
 -- What a call leaves stands behind what was there.
-use Rattle.hg_tree.proofs.Acting.{own_extends, own_failed_on}
+use Rattle.hg_tree.proofs.Calls.{own_extends, own_failed_on}
 use Rattle.hg_tree.proofs.memory.MemTreeTree.put.Goals as goal
 
 pub returns-clause-past : goal.returns-clause-past

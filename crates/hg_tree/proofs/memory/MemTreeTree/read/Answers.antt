@@ -1,5 +1,5 @@
 -- What was due is of others.
-use Rattle.hg_tree.proofs.Acting.{read_passes}
+use Rattle.hg_tree.proofs.Calls.{read_passes}
 use Rattle.hg_tree.proofs.memory.MemTreeTree.read.Goals as goal
 
 pub returns-in_err-begin_read-clause-passes : goal.returns-in_err-begin_read-clause-passes

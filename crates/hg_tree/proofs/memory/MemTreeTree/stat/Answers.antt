@@ -1,5 +1,5 @@
 -- What was due is of others.
-use Rattle.hg_tree.proofs.Acting.{called_passes, fails_passes}
+use Rattle.hg_tree.proofs.Calls.{called_passes, fails_passes}
 use Rattle.hg_tree.proofs.memory.MemTreeTree.stat.Goals as goal
 
 pub returns-in_err-begin-clause-passes : goal.returns-in_err-begin-clause-passes
