@@ -63,7 +63,7 @@ def run_flushed(tests):
                 (("status",), lines(*[f"? {it}" for it in names])),
                 (("status", "-0"), b"".join(b"? %b\0" % it.encode() for it in names)),
                 (("status", "-0", "-n"), b"".join(b"%b\0" % it.encode() for it in names)),
-                (("stat",), b"abort: not built yet\n"),
+                (("stat",), b"abort: unknown command\n"),
             ]:
                 with open(path, "wb") as both:
                     status = tests.run(root, words, stdout=both, stderr=both)[0]

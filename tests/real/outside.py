@@ -8,7 +8,7 @@ from dirstate import docket, written
 from folder import NO_HG, aborted, as_nobody, because, lay_out, lines, put, put_record
 
 GOOD, DATA = written([b"a"])
-NOT_BUILT = aborted("not built yet")
+UNKNOWN = aborted("unknown command")
 OUT = aborted("output failed")
 DATA_FILE = ".hg/dirstate.0000000000000000"
 
@@ -23,11 +23,16 @@ def shelf(name, reason="permission denied"):
     return aborted(".hg failed") + because(name, reason)
 
 
-# words that are not built yet
+# words that are no command, and commands that aren't built, each with its line
 WORDS = [
-    [], ["stat"], ["status", "x"], ["status", ""], ["status", "-mm"], ["status", "-ma"], ["status", "-M"], ["status", "-"], ["status", "-m", "x"], ["status", "--modified=x"], ["status", "--no"], ["status", "--"], ["-m", "status"], ["--", "status"], [""], ["Status"], ["status "],
-    ["add"], ["add", "-x", "a"], ["forget", "--", "a"], ["debugdirstate", "--all"], ["debugstate"], ["help"], ["-h"], ["-V"], ["--help", "status"], ["status", "--help"], ["--version", "--version"],
-    [b"\xff"], [b"status", b"\xff"], ["s" * 100_000],
+    (aborted("no command"), [[]]),
+    (aborted("unknown command"), [["stat"], ["-m", "status"], ["--", "status"], [""], ["Status"], ["status "], ["debugstate"], ["help"], ["-h"], ["-V"], ["--help", "status"], ["--version", "--version"], ["s" * 100_000]]),
+    (aborted("wrong arguments"), [
+        ["status", "x"], ["status", ""], ["status", "-mx"], ["status", "-M"], ["status", "-"], ["status", "-m", "x"], ["status", "--modified=x"], ["status", "--no"], ["status", "--", "-m"], ["status", "--help"],
+        ["add"], ["add", "-x", "a"], ["forget", "--"], ["debugdirstate", "--all"], ["copy", "a"], ["debugload", "0"], [b"\xff"], [b"status", b"\xff"],
+    ]),
+    (aborted("argument 2 is not a node"), [["debugsetparents", "0" * 40, "0" * 39]]),
+    (aborted("not built yet"), [["remove", "-A", "a"], ["copy", "a", "b"], ["debugsetparents", "0" * 40], ["debugscript"], ["debugload", "+7"]]),
 ]
 
 # what is in the way, what is made of the folder (a path and its mode), the line that is printed to nobody's program
@@ -59,16 +64,16 @@ STRANGE = [
 
 
 def run_words(tests):
-    for words in WORDS:
+    for line, words in [(line, words) for line, all_words in WORDS for words in all_words]:
         with tests.working_copy() as root:
-            lay_out(root, ["a"])
+            lay_out(root, ["a", ".hg/"])
             if all(isinstance(it, str) for it in words):
-                tests.check(f"words {words!r:.60}", root, b"", NOT_BUILT, words)
+                tests.check(f"words {words!r:.60}", root, b"", line, words)
             else:
-                tests.compare(f"words that are no text {words!r}", tests.run(root, words), (255, b"", NOT_BUILT))
+                tests.compare(f"words that are no text {words!r}", tests.run(root, words), (255, b"", line))
     with tests.working_copy() as root:
         put_record(root, b"damaged")
-        tests.check("words before the docket", root, b"", NOT_BUILT, ["stat"])
+        tests.check("words before the docket", root, b"", UNKNOWN, ["stat"])
         for word, begins in (("--help", (b"Usage: hgtrack status", b" hgtrack debugdirstate ")), ("--version", (b"hgtrack ",))):
             status, out, err = tests.run(root, [word])
             good = all(it in out for it in begins) and out.endswith(b"\n")

@@ -225,24 +225,27 @@ def run_below(tests):
 DASHED = [
     (at, words)
     for at in ("", "sub", "sub/deep")
-    for words in (["add", "--help"], ["forget", "--", "x"], ["add", "-x"], ["add", "x", "-x"], ["forget", "x", "-"], ["add", "--version"])
+    for words in (["add", "--help"], ["forget", "--"], ["add", "-x"], ["add", "x", "-x"], ["forget", "x", "-y"], ["add", "--version"])
 ]
-# words that tell a path with a dash in front from the root
-TELLS_DASHED = [("", ["add", "./-x"]), ("sub", ["add", "../-x"]), ("sub", ["forget", "../-d/x"]), ("-d", ["add", "x"]), ("-d", ["add", "./x"])]
+# files whose names begin with a dash, or that stand below such a folder, told so that no word is a flag
+TELLS_DASHED = [
+    ("", ["add", "./-x"]), ("sub", ["add", "../-x"]), ("sub", ["forget", "../-d/x"]), ("-d", ["add", "x"]), ("-d", ["add", "./x"]),
+    ("", ["forget", "--", "-x", "--"]), ("sub", ["add", "x", "--", "-x", "deep/-x"]), ("", ["add", "--", "--"]), ("sub/deep", ["forget", "./../--"]),
+]
 
 
 def run_dashed(tests):
-    """A word with a dash in front is none of a file, in every folder, and so is a path with one."""
+    """A word with a dash in front is a flag before `--`, in every folder, and behind it a file."""
     with tests.working_copy() as root:
         lay_out(root, ["x", "-x", "--", "--help", "sub/x", "sub/-x", "sub/--", "sub/--help", "sub/deep/x", "sub/deep/-x", "-d/x"])
         put_record(root, *written([b"--", b"--help", b"-d/x", b"-x", b"sub/--", b"sub/deep/x", b"sub/x", b"x"]))
-        for at, words in DASHED + TELLS_DASHED:
+        for at, words in DASHED:
             before = recorded(root)
             got = tests.run(os.path.join(root, at), words)
-            tests.compare(f"with a dash in front, in {at or '.'}: {' '.join(words)}", (*got, recorded(root) == before), (255, b"", aborted("not built yet"), True))
-        answer = tests.run(f"{root}/sub", ("add", "./-x", "deep/-x")), tests.run(f"{root}/sub/deep", ("forget", "./../--"))
-        now = tests.run(root, ("status", "-a", "-n"))
-        tests.compare("behind a folder a dash is part of a name", (answer, now), (2 * ((0, b"", b""),), (0, lines("--", "--help", "-d/x", "-x", "sub/-x", "sub/deep/-x", "sub/deep/x", "sub/x", "x"), b"")))
+            tests.compare(f"with a dash in front, in {at or '.'}: {' '.join(words)}", (*got, recorded(root) == before), (255, b"", aborted("wrong arguments"), True))
+        for at, words in TELLS_DASHED:
+            tests.compare(f"a file with a dash in front, in {at or '.'}: {' '.join(words)}", tests.run(os.path.join(root, at), words), (0, b"", b""))
+        tests.compare("which are tracked then", tests.run(root, ("status", "-an")), (0, lines("--", "--help", "-d/x", "sub/-x", "sub/deep/-x", "sub/deep/x", "sub/x", "x"), b""))
 
 
 def run(tests):

@@ -225,8 +225,8 @@ def run_nowhere(tests):
         lay_out(root, ["a", "below/.hg/", "below/b"])
         tests.compare("no repository above one: add", tests.run(root, ("add", "a")), NO_REPOSITORY)
         tests.compare("and the one below is its own root", tests.run(f"{root}/below"), (0, lines("? b"), b""))
-        for words in (("add",), ("forget",), ("add", "-x"), ("forget", "a", "--")):
-            tests.compare(f"no repository: {' '.join(words)}", tests.run(root, words), (255, b"", NO_HG + aborted("not built yet")))
+        for words in (("add",), ("forget",), ("add", "-x"), ("forget", "--")):
+            tests.compare(f"no repository: {' '.join(words)}", tests.run(root, words), (255, b"", NO_HG + aborted("wrong arguments")))
 
 
 def run_breaks(tests):
@@ -254,7 +254,7 @@ def run_bad_paths(tests):
         lay_out(root, ["a", "d/e/f", ".hg/"])
         tests.compare("a bad path between others", tests.run(root, ("add", "gone", "/a", "a")), (1, b"", lines("add gone: no such file", "add /a: bad path") + further(ABSOLUTE)))
         tests.compare("no path is bad", tests.run(root, ("add", "d", "a")), (1, b"", lines("add d: not a file")))
-        tests.compare("a bad path, and what stands before it stopped the command", tests.run(root, ("add", "/a", "-x")), (255, b"", aborted("not built yet")))
+        tests.compare("a bad path, and what stands before it stopped the command", tests.run(root, ("add", "/a", "-x")), (255, b"", aborted("wrong arguments")))
 
 
 # ---- beside Mercurial's own program

@@ -58,7 +58,7 @@ def run_removed(tests):
 def run_top(tests):
     """Started in `/`, and in a `/` that has a folder `.hg`."""
     if not os.path.isdir("/.hg"):
-        tests.compare("started in /", tests.run("/", ["stat"]), (255, b"", NO_HG + aborted("not built yet")))
+        tests.compare("started in /", tests.run("/", ["stat"]), (255, b"", NO_HG + aborted("unknown command")))
     linked = subprocess.run(["ldd", tests.program], capture_output=True).stdout.decode() if shutil.which("ldd") else ""
     libraries = re.findall(r"(/\S+) \(", linked)
     if os.geteuid() or not libraries:

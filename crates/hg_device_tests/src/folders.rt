@@ -1,7 +1,7 @@
-//! What the words of some commands become, from where a user stands.
-use hg_base::{PathRef, Text, Words};
+//! What file words become, from where a user stands.
+use hg_base::PathRef;
 use hg_case_tests::{Play, agree, text, word};
-use hg_words::{from_folder, has_file_words, located};
+use hg_words::from_folder;
 use std::alloc::Global;
 use std::string::String;
 use std::test::Fail;
@@ -96,63 +96,4 @@ d/e a//b => no path d/e/a//b
 fn tells_words(rt: HostRuntime) -> Result<(), Fail> {
     agree::<Folders>(rt.alloc(), "", TOLD)?;
     agree::<Folders>(rt.alloc(), "", UNTOLD)
-}
-
-// The words of a command that is given in `d/e`: whether there are file words, and what they become.
-struct Commands;
-
-impl Play for Commands {
-    fn play(alloc: Global, steps: &str, answer: &mut String) -> Result<(), Fail> {
-        let given = words(alloc, steps)?;
-        answer.push_str(if has_file_words(&given) {
-            "files"
-        } else {
-            "none"
-        })?;
-        print_words(&located(alloc, "d/e", &given)?, answer)
-    }
-}
-
-fn words(alloc: Global, steps: &str) -> Result<Words, Fail> {
-    let mut words = Words::new(alloc);
-    for word in steps.split(' ') {
-        push(alloc, &mut words, word)?;
-    }
-    Ok(words)
-}
-
-fn push(alloc: Global, words: &mut Words, word: &str) -> Result<(), Fail> {
-    if word.is_empty() {
-        return Ok(());
-    }
-    let text = text(alloc, word)?;
-    words.push(Text::of(alloc, text.as_str())?)?;
-    Ok(())
-}
-
-// Each behind a bar.
-fn print_words(words: &Words, answer: &mut String) -> Result<(), Fail> {
-    for i in 0..words.len() {
-        answer.push('|')?;
-        answer.push_str(words.at(i).as_str())?;
-    }
-    Ok(())
-}
-
-const COMMANDS: &str = r"
- => none
-add => none|add
-add add ../forget \e ../../../a => files|add|d/e/add|d/forget||../../../a
-forget ./a\sb -f -- - a- => files|forget|d/e/a b|-f|--|-|d/e/a-
-add --help => files|add|--help
-add ./-x ../../-x .- => files|add|d/e/-x|-x|d/e/.-
-status -m add ./a => none|status|-m|add|./a
-adds a => none|adds|a
-\e add a => none||add|a
-debugdirstate => none|debugdirstate
-";
-
-#[test]
-fn locates_commands(rt: HostRuntime) -> Result<(), Fail> {
-    agree::<Commands>(rt.alloc(), "", COMMANDS)
 }

@@ -21,3 +21,5 @@ mod shelves;
 mod streams;
 #[cfg(test)]
 mod trees;
+#[cfg(test)]
+mod words;

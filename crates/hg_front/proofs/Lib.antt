@@ -1,4 +1,4 @@
-pub mod Changing
 pub mod Found
 pub mod Fronts
+pub mod Told
 pub mod Stopping

@@ -1,5 +1,5 @@
 -- What a further line says behind those of a command.
-use Rattle.std.specs.Prelude.{ℕ, List, drop, Option, Some, None, codes}
+use Rattle.std.specs.Prelude.{ℕ, List, Option, Some, None, codes}
 use Rattle.std.specs.List.{find}
 use Rattle.std.specs.Option.{option_and_then}
 use Rattle.hg_docket.specs.declared.fault.DocketFault.TheVariants as a_docket
@@ -41,9 +41,8 @@ path_advice a_mark.Nothing = Some (codes "an empty word is no path")
 path_advice a_mark.Absolute = Some (codes "a path is told from the current folder, without a slash in front")
 path_advice a_mark.Outside = Some (codes "a path outside the working copy can't be tracked")
 path_advice a_mark.Directory = Some (codes "a directory isn't tracked, its files are: without a slash at the end")
-path_advice a_mark.Dash = None
 path_advice a_mark.LineBreak = None
 
 -- behind the lines of refused words, where some word has the mark
 abbrev pub behind_words : List (List ℕ) → Mark → Option (List ℕ)
-behind_words words mark = option_and_then (λ word. path_advice mark) (find (has mark) (drop 1 words))
+behind_words files mark = option_and_then (λ word. path_advice mark) (find (has mark) files)

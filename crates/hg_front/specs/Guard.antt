@@ -1,5 +1,5 @@
 -- What a command is refused for before it begins, by the requirements of the repository.
-use Rattle.std.specs.Prelude.{ℕ, Bool, if◌then◌else◌, List, drop, Option, Some, None, codes, option_map}
+use Rattle.std.specs.Prelude.{ℕ, Bool, if◌then◌else◌, List, Option, Some, None, codes, option_map}
 use Rattle.std.specs.List.{find}
 use Rattle.std.specs.Option.{option_and_then, option_or}
 use Rattle.hg_front.specs.Marks.{has}
@@ -31,17 +31,17 @@ first_refused changes own store =
 
 -- the first file word with a line feed or a carriage return, of a command that changes the dirstate
 abbrev pub broken_word : Bool → List (List ℕ) → Option (List ℕ)
-broken_word changes words = if changes then find (has a_mark.LineBreak) (drop 1 words) else None
+broken_word changes files = if changes then find (has a_mark.LineBreak) files else None
 
 -- where no requirement is refused: the dirstate has to be kept as dirstate-v2, and words have to be names that a manifest can hold
 abbrev pub otherwise_refused : Bool → List (List ℕ) → List ℕ → Option Reason
-otherwise_refused changes words own =
+otherwise_refused changes files own =
     if names own (codes "dirstate-v2")
-    then option_map (λ word. (why.LineBreak, word)) (broken_word changes words)
+    then option_map (λ word. (why.LineBreak, word)) (broken_word changes files)
     else Some (why.OldDirstate, codes "dirstate-v2")
 
 -- why a command is refused; where the repository says nothing of what it requires it isn't
 abbrev pub refusal : Option (List ℕ) → Option (List ℕ) → Bool → List (List ℕ) → Option Reason
-refusal None store changes words = None
-refusal (Some own) store changes words =
-    option_or (option_map of_requirement (first_refused changes own store)) (otherwise_refused changes words own)
+refusal None store changes files = None
+refusal (Some own) store changes files =
+    option_or (option_map of_requirement (first_refused changes own store)) (otherwise_refused changes files own)

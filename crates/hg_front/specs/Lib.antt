@@ -1,7 +1,9 @@
 pub mod Advice
+pub mod Carried
 pub mod Further
 pub mod Guard
 pub mod Marks
+pub mod Placed
 pub mod Printing
 pub mod Reading
 pub mod Refusing

@@ -1,4 +1,4 @@
--- What is looked for in the words of a command. A file word is told from the root.
+-- What is looked for in the file words of a command, which are told from the root.
 use Rattle.std.specs.Prelude.{ℕ, Bool, ◌||◌, List, codes, length, take, ◌==◌, nat_eq}
 use Rattle.std.specs.List.{ends_with, list_any, starts_with}
 use Rattle.std.specs.Str.{bytes_eq}
@@ -21,7 +21,6 @@ abbrev pub ends_in_slash : List ℕ → Bool
 ends_in_slash word = ends_with nat_eq word (codes "/")
 
 abbrev pub has : Mark → List ℕ → Bool
-has a_mark.Dash word = begins (codes "-") word
 has a_mark.LineBreak word = has_break word
 has a_mark.Nothing word = length word == 0
 has a_mark.Absolute word = begins (codes "/") word

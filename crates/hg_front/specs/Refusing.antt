@@ -2,7 +2,7 @@
 use Rattle.std.specs.Prelude.{ℕ, ◌≡◌, ◌⊎◌, if◌then◌else◌, List, [], ◌∷◌, ◌++◌, Option, Some, None, codes, ◌==◌}
 use Rattle.std.specs.List.{flat_map}
 use Rattle.hg_report.specs.declared.fault.Fault.TheVariants as a_fault
-use Rattle.hg_session.specs.Command.{IsTold, TellsLine}
+use Rattle.hg_session.specs.Put.{IsTold, TellsLine}
 use Rattle.hg_front.specs.Advice.{convert}
 use Rattle.hg_front.specs.Guard.{Reason}
 use Rattle.hg_front.specs.Further.{further_line}

@@ -3,13 +3,14 @@
 ghost use Rattle.std.specs.Prelude.{◌≡◌};
 ghost use Rattle.std.specs.Option.{option_map};
 ghost use Rattle.hg_front.specs.Advice as advices;
+ghost use Rattle.hg_front.specs.Placed as placed_words;
 
+use crate::carrying::Ran;
 use crate::further::explain;
 use crate::marks::{Mark, first_with};
-use hg_base::Words;
+use crate::placing::Placed;
 use hg_docket::DocketFault;
 use hg_report::Fault;
-use hg_session::Outcome;
 use hg_stream::Sink;
 use std::alloc::Global;
 
@@ -48,10 +49,10 @@ fn behind_fault<'a>(fault: &Fault, tree: Option<&'a str>, shelf: Option<&'a str>
 }
 
 // What is said of words that have a mark by which they are no paths.
-fn behind_words(words: &Words, mark: Mark) -> Option<&'static str>
-    ensures { option_map (λ text. text.now) result ≡ advices.behind_words words.now mark }
+fn behind_words(placed: &Placed, mark: Mark) -> Option<&'static str>
+    ensures { option_map (λ text. text.now) result ≡ advices.behind_words (placed_words.files placed.now) mark }
 {
-    first_with(words, mark)?;
+    first_with(placed, mark)?;
     match mark {
         Mark::Nothing => Some("an empty word is no path"),
         Mark::Absolute => {
@@ -61,7 +62,7 @@ fn behind_words(words: &Words, mark: Mark) -> Option<&'static str>
         Mark::Directory => {
             Some("a directory isn't tracked, its files are: without a slash at the end")
         }
-        Mark::Dash | Mark::LineBreak => None,
+        Mark::LineBreak => None,
     }
 }
 
@@ -70,17 +71,16 @@ fn behind_words(words: &Words, mark: Mark) -> Option<&'static str>
 pub fn say_more<E: Sink>(
     alloc: Global,
     err: &mut E,
-    outcome: &Outcome,
-    words: &Words,
+    ran: &Ran,
     tree: Option<&str>,
     shelf: Option<&str>,
 ) {
-    if let Some(fault) = &outcome.fault {
+    if let Some(fault) = &ran.outcome.fault {
         explain(alloc, err, behind_fault(fault, tree, shelf));
-    } else if outcome.status == 1 {
-        explain(alloc, err, behind_words(words, Mark::Nothing));
-        explain(alloc, err, behind_words(words, Mark::Absolute));
-        explain(alloc, err, behind_words(words, Mark::Outside));
-        explain(alloc, err, behind_words(words, Mark::Directory));
+    } else if ran.outcome.status == 1 {
+        explain(alloc, err, behind_words(&ran.placed, Mark::Nothing));
+        explain(alloc, err, behind_words(&ran.placed, Mark::Absolute));
+        explain(alloc, err, behind_words(&ran.placed, Mark::Outside));
+        explain(alloc, err, behind_words(&ran.placed, Mark::Directory));
     }
 }

@@ -4,10 +4,11 @@ ghost use Rattle.std.specs.Prelude.{◌≡◌};
 ghost use Rattle.std.specs.Option.{option_map};
 ghost use Rattle.std.specs.Result.{result_err};
 ghost use Rattle.hg_front.specs.Guard as guards;
+ghost use Rattle.hg_front.specs.Placed as placed_words;
 
 use crate::marks::{Mark, first_with};
+use crate::placing::Placed;
 use crate::requirement::{Class, class_of, names, refused_in};
-use hg_base::Words;
 
 /// Why a command is refused before it begins.
 #[derive(Clone, Copy)]
@@ -58,8 +59,8 @@ fn first_refused<'a>(own: &'a str, store: Option<&'a str>, changes: bool) -> Opt
     refused_in(store?, changes)
 }
 
-fn otherwise_refused<'a>(own: &str, changes: bool, words: &'a Words) -> Option<Refused<'a>>
-    ensures { option_map (λ r. (r.why, r.what.now)) result ≡ guards.otherwise_refused changes words.now own.now }
+fn otherwise_refused<'a>(own: &str, placed: &'a Placed) -> Option<Refused<'a>>
+    ensures { option_map (λ r. (r.why, r.what.now)) result ≡ guards.otherwise_refused (placed_words.changes placed.now) (placed_words.files placed.now) own.now }
 {
     if !names(own, "dirstate-v2") {
         return Some(Refused {
@@ -67,34 +68,42 @@ fn otherwise_refused<'a>(own: &str, changes: bool, words: &'a Words) -> Option<R
             what: "dirstate-v2",
         });
     }
-    if !changes {
+    if !changes(placed) {
         return None;
     }
-    let what = first_with(words, Mark::LineBreak)?;
+    let what = first_with(placed, Mark::LineBreak)?;
     Some(Refused {
         why: Why::LineBreak,
         what,
     })
 }
 
+/// Whether a command changes the dirstate.
+pub(crate) fn changes(placed: &Placed) -> bool
+    ensures { result ≡ placed_words.changes placed.now }
+{
+    match &placed.command {
+        Some(command) => command.changes(),
+        None => false,
+    }
+}
+
 /// Whether a command may begin: `own` is what `.hg/requires` says, where it is there, and `store` what its store's own `requires` says.
-/// `changes` says whether the command changes the dirstate, and `words` are its name and what stands behind it.
 pub fn guard<'a>(
     own: Option<&'a str>,
     store: Option<&'a str>,
-    changes: bool,
-    words: &'a Words,
+    placed: &'a Placed,
 ) -> Result<(), Refused<'a>>
     ensures { option_map (λ r. (r.why, r.what.now)) (result_err result)
-        ≡ guards.refusal (option_map (λ text. text.now) own.entry) (option_map (λ text. text.now) store.entry) changes words.now }
+        ≡ guards.refusal (option_map (λ text. text.now) own.entry) (option_map (λ text. text.now) store.entry) (placed_words.changes placed.now) (placed_words.files placed.now) }
 {
     let Some(own) = own else {
         return Ok(());
     };
-    if let Some(name) = first_refused(own, store, changes) {
+    if let Some(name) = first_refused(own, store, changes(placed)) {
         return Err(of_requirement(name));
     }
-    match otherwise_refused(own, changes, words) {
+    match otherwise_refused(own, placed) {
         Some(refused) => Err(refused),
         None => Ok(()),
     }

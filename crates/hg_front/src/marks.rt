@@ -1,17 +1,18 @@
-//! What is looked for in the words of a command.
+//! What is looked for in the file words of a command.
 
-ghost use Rattle.std.specs.Prelude.{◌≡◌, drop};
+ghost use Rattle.std.specs.Prelude.{◌≡◌};
 ghost use Rattle.std.specs.List.{find};
 ghost use Rattle.std.specs.Option.{option_map};
 ghost use Rattle.hg_front.specs.Marks as marks;
+ghost use Rattle.hg_front.specs.Placed as placed_words;
+ghost use Rattle.hg_words.specs.Given as given;
 
-use hg_base::Words;
+use crate::placing::Placed;
+use hg_words::Command;
 
 /// What a word may have.
 #[derive(Clone, Copy)]
 pub(crate) enum Mark {
-    /// A dash in front, so that it is no file word.
-    Dash,
     /// A line feed or a carriage return.
     LineBreak,
     /// Nothing at all.
@@ -29,7 +30,6 @@ pub(crate) fn has(mark: Mark, word: &str) -> bool
     ensures { result ≡ marks.has mark word.now }
 {
     match mark {
-        Mark::Dash => word.starts_with('-'),
         Mark::LineBreak => has_break(word),
         Mark::Nothing => word.is_empty(),
         Mark::Absolute => word.starts_with('/'),
@@ -56,15 +56,25 @@ fn ends_in_slash(word: &str) -> bool
     word.ends_with("/")
 }
 
-/// The first word behind a command that has the mark.
-pub(crate) fn first_with(words: &Words, mark: Mark) -> Option<&str>
-    ensures { option_map (λ word. word.now) result ≡ find (marks.has mark) (drop 1 words.now) }
+// The first file word of a command that has the mark.
+fn first_in(command: &Command, mark: Mark) -> Option<&str>
+    ensures { option_map (λ word. word.now) result ≡ find (marks.has mark) (given.files_of command.now) }
 {
-    for i in 1..words.len() {
-        let word = words.at(i).as_str();
+    for i in 0..command.files() {
+        let word = command.file(i).as_str();
         if has(mark, word) {
             return Some(word);
         }
     }
     None
+}
+
+/// The first file word that has the mark.
+pub(crate) fn first_with(placed: &Placed, mark: Mark) -> Option<&str>
+    ensures { option_map (λ word. word.now) result ≡ find (marks.has mark) (placed_words.files placed.now) }
+{
+    match &placed.command {
+        Some(command) => first_in(command, mark),
+        None => None,
+    }
 }

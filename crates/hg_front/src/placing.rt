@@ -1,49 +1,80 @@
-//! The words of a command, as they are given and as paths from the root.
+//! The words of a command, read once, with its file words as paths from the root.
 
-ghost use Rattle.std.specs.Prelude.{◌≡◌, ◌||◌, ◌⊎◌, Err, IfErr, IfOk, Ok, false, if◌then◌else◌, is_some, not, true};
-ghost use Rattle.std.specs.Option.{option_map_or};
+ghost use Rattle.std.specs.Prelude.{◌≡◌, ◌⊎◌, ◌<◌, Err, IfErr, IfOk, Ok, false, is_some, length};
+ghost use Rattle.std.specs.Option.{option_map};
+ghost use Rattle.hg_front.specs.Placed.{HasFiles, IsPlaced};
 ghost use Rattle.hg_report.specs.declared.fault.Fault.TheVariants as a_fault;
-ghost use Rattle.hg_words.specs.Located as commands;
+ghost use Rattle.hg_words.specs.Command.{command_of};
 
 use crate::further::say;
 use hg_base::Words;
 use hg_report::Fault;
 use hg_session::failed;
 use hg_stream::Sink;
-use hg_words::{has_file_words, located};
+use hg_words::{Command, WordsFault, located, read, spelled};
 use std::alloc::Global;
 use std::io::ErrorKind;
 
-/// Arguments that can't be read. Those that aren't text are no command.
+/// A command as it is run: with its file words as paths from the root, and the words that spell it so; none where the words are no command,
+/// which then stand as they were given.
+#[derive(Drop)]
+pub struct Placed {
+    pub command: Option<Command>,
+    pub words: Words,
+}
+
+/// Arguments that can't be read: those that aren't text are wrong ones.
 pub fn unread(kind: ErrorKind) -> Fault
-    ensures { ((kind ≡ ErrorKind.OutOfMemory) × (result ≡ a_fault.OutOfMemory)) ⊎ ((¬ (kind ≡ ErrorKind.OutOfMemory)) × (result ≡ a_fault.NotBuilt)) }
+    ensures { ((kind ≡ ErrorKind.OutOfMemory) × (result ≡ a_fault.OutOfMemory)) ⊎ ((¬ (kind ≡ ErrorKind.OutOfMemory)) × (result ≡ a_fault.Usage)) }
 {
     match kind {
         ErrorKind::OutOfMemory => Fault::OutOfMemory,
-        _ => Fault::NotBuilt,
+        _ => Fault::Usage,
     }
 }
 
-/// The words with each file word as a path from the root, for a command that is started in this folder. A folder that can't be told is a
-/// failure of the working copy where there are file words.
-pub fn placed(alloc: Global, folder: Option<&str>, words: Words) -> Result<Words, Fault>
-    ensures found { IfOk result (λ all. all ≡ option_map_or (λ f. commands.located f.now words) folder.entry words) }
-    ensures told { IfOk result (λ all. (is_some folder.entry || not (commands.has_file_words words)) ≡ true) }
-    ensures cause { IfErr result (λ e. (e ≡ a_fault.OutOfMemory) ⊎ ((e ≡ a_fault.TreeFailed) × (is_some folder.entry ≡ false) × (commands.has_file_words words ≡ true))) }
+/// What words are in the folder where a command is started. A folder that can't be told is a failure of the working copy where there are
+/// file words.
+pub fn place(alloc: Global, folder: Option<&str>, words: Words) -> Result<Placed, Fault>
+    ensures ok { IfOk result (IsPlaced (option_map (λ f. f.now) folder.entry) words) }
+    ensures err { IfErr result (λ e. (e ≡ a_fault.OutOfMemory) ⊎ ((e ≡ a_fault.TreeFailed) × (is_some folder.entry ≡ false) × HasFiles words)) }
 {
-    match folder {
-        Some(folder) => Ok(located(alloc, folder, &words)?),
-        None => unplaced(words),
+    match read(alloc, &words) {
+        Ok(command) => place_in(alloc, folder, command, words),
+        Err(WordsFault::OutOfMemory) => Err(Fault::OutOfMemory),
+        Err(_) => Ok(Placed {
+            command: None,
+            words,
+        }),
     }
 }
 
-fn unplaced(words: Words) -> Result<Words, Fault>
-    ensures { result ≡ (if commands.has_file_words words then Err a_fault.TreeFailed else Ok words) }
+// The same of words that are a command.
+fn place_in(
+    alloc: Global,
+    folder: Option<&str>,
+    command: Command,
+    words: Words,
+) -> Result<Placed, Fault>
+    requires { command_of words ≡ Ok command }
+    ensures ok { IfOk result (IsPlaced (option_map (λ f. f.now) folder.entry) words) }
+    ensures err { IfErr result (λ e. (e ≡ a_fault.OutOfMemory) ⊎ ((e ≡ a_fault.TreeFailed) × (is_some folder.entry ≡ false) × HasFiles words)) }
 {
-    if has_file_words(&words) {
+    if command.files() == 0 {
+        return Ok(Placed {
+            command: Some(command),
+            words,
+        });
+    }
+    let Some(folder) = folder else {
         return Err(Fault::TreeFailed);
-    }
-    Ok(words)
+    };
+    let command = located(alloc, folder, command)?;
+    let words = spelled(alloc, &command)?;
+    Ok(Placed {
+        command: Some(command),
+        words,
+    })
 }
 
 /// The root couldn't be gone to, and maybe not back from, or a path from the root couldn't be told.

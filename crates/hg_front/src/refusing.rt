@@ -3,7 +3,7 @@
 ghost use Rattle.std.specs.Prelude.{◌≡◌, ◌++◌, IfOk, OnOk};
 ghost use Rattle.hg_front.specs.Refusing as refusals;
 ghost use Rattle.hg_front.specs.Refusing.{TellsRefusal, refusal_lines, shown, shown_byte};
-ghost use Rattle.hg_session.specs.Command.{IsTold};
+ghost use Rattle.hg_session.specs.Put.{IsTold};
 
 use crate::advice::CONVERT;
 use crate::guarding::{Refused, Why};

@@ -1,9 +1,12 @@
 -- A command that is spelled reads as itself.
-use Rattle.std.proofs.Common.{ℕ, ◌≡◌, ◌<◌, ◌≤◌, Bool, true, false, List, [], ◌∷◌, length, map, Ok, refl, ap, arith}
+use Rattle.std.proofs.Common.{ℕ, ◌≡◌, ◌<◌, ◌≤◌, Bool, true, false, ◌&&◌, List, [], ◌∷◌, length, map, Ok, refl, ap, arith}
+use Rattle.std.specs.List.{list_any}
+use Rattle.std.specs.Str.{bytes_eq}
 use Rattle.std.proofs.lemmas.Bool.{le-leb}
 use Rattle.std.proofs.lemmas.List.{length-map}
 use Rattle.hg_words.specs.Command.{command_of}
-use Rattle.hg_words.specs.Given.{changes, files_of, is_built, located, spelled}
+use Rattle.hg_words.specs.Given.{changes, files_of, is_built, located, name_of, spelled}
+use Rattle.hg_words.specs.Help.{Help, help_table}
 use Rattle.hg_words.specs.Told.{from_folder}
 use Rattle.hg_words.specs.declared.given.Command.{Command}
 use Rattle.hg_words.specs.declared.given.Command.TheVariants as a_command
@@ -54,3 +57,15 @@ located_without_files folder (a_command.SetParents p1 p2) none = refl
 located_without_files folder a_command.DebugDirstate none = refl
 located_without_files folder a_command.DebugScript none = refl
 located_without_files folder (a_command.DebugLoad n) none = refl
+
+-- the help tells as built what is
+pub help_tells_built : (c : Command) → list_any (λ (help : Help). bytes_eq help.name (name_of c) && help.is_built) help_table ≡ is_built c
+help_tells_built (a_command.Status flags) = refl
+help_tells_built (a_command.Add files) = refl
+help_tells_built (a_command.Forget files) = refl
+help_tells_built (a_command.Remove after files) = refl
+help_tells_built (a_command.Copy source target) = refl
+help_tells_built (a_command.SetParents p1 p2) = refl
+help_tells_built a_command.DebugDirstate = refl
+help_tells_built a_command.DebugScript = refl
+help_tells_built (a_command.DebugLoad n) = refl

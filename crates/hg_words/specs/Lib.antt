@@ -1,4 +1,5 @@
 pub mod Clapped
 pub mod Command
 pub mod Given
+pub mod Help
 pub mod Told

@@ -1,9 +1,12 @@
 //! Laws of the definitions.
 
-ghost use Rattle.std.specs.Prelude.{◌≡◌, ◌≤◌, ◌+◌, ◌++◌, ◌∷◌, ◌<◌, [], IsTrue, ℕ, List, Ok, Some, length, map};
+ghost use Rattle.std.specs.Prelude.{◌≡◌, ◌≤◌, ◌+◌, ◌++◌, ◌∷◌, ◌<◌, ◌&&◌, [], IsTrue, ℕ, List, Ok, Some, length, map};
 ghost use Rattle.hg_base.specs.PathText.{components, is_path};
-ghost use Rattle.hg_words.specs.Command.{command_of};
-ghost use Rattle.hg_words.specs.Given.{changes, files_of, is_built, located, spelled};
+ghost use Rattle.std.specs.List.{list_any};
+ghost use Rattle.std.specs.Str.{bytes_eq};
+ghost use Rattle.hg_words.specs.Command.{Form, command_of, forms};
+ghost use Rattle.hg_words.specs.Help.{Help, help_table};
+ghost use Rattle.hg_words.specs.Given.{changes, files_of, is_built, located, name_of, spelled};
 ghost use Rattle.hg_words.specs.declared.given.Command.{Command};
 ghost use Rattle.hg_words.specs.Told.{from_folder, led};
 
@@ -42,4 +45,14 @@ pub fn located_keeps()
 /// A command without file words stays as it is, whatever the folder.
 pub fn located_without_files()
     ensures { (folder : List ℕ) (c : Command) → length (files_of c) ≡ 0 → located folder c ≡ c }
+{}
+
+/// The commands of the help are those of the table, in its order.
+pub fn help_names_all()
+    ensures { map (λ (help : Help). help.name) help_table ≡ map (λ (form : Form). form.name) forms }
+{}
+
+/// The help tells as built exactly the commands that are.
+pub fn help_tells_built()
+    ensures { (c : Command) → list_any (λ (help : Help). bytes_eq help.name (name_of c) && help.is_built) help_table ≡ is_built c }
 {}

@@ -13,11 +13,8 @@
 #![tactic(auto)]
 
 use hg_base::{Text, Words};
-use hg_cli::run;
 use hg_disk::{RealShelf, RealTree, Root, Start, enter_root};
-use hg_front::{
-    own_text, placed, print, say_more, stopped_inside, stopped_outside, unreached, unread,
-};
+use hg_front::{carry, own_text, print, say_more, unreached, unread};
 use hg_ignore::Builds;
 use hg_report::Fault;
 use hg_session::failed;
@@ -56,40 +53,32 @@ fn main(rt: HostRuntime) -> ExitCode {
 // What a command ends with, from where it is started.
 fn started<O: Sink, E: Sink>(rt: &HostRuntime, words: Words, out: &mut O, err: &mut E) -> u8 {
     let alloc = rt.alloc();
-    let start = match enter_root(rt) {
-        Ok(start) => start,
-        Err(_) => return unreached(alloc, err, ".: no way to the root or back"),
-    };
-    let (folder, inside) = match start {
-        Start::Inside(folder) => (folder, true),
-        Start::Outside => (Some(String::new(alloc)), false),
-    };
-    let words = match placed(alloc, folder.as_deref(), words) {
-        Ok(words) => words,
-        Err(Fault::TreeFailed) => return unreached(alloc, err, ".: no path to the current folder"),
-        Err(fault) => return failed(alloc, fault, err).status,
-    };
-    let stopped = if inside {
-        stopped_inside(rt, &words, err)
-    } else {
-        stopped_outside(alloc, &words, err)
-    };
-    match stopped {
-        Some(status) => status,
-        None => command(rt, &words, out, err),
+    match enter_root(rt) {
+        Ok(Start::Inside(folder)) => command(rt, folder.as_deref(), true, words, out, err),
+        Ok(Start::Outside) => command(rt, Some(""), false, words, out, err),
+        Err(_) => unreached(alloc, err, ".: no way to the root or back"),
     }
 }
 
-// Runs a command over the working copy whose root is the current folder, and says more where there is more to say.
-fn command<O: Sink, E: Sink>(rt: &HostRuntime, words: &Words, out: &mut O, err: &mut E) -> u8 {
+// Carries a command to the devices of the working copy whose root is the current folder, and says more where there is more to say.
+fn command<O: Sink, E: Sink>(
+    rt: &HostRuntime,
+    folder: Option<&str>,
+    inside: bool,
+    words: Words,
+    out: &mut O,
+    err: &mut E,
+) -> u8 {
     let alloc = rt.alloc();
     let root = Root::current(rt);
     let mut input = ReaderSource::new(rt.stdin());
     let mut tree = RealTree::new(rt, &root);
     let mut shelf = RealShelf::new(rt, &root);
     let mut regexps = Builds::new();
-    let outcome = run(
-        alloc,
+    let carried = carry(
+        rt,
+        folder,
+        inside,
         words,
         &mut tree,
         &mut shelf,
@@ -98,8 +87,14 @@ fn command<O: Sink, E: Sink>(rt: &HostRuntime, words: &Words, out: &mut O, err: 
         out,
         err,
     );
-    say_more(alloc, err, &outcome, words, tree.failure(), shelf.failure());
+    let status = match carried {
+        Ok(ran) => {
+            say_more(alloc, err, &ran, tree.failure(), shelf.failure());
+            ran.outcome.status
+        }
+        Err(status) => status,
+    };
     // The system closes its files at the end of the process: of a close that fails nothing would be told.
     mem::forget(shelf);
-    outcome.status
+    status
 }

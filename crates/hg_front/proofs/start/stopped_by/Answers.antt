@@ -1,7 +1,6 @@
 use Rattle.std.proofs.Common.{◌≡◌, ℕ, List, Option, Some, None, option_map, refl, ap, string_bytes, rules}
-use Rattle.std.specs.Prelude.{is_some}
-use Rattle.hg_session.specs.Change.{changing_of}
 use Rattle.hg_front.specs.Guard.{Reason, refusal}
+use Rattle.hg_front.specs.Placed.{changes, files}
 use Rattle.hg_front.specs.Refusing.{Stops}
 use Rattle.hg_front.proofs.Stopping.{stops_not, stops_so}
 use Rattle.hg_front.proofs.start.stopped_by.Goals as goal
@@ -9,14 +8,14 @@ use Rattle.hg_front.proofs.start.stopped_by.Goals as goal
 pub returns-in-Ok : goal.returns-in-Ok
 returns-in-Ok g c =
     let texts = c.args.texts.now in
-    let words = c.args.words.now in
-    let e : None ≡ refusal (option_map string_bytes texts.own) (option_map string_bytes texts.store) (is_some (changing_of words)) words = search rules in
+    let placed = c.args.placed.now in
+    let e : None ≡ refusal (option_map string_bytes texts.own) (option_map string_bytes texts.store) (changes placed) (files placed) = search rules in
     stops_not _ (g.E.Sink.bytes c.args.err.now) (g.E.Sink.faults c.args.err.now) (g.E.Sink.faults c.args.err.now) e
 
 pub returns-in-Err : goal.returns-in-Err
 returns-in-Err g c =
     let texts = c.args.texts.now in
-    let words = c.args.words.now in
-    let e : Some (c.in-Err.refused.why, c.in-Err.refused.what.now) ≡ refusal (option_map string_bytes texts.own) (option_map string_bytes texts.store) (is_some (changing_of words)) words = search rules in
+    let placed = c.args.placed.now in
+    let e : Some (c.in-Err.refused.why, c.in-Err.refused.what.now) ≡ refusal (option_map string_bytes texts.own) (option_map string_bytes texts.store) (changes placed) (files placed) = search rules in
     stops_so _ (c.in-Err.refused.why, c.in-Err.refused.what.now) c.refuse.result (g.E.Sink.bytes c.args.err.now) (g.E.Sink.bytes c.refuse.new.err) (g.E.Sink.faults c.args.err.now) (g.E.Sink.faults c.refuse.new.err) e
     c.refuse.ensures.status c.refuse.ensures.told

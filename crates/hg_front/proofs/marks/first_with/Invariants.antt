@@ -1,8 +1,0 @@
-use Rattle.std.proofs.Common.{◌≡◌, drop}
-use Rattle.std.specs.List.{find}
-use Rattle.hg_front.specs.Marks.{has}
-use Rattle.hg_front.proofs.marks.first_with.Given as goal
-
--- none of the words so far has it
-abbrev pub invariant-loop-i : goal.invariant-loop-i
-invariant-loop-i l = find (has l.mark) (drop 1 l.words) ≡ find (has l.mark) (drop l.i l.words)

@@ -1,0 +1,102 @@
+//! A command from its words to what it ends with.
+
+ghost use Rattle.std.specs.Prelude.{◌≡◌, IfErr, IfNone, IfOk, IfSome, Some};
+ghost use Rattle.std.specs.Option.{option_map};
+ghost use Rattle.hg_cli.specs.Run.{IsRun};
+ghost use Rattle.hg_front.specs.Carried.{Begins, IsCarried};
+ghost use Rattle.hg_shelf.specs.Images.{course};
+
+use crate::placing::{Placed, place, unreached};
+use crate::start::{stopped_inside, stopped_outside};
+use hg_base::Words;
+use hg_cli::run;
+use hg_ignore::Regexps;
+use hg_report::Fault;
+use hg_session::{Outcome, failed};
+use hg_shelf::Shelf;
+use hg_stream::{Sink, Source};
+use hg_tree::Tree;
+use std::rt::Files;
+
+/// A command that was run: as which words, and what it ended with.
+#[derive(Drop)]
+pub struct Ran {
+    pub placed: Placed,
+    pub outcome: Outcome,
+}
+
+// Whether a command may begin, in a repository or outside of each: else the status that it ends with.
+fn stopped<R: Files + AllocGlobal, E: Sink>(
+    rt: &R,
+    inside: bool,
+    placed: &Placed,
+    err: &mut E,
+) -> Option<u8>
+    ensures status { IfSome result (λ status. status ≡ 255) }
+    ensures silent { IfNone result (Begins (E.bytes err.old) (E.bytes err.new)) }
+{
+    if inside {
+        return stopped_inside(rt, placed, err);
+    }
+    stopped_outside(rt.alloc(), placed, err)
+}
+
+/// Carries a command from its words to `run`, started in a folder that is told by its path from the root, where it can be told; `inside` says
+/// whether the root has a folder `.hg`. Where the command isn't begun it is answered the status that it ends with, once that was told.
+pub fn carry<R: Files + AllocGlobal, T: Tree, S: Shelf, G: Regexps, I: Source, O: Sink, E: Sink>(
+    rt: &R,
+    folder: Option<&str>,
+    inside: bool,
+    words: Words,
+    tree: &mut T,
+    shelf: &mut S,
+    regexps: &mut G,
+    input: &mut I,
+    out: &mut O,
+    err: &mut E,
+) -> Result<Ran, u8>
+    // Every word reaches `run`, and what it answers of them is answered.
+    ensures ran { IfOk result (IsCarried
+        (option_map (λ f. f.now) folder.entry)
+        words
+        (E.bytes err.old)
+        (λ given told before code fault. IsRun
+            given
+            (record {
+              tree = record { old = T.history tree.old; new = T.history tree.new; before = T.faults tree.old; after = T.faults tree.new };
+              shelf = record { old = S.history shelf.old; new = S.history shelf.new; before = S.faults shelf.old; after = S.faults shelf.new };
+              oversize = record { before = G.oversize regexps.old; after = G.oversize regexps.new };
+            })
+            (record { old = course (S.history shelf.old) (S.images shelf.old); new = course (S.history shelf.new) (S.images shelf.new) })
+            (record { before = S.held shelf.old; after = S.held shelf.new })
+            (record { old = O.bytes out.old; new = O.bytes out.new; before = O.faults out.old; after = O.faults out.new })
+            (record { old = told; new = E.bytes err.new; before = before; after = E.faults err.new })
+            code
+            fault)) }
+    // Else nothing is looked at, saved or put to `out`.
+    ensures stopped { IfErr result (λ status. (status ≡ 255) × (tree.new ≡ tree.old) × (shelf.new ≡ shelf.old) × (out.new ≡ out.old)) }
+    ensures unread { input.new ≡ input.old }
+{
+    let alloc = rt.alloc();
+    let placed = match place(alloc, folder, words) {
+        Ok(placed) => placed,
+        Err(Fault::TreeFailed) => {
+            return Err(unreached(alloc, err, ".: no path to the current folder"));
+        }
+        Err(fault) => return Err(failed(alloc, fault, err).status),
+    };
+    if let Some(status) = stopped(rt, inside, &placed, err) {
+        return Err(status);
+    }
+    let outcome = run(
+        alloc,
+        &placed.words,
+        tree,
+        shelf,
+        regexps,
+        input,
+        out,
+        err,
+    );
+    Ok(Ran { placed, outcome })
+}
