@@ -16,3 +16,4 @@ pub mod Readings
 pub mod Spans
 pub mod Stages
 pub mod Tails
+pub mod Torn

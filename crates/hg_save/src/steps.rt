@@ -6,7 +6,7 @@ ghost use Rattle.hg_docket.specs.Docket.{docket_of, docket_refusal};
 ghost use Rattle.hg_shelf.specs.Asks.{AsksNothing};
 ghost use Rattle.hg_shelf.specs.Images.{Goes, course, last_scene};
 ghost use Rattle.hg_shelf.specs.Polite.{Undisturbed};
-ghost use Rattle.hg_shelf.specs.Rules.{Perhaps, content, moved, overwritten, without};
+ghost use Rattle.hg_shelf.specs.Rules.{Perhaps, TornAt, content, moved, overwritten, without};
 ghost use Rattle.hg_save.specs.Leads.{ButFor, IsDone, IsHeld, IsSure, IsWhole, Leads, OnceBy, OwnSteps, StepBy};
 ghost use Rattle.hg_save.specs.Record.{data_name};
 
@@ -21,6 +21,12 @@ pub(crate) fn put<S: Shelf>(
     bytes: &[u8],
 ) -> Result<(), Failed>
     requires { (S.history shelf.old).ours ≡ true }
+    // The file is as it was, or changed at most where it is written and past its old end.
+    ensures torn { Undisturbed (course (S.history shelf.old) (S.images shelf.old)) (course (S.history shelf.new) (S.images shelf.new))
+        → Leads
+        (TornAt name.now place (length bytes.now))
+        (course (S.history shelf.old) (S.images shelf.old))
+        (course (S.history shelf.new) (S.images shelf.new)) }
     ensures leads { Undisturbed (course (S.history shelf.old) (S.images shelf.old)) (course (S.history shelf.new) (S.images shelf.new))
         → Leads (ButFor name.now) (course (S.history shelf.old) (S.images shelf.old)) (course (S.history shelf.new) (S.images shelf.new)) }
     ensures sure { Undisturbed (course (S.history shelf.old) (S.images shelf.old)) (course (S.history shelf.new) (S.images shelf.new))

@@ -3,7 +3,7 @@ use Rattle.std.proofs.Common.{◌≡◌, List, ◌∷◌, ◌++◌, length, take
 use Rattle.std.proofs.Math.Seq.{take-length}
 use Rattle.std.proofs.lemmas.List.{append-nil}
 use Rattle.hg_docket.specs.Docket.{docket_of}
-use Rattle.hg_save.specs.Asked.{AsksAsOf, data_asks, docket_ask}
+use Rattle.hg_save.specs.Asked.{AsksAsOf, docket_ask, named_asks}
 use Rattle.hg_save.specs.Loads.{files_at}
 use Rattle.hg_save.specs.Record.{docket_in}
 use Rattle.hg_save.specs.declared.load_fault.LoadFault.{LoadFault}
@@ -21,7 +21,7 @@ front_of asks old new (Err fault) front = front
 -- what a load asks for
 pub asks_load : (old new : History) (result : Result Loaded LoadFault) → AsksAsOf old new result → AsksRecord old new
 asks_load old new result is =
-    record { at = is.at; during = is.during; asks = front_of (docket_ask ∷ data_asks (docket_of (docket_in (files_at new is.at)))) old new result is.asks }
+    record { at = is.at; during = is.during; asks = front_of (docket_ask ∷ named_asks (docket_in (files_at new is.at))) old new result is.asks }
 
 -- where nothing was asked for
 pub asks_none : (old new : History) → Extends old new → new.asked ≡ old.asked → AsksRecord old new
@@ -41,7 +41,7 @@ asks_wide a b c d first before last behind is =
       asks = record {
         some = is.asks.some;
         made =
-            behind ∙ is.asks.made ∙ ap (λ (l : List Asked). l ++ take is.asks.some (docket_ask ∷ data_asks (docket_of (docket_in (files_at c is.at))))) before
-            ∙ ap (λ (f : Files). a.asked ++ take is.asks.some (docket_ask ∷ data_asks (docket_of (docket_in f)))) (sym same);
+            behind ∙ is.asks.made ∙ ap (λ (l : List Asked). l ++ take is.asks.some (docket_ask ∷ named_asks (docket_in (files_at c is.at)))) before
+            ∙ ap (λ (f : Files). a.asked ++ take is.asks.some (docket_ask ∷ named_asks (docket_in f))) (sym same);
       };
     }

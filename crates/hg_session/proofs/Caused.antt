@@ -7,13 +7,13 @@ use Rattle.hg_listing.specs.declared.fault.StatusFault.TheVariants as a_status
 use Rattle.hg_report.specs.declared.fault.Fault.{Fault}
 use Rattle.hg_report.specs.declared.fault.Fault.TheVariants as a_fault
 use Rattle.hg_session.specs.Answered.{IsAnswered, IsUnbuilt, Ran}
-use Rattle.hg_session.specs.Call.{Call, Count, Fails, Looked, Saved, Sink, Watched}
+use Rattle.hg_session.specs.Call.{Call, Count, Fails, IsLeftAlone, Looked, Saved, Sink, Watched}
 use Rattle.hg_session.specs.Cause.{CommandCause}
 use Rattle.hg_session.specs.Change.{IsUnwritten, MetChanging, makes_in}
 use Rattle.hg_session.specs.Changed.{RanChange, change_look}
 use Rattle.hg_session.specs.Commands.{changing_of}
 use Rattle.hg_session.specs.Crash.{published_in}
-use Rattle.hg_session.specs.Debug.{DoesRecord, IsLeftAlone, record_look}
+use Rattle.hg_session.specs.Debug.{DoesRecord, record_look}
 use Rattle.hg_session.specs.Flags.{wanted_of}
 use Rattle.hg_session.specs.Listed.{AsksOwn, ListingCause}
 use Rattle.hg_session.specs.Load.{of_list, of_read}

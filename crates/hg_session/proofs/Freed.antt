@@ -1,5 +1,5 @@
 -- A change of the record with the lock round it, from what was done under the lock.
-use Rattle.std.proofs.Common.{ℕ, ◌≡◌, ◌≤◌, Bool, false, true, IsTrue, List, Some, None, Result, Ok, Err, Vec, Global, IfErr, IfOk, refl, arith, inl, inr, ◌∙◌}
+use Rattle.std.proofs.Common.{ℕ, ◌≡◌, ◌+◌, ◌-◌, ◌^◌, ◌≤◌, min, Bool, false, true, IsTrue, List, Some, None, Result, Ok, Err, Vec, Global, IfErr, IfOk, refl, subst, arith, inl, inr, ◌∙◌}
 use Rattle.std.specs.Result.{result_err}
 use Rattle.hg_base.specs.Fault.{HasCause, Rose}
 use Rattle.hg_base.specs.declared.fault.Failed.{Failed}
@@ -25,6 +25,10 @@ rose_last start before after end same later rose = omega (arith, same, later, ro
 
 rose_first : (start before after end : ℕ) → before ≡ start → after ≤ end → Rose before after → Rose start end
 rose_first start before after end same later rose = omega (arith, same, later, rose)
+
+-- a count that rose in a part, and then in the last one, rose twice in the whole
+rose_twice : (start before after end : ℕ) → before ≡ start → Rose before after → Rose after end → min (start + 2) (2 ^ 64 - 1) ≤ end
+rose_twice start before after end same rose again = omega (arith, same, rose, again)
 
 -- who was refused a lock holds it as before
 pub refused_same : (was is : Bool) (before now : ℕ) (ok : Bool) → ok ≡ false → Locks {E = Failed} was is before now (Ok ok) → (is ≡ was) × Rose before now
@@ -93,8 +97,12 @@ module _ (a b c d : Course) (lock : Waits a.history b.history) (unlock : Waits c
     told = λ told. not_returned_by a.history b.history c.history d.history p.past q.past r.past (noted told) same (unlocked (q.past.told ∙ p.past.told ∙ told));
     uncounted = uncounted;
     failed = rose_last start before after end counted later (cause.rose tt);
-    first =
-        inr (fault, inl refl, met_wide a b c d lock unlock p q r taken held Part Whole wide copy before after start end fault (λ rose. rose_first start before after end counted cause.later rose) met);
+    first = inr (
+      fault,
+      inl refl,
+      met_wide a b c d lock unlock p q r taken held Part Whole wide copy before after start end fault (λ rose. rose_first start before after end counted cause.later rose) met,
+      λ shelf. rose_twice start before after end counted (subst (MetChanging Part copy part) shelf met) (cause.rose tt),
+    );
   })))
   once_locked locks (Ok lines) (Err failed) counted later uncounted is met cause free unlocked = inr (inr (inr (record {
     told = λ told. not_returned_by a.history b.history c.history d.history p.past q.past r.past (noted told) same (unlocked (q.past.told ∙ p.past.told ∙ told));

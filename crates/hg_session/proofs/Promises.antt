@@ -14,8 +14,8 @@ use Rattle.hg_session.proofs.Looks.{not_without}
 use Rattle.hg_session.proofs.Crashes.{crash_safe, lasting}
 use Rattle.hg_session.proofs.Readings.{unreadable_now}
 use Rattle.hg_session.specs.Acts.{Makes}
-use Rattle.hg_session.specs.Call.{Call, Count, Fails, Saved, Serves, Watched}
-use Rattle.hg_session.specs.Change.{FailsOrUnwritten, Fits, FitsFirst, IsDone, IsEarly, IsLocked, IsMade, IsReadFirst, IsReadSome, IsSafe, IsUnlooked, MayFollowWriting, MetChanging, MetLocking, NoneOurs, Stretch, id_read, makes_in, up_to}
+use Rattle.hg_session.specs.Call.{Call, Count, Fails, IsLeftAlone, Saved, Serves, Watched}
+use Rattle.hg_session.specs.Change.{FailsOrUnwritten, Fits, FitsFirst, IsDone, IsEarly, IsLocked, IsMade, IsReadFirst, IsReadSome, IsSafe, MayFollowWriting, MetChanging, MetLocking, NoneOurs, Stretch, id_read, makes_in, up_to}
 use Rattle.hg_session.specs.Changed.{IsChangeText, IsExpectedChange, IsMadeOf, OnlyLooks, RanChange, change_look, status_of}
 use Rattle.hg_session.proofs.Records.{puts_none}
 use Rattle.hg_session.specs.Look.{LeavesAt, Stage, at_first, at_saving, at_telling}
@@ -131,8 +131,8 @@ module _ (Does : Makes) (copy : Watched tree.History) (a b : Course) (before aft
 -- ---- the whole command
 
 module _ (command : Changing) (words : List (List ℕ)) (copy : Watched tree.History) (a b : Course) (before after : ℕ) (locks oversize : Count) (called : Command) (out err : Watched (Option (List ℕ)))
-    (silent : IsSilent out) (uncounted : oversize.after ≡ oversize.before) (looks : OnlyLooks copy) (unlooked : command ≡ a_change.Forget → IsUnlooked copy)
-    (behind : IsUnlooked copy ⊎ IsReadSome (record { old = a.history; new = b.history; before = before; after = after })) (asked : IsTrue a.history.told → AsksRecord a.history b.history) (kept : Goes a b) where
+    (silent : IsSilent out) (uncounted : oversize.after ≡ oversize.before) (looks : OnlyLooks copy) (unlooked : command ≡ a_change.Forget → IsLeftAlone copy)
+    (behind : IsLeftAlone copy ⊎ IsReadSome (record { old = a.history; new = b.history; before = before; after = after })) (asked : IsTrue a.history.told → AsksRecord a.history b.history) (kept : Goes a b) where
   abbrev call : Call
   call = record {
     command = called;
@@ -179,7 +179,7 @@ module _ (command : Changing) (words : List (List ℕ)) (copy : Watched tree.His
     first =
         elim is.first [
           | inl done ↦ inl (same a_fault.ShelfFailed done.0, done.1, done.2, done.3)
-          | inr met ↦ inr (met.0, same met.0 met.1, met.2)
+          | inr met ↦ inr (met.0, same met.0 met.1, met.2, met.3)
         ];
   })))
 
@@ -286,7 +286,7 @@ module _ (command : Changing) (words : List (List ℕ)) (copy : Watched tree.His
   stage_memory fault met (inr none) line = (at_first, ((none, inl tt), silent, line))
 
   ran_fault : (status : ℕ) (fault answered : Fault) → LockedBy (Some fault) → (answered ≡ fault) ⊎ (answered ≡ a_fault.OutOfMemory) → MetLocking Does copy call.looked.shelf locks fault
-      → (Undisturbed a b → IsSafe Does call.saved (Some fault)) → FailsOrUnwritten a.history b.history fault → (locks.before < locks.after → fault ≡ a_fault.Held) → (copy.before < copy.after → fault ≡ a_fault.TreeFailed) → (IsEarly fault → IsUnlooked copy)
+      → (Undisturbed a b → IsSafe Does call.saved (Some fault)) → FailsOrUnwritten a.history b.history fault → (locks.before < locks.after → fault ≡ a_fault.Held) → (copy.before < copy.after → fault ≡ a_fault.TreeFailed) → (IsEarly fault → IsLeftAlone copy)
       → TellsLine err.old err.new err.before err.after answered → RanChange command words call status (Some answered)
   ran_fault status fault answered locked (inl same) met safe written held failed early line =
       subst (λ (f : Fault). TellsLine err.old err.new err.before err.after f → RanChange command words call status (Some f)) (sym same) (λ told. record {
@@ -340,7 +340,7 @@ module _ (command : Changing) (words : List (List ℕ)) (copy : Watched tree.His
       }) line
 
   pub ran_failed : (status : ℕ) (fault : Fault) (answered : Option Fault) → LockedBy (Some fault) → IsFaultOrMemory answered fault → MetLocking Does copy call.looked.shelf locks fault
-      → (Undisturbed a b → IsSafe Does call.saved (Some fault)) → FailsOrUnwritten a.history b.history fault → (locks.before < locks.after → fault ≡ a_fault.Held) → (copy.before < copy.after → fault ≡ a_fault.TreeFailed) → (IsEarly fault → IsUnlooked copy)
+      → (Undisturbed a b → IsSafe Does call.saved (Some fault)) → FailsOrUnwritten a.history b.history fault → (locks.before < locks.after → fault ≡ a_fault.Held) → (copy.before < copy.after → fault ≡ a_fault.TreeFailed) → (IsEarly fault → IsLeftAlone copy)
       → IfSome answered (λ f. TellsLine err.old err.new err.before err.after f) → RanChange command words call status answered
   ran_failed status fault None locked is met safe written held failed early line = not_without None fault is refl
   ran_failed status fault (Some f) locked (inl same) met safe written held failed early line = ran_fault status fault f locked (inl (cc same)) met safe written held failed early line

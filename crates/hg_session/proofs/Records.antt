@@ -8,8 +8,8 @@ use Rattle.hg_stream.specs.Stream.{Grown}
 use Rattle.hg_shelf.specs.History as shelf
 use Rattle.hg_shelf.proofs.Histories as shelves
 use Rattle.hg_session.specs.Loaded.{AsksRecord}
-use Rattle.hg_session.specs.Call.{Call, Serves, Sink}
-use Rattle.hg_session.specs.Debug.{HasText, IsExpectedOf, IsLeftAlone, IsTextIn, RanRecord, record_look}
+use Rattle.hg_session.specs.Call.{Call, IsLeftAlone, Serves, Sink}
+use Rattle.hg_session.specs.Debug.{HasText, IsExpectedOf, IsTextIn, RanRecord, record_look}
 use Rattle.hg_session.specs.Load.{of_read}
 use Rattle.hg_session.specs.Look.{LeavesAt, Looks, Stage, at_first, at_printing, at_saving, at_telling}
 use Rattle.hg_session.specs.Put.{IsEmpty, IsSilent, LeavesFront, Puts, Tells}

@@ -171,6 +171,9 @@ module _ (a b c d : Course) (lock : Waits a.history b.history) (unlock : Waits c
         new = is.new;
         over = is.over;
         reads = is.reads;
+        held = is.held;
+        same = is.same;
+        encoded = is.encoded;
         shown = subst (IsExact is.new (scene c from).files) (sym (to_end to far).shown) is.shown;
         left = λ f left. is.left f ((to_end to far).left f left);
       })

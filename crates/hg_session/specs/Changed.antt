@@ -12,8 +12,8 @@ use Rattle.hg_save.specs.Others.{KeepsRecords}
 use Rattle.hg_save.specs.Record.{id_in, reading}
 use Rattle.hg_save.specs.Saved.{IsLatest}
 use Rattle.hg_session.specs.Acts.{Makes}
-use Rattle.hg_session.specs.Call.{Call, Fails, Serves, Watched}
-use Rattle.hg_session.specs.Change.{Fits, IsDone, IsEarly, IsLocked, IsReadSome, IsSafe, IsUnlooked, IsUnwritten, MetLocking, Stretch, makes_in}
+use Rattle.hg_session.specs.Call.{Call, Fails, IsLeftAlone, Serves, Watched}
+use Rattle.hg_session.specs.Change.{Fits, IsDone, IsEarly, IsLocked, IsReadSome, IsSafe, IsUnwritten, MetLocking, Stretch, makes_in}
 use Rattle.hg_session.specs.Loaded.{AsksRecord, IsUnreadable}
 use Rattle.hg_session.specs.Look.{Look, Looks}
 use Rattle.hg_session.specs.Put.{IsEmpty, IsFaultOrMemory, IsSilent}
@@ -128,10 +128,10 @@ pub record RanChange (command : Changing) (words : List (List ℕ)) (call : Call
   pub uncounted : call.looked.oversize.after ≡ call.looked.oversize.before
   pub looks : OnlyLooks call.looked.tree
   -- it is looked at only behind a record that was read
-  pub behind : IsUnlooked call.looked.tree ⊎ IsReadSome call.looked.shelf
-  pub early : IsSomeAnd fault IsEarly → IsUnlooked call.looked.tree
+  pub behind : IsLeftAlone call.looked.tree ⊎ IsReadSome call.looked.shelf
+  pub early : IsSomeAnd fault IsEarly → IsLeftAlone call.looked.tree
   -- where files are forgotten the tree isn't asked
-  pub unlooked : command ≡ a_change.Forget → IsUnlooked call.looked.tree
+  pub unlooked : command ≡ a_change.Forget → IsLeftAlone call.looked.tree
   -- below `.hg` it asks for no more than a load does
   pub asked : IsTrue call.looked.shelf.old.told → AsksRecord call.looked.shelf.old call.looked.shelf.new
   -- what was so far stays

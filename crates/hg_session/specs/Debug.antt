@@ -5,13 +5,12 @@ use Rattle.hg_report.specs.Debug.{IsDebugText}
 use Rattle.hg_report.specs.declared.fault.Fault.{Fault}
 use Rattle.hg_save.specs.Record.{record_in}
 use Rattle.hg_session.specs.Loaded.{AsksRecord, IsLoaded, IsUnreadable, MetReading, WasLoaded}
-use Rattle.hg_session.specs.Call.{Call, Serves, Sink, Watched}
+use Rattle.hg_session.specs.Call.{Call, IsLeftAlone, Serves, Sink, Watched}
 use Rattle.hg_session.specs.Load.{of_read}
 use Rattle.hg_session.specs.Look.{Look, Looks, Shows}
 use Rattle.hg_session.specs.Put.{IsEmpty, IsSilent, LeavesFront, Puts}
 use Rattle.hg_session.specs.declared.read_fault.ReadFault.{ReadFault}
 use Rattle.hg_shelf.specs.History as shelf
-use Rattle.hg_tree.specs.History as tree
 
 -- ---- what is printed
 
@@ -58,11 +57,6 @@ pub record DoesRecord (files : Watched shelf.History) (out : Sink) (result : Res
   pub below : IsTrue files.old.told → AsksRecord files.old files.new
   pub calm_shelf : OnOk result (files.after ≡ files.before)
   pub calm_out : OnOk result (out.after ≡ out.before)
-
--- a tree wasn't asked for anything, and is as it was
-pub record IsLeftAlone (copy : Watched tree.History) : Type 0 where
-  pub history : copy.new ≡ copy.old
-  pub count : copy.after ≡ copy.before
 
 -- what the command did that ended with this fault, or with none
 pub record RanRecord (call : Call) (fault : Option Fault) : Type 0 where

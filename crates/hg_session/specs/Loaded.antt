@@ -13,7 +13,7 @@ use Rattle.hg_image.specs.declared.fault.NodeFault.{NodeFault}
 use Rattle.hg_report.specs.Debug.{IsDebugText}
 use Rattle.hg_report.specs.declared.fault.Fault.{Fault}
 use Rattle.hg_report.specs.declared.fault.Fault.TheVariants as a_session_fault
-use Rattle.hg_save.specs.Asked.{data_asks, docket_ask}
+use Rattle.hg_save.specs.Asked.{docket_ask, named_asks}
 use Rattle.hg_save.specs.Loads.{During, Tries, Try, files_at, found_by, id_by}
 use Rattle.hg_save.specs.Record.{docket_in, id_in, record_in}
 use Rattle.hg_session.specs.Call.{Fails, Watched}
@@ -43,7 +43,7 @@ WasLoaded files = IsTrue files.old.told → (table : Table) × IsRead files.old 
 pub record AsksRecord (old new : History) : Type 0 where
   pub at : ℕ
   pub during : During old new at
-  pub asks : AsksFrontOf (docket_ask ∷ data_asks (docket_of (docket_in (files_at new at)))) old new
+  pub asks : AsksFrontOf (docket_ask ∷ named_asks (docket_in (files_at new at))) old new
 
 -- ---- what reading it answers
 

@@ -21,16 +21,18 @@
 #![tactic(auto)]
 
 mod asked;
+mod coming;
 mod device;
 mod fault;
 mod honest;
 mod listing;
 mod memory;
 mod name;
+mod own;
 mod thing;
 mod things;
 
-pub use asked::{Asked, Change, Outside};
+pub use asked::{Asked, Change, Due, Outside, Own};
 pub use device::Tree;
 pub use fault::TreeFault;
 pub use honest::{faces_are_listed, faces_stay, faces_tell, honest_past, stays_past};

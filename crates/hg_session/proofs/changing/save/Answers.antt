@@ -33,7 +33,7 @@ returns-in-Err-clause-met g c = inr (refl, c.in-Err.ensures.cause.rose tt)
 
 pub returns-clause-recorded : goal.returns-clause-recorded
 returns-clause-recorded g c = λ calm stands some.
-    recorded_by c.args.table.now c.in_ok-new.new c.in_ok-new.ensures.reads c.args.loaded.now.docket.items
+    recorded_by c.args.table.now c.in_ok-new.new c.in_ok-new.ensures.reads c.in_ok-new.ensures.written c.args.loaded.now.docket.items
     (course (g.S.Shelf.history c.args.shelf.now) (g.S.Shelf.images c.args.shelf.now)) (course (g.S.Shelf.history c.publish.new.shelf) (g.S.Shelf.images c.publish.new.shelf)) c.requires.over
     (goes_over c.args.loaded.now.docket.items c.args.table.now c.in_ok-new.new c.requires.over c.in_ok-new.ensures.written c.in_ok-new.ensures.reads) stands
     (c.in-Ok.ensures.sure calm) (c.in-Ok.ensures.exact calm) (c.in-Ok.ensures.gone calm)

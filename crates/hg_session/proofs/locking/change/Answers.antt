@@ -97,7 +97,7 @@ returns-in-Err-clause-locked g c = inr (inl (record {
   failed = c.in-Err.ensures.cause.rose tt;
   unwritten = record { none = c.lock.ensures.waits.none };
   unasked = c.lock.ensures.unasked;
-  unlooked = record { same = refl; count = refl };
+  unlooked = record { history = refl; count = refl };
   answer = inl refl;
 }))
 
@@ -110,7 +110,7 @@ returns-in-Ok-false-clause-locked g c =
       counted = was.1;
       unwritten = record { none = c.lock.ensures.waits.none };
       unasked = c.lock.ensures.unasked;
-      unlooked = record { same = refl; count = refl };
+      unlooked = record { history = refl; count = refl };
       answer = inl refl;
     })
 
