@@ -106,7 +106,7 @@ impl<T: Tree + Drop> Tree for Noted<T> {
     }
 
     fn unlink(&mut self, path: PathRef<'_>) -> Result<bool, Failed> {
-        self.calls.note("unlink", "");
+        self.calls.note("unlink", path.text);
         self.device.unlink(path)
     }
 
@@ -118,7 +118,7 @@ impl<T: Tree + Drop> Tree for Noted<T> {
         place: u64,
         bytes: &[u8],
     ) -> Result<bool, Failed> {
-        self.calls.note("put", "");
+        self.calls.note("put", path.text);
         self.device.put(path, kind, exec, place, bytes)
     }
 }
@@ -189,7 +189,7 @@ impl<O: Sink + Drop> Sink for Noted<O> {
     ghost faults = { λ o. O.faults o.device };
 
     fn put(&mut self, piece: &[u8]) -> Result<usize, Failed> {
-        self.calls.note("put", "");
+        self.calls.note("put", path.text);
         self.device.put(piece)
     }
 }
