@@ -61,18 +61,18 @@ pub fn carry<R: Files + AllocGlobal, T: Tree, S: Shelf, G: Regexps, I: Source, O
         words
         (E.bytes err.old)
         (λ given told before code fault. IsRun
-            given
-            (record {
-              tree = record { old = T.history tree.old; new = T.history tree.new; before = T.faults tree.old; after = T.faults tree.new };
-              shelf = record { old = S.history shelf.old; new = S.history shelf.new; before = S.faults shelf.old; after = S.faults shelf.new };
-              oversize = record { before = G.oversize regexps.old; after = G.oversize regexps.new };
-            })
-            (record { old = course (S.history shelf.old) (S.images shelf.old); new = course (S.history shelf.new) (S.images shelf.new) })
-            (record { before = S.held shelf.old; after = S.held shelf.new })
-            (record { old = O.bytes out.old; new = O.bytes out.new; before = O.faults out.old; after = O.faults out.new })
-            (record { old = told; new = E.bytes err.new; before = before; after = E.faults err.new })
-            code
-            fault)) }
+        given
+        (record {
+          tree = record { old = T.history tree.old; new = T.history tree.new; before = T.faults tree.old; after = T.faults tree.new };
+          shelf = record { old = S.history shelf.old; new = S.history shelf.new; before = S.faults shelf.old; after = S.faults shelf.new };
+          oversize = record { before = G.oversize regexps.old; after = G.oversize regexps.new };
+        })
+        (record { old = course (S.history shelf.old) (S.images shelf.old); new = course (S.history shelf.new) (S.images shelf.new) })
+        (record { before = S.held shelf.old; after = S.held shelf.new })
+        (record { old = O.bytes out.old; new = O.bytes out.new; before = O.faults out.old; after = O.faults out.new })
+        (record { old = told; new = E.bytes err.new; before = before; after = E.faults err.new })
+        code
+        fault)) }
     // Else nothing is looked at, saved or put to `out`.
     ensures stopped { IfErr result (λ status. (status ≡ 255) × (tree.new ≡ tree.old) × (shelf.new ≡ shelf.old) × (out.new ≡ out.old)) }
     ensures unread { input.new ≡ input.old }
@@ -88,15 +88,6 @@ pub fn carry<R: Files + AllocGlobal, T: Tree, S: Shelf, G: Regexps, I: Source, O
     if let Some(status) = stopped(rt, inside, &placed, err) {
         return Err(status);
     }
-    let outcome = run(
-        alloc,
-        &placed.words,
-        tree,
-        shelf,
-        regexps,
-        input,
-        out,
-        err,
-    );
+    let outcome = run(alloc, &placed.words, tree, shelf, regexps, input, out, err);
     Ok(Ran { placed, outcome })
 }
