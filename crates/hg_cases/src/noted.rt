@@ -1,6 +1,6 @@
 //! Devices that note the names of the calls that are made of them.
 
-use hg_base::{Failed, Got, PathRef, Stat};
+use hg_base::{Failed, Got, Kind, PathRef, Stat};
 use hg_shelf::Shelf;
 use hg_stream::Sink;
 use hg_tree::{Name, Tree, TreeFault};
@@ -104,6 +104,23 @@ impl<T: Tree + Drop> Tree for Noted<T> {
         self.calls.note("read", "");
         self.device.read(path, place, buf)
     }
+
+    fn unlink(&mut self, path: PathRef<'_>) -> Result<bool, Failed> {
+        self.calls.note("unlink", path.text);
+        self.device.unlink(path)
+    }
+
+    fn put(
+        &mut self,
+        path: PathRef<'_>,
+        kind: Kind,
+        exec: bool,
+        place: u64,
+        bytes: &[u8],
+    ) -> Result<bool, Failed> {
+        self.calls.note("put", path.text);
+        self.device.put(path, kind, exec, place, bytes)
+    }
 }
 
 impl<S: Shelf + Drop> Shelf for Noted<S> {
@@ -172,7 +189,7 @@ impl<O: Sink + Drop> Sink for Noted<O> {
     ghost faults = { λ o. O.faults o.device };
 
     fn put(&mut self, piece: &[u8]) -> Result<usize, Failed> {
-        self.calls.note("put", "");
+        self.calls.note("put", path.text);
         self.device.put(piece)
     }
 }

@@ -1,16 +1,17 @@
 -- What a run answers by its words, and what holds of lists of runs.
-use Rattle.std.specs.Prelude.{ℕ, ◌≡◌, ◌⊎◌, List, Option, Result, Ok, Err, IfSome, IsTrue}
+use Rattle.std.specs.Prelude.{ℕ, ◌≡◌, ◌⊎◌, List, Option, Ok, Err, IfSome, IsTrue}
 use Rattle.hg_base.specs.Runs.{RunsEach}
 use Rattle.hg_entry.specs.Table.{Table}
 use Rattle.hg_report.specs.Cause.{of_words}
 use Rattle.hg_report.specs.declared.fault.Fault.{Fault}
-use Rattle.hg_save.specs.Others.{KeepsRecords}
+use Rattle.hg_save.specs.Loads.{files_at}
+use Rattle.hg_save.specs.Others.{HasData, KeepData, KeepsFiles, KeepsRecords}
 use Rattle.hg_save.specs.Saved.{IsLatest}
 use Rattle.hg_session.specs.Answered.{IsAnswered, IsIdle}
-use Rattle.hg_session.specs.Call.{Call, Count, Looked, Saved, Sink}
+use Rattle.hg_session.specs.Call.{Count, Looked, Saved, Sink}
 use Rattle.hg_session.specs.Crash.{IsCrashSafe}
 use Rattle.hg_session.specs.Put.{IsFaultOrMemory, Tells}
-use Rattle.hg_shelf.specs.History.{others}
+use Rattle.hg_shelf.specs.History.{others, us}
 use Rattle.hg_shelf.specs.Images.{Course, last_scene}
 use Rattle.hg_shelf.specs.Polite.{OthersOnlyRead}
 use Rattle.hg_words.specs.Command.{command_of}
@@ -57,9 +58,19 @@ pub record OthersKeep (first last : Course) : Type 0 where
 abbrev pub IsSafe : {S : Type 0} → (S → Course) → List (List ℕ) → S → S → Type 0
 IsSafe course_of words old new = (own : Option Table) × IsCrashSafe own (saved_by course_of old new)
 
+-- what holds of a list of runs as one
+pub record KeepsAll (first last : Course) : Type 0 where
+  -- no docket that a crash might leave is ahead of the one that stands
+  pub latest : IsLatest (last_scene last)
+  -- each step of the runs keeps the data that dockets name
+  pub keeping : KeepsFiles us last.history first.history.last
+
 -- so it is of each run of every list of runs, with others publishing between and beside them, from a first shelf on of which no docket that a crash
--- might leave is ahead; and then none is at the end
+-- might leave is ahead; and then none is at the end. Where the standing docket's data file is there at first, and others keep the data that dockets name
+-- too, it is kept throughout, which is what a load asks of others
 abbrev pub EachIsSafe : {S : Type 0} → (S → Course) → Type 0
 EachIsSafe {S = S} course_of =
     (calls : List (List (List ℕ))) (first last : S) → IsLatest (last_scene (course_of first)) → OthersKeep (course_of first) (course_of last) → RunsEach (Runs course_of) calls first last
-    → RunsEach (IsSafe course_of) calls first last × IsLatest (last_scene (course_of last))
+    → RunsEach (IsSafe course_of) calls first last × KeepsAll (course_of first) (course_of last)
+    × (HasData (files_at (course_of last).history (course_of first).history.last) → KeepsFiles others (course_of last).history (course_of first).history.last
+    → KeepData (course_of last).history (course_of first).history.last)

@@ -8,6 +8,7 @@ use crate::contents::read_name;
 use crate::disk::is_absence;
 use crate::failure::{FirstFailure, Reason};
 use crate::look::{NO_TIME, stat_of};
+use crate::putting::{Made, Wanted, put_name, unlink_name};
 use hg_base::{Failed, Got, Stat};
 use std::fs;
 use std::rt::Files;
@@ -16,6 +17,7 @@ use std::rt::Files;
 #[derive(Drop)]
 pub(crate) struct Staying<'a, R: Files> {
     pub(crate) rt: &'a R,
+    made: Option<Made<R::File>>,
     pub(crate) failure: FirstFailure,
 }
 
@@ -23,6 +25,7 @@ impl<'a, R: Files + AllocGlobal> Staying<'a, R> {
     pub(crate) fn new(rt: &'a R) -> Staying<'a, R> {
         Staying {
             rt,
+            made: None,
             failure: FirstFailure::new(),
         }
     }
@@ -66,6 +69,32 @@ impl<'a, R: Files + AllocGlobal> Staying<'a, R> {
             return Ok(false);
         }
         self.is_dir(dir)
+    }
+
+    /// Takes a file or a link away, and says whether one stood at the path.
+    pub(crate) fn unlink(&mut self, path: &str) -> Result<bool, Failed> {
+        self.check_in_root(path)?;
+        match unlink_name(self.rt, path) {
+            Ok(done) => Ok(done),
+            Err(reason) => Err(self.failed(path, reason)),
+        }
+    }
+
+    /// Puts a file or a link, or more bytes behind a file, and says whether it could.
+    pub(crate) fn put(&mut self, path: &str, wanted: Wanted, bytes: &[u8]) -> Result<bool, Failed> {
+        self.check_in_root(path)?;
+        match put_name(self.rt, &mut self.made, path, wanted, bytes) {
+            Ok(done) => Ok(done),
+            Err(reason) => Err(self.failed(path, reason)),
+        }
+    }
+
+    // What stands in a directory below the root isn't changed from here: a link that is put there in between would be followed.
+    fn check_in_root(&mut self, path: &str) -> Result<(), Failed> {
+        if path.contains('/') {
+            return Err(self.failed(path, Reason::Words("the root has no name that serves")));
+        }
+        Ok(())
     }
 
     // Whether each proper ancestor of the path is a directory, and no link to one. The highest is looked at first.

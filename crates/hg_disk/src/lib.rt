@@ -23,6 +23,7 @@ mod lock_file;
 mod look;
 mod opened;
 mod place;
+mod putting;
 mod real_shelf;
 mod real_tree;
 mod root;

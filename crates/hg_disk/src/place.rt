@@ -14,6 +14,7 @@ use crate::contents::read_name;
 use crate::disk::is_absence;
 use crate::failure::{FirstFailure, Reason};
 use crate::look::{NO_TIME, stat_of};
+use crate::putting::{Made, Wanted, make_step, put_name, unlink_name};
 use crate::root::Named;
 use crate::spot::{Spot, spot_of};
 use crate::way::Way;
@@ -41,6 +42,7 @@ pub(crate) struct Place<'a, R: Files + Env> {
     home: &'a Named,
     way: Way,
     seen: Seen,
+    made: Option<Made<R::File>>,
     pub(crate) failure: FirstFailure,
 }
 
@@ -97,6 +99,7 @@ impl<'a, R: Files + Env + AllocGlobal> Place<'a, R> {
                 name: String::new(rt.alloc()),
                 spot: None,
             },
+            made: None,
             failure: FirstFailure::new(),
         }
     }
@@ -167,6 +170,57 @@ impl<'a, R: Files + Env + AllocGlobal> Place<'a, R> {
             Gone::Absent => Ok(Got::Absent),
             Gone::Shut => Err(self.shut(dir)),
         }
+    }
+
+    /// Takes a file or a link away, and says whether one stood at the path.
+    pub(crate) fn unlink(&mut self, path: &str) -> Result<bool, Failed> {
+        let (dir, name) = parted(path);
+        match self.go(dir)? {
+            Gone::There => match unlink_name(self.rt, name) {
+                Ok(done) => Ok(done),
+                Err(reason) => Err(self.failed(name, reason)),
+            },
+            Gone::Absent => Ok(false),
+            Gone::Shut => Err(self.shut(dir)),
+        }
+    }
+
+    /// Puts a file or a link, with the folders that are missing above it, or more bytes behind a file, and says whether it could.
+    pub(crate) fn put(&mut self, path: &str, wanted: Wanted, bytes: &[u8]) -> Result<bool, Failed> {
+        let (dir, name) = parted(path);
+        match self.go(dir)? {
+            Gone::There => {}
+            Gone::Absent => if wanted.place > 0 || !self.make_way(dir)? {
+                return Ok(false);
+            },
+            Gone::Shut => return Err(self.shut(dir)),
+        }
+        match put_name(self.rt, &mut self.made, name, wanted, bytes) {
+            Ok(done) => Ok(done),
+            Err(reason) => Err(self.failed(name, reason)),
+        }
+    }
+
+    // Goes on to a folder from as far as there are some, and makes the missing ones; it says whether nothing else is in the way.
+    fn make_way(&mut self, dir: &str) -> Result<bool, Failed> {
+        let Some(rest) = self.way.rest_of(dir) else {
+            return Err(self.unreached(dir));
+        };
+        for name in rest.split('/') {
+            match make_step(self.rt, name) {
+                Ok(true) => {}
+                Ok(false) => return Ok(false),
+                Err(reason) => return Err(self.failed(name, reason)),
+            }
+            match self.enter(name)? {
+                Gone::There => if self.way.is_lost() {
+                    return Err(self.unreached(dir));
+                },
+                Gone::Absent => return Err(self.unreached(dir)),
+                Gone::Shut => return Err(self.shut(dir)),
+            }
+        }
+        Ok(true)
     }
 
     /// That a folder on the way to this one may not be gone into.

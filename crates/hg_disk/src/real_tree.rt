@@ -10,8 +10,9 @@ use crate::ancestors::Staying;
 use crate::disk::counted;
 use crate::entries::{list_from_root, list_there};
 use crate::place::Place;
+use crate::putting::Wanted;
 use crate::root::Root;
-use hg_base::{Failed, Got, PathRef, Stat, risen};
+use hg_base::{Failed, Got, Kind, PathRef, Stat, risen};
 use hg_tree::{Name, Tree, TreeFault};
 use std::alloc::Global;
 use std::rt::{Env, Files};
@@ -24,6 +25,9 @@ use std::rt::{Env, Files};
 ///
 /// It tells nothing of its history, and counts each call that the file system failed. A name that the system can't hold (a component
 /// over 255 bytes) is absent, as is what stands behind a link. A name that isn't text fails the listing of its directory.
+///
+/// What is put or taken away stands in the folder where the process stands by then, so that no link leads elsewhere; from a root without
+/// a name that serves, only what stands right in it is. The bytes aren't made sure on the disk.
 #[derive(Drop)]
 pub struct RealTree<'a, R: Files + Env> {
     looks: Looks<'a, R>,
@@ -84,6 +88,24 @@ impl<'a, R: Files + Env + AllocGlobal> Tree for RealTree<'a, R> {
         let answer = read_at(&mut self.looks, path.text, place, buf);
         counted(&mut self.faults, answer)
     }
+
+    fn unlink(&mut self, path: PathRef<'_>) -> Result<bool, Failed> {
+        let answer = unlink_at(&mut self.looks, path.text);
+        counted(&mut self.faults, answer)
+    }
+
+    fn put(
+        &mut self,
+        path: PathRef<'_>,
+        kind: Kind,
+        exec: bool,
+        place: u64,
+        bytes: &[u8],
+    ) -> Result<bool, Failed> {
+        let wanted = Wanted { kind, exec, place };
+        let answer = put_at(&mut self.looks, path.text, wanted, bytes);
+        counted(&mut self.faults, answer)
+    }
 }
 
 // What stands at the path, no link followed. It has a frame of its own, so that what it reads takes no room in the frames of a caller that
@@ -113,6 +135,32 @@ fn read_at<R: Files + Env + AllocGlobal>(
     match looks {
         Looks::From(from) => from.read(path, place, buf),
         Looks::Staying(staying) => staying.read(path, place, buf),
+    }
+}
+
+// Takes away what stands at the path. It has a frame of its own, as the look has.
+#[inline(never)]
+fn unlink_at<R: Files + Env + AllocGlobal>(
+    looks: &mut Looks<'_, R>,
+    path: &str,
+) -> Result<bool, Failed> {
+    match looks {
+        Looks::From(place) => place.unlink(path),
+        Looks::Staying(staying) => staying.unlink(path),
+    }
+}
+
+// Puts something at the path.
+#[inline(never)]
+fn put_at<R: Files + Env + AllocGlobal>(
+    looks: &mut Looks<'_, R>,
+    path: &str,
+    wanted: Wanted,
+    bytes: &[u8],
+) -> Result<bool, Failed> {
+    match looks {
+        Looks::From(from) => from.put(path, wanted, bytes),
+        Looks::Staying(staying) => staying.put(path, wanted, bytes),
     }
 }
 

@@ -13,7 +13,6 @@ use Rattle.hg_mixed.specs.Held.{Held, table}
 use Rattle.hg_ops.specs.Cause.{LeavesAll}
 use Rattle.hg_ops.specs.Step.{IsForget, forget_refusal, is_tracked}
 use Rattle.hg_ops.specs.declared.refusal.OpFault.{OpFault}
-use Rattle.hg_ops.specs.declared.refusal.Refusal.{Refusal}
 use Rattle.hg_ops.specs.declared.refusal.Refusal.TheVariants as a_refusal
 use Rattle.hg_ops.proofs.Added.{same_table}
 
@@ -56,10 +55,10 @@ source_gone path old mid new copied (Err fault) h = inr (record {
   caches = λ at. h.table.caches at ∙ copied.caches at;
 })
 
-there : {X : Type 0} (path : List ℕ) (value other : X) → cond (bytes_eq path path) value other ≡ value
+pub there : {X : Type 0} (path : List ℕ) (value other : X) → cond (bytes_eq path path) value other ≡ value
 there path value other = subst (λ (b : Bool). cond b value other ≡ value) (sym (equal_bytes path)) refl
 
-apart : (was left : EntryData) → was.w ≡ true → left.w ≡ false → Some left ≡ Some was → ⊥
+pub apart : (was left : EntryData) → was.w ≡ true → left.w ≡ false → Some left ≡ Some was → ⊥
 apart was left tracked untracked same = absurd (true≢false (sym tracked ∙ sym (ap w_of same) ∙ untracked))
   where
     w_of : Option EntryData → Bool

@@ -1,3 +1,9 @@
 pub mod Added
+pub mod Collecting
+pub mod Dropping
 pub mod Forgotten
+pub mod ForgottenLent
+pub mod NewParents
+pub mod OneParents
 pub mod OneStep
+pub mod Setting

@@ -2,10 +2,11 @@
 
 ghost use Rattle.std.specs.Prelude.{◌≡◌, None, Some, false, true, IfErr, IfOk, IfSome, OnErr, OnOk};
 ghost use Rattle.hg_entry.specs.Entry.{view};
-ghost use Rattle.hg_mixed.specs.Edits.{IsOfSameImage, IsSame, IsUnchanged, Marks, after_set, after_copy};
+ghost use Rattle.hg_mixed.specs.Edits.{ArePlacedAsBefore, IsOfSameImage, IsSame, IsUnchanged, Lends, Marks, PlacesCopy, after_set, after_copy};
 ghost use Rattle.hg_mixed.specs.Held.{table};
 ghost use Rattle.hg_ops.specs.Cause.{LeavesAll};
 ghost use Rattle.hg_ops.specs.Step.{IsForget, IsUntracked};
+ghost use Rattle.hg_ops.specs.Untracked.{PlacesForgotten, PlacesUntracked};
 ghost use Rattle.hg_ops.specs.declared.refusal.OpFault.TheVariants as a_fault;
 
 use crate::entries::entry_at;
@@ -21,6 +22,8 @@ pub fn forget(mixed: &mut Mixed<'_>, word: &str) -> Result<Option<Refusal>, OpFa
     ensures stepped { IfOk result (λ refused. IsForget word.now (table mixed.old) refused (table mixed.new)) }
     ensures unchanged { IfOk result (λ refused. IfSome refused (λ r. IsUnchanged mixed.old mixed.new)) }
     ensures changed { OnOk result (Marks (IsSame (table mixed.new) (table mixed.old)) mixed.old.changed mixed.new.changed) }
+    ensures lent { OnOk result (Lends word.now (IsSame (table mixed.new) (table mixed.old)) mixed.old mixed.new) }
+    ensures places { IfOk result (λ refused. PlacesForgotten word.now refused mixed.old mixed.new) }
     ensures image { IsOfSameImage mixed.old mixed.new }
     ensures err { OnErr result (LeavesAll word.now (table mixed.old) (table mixed.new)) }
     ensures cause { IfErr result (λ fault. fault ≡ a_fault.OutOfMemory) }
@@ -36,6 +39,8 @@ fn forget_path(mixed: &mut Mixed<'_>, path: PathRef<'_>) -> Result<Option<Refusa
     ensures stepped { IfOk result (λ refused. IsForget path.entry.text.now (table mixed.old) refused (table mixed.new)) }
     ensures unchanged { IfOk result (λ refused. IfSome refused (λ r. IsUnchanged mixed.old mixed.new)) }
     ensures changed { OnOk result (Marks (IsSame (table mixed.new) (table mixed.old)) mixed.old.changed mixed.new.changed) }
+    ensures lent { OnOk result (Lends path.entry.text.now (IsSame (table mixed.new) (table mixed.old)) mixed.old mixed.new) }
+    ensures places { IfOk result (λ refused. PlacesForgotten path.entry.text.now refused mixed.old mixed.new) }
     ensures image { IsOfSameImage mixed.old mixed.new }
     ensures err { OnErr result (LeavesAll path.entry.text.now (table mixed.old) (table mixed.new)) }
     ensures cause { IfErr result (λ fault. fault ≡ a_fault.OutOfMemory) }
@@ -60,6 +65,8 @@ fn untrack(mixed: &mut Mixed<'_>, path: PathRef<'_>, entry: Entry) -> Result<(),
     requires tracked { entry.w ≡ true }
     ensures untracked { OnOk result (IsUntracked path.entry.text.now (Some (view entry)) (table mixed.old) (table mixed.new)) }
     ensures changed { OnOk result (Marks (IsSame (table mixed.new) (table mixed.old)) mixed.old.changed mixed.new.changed) }
+    ensures lent { OnOk result (Lends path.entry.text.now (IsSame (table mixed.new) (table mixed.old)) mixed.old mixed.new) }
+    ensures places { OnOk result (PlacesUntracked path.entry.text.now (Some (view entry)) mixed.old mixed.new) }
     ensures image { IsOfSameImage mixed.old mixed.new }
     ensures err { OnErr result (LeavesAll path.entry.text.now (table mixed.old) (table mixed.new)) }
     ensures cause { IfErr result (λ fault. fault ≡ a_fault.OutOfMemory) }
@@ -81,6 +88,8 @@ fn leave(mixed: &mut Mixed<'_>, path: PathRef<'_>, was: Entry, left: Entry) -> R
     requires untracked { left.w ≡ false }
     ensures table { OnOk result (IsSame (table mixed.new) (after_set path.entry.text.now (view left) (after_copy path.entry.text.now None (table mixed.old)))) }
     ensures changed { OnOk result (Marks (IsSame (table mixed.new) (table mixed.old)) mixed.old.changed mixed.new.changed) }
+    ensures lent { OnOk result (Lends path.entry.text.now (IsSame (table mixed.new) (table mixed.old)) mixed.old mixed.new) }
+    ensures places { OnOk result (PlacesCopy path.entry.text.now ((table mixed.old).sources path.entry.text.now ≡ None) mixed.old mixed.new) }
     ensures image { IsOfSameImage mixed.old mixed.new }
     ensures err { OnErr result (LeavesAll path.entry.text.now (table mixed.old) (table mixed.new)) }
     ensures cause { IfErr result (λ fault. fault ≡ a_fault.OutOfMemory) }
@@ -96,6 +105,8 @@ fn set_left(mixed: &mut Mixed<'_>, path: PathRef<'_>, left: Entry) -> Result<(),
     requires { left.w ≡ false }
     ensures table { OnOk result (IsSame (table mixed.new) (after_set path.entry.text.now (view left) (table mixed.old))) }
     ensures changed { OnOk result (Marks (IsSame (table mixed.new) (table mixed.old)) mixed.old.changed mixed.new.changed) }
+    ensures lent { OnOk result (Lends path.entry.text.now (IsSame (table mixed.new) (table mixed.old)) mixed.old mixed.new) }
+    ensures places { OnOk result (ArePlacedAsBefore mixed.old mixed.new) }
     ensures image { IsOfSameImage mixed.old mixed.new }
     ensures err { OnErr result (IsUnchanged mixed.old mixed.new) }
     ensures cause { IfErr result (λ fault. fault ≡ a_fault.OutOfMemory) }

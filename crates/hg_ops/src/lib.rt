@@ -10,6 +10,8 @@
 //!
 //! A path that is tracked already is added without a look at the working copy, and stays as it is.
 //!
+//! `set_parents` makes of a table one with other parents, by their manifests: each path has an entry exactly where it is tracked or a parent has it.
+//!
 //! ```text
 //! let mut table = Mixed::open(alloc, image)?;
 //! add(&mut table, &mut tree, "src/main.c")?;   // None: tracked
@@ -18,16 +20,21 @@
 //! forget(&mut table, "src/main.c")?;           // Some(Refusal::NotTracked)
 //! ```
 //!
-//! `specs/Step.antt` says what a word makes of a table, `specs/Look.antt` what was looked at and when, `specs/Cause.antt` why a command stops.
+//! `specs/Step.antt` says what a word makes of a table, `specs/Look.antt` what was looked at and when, `specs/Cause.antt` why a command stops, and
+//! `specs/Parents.antt` what other parents make of a table.
 #![tactic(auto)]
 
 mod adding;
 mod entries;
 mod forgetting;
 mod laws;
+mod parents;
+mod paths;
 mod refusal;
+mod wanted;
 
 pub use adding::add;
 pub use forgetting::forget;
-pub use laws::{one_add, one_forget};
+pub use laws::{one_add, one_forget, one_set_parents};
+pub use parents::set_parents;
 pub use refusal::{OpFault, Refusal};

@@ -14,12 +14,12 @@ use Rattle.hg_save.proofs.Stages.{Puts, begins_by}
 
 module _ (loaded : List ℕ) (new : Encoded) (over : IsOver loaded new) where
   -- both files are written, and the docket stands beside the old one
-  record IsBeside (start files : Files) : Type 0 where
+  pub record IsBeside (start files : Files) : Type 0 where
     pub file : files (data_name new.id) ≡ Some (overwritten (content (start (data_name new.id))) new.place new.bytes.items)
     pub docket : files new_docket ≡ Some (overwritten (content (start new_docket)) 0 new.docket.items)
 
   -- the docket takes its place
-  exact_moved : (start e f : Files) → IsBeside start e → Surely (moved new_docket (codes "dirstate")) e f → IsExact new start f
+  pub exact_moved : (start e f : Files) → IsBeside start e → Surely (moved new_docket (codes "dirstate")) e f → IsExact new start f
   exact_moved start e f is moves =
       let file : f (data_name new.id) ≡ Some (overwritten (content (start (data_name new.id))) new.place new.bytes.items) = moves (data_name new.id) ∙ is.file in
       let docket : f (codes "dirstate") ≡ Some (overwritten (content (start new_docket)) 0 new.docket.items) = moves (codes "dirstate") ∙ is.docket in
@@ -34,7 +34,7 @@ module _ (loaded : List ℕ) (new : Encoded) (over : IsOver loaded new) where
       }
 
   -- the old data file goes
-  exact_cleared : (start e f : Files) → IsExact new start e → Perhaps (without (data_name (docket_of loaded).id)) e f → IsExact new start f
+  pub exact_cleared : (start e f : Files) → IsExact new start e → Perhaps (without (data_name (docket_of loaded).id)) e f → IsExact new start f
   exact_cleared start e f is (inl same) = record {
     file = same (data_name new.id) ∙ is.file;
     docket = same (codes "dirstate") ∙ is.docket;
@@ -57,13 +57,13 @@ module _ (loaded : List ℕ) (new : Encoded) (over : IsOver loaded new) where
         ap (λ (file : Option (List ℕ)). Some (overwritten (content file) 0 new.docket.items))
         (one.leads.shown b.history.last first.past.later (omega arith) new_docket (λ is. data_not_new new.id (sym is)))
 
-    beside_shown : IsBeside (last_scene a).files (last_scene c).files
+    pub beside_shown : IsBeside (last_scene a).files (last_scene c).files
     beside_shown = record {
       file = two.leads.shown c.history.last second.past.later (omega arith) (data_name new.id) (data_not_new new.id) ∙ one.sure.shown;
       docket = two.sure.shown ∙ over_start;
     }
 
-    beside_left : (f : Files) → (last_scene c).leaves f → IsBeside (last_scene a).files f
+    pub beside_left : (f : Files) → (last_scene c).leaves f → IsBeside (last_scene a).files f
     beside_left f is =
         let was = two.leads.left c.history.last f second.past.later (omega arith) is in
         record {

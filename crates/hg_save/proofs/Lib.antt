@@ -2,6 +2,7 @@ pub mod Asking
 pub mod Encodings
 pub mod Exact
 pub mod Exits
+pub mod Held
 pub mod Keeping
 pub mod Kept
 pub mod Loads
@@ -15,3 +16,4 @@ pub mod Readings
 pub mod Spans
 pub mod Stages
 pub mod Tails
+pub mod Torn

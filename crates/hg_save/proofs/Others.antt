@@ -11,7 +11,7 @@ use Rattle.hg_image.specs.declared.fault.NodeFault.{NodeFault}
 use Rattle.hg_shelf.specs.History.{Files, History}
 use Rattle.hg_save.proofs.Loads.{last_within, named_refused, named_sound}
 use Rattle.hg_save.proofs.Tails.{front_same}
-use Rattle.hg_save.specs.Loads.{Loads, ReadsUsed, Try, files_at, found_by}
+use Rattle.hg_save.specs.Loads.{IsTry, Loads, ReadsUsed, Tries, Try, files_at, found_by}
 use Rattle.hg_save.specs.Others.{HasFront, IsFrontOf, KeepData, KeepsFront, UsesData, WasLoaded, WasRecorded, named_file}
 use Rattle.hg_save.specs.Record.{data_in, data_name, docket_in, named_reading}
 use Rattle.hg_save.specs.declared.load_fault.LoadFault.{LoadFault}
@@ -57,17 +57,22 @@ kept_by bytes early late recorded keeps None sound is =
     (sym (named_sound bytes late (docket_of bytes) sound refl) ∙ is)
 
 -- what a try found was recorded at the moment of its docket
-pub was_recorded : (old new : History) (tries : List Try) (result : Result Loaded LoadFault) (recorded : Result Table RecordFault) → KeepData new old.last → (load : Loads old new tries result)
-    → found_by new load.tried.last ≡ Some recorded → WasRecorded old new recorded
-was_recorded old new tries result recorded keep load is =
-    let tried : Try = load.tried.last in
-    let within = last_within old new tries load.tried in
+pub tried_record : (old new : History) (tried : Try) (recorded : Result Table RecordFault) → KeepData new old.last → IsTry old new tried → found_by new tried ≡ Some recorded → WasRecorded old new recorded
+tried_record old new tried recorded keep within is =
     let bytes : List ℕ = docket_in (files_at new tried.docket) in
     record {
       at = tried.docket;
       during = within.docket;
       reading = kept_by bytes (files_at new tried.docket) (files_at new tried.file) recorded (keep.kept tried.docket tried.file within.docket.from within.order within.file.to) (docket_refusal bytes) refl is;
     }
+
+-- so was what the last of some tries found
+pub last_record : (old new : History) (tries : List Try) (recorded : Result Table RecordFault) → KeepData new old.last → (t : Tries old new tries) → found_by new t.last ≡ Some recorded → WasRecorded old new recorded
+last_record old new tries recorded keep t is = tried_record old new t.last recorded keep (last_within old new tries t) is
+
+pub was_recorded : (old new : History) (tries : List Try) (result : Result Loaded LoadFault) (recorded : Result Table RecordFault) → KeepData new old.last → (load : Loads old new tries result)
+    → found_by new load.tried.last ≡ Some recorded → WasRecorded old new recorded
+was_recorded old new tries result recorded keep load is = last_record old new tries recorded keep load.tried is
 
 -- a load found the record of one moment
 pub one_record : (old new : History) (tries : List Try) (loaded : Loaded) → KeepData new old.last → Loads old new tries (Ok loaded) → WasRecorded old new (reading_of loaded.docket.items loaded.nodes.items)
@@ -129,6 +134,14 @@ fault_by : (bytes : List ℕ) (early late : Files) (fault : DocketFault) (refusa
 fault_by bytes early late fault (Some first) refused is = named_refused bytes early first refused ∙ sym (named_refused bytes late first refused) ∙ is
 fault_by bytes early late fault None sound is =
     absurd (not_data (data_in (docket_of bytes) late) (docket_of bytes) fault (sym (named_sound bytes late (docket_of bytes) sound refl) ∙ is))
+
+-- the docket has a fault that its reading tells
+pub fault_of : (bytes : List ℕ) (files : Files) (fault : DocketFault) (refusal : Option DocketFault) → docket_refusal bytes ≡ refusal → named_reading bytes files ≡ Some (Err (a_record_fault.Docket fault)) → docket_refusal bytes ≡ Some fault
+fault_of bytes files fault (Some first) refused is =
+    let same : first ≡ fault = cc (sym (named_refused bytes files first refused) ∙ is) in
+    refused ∙ ap (λ (f : DocketFault). Some f) same
+fault_of bytes files fault None sound is =
+    absurd (not_data (data_in (docket_of bytes) files) (docket_of bytes) fault (sym (named_sound bytes files (docket_of bytes) sound refl) ∙ is))
 
 -- a docket's fault that a load told stood at one moment, whatever others do
 pub one_fault : (old new : History) (tries : List Try) (fault : DocketFault) → Loads old new tries (Err (a_fault.Docket fault)) → WasRecorded old new (Err (a_record_fault.Docket fault))

@@ -1,13 +1,14 @@
 -- What the parts of a publication lead to: a write that is made sure, a rename that is made sure, a removal.
-use Rattle.std.proofs.Common.{◌≡◌, ℕ, ◌+◌, List, length, Some, None, IsSome, Bool, true, cond, Result, Ok, Err, refl, sym, ap, ◌∙◌, subst, inl, inr, ◌⊎◌}
+use Rattle.std.proofs.Common.{◌≡◌, ℕ, ◌+◌, List, length, Option, Some, None, IsSome, Bool, true, cond, arith, Result, Ok, Err, refl, sym, ap, ◌∙◌, subst, inl, inr, ◌⊎◌}
 use Rattle.std.specs.Result.{OnErr, OnOk}
 use Rattle.hg_base.proofs.Within.{equal_bytes}
 use Rattle.hg_shelf.specs.History.{Files, Passes}
 use Rattle.hg_shelf.specs.Images.{Acts, Course, Goes, Scene, last_scene, scene}
 use Rattle.hg_shelf.specs.Polite.{Undisturbed}
-use Rattle.hg_shelf.specs.Rules.{Changes, Perhaps, Removes, Renames, Surely, Syncs, SyncsNames, Tears, TornAt, Writes, Written, content, moved, overwritten, without}
+use Rattle.hg_shelf.specs.Rules.{Changes, Perhaps, Removes, Renames, Surely, Syncs, SyncsNames, Tears, TornAt, TornFile, Writes, Written, content, moved, overwritten, without}
+use Rattle.hg_shelf.specs.Torn.{torn_over}
 use Rattle.hg_shelf.proofs.Scenes.{Carried, Knows, acts, changes, first_part, goes_on, passes, second_part, starts, syncs, syncs_names}
-use Rattle.hg_save.specs.Leads.{ButFor, IsDone, IsSure, IsWhole, Leads}
+use Rattle.hg_save.specs.Leads.{IsDone, IsSure, IsWhole, Leads}
 
 -- what comes by a change from what was there before
 abbrev From : (Files → Files → Type 0) → (Files → Type 0) → Files → Type 0
@@ -71,17 +72,34 @@ step_leads : (change shows leaves : Files → Files → Type 0) (a b : Course) (
 step_leads change shows leaves a b S Q R carried still shown left =
     leads_by change a b S Q R (ShownBy shows a) (LeftBy leaves a) carried (shown_by change shows a still shown) (left_by change leaves a still left)
 
-but_itself : (name : List ℕ) (f : Files) → ButFor name f f
-but_itself name f = λ at apart. refl
+-- a file that is torn nowhere
+pub torn_nowhere : (place n : ℕ) (file : Option (List ℕ)) → TornFile place n file file
+torn_nowhere place n None = refl
+torn_nowhere place n (Some bytes) = record {
+  before = λ m near within. refl;
+  after = refl;
+  no_shorter = omega arith;
+  no_longer = omega arith;
+}
+
+torn_itself : (name : List ℕ) (place n : ℕ) (f : Files) → TornAt name place n f f
+torn_itself name place n f = record { elsewhere = λ at apart. refl; here = torn_nowhere place n (f name) }
+
+-- a write that came through whole
+torn_by_write : (name : List ℕ) (place : ℕ) (bytes : List ℕ) (c d : Files) → Written name place bytes c d → TornAt name place (length bytes) c d
+torn_by_write name place bytes c d is = record {
+  elsewhere = is.elsewhere;
+  here = subst (λ (file : Option (List ℕ)). TornFile place (length bytes) (c name) file) (sym is.here) (torn_over (content (c name)) place bytes);
+}
 
 -- ---- a write that is made sure
 
 -- a write that failed
-pub write_failed : (name : List ℕ) (place : ℕ) (bytes : List ℕ) (a b : Course) → a.history.ours ≡ true → b.history.ours ≡ a.history.ours → Goes a b → Undisturbed a b → Acts (Tears name place bytes) a b ⊎ Passes a.history b.history → Leads (ButFor name) a b
+pub write_failed : (name : List ℕ) (place : ℕ) (bytes : List ℕ) (a b : Course) → a.history.ours ≡ true → b.history.ours ≡ a.history.ours → Goes a b → Undisturbed a b → Acts (Tears name place bytes) a b ⊎ Passes a.history b.history → Leads (TornAt name place (length bytes)) a b
 write_failed name place bytes a b ours still goes calm (inl own) =
     let torn : Files → Files → Type 0 = TornAt name place (length bytes) in
-    step_leads (ButFor name) torn torn a b _ _ _ (stepped (Tears name place bytes) torn torn torn a b ours still goes own calm (λ k same rule. rule)) (but_itself name) (λ c d is. is.elsewhere) (λ c d is. is.elsewhere)
-write_failed name place bytes a b ours still goes calm (inr none) = passed (ButFor name) a b ours goes none calm (but_itself name)
+    step_leads torn torn torn a b _ _ _ (stepped (Tears name place bytes) torn torn torn a b ours still goes own calm (λ k same rule. rule)) (torn_itself name place (length bytes)) (λ c d is. is) (λ c d is. is)
+write_failed name place bytes a b ours still goes calm (inr none) = passed (TornAt name place (length bytes)) a b ours goes none calm (torn_itself name place (length bytes))
 
 -- one that succeeded, before it is made sure
 abbrev Wrote : List ℕ → ℕ → List ℕ → Course → Course → Type 0
@@ -91,13 +109,13 @@ wrote : (name : List ℕ) (place : ℕ) (bytes : List ℕ) (a b : Course) → a.
 wrote name place bytes a b ours still goes calm own =
     stepped (Writes name place bytes) (Written name place bytes) (TornAt name place (length bytes)) (TornAt name place (length bytes)) a b ours still goes own calm (λ k same rule. rule)
 
-wrote_leads : (name : List ℕ) (place : ℕ) (bytes : List ℕ) (a b : Course) (S Q R : Files → Type 0) → Carried a b S Q R (ShownBy (Written name place bytes) a) (LeftBy (TornAt name place (length bytes)) a) → Leads (ButFor name) a b
+wrote_leads : (name : List ℕ) (place : ℕ) (bytes : List ℕ) (a b : Course) (S Q R : Files → Type 0) → Carried a b S Q R (ShownBy (Written name place bytes) a) (LeftBy (TornAt name place (length bytes)) a) → Leads (TornAt name place (length bytes)) a b
 wrote_leads name place bytes a b S Q R carried =
-    step_leads (ButFor name) (Written name place bytes) (TornAt name place (length bytes)) a b S Q R carried (but_itself name) (λ c d is. is.elsewhere) (λ c d is. is.elsewhere)
+    step_leads (TornAt name place (length bytes)) (Written name place bytes) (TornAt name place (length bytes)) a b S Q R carried (torn_itself name place (length bytes)) (torn_by_write name place bytes) (λ c d is. is)
 
 -- it could not be made sure
 pub sync_failed : (name : List ℕ) (place : ℕ) (bytes : List ℕ) (a b c : Course) → a.history.ours ≡ true → b.history.ours ≡ a.history.ours → Goes a b → Goes b c → Undisturbed a c
-    → Acts (Writes name place bytes) a b → Passes b.history c.history → Leads (ButFor name) a c
+    → Acts (Writes name place bytes) a b → Passes b.history c.history → Leads (TornAt name place (length bytes)) a c
 sync_failed name place bytes a b c ours still first second calm own none =
     let torn : Files → Files → Type 0 = TornAt name place (length bytes) in
     let S : Files → Type 0 = Written name place bytes (last_scene a).files in
@@ -124,7 +142,7 @@ synced name place bytes a b c ours still again first second calm own sure =
     (λ f is. elim is [ inl before ↦ inr before | inr behind ↦ inr behind ]) (λ f is. elim is [ inl torn ↦ inr torn | inr both ↦ inr both.0 ])
 
 pub put_leads : (name : List ℕ) (place : ℕ) (bytes : List ℕ) (a b c : Course) → a.history.ours ≡ true → b.history.ours ≡ a.history.ours → c.history.ours ≡ b.history.ours → Goes a b → Goes b c → Undisturbed a c
-    → Acts (Writes name place bytes) a b → Acts (Syncs name) b c → Leads (ButFor name) a c
+    → Acts (Writes name place bytes) a b → Acts (Syncs name) b c → Leads (TornAt name place (length bytes)) a c
 put_leads name place bytes a b c ours still again first second calm own sure = wrote_leads name place bytes a c _ _ _ (synced name place bytes a b c ours still again first second calm own sure)
 
 pub put_sure : (name : List ℕ) (place : ℕ) (bytes : List ℕ) (a b c : Course) → a.history.ours ≡ true → b.history.ours ≡ a.history.ours → c.history.ours ≡ b.history.ours → Goes a b → Goes b c → Undisturbed a c

@@ -1,6 +1,6 @@
 -- What a part of a publication changes: of what reads show, and of what a crash may leave.
 use Rattle.std.specs.Prelude.{ℕ, ◌≡◌, ◌≤◌, ◌<◌, ◌+◌, ◌⊎◌, List, [], Some}
-use Rattle.hg_shelf.specs.History.{Files, us}
+use Rattle.hg_shelf.specs.History.{Files, History, readers, us}
 use Rattle.hg_shelf.specs.Images.{Course, Remains, Scene, last_scene, scene}
 use Rattle.hg_shelf.specs.Rules.{Perhaps, Surely, without}
 use Rattle.hg_save.specs.Record.{data_name}
@@ -38,6 +38,10 @@ abbrev pub IsWhole : (Files → Files) → Course → Course → Type 0
 IsWhole change old new = Surely change (last_scene old).files (last_scene new).files ⊎ IsStill old new
 
 -- ---- single steps
+
+-- the lock is held all along: each step is the caller's own, or of one who may only read
+pub record IsHeld (old new : History) : Type 0 where
+  pub each : (k : ℕ) → old.last ≤ k → k < new.last → (new.who k ≡ us) ⊎ (new.who k ≡ readers)
 
 -- each step of the caller's own is by a rule
 pub record OwnSteps (rule : Scene → Scene → Type 0) (old new : Course) : Type 0 where

@@ -8,7 +8,7 @@ use Rattle.hg_entry.specs.Table.{Table}
 use Rattle.hg_image.specs.Reading.{RecordFault, reading_of}
 use Rattle.hg_shelf.specs.History.{Files}
 use Rattle.hg_shelf.specs.Images.{Course, Scene, last_scene, scene}
-use Rattle.hg_shelf.specs.Rules.{content, overwritten}
+use Rattle.hg_shelf.specs.Rules.{TornFile, content, overwritten}
 use Rattle.hg_save.specs.Record.{data_name, docket_in, id_in, reading}
 
 -- the docket is written under this name first
@@ -80,6 +80,24 @@ pub record IsExact (new : Encoded) (start files : Files) : Type 0 where
 pub record HoldsExactly (encoded : Encoded) (old new : Course) : Type 0 where
   pub shown : IsExact encoded (last_scene old).files (last_scene new).files
   pub left : (c : Files) → (last_scene new).leaves c → IsExact encoded (last_scene old).files c
+
+-- the new docket hasn't its place yet: the docket is as it was, and so is the one beside or it was changed at most where the new one is written and
+-- past its old end
+pub record IsUnplaced (bytes : List ℕ) (old now : Files) : Type 0 where
+  pub docket : now (codes "dirstate") ≡ old (codes "dirstate")
+  pub beside : TornFile 0 (length bytes) (old new_docket) (now new_docket)
+
+-- whatever comes of a publication: the new data file is as it was, or was changed at most where it is written and past its old end; and the new
+-- docket hasn't its place yet, or the files hold exactly what is published over those that reads showed at the start
+pub record WritesOnly (new : Encoded) (start old now : Files) : Type 0 where
+  pub file : TornFile new.place (length new.bytes.items) (old (data_name new.id)) (now (data_name new.id))
+  pub stage : IsUnplaced new.docket.items old now ⊎ IsExact new start now
+
+-- at each moment of a call, wherever the docket names the new identifier, reads show exactly what is published over what they showed at the start,
+-- and so does whatever a crash leaves
+pub record NamesExactly (encoded : Encoded) (old new : Course) : Type 0 where
+  pub shown : (k : ℕ) → old.history.last ≤ k → k ≤ new.history.last → id_in (scene new k).files ≡ encoded.id → IsExact encoded (last_scene old).files (scene new k).files
+  pub left : (k : ℕ) (c : Files) → old.history.last ≤ k → k ≤ new.history.last → (scene new k).leaves c → id_in c ≡ encoded.id → IsExact encoded (last_scene old).files c
 
 -- no file is changed but the docket, the one that is written first, and the data files with these identifiers; that of the loaded docket is as it
 -- was or, where that docket names one and the docket names the new one by now, gone

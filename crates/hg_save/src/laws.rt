@@ -1,14 +1,15 @@
 //! Laws of the definitions.
 
-ghost use Rattle.std.specs.Prelude.{◌≡◌, ◌≤◌, ◌<◌, ◌+◌, ℕ, Err, IsTrue, List, None, Ok};
+ghost use Rattle.std.specs.Prelude.{◌≡◌, ◌≤◌, ◌<◌, ◌+◌, ℕ, Err, IsTrue, List, None, Ok, Result, Some};
 ghost use Rattle.hg_append.specs.Encoded.{IsWritten, ReadsAs};
 ghost use Rattle.hg_append.specs.declared.encoding.Encoded.{Encoded};
 ghost use Rattle.hg_docket.specs.Docket.{docket_of, docket_refusal};
 ghost use Rattle.hg_docket.specs.declared.fault.DocketFault.{DocketFault};
-ghost use Rattle.hg_image.specs.Reading.{reading_of};
+ghost use Rattle.hg_entry.specs.Table.{Table};
+ghost use Rattle.hg_image.specs.Reading.{reading_of, RecordFault};
 ghost use Rattle.hg_image.specs.Reading as a_record_fault;
 ghost use Rattle.hg_mixed.specs.Held.{Held, table};
-ghost use Rattle.hg_save.specs.Loads.{files_at, Loads, Try};
+ghost use Rattle.hg_save.specs.Loads.{files_at, found_by, IsTry, Loads, Tries, Try};
 ghost use Rattle.hg_save.specs.Others.{HasData, IsKeeping, IsNotAhead, KeepData, KeepsFiles, KeepsStood, WasLoaded, WasRecorded};
 ghost use Rattle.hg_save.specs.Record.{id_in};
 ghost use Rattle.hg_save.specs.Saved.{IsOver};
@@ -26,7 +27,12 @@ pub fn encoded_over()
 pub fn one_moment()
     ensures found { (old new : History) (tries : List Try) (loaded : Loaded) → KeepData new old.last → Loads old new tries (Ok loaded)
         → WasRecorded old new (reading_of loaded.docket.items loaded.nodes.items) }
-    // So are the bytes that it loaded.
+    // So did each try that found a record, and the last of several.
+    ensures tried { (old new : History) (tried : Try) (recorded : Result Table RecordFault) → KeepData new old.last → IsTry old new tried
+        → found_by new tried ≡ Some recorded → WasRecorded old new recorded }
+    ensures last { (old new : History) (tries : List Try) (recorded : Result Table RecordFault) → KeepData new old.last
+        → (t : Tries old new tries) → found_by new t.last ≡ Some recorded → WasRecorded old new recorded }
+    // The bytes that it loaded stood so at one moment, too.
     ensures bytes { (old new : History) (tries : List Try) (loaded : Loaded) → KeepData new old.last → Loads old new tries (Ok loaded)
         → docket_refusal loaded.docket.items ≡ None → WasLoaded old new loaded }
     // A fault of the docket that it told stood at one moment, whatever others do.

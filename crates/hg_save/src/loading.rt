@@ -8,7 +8,7 @@ ghost use Rattle.hg_shelf.specs.Asks.{AsksInOrder};
 ghost use Rattle.hg_shelf.specs.History.{Passes, now};
 ghost use Rattle.hg_shelf.specs.Images.{Goes, course};
 ghost use Rattle.hg_shelf.specs.declared.asked.Asked.TheVariants as an_ask;
-ghost use Rattle.hg_save.specs.Asked.{AsksAsOf, data_asks, docket_ask, file_asks};
+ghost use Rattle.hg_save.specs.Asked.{AsksAsOf, data_asks, docket_ask, file_asks, named_asks};
 ghost use Rattle.hg_save.specs.Record.{data_name, docket_in};
 ghost use Rattle.hg_save.specs.Loads.{bytes_of, DataFindsDuring, FileFindsDuring, FrontFinds, Loads, NamedFinds, Try};
 ghost use Rattle.hg_save.specs.declared.load_fault.LoadFault.TheVariants as a_fault;
@@ -133,7 +133,7 @@ fn load_named<S: Shelf>(alloc: Global, shelf: &mut S, bytes: &[u8]) -> Result<Lo
     ensures passes { Passes (S.history shelf.old) (S.history shelf.new) }
     ensures kept { Goes (course (S.history shelf.old) (S.images shelf.old)) (course (S.history shelf.new) (S.images shelf.new)) }
     ensures held { S.held shelf.new ≡ S.held shelf.old }
-    ensures asked { IsTrue (S.history shelf.old).told → AsksInOrder (data_asks (docket_of bytes.now)) (S.history shelf.old) (S.history shelf.new) result }
+    ensures asked { IsTrue (S.history shelf.old).told → AsksInOrder (named_asks bytes.now) (S.history shelf.old) (S.history shelf.new) result }
     ensures found { IsTrue (S.history shelf.old).told → NamedFinds (S.history shelf.old) (S.history shelf.new) bytes.now result }
     ensures few { IfOk result (λ l. length l.docket.items ≤ 512) }
     ensures whole { IfOk result (λ l. docket_refusal l.docket.items ≡ None) }

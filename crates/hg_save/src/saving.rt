@@ -1,16 +1,16 @@
 //! Publishing a table: the data file, then the docket.
 
-ghost use Rattle.std.specs.Prelude.{◌≡◌, ◌≤◌, ◌∷◌, [], length, None, true, OnOk, OnErr};
+ghost use Rattle.std.specs.Prelude.{◌≡◌, ◌≤◌, ◌∷◌, [], length, None, true, IsTrue, OnOk, OnErr};
 ghost use Rattle.hg_base.specs.Fault.{HasCause};
 ghost use Rattle.hg_docket.specs.Docket.{docket_of, docket_refusal};
 ghost use Rattle.hg_shelf.specs.History.{us};
 ghost use Rattle.hg_shelf.specs.Asks.{AsksNothing};
 ghost use Rattle.hg_shelf.specs.Images.{Goes, course, last_scene};
 ghost use Rattle.hg_shelf.specs.Polite.{Undisturbed};
-ghost use Rattle.hg_save.specs.Leads.{Clears, Leads, OwnSteps, StepBy};
+ghost use Rattle.hg_save.specs.Leads.{Clears, IsHeld, Leads, OwnSteps, StepBy};
 ghost use Rattle.hg_save.specs.Others.{KeepsFiles, KeepsRecords};
 ghost use Rattle.hg_save.specs.Record.{IsSound, data_name};
-ghost use Rattle.hg_save.specs.Saved.{HoldsExactly, IsFree, IsLatest, IsOver, KeepsOthers, LeavesOnly, Records, ShowsOnly, Stands, published};
+ghost use Rattle.hg_save.specs.Saved.{HoldsExactly, IsFree, IsLatest, IsOver, KeepsOthers, LeavesOnly, NamesExactly, Records, ShowsOnly, Stands, WritesOnly, published};
 
 use crate::loaded::Loaded;
 use crate::steps::{put, swap};
@@ -45,6 +45,7 @@ fn clear<S: Shelf>(shelf: &mut S, docket: &[u8]) -> Result<(), Failed>
         (StepBy (Clears (docket_of docket.now).id))
         (course (S.history shelf.old) (S.images shelf.old))
         (course (S.history shelf.new) (S.images shelf.new)) }
+    ensures lock { IsTrue (S.history shelf.old).told → IsHeld (S.history shelf.old) (S.history shelf.new) }
     ensures kept { Goes (course (S.history shelf.old) (S.images shelf.old)) (course (S.history shelf.new) (S.images shelf.new)) }
     ensures ours { (S.history shelf.new).ours ≡ (S.history shelf.old).ours }
     ensures unasked { AsksNothing (S.history shelf.old) (S.history shelf.new) }
@@ -89,6 +90,17 @@ pub fn publish<S: Shelf>(shelf: &mut S, loaded: &Loaded, new: &Encoded) -> Resul
         new.now
         (course (S.history shelf.old) (S.images shelf.old))
         (course (S.history shelf.new) (S.images shelf.new))) }
+    // Whatever it answers: at each moment since the start, and in whatever a crash may leave then, the new data file and the docket beside are as
+    // they were, or were changed at most where they are written and past their old end; and the docket is as it was, or all is exact.
+    ensures torn { Undisturbed (course (S.history shelf.old) (S.images shelf.old)) (course (S.history shelf.new) (S.images shelf.new))
+        → Leads
+        (WritesOnly new.now (last_scene (course (S.history shelf.old) (S.images shelf.old))).files)
+        (course (S.history shelf.old) (S.images shelf.old))
+        (course (S.history shelf.new) (S.images shelf.new)) }
+    // And wherever the docket names the new identifier, the files hold exactly the new bytes over what stood there.
+    ensures named { Undisturbed (course (S.history shelf.old) (S.images shelf.old)) (course (S.history shelf.new) (S.images shelf.new))
+        → IsFree new.now.id (last_scene (course (S.history shelf.old) (S.images shelf.old)))
+        → NamesExactly new.now (course (S.history shelf.old) (S.images shelf.old)) (course (S.history shelf.new) (S.images shelf.new)) }
     // At each moment since the start reads show the record that they showed then, or the new table.
     ensures left { Undisturbed (course (S.history shelf.old) (S.images shelf.old)) (course (S.history shelf.new) (S.images shelf.new))
         → IsFree new.now.id (last_scene (course (S.history shelf.old) (S.images shelf.old)))
@@ -121,6 +133,8 @@ pub fn publish<S: Shelf>(shelf: &mut S, loaded: &Loaded, new: &Encoded) -> Resul
         result
         (((docket_of loaded.now.docket.items).id ≡ [] → ⊥)
         → (last_scene (course (S.history shelf.new) (S.images shelf.new))).files (data_name (docket_of loaded.now.docket.items).id) ≡ None) }
+    // Each step meanwhile is its own, or of one who may only read.
+    ensures lock { IsTrue (S.history shelf.old).told → IsHeld (S.history shelf.old) (S.history shelf.new) }
     ensures kept { Goes (course (S.history shelf.old) (S.images shelf.old)) (course (S.history shelf.new) (S.images shelf.new)) }
     ensures ours { (S.history shelf.new).ours ≡ (S.history shelf.old).ours }
     ensures unasked { AsksNothing (S.history shelf.old) (S.history shelf.new) }

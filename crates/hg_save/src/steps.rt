@@ -6,8 +6,8 @@ ghost use Rattle.hg_docket.specs.Docket.{docket_of, docket_refusal};
 ghost use Rattle.hg_shelf.specs.Asks.{AsksNothing};
 ghost use Rattle.hg_shelf.specs.Images.{Goes, course, last_scene};
 ghost use Rattle.hg_shelf.specs.Polite.{Undisturbed};
-ghost use Rattle.hg_shelf.specs.Rules.{Perhaps, content, moved, overwritten, without};
-ghost use Rattle.hg_save.specs.Leads.{ButFor, IsDone, IsSure, IsWhole, Leads, OnceBy, OwnSteps, StepBy};
+ghost use Rattle.hg_shelf.specs.Rules.{Perhaps, TornAt, content, moved, overwritten, without};
+ghost use Rattle.hg_save.specs.Leads.{ButFor, IsDone, IsHeld, IsSure, IsWhole, Leads, OnceBy, OwnSteps, StepBy};
 ghost use Rattle.hg_save.specs.Record.{data_name};
 
 use hg_base::Failed;
@@ -21,6 +21,12 @@ pub(crate) fn put<S: Shelf>(
     bytes: &[u8],
 ) -> Result<(), Failed>
     requires { (S.history shelf.old).ours ≡ true }
+    // The file is as it was, or changed at most where it is written and past its old end.
+    ensures torn { Undisturbed (course (S.history shelf.old) (S.images shelf.old)) (course (S.history shelf.new) (S.images shelf.new))
+        → Leads
+        (TornAt name.now place (length bytes.now))
+        (course (S.history shelf.old) (S.images shelf.old))
+        (course (S.history shelf.new) (S.images shelf.new)) }
     ensures leads { Undisturbed (course (S.history shelf.old) (S.images shelf.old)) (course (S.history shelf.new) (S.images shelf.new))
         → Leads (ButFor name.now) (course (S.history shelf.old) (S.images shelf.old)) (course (S.history shelf.new) (S.images shelf.new)) }
     ensures sure { Undisturbed (course (S.history shelf.old) (S.images shelf.old)) (course (S.history shelf.new) (S.images shelf.new))
@@ -33,6 +39,7 @@ pub(crate) fn put<S: Shelf>(
     // Each of its steps changes no other file.
     ensures steps { Undisturbed (course (S.history shelf.old) (S.images shelf.old)) (course (S.history shelf.new) (S.images shelf.new))
         → OwnSteps (StepBy (ButFor name.now)) (course (S.history shelf.old) (S.images shelf.old)) (course (S.history shelf.new) (S.images shelf.new)) }
+    ensures lock { IsTrue (S.history shelf.old).told → IsHeld (S.history shelf.old) (S.history shelf.new) }
     ensures kept { Goes (course (S.history shelf.old) (S.images shelf.old)) (course (S.history shelf.new) (S.images shelf.new)) }
     ensures ours { (S.history shelf.new).ours ≡ (S.history shelf.old).ours }
     ensures unasked { AsksNothing (S.history shelf.old) (S.history shelf.new) }
@@ -65,6 +72,7 @@ pub(crate) fn swap<S: Shelf>(shelf: &mut S, from: &str, to: &str) -> Result<(), 
         (OnceBy (last_scene (course (S.history shelf.old) (S.images shelf.old))) (moved from.now to.now))
         (course (S.history shelf.old) (S.images shelf.old))
         (course (S.history shelf.new) (S.images shelf.new)) }
+    ensures lock { IsTrue (S.history shelf.old).told → IsHeld (S.history shelf.old) (S.history shelf.new) }
     ensures kept { Goes (course (S.history shelf.old) (S.images shelf.old)) (course (S.history shelf.new) (S.images shelf.new)) }
     ensures ours { (S.history shelf.new).ours ≡ (S.history shelf.old).ours }
     ensures unasked { AsksNothing (S.history shelf.old) (S.history shelf.new) }

@@ -28,7 +28,7 @@ module _ (command : Changing) (files other : Watched shelf.History) where
   steps_over before after (deed ∷ more) old new steps = (
     steps.0,
     steps.1,
-    record { past = steps.2.past; made = step_over command before steps.0 deed.word old deed.refused steps.1 steps.2.made },
+    record { past = steps.2.past; made = step_over command before steps.0 deed.word old deed.refused steps.1 steps.2.made; looks = steps.2.looks },
     steps_over steps.0 after more steps.1 new steps.3,
   )
 

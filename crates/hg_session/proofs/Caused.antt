@@ -7,18 +7,18 @@ use Rattle.hg_listing.specs.declared.fault.StatusFault.TheVariants as a_status
 use Rattle.hg_report.specs.declared.fault.Fault.{Fault}
 use Rattle.hg_report.specs.declared.fault.Fault.TheVariants as a_fault
 use Rattle.hg_session.specs.Answered.{IsAnswered, IsUnbuilt, Ran}
-use Rattle.hg_session.specs.Call.{Call, Count, Looked, Saved, Sink, Watched}
+use Rattle.hg_session.specs.Call.{Call, Count, Fails, IsLeftAlone, Looked, Saved, Sink, Watched}
 use Rattle.hg_session.specs.Cause.{CommandCause}
-use Rattle.hg_session.specs.Change.{ChangeCause, IsUnwritten, MetChanging, makes_in}
-use Rattle.hg_session.specs.Changed.{RanChange}
-use Rattle.hg_session.specs.Commands.{changing_of, files_of, is_built}
+use Rattle.hg_session.specs.Change.{IsUnwritten, MetChanging, makes_in}
+use Rattle.hg_session.specs.Changed.{RanChange, change_look}
+use Rattle.hg_session.specs.Commands.{changing_of}
 use Rattle.hg_session.specs.Crash.{published_in}
-use Rattle.hg_session.specs.Debug.{DoesRecord, IsLeftAlone, record_look}
+use Rattle.hg_session.specs.Debug.{DoesRecord, record_look}
 use Rattle.hg_session.specs.Flags.{wanted_of}
 use Rattle.hg_session.specs.Listed.{AsksOwn, ListingCause}
 use Rattle.hg_session.specs.Load.{of_list, of_read}
 use Rattle.hg_session.specs.Loaded.{MetReading}
-use Rattle.hg_session.specs.Look.{EndsAs, IsCalm, IsLook, IsOutFault, LeavesAt, Looks, OnlyReads, Stage, at_first, at_printing, at_telling}
+use Rattle.hg_session.specs.Look.{EndsAs, IsCalm, IsLook, IsOutFault, LeavesAt, Looks, OnlyReads, Stage, at_first, at_printing, at_saving, at_telling}
 use Rattle.hg_session.specs.Put.{IsFaultOrMemory, IsSilent, Tells}
 use Rattle.hg_session.specs.Status.{DoesStatus, RanStatus, status_look}
 use Rattle.hg_session.specs.declared.acting.Changing.{Changing}
@@ -34,6 +34,7 @@ use Rattle.hg_session.proofs.Readings.{was_loaded}
 use Rattle.hg_session.proofs.Records.{record_by}
 use Rattle.hg_shelf.specs.History as shelf
 use Rattle.hg_tree.specs.History as tree
+use Rattle.hg_words.specs.Given.{files_of, is_built}
 use Rattle.hg_words.specs.declared.flags.StatusFlags.{StatusFlags}
 use Rattle.hg_words.specs.declared.given.Command.{Command}
 use Rattle.hg_words.specs.declared.given.Command.TheVariants as a_command
@@ -62,8 +63,9 @@ module _ (call : Call) (flags : StatusFlags) (is : call.command ≡ a_command.St
 
   left_cause : (fault : Fault) → (stage : Stage) × LeavesAt (status_look flags call.looked) call.out call.err (Tells call.err) stage fault → CommandCause call fault
   left_cause fault (at_first, ((f, same, cause), silent, line)) = subst (CommandCause call) (sym same) (by_listing f cause)
-  left_cause fault (at_printing, (ready, front, kind, line)) = by_printing call fault kind front.failed
+  left_cause fault (at_printing, (printing, ready, front, kind, line)) = by_printing call fault kind front.failed
   left_cause fault (at_telling, (telling, ready, puts, front, same)) = subst (CommandCause call) (sym same) front.failed
+  left_cause fault (at_saving, (never, silent, line)) = absurd never
 
   pub status_cause : (fault : Option Fault) → Looks (status_look flags call.looked) call.out call.err fault → IfSome fault (CommandCause call)
   status_cause None looks = tt
@@ -71,8 +73,9 @@ module _ (call : Call) (flags : StatusFlags) (is : call.command ≡ a_command.St
 
 record_left : (call : Call) (fault : Fault) → (stage : Stage) × LeavesAt (record_look call.looked.shelf) call.out call.err (Tells call.err) stage fault → CommandCause call fault
 record_left call fault (at_first, ((f, same, met), silent, line)) = subst (CommandCause call) (sym same) (by_reading call f met)
-record_left call fault (at_printing, (ready, front, kind, line)) = by_printing call fault kind front.failed
+record_left call fault (at_printing, (printing, ready, front, kind, line)) = by_printing call fault kind front.failed
 record_left call fault (at_telling, (never, ready, puts, front, same)) = absurd never
+record_left call fault (at_saving, (never, silent, line)) = absurd never
 
 pub record_cause : (call : Call) (fault : Option Fault) → Looks (record_look call.looked.shelf) call.out call.err fault → IfSome fault (CommandCause call)
 record_cause call None looks = tt
@@ -92,14 +95,20 @@ module _ (call : Call) (command : Changing) (is : changing_of call.command ≡ S
   by_changing a_fault.ShelfFailed met = met
   by_changing fault met = absurd met
 
-  by_change : (fault : Fault) → ChangeCause (makes_in command (files_of call.command) call) call fault → CommandCause call fault
-  by_change fault (inl (inl met)) = by_changing fault met
-  by_change fault (inl (inr (held, rose))) = subst (CommandCause call) (sym held) (command, is, rose)
-  by_change fault (inr (err, failed)) = subst (CommandCause call) (sym err) failed
+  by_saving : (fault : Fault) → Fails call.looked.shelf → (fault ≡ a_fault.ShelfFailed) ⊎ (fault ≡ a_fault.OutOfMemory) → CommandCause call fault
+  by_saving fault failed (inl same) = subst (CommandCause call) (sym same) failed
+  by_saving fault failed (inr same) = subst (CommandCause call) (sym same) tt
 
-  changed_cause : (fault : Option Fault) → IfSome fault (ChangeCause (makes_in command (files_of call.command) call) call) → IfSome fault (CommandCause call)
-  changed_cause None cause = tt
-  changed_cause (Some fault) cause = by_change fault cause
+  change_left : (fault : Fault) → (stage : Stage) × LeavesAt (change_look (makes_in command (files_of call.command) call) call) call.out call.err (Tells call.err) stage fault → CommandCause call fault
+  change_left fault (at_first, ((none, inl met), silent, line)) = by_changing fault met
+  change_left fault (at_first, ((none, inr (held, rose)), silent, line)) = subst (CommandCause call) (sym held) (command, is, rose)
+  change_left fault (at_printing, (never, ready, front, kind, line)) = absurd never
+  change_left fault (at_telling, (telling, ready, puts, front, same)) = subst (CommandCause call) (sym same) front.failed
+  change_left fault (at_saving, ((failed, kind), silent, line)) = by_saving fault failed kind
+
+  changed_cause : (fault : Option Fault) → Looks (change_look (makes_in command (files_of call.command) call) call) call.out call.err fault → IfSome fault (CommandCause call)
+  changed_cause None looks = tt
+  changed_cause (Some fault) looks = change_left fault looks.left
 
 -- ---- the whole answer
 
@@ -123,7 +132,7 @@ pub answered_changed : (call : Call) (code : ℕ) (fault : Option Fault) (comman
 answered_changed call code fault command is changed ran status = record {
   ran = ran;
   look = λ other. absurd (cc (is, other));
-  cause = changed_cause call command is fault changed.cause;
+  cause = changed_cause call command is fault changed.shows;
   calm = λ none.
       record { tree = changed.calm_tree none; shelf = changed.calm_shelf (inl none); regexps = changed.uncounted; out = changed.silent.count; err = changed.calm_err none };
   kept = changed.kept;
@@ -152,9 +161,9 @@ pub answered_status : (command : Command) (flags : StatusFlags) (looked : Looked
 answered_status command flags looked saved locks out mid tail bytes count done code fault is does only none ends =
     let call : Call = record { command = command; looked = looked; saved = saved; locks = locks; out = out; err = joined mid tail bytes count } in
     let looks : Looks (status_look flags looked) out (joined mid tail bytes count) fault =
-    looks_by mid tail bytes count (status_look flags looked) out (a_list.Read a_read.OutOfMemory, refl, tt) done code fault does.shows ends in
+    looks_by mid tail bytes count (status_look flags looked) out (a_list.Read a_read.OutOfMemory, refl, tt) (λ f never. absurd never) done code fault does.shows ends in
     let ran : RanStatus flags call fault =
-    status_by flags call does.tree only.passes fault looks does.asked (λ none. from_well mid tail bytes count (AsksOwn looked (wanted_of flags)) done code fault ends does.asked_own none) in
+    status_by flags call does.tree only.passes fault looks does.asked (λ none. from_well mid tail bytes count (AsksOwn looked (wanted_of flags)) done code fault ends does.asked_own none) does.below in
     answered_looked call code fault (subst (λ (c : Command). Ran c call code fault) (sym is) ran)
     (record { only = only; crash = λ calm keep first. crash_unwritten saved.old saved.new only.kept calm keep none first; calm = calm_by mid tail bytes count looked out done code fault ends does.calm; status = ends.status })
     (status_cause call flags is fault looks)
@@ -168,8 +177,8 @@ answered_record command copy files oversize saved locks out mid tail bytes count
     let looked : Looked = record { tree = copy; shelf = files; oversize = oversize } in
     let call : Call = record { command = command; looked = looked; saved = saved; locks = locks; out = out; err = joined mid tail bytes count } in
     let looks : Looks (record_look files) out (joined mid tail bytes count) fault =
-    looks_by mid tail bytes count (record_look files) out (a_read.OutOfMemory, refl, tt) done code fault (does.shows mid silent) ends in
-    answered_looked call code fault (subst (λ (c : Command). Ran c call code fault) (sym is) (record_by call only.passes fault looks alone uncounted))
+    looks_by mid tail bytes count (record_look files) out (a_read.OutOfMemory, refl, tt) (λ f never. absurd never) done code fault (does.shows mid silent) ends in
+    answered_looked call code fault (subst (λ (c : Command). Ran c call code fault) (sym is) (record_by call only.passes fault looks does.below alone uncounted))
     (record { only = only; crash = λ calm keep first. crash_unwritten saved.old saved.new only.kept calm keep none first; calm = calm_by mid tail bytes count looked out done code fault ends (calm_all done does.calm_shelf does.calm_out); status = ends.status })
     (record_cause call fault looks)
   where

@@ -31,12 +31,13 @@ use Rattle.hg_tree.specs.Moment.{stat_at}
 use Rattle.hg_tree.proofs.Spans.{ours_unstepped}
 use Rattle.hg_tree.proofs.Stillness.{ours_untouched}
 use Rattle.hg_save.specs.Record.{record_in}
+use Rattle.hg_session.specs.Below.{AsksBelow}
 use Rattle.hg_session.specs.Call.{Call, Looked, Serves}
 use Rattle.hg_session.specs.Flags.{wanted_of}
 use Rattle.hg_session.specs.Listed.{AsksLittle, AsksOwn, IsAskedAt, IsListable, IsListed, IsListedFor, IsOwn, IsUntouched, ListingCause, first_parent, status_over}
 use Rattle.hg_session.specs.Load.{of_list, of_read}
 use Rattle.hg_session.specs.Loaded.{IsLoaded, IsUnreadable}
-use Rattle.hg_session.specs.Look.{LeavesAt, Look, Looks, Stage, at_first, at_printing, at_telling}
+use Rattle.hg_session.specs.Look.{LeavesAt, Look, Looks, Stage, at_first, at_printing, at_saving, at_telling}
 use Rattle.hg_session.specs.Put.{LeavesFront, Tells}
 use Rattle.hg_session.specs.Status.{HasBadManifest, HasBadPatterns, IsExpected, IsFullText, IsReady, IsRowsText, LacksContents, RanStatus, status_look}
 use Rattle.hg_session.specs.declared.list_fault.ListFault.{ListFault}
@@ -59,9 +60,10 @@ grown_whole old new text grown = ([], record { front = text; parts = sym (append
 pub front_by : (IsText Own : List ℕ → Type 0) → ((text : List ℕ) → IsText text → Own text) → (look : Look) → ((text : List ℕ) → look.Text text → IsText text) → (call : Call) (fault : Fault)
     → (stage : Stage) × LeavesAt look call.out call.err (Tells call.err) stage fault → LeavesFront Own call.out
 front_by IsText Own own look is call fault (at_first, (before, silent, line)) = inl silent.bytes
-front_by IsText Own own look is call fault (at_printing, (ready, front, kind, line)) = inr (front.text, own front.text (is front.text front.is), front.put)
+front_by IsText Own own look is call fault (at_printing, (printing, ready, front, kind, line)) = inr (front.text, own front.text (is front.text front.is), front.put)
 front_by IsText Own own look is call fault (at_telling, (telling, ready, puts, front, kind)) =
     inr (puts.text, own puts.text (is puts.text puts.is), grown_whole call.out.old call.out.new puts.text puts.put)
+front_by IsText Own own look is call fault (at_saving, (saving, silent, line)) = inl silent.bytes
 
 -- ---- where nobody else steps
 
@@ -208,8 +210,9 @@ module _ (flags : StatusFlags) (call : Call) (copy : tree.Passes call.looked.tre
       → Serves call.looked.tree → Serves call.looked.shelf → Serves call.out → Serves call.err → Expected (Some fault)
   left_expected own fault (at_first, ((f, is, cause), silent, line)) p q r w =
       subst (λ (f : Fault). Expected (Some f)) (sym is) (listing_expected call.looked copy files own (wanted_of flags) f cause p q)
-  left_expected own fault (at_printing, (ready, front, kind, line)) p q r w = absurd (steady_not_rose call.out.before call.out.after r front.failed)
+  left_expected own fault (at_printing, (printing, ready, front, kind, line)) p q r w = absurd (steady_not_rose call.out.before call.out.after r front.failed)
   left_expected own fault (at_telling, (telling, ready, puts, front, is)) p q r w = absurd (steady_not_rose call.err.before call.err.after w front.failed)
+  left_expected own fault (at_saving, (never, silent, line)) p q r w = absurd never
 
   expected_by : (fault : Option Fault) → Looks (status_look flags call.looked) call.out call.err fault
       → IsOwn call.looked → Serves call.looked.tree → Serves call.looked.shelf → Serves call.out → Serves call.err → Expected fault
@@ -224,8 +227,8 @@ module _ (flags : StatusFlags) (call : Call) (copy : tree.Passes call.looked.tre
       (status_look flags call.looked) (λ text is. is) call fault looks.left
 
   pub status_by : (fault : Option Fault) → Looks (status_look flags call.looked) call.out call.err fault → AsksLittle call.looked (wanted_of flags) → (fault ≡ None → AsksOwn call.looked (wanted_of flags))
-      → RanStatus flags call fault
-  status_by fault looks asked asked_own = record {
+      → (IsTrue call.looked.shelf.old.told → AsksBelow call.looked (wanted_of flags)) → RanStatus flags call fault
+  status_by fault looks asked asked_own below = record {
     looks = looks;
     whole = λ none own.
         let printed = (looks.done none).printed in
@@ -235,4 +238,5 @@ module _ (flags : StatusFlags) (call : Call) (copy : tree.Passes call.looked.tre
     tree = copy;
     asked = asked;
     asked_own = asked_own;
+    below = below;
   }

@@ -1,10 +1,11 @@
 -- A change of the record with the lock round it, from what was done under the lock.
-use Rattle.std.proofs.Common.{ℕ, ◌≡◌, ◌≤◌, Bool, false, true, IsTrue, List, Some, None, Result, Ok, Err, Vec, Global, IfErr, IfOk, refl, arith, inl, inr, ◌∙◌}
+use Rattle.std.proofs.Common.{ℕ, ◌≡◌, ◌+◌, ◌-◌, ◌^◌, ◌≤◌, min, Bool, false, true, IsTrue, List, Some, None, Result, Ok, Err, Vec, Global, IfErr, IfOk, refl, subst, arith, inl, inr, ◌∙◌}
 use Rattle.std.specs.Result.{result_err}
 use Rattle.hg_base.specs.Fault.{HasCause, Rose}
 use Rattle.hg_base.specs.declared.fault.Failed.{Failed}
 use Rattle.hg_entry.specs.Table.{Table}
 use Rattle.hg_report.specs.declared.fault.Fault.{Fault}
+use Rattle.hg_save.specs.Leads.{IsHeld}
 use Rattle.hg_session.proofs.Widening.{calm_within, done_wide, held_stretch, met_wide, safe_wide, unwritten_wide}
 use Rattle.hg_session.specs.Acts.{Makes}
 use Rattle.hg_session.specs.Call.{Count, Saved, Watched}
@@ -25,6 +26,10 @@ rose_last start before after end same later rose = omega (arith, same, later, ro
 rose_first : (start before after end : ℕ) → before ≡ start → after ≤ end → Rose before after → Rose start end
 rose_first start before after end same later rose = omega (arith, same, later, rose)
 
+-- a count that rose in a part, and then in the last one, rose twice in the whole
+rose_twice : (start before after end : ℕ) → before ≡ start → Rose before after → Rose after end → min (start + 2) (2 ^ 64 - 1) ≤ end
+rose_twice start before after end same rose again = omega (arith, same, rose, again)
+
 -- who was refused a lock holds it as before
 pub refused_same : (was is : Bool) (before now : ℕ) (ok : Bool) → ok ≡ false → Locks {E = Failed} was is before now (Ok ok) → (is ≡ was) × Rose before now
 refused_same was is before now true same locks = absurd (cc same)
@@ -37,7 +42,7 @@ taken_same was is before now false same locks = absurd (cc same)
 
 module _ (a b c d : Course) (lock : Waits a.history b.history) (unlock : Waits c.history d.history) (p : Goes a b) (q : Goes b c) (r : Goes c d)
     (noted : IsTrue a.history.told → IsNoted an_answer.Taken a.history b.history) (same : c.history.locks ≡ b.history.locks)
-    (taken : IsTrue a.history.told → TakenAt a.history d.history b.history.last c.history.last)
+    (taken : IsTrue a.history.told → TakenAt a.history d.history b.history.last c.history.last) (held : IsTrue b.history.told → IsHeld b.history c.history)
     (Part Whole : Makes) (wide : (old new : Table) (lines : List ℕ) (changed : Bool) → Part old new lines changed → Whole old new lines changed)
     (copy : Watched tree.History) (start before after end : ℕ) where
   abbrev part : Watched History
@@ -56,28 +61,28 @@ module _ (a b c d : Course) (lock : Waits a.history b.history) (unlock : Waits c
       → IfOk (once_freed done freed) (λ lines. (stretch : Stretch a.history d.history) × IsDone Whole whole outer stretch.from stretch.to lines.items)
   once_done (Err fault) freed is = tt
   once_done (Ok lines) (Err failed) is = tt
-  once_done (Ok lines) (Ok unit) is = (held_stretch a b c d lock unlock p q r taken, done_wide a b c d lock unlock p q r taken Part Whole wide copy before after start end lines.items is)
+  once_done (Ok lines) (Ok unit) is = (held_stretch a b c d lock unlock p q r taken held, done_wide a b c d lock unlock p q r taken held Part Whole wide copy before after start end lines.items is)
 
   pub once_met : (locks : Count) (done : Result (Vec ℕ Global) Fault) (freed : Result Unit Failed) → before ≡ start → before ≤ after → IfErr done (MetChanging Part copy part) → HasCause after end freed (λ e. Unit {0})
       → IfErr (once_freed done freed) (MetLocking Whole copy whole locks)
   once_met locks (Err fault) freed same later met cause =
-      inl (met_wide a b c d lock unlock p q r taken Part Whole wide copy before after start end fault (λ rose. rose_first start before after end same cause.later rose) met)
+      inl (met_wide a b c d lock unlock p q r taken held Part Whole wide copy before after start end fault (λ rose. rose_first start before after end same cause.later rose) met)
   once_met locks (Ok lines) (Err failed) same later met cause = inl (rose_last start before after end same later (cause.rose tt))
   once_met locks (Ok lines) (Ok unit) same later met cause = tt
 
   pub once_unwritten : (done : Result (Vec ℕ Global) Fault) (freed : Result Unit Failed) → IfErr done (FailsOrUnwritten b.history c.history) → IfErr (once_freed done freed) (FailsOrUnwritten a.history d.history)
   once_unwritten (Err fault) freed (inl is) = inl is
-  once_unwritten (Err fault) freed (inr none) = inr (unwritten_wide a b c d lock unlock p q r taken none)
+  once_unwritten (Err fault) freed (inr none) = inr (unwritten_wide a b c d lock unlock p q r taken held none)
   once_unwritten (Ok lines) (Err failed) is = inl refl
   once_unwritten (Ok lines) (Ok unit) is = tt
 
   once_safe_in : (done : Result (Vec ℕ Global) Fault) (freed : Result Unit Failed) → IsSafeHeld Part inner (result_err done) → IsSafe Whole outer (result_err (once_freed done freed))
-  once_safe_in (Err fault) freed safe = safe_wide a b c d lock unlock p q r taken Part Whole wide copy before after start end (Some fault) safe
-  once_safe_in (Ok lines) (Err failed) safe = elim (safe_wide a b c d lock unlock p q r taken Part Whole wide copy before after start end None safe) [
+  once_safe_in (Err fault) freed safe = safe_wide a b c d lock unlock p q r taken held Part Whole wide copy before after start end (Some fault) safe
+  once_safe_in (Ok lines) (Err failed) safe = elim (safe_wide a b c d lock unlock p q r taken held Part Whole wide copy before after start end None safe) [
     | inl none ↦ inl none
     | inr is ↦ inr (inl refl, is.1)
   ]
-  once_safe_in (Ok lines) (Ok unit) safe = safe_wide a b c d lock unlock p q r taken Part Whole wide copy before after start end None safe
+  once_safe_in (Ok lines) (Ok unit) safe = safe_wide a b c d lock unlock p q r taken held Part Whole wide copy before after start end None safe
 
   pub once_locked : (locks : Count) (done : Result (Vec ℕ Global) Fault) (freed : Result Unit Failed) → before ≡ start → before ≤ after → locks.after ≡ locks.before
       → IfOk done (λ lines. IsDone Part part inner b.history.last c.history.last lines.items)
@@ -92,8 +97,12 @@ module _ (a b c d : Course) (lock : Waits a.history b.history) (unlock : Waits c
     told = λ told. not_returned_by a.history b.history c.history d.history p.past q.past r.past (noted told) same (unlocked (q.past.told ∙ p.past.told ∙ told));
     uncounted = uncounted;
     failed = rose_last start before after end counted later (cause.rose tt);
-    first =
-        inr (fault, inl refl, met_wide a b c d lock unlock p q r taken Part Whole wide copy before after start end fault (λ rose. rose_first start before after end counted cause.later rose) met);
+    first = inr (
+      fault,
+      inl refl,
+      met_wide a b c d lock unlock p q r taken held Part Whole wide copy before after start end fault (λ rose. rose_first start before after end counted cause.later rose) met,
+      λ shelf. rose_twice start before after end counted (subst (MetChanging Part copy part) shelf met) (cause.rose tt),
+    );
   })))
   once_locked locks (Ok lines) (Err failed) counted later uncounted is met cause free unlocked = inr (inr (inr (record {
     told = λ told. not_returned_by a.history b.history c.history d.history p.past q.past r.past (noted told) same (unlocked (q.past.told ∙ p.past.told ∙ told));
@@ -101,12 +110,12 @@ module _ (a b c d : Course) (lock : Waits a.history b.history) (unlock : Waits c
     failed = rose_last start before after end counted later (cause.rose tt);
     first = inl (
       inl refl,
-      held_stretch a b c d lock unlock p q r taken,
+      held_stretch a b c d lock unlock p q r taken held,
       lines.items,
-      done_wide a b c d lock unlock p q r taken Part Whole wide copy before after start end lines.items is,
+      done_wide a b c d lock unlock p q r taken held Part Whole wide copy before after start end lines.items is,
     );
   })))
 
   pub once_safe : (done : Result (Vec ℕ Global) Fault) (freed : Result Unit Failed) → (Undisturbed b c → IsSafeHeld Part inner (result_err done))
       → Undisturbed a d → IsSafe Whole outer (result_err (once_freed done freed))
-  once_safe done freed safe calm = once_safe_in done freed (safe (calm_within a b c d lock unlock p q r taken calm))
+  once_safe done freed safe calm = once_safe_in done freed (safe (calm_within a b c d lock unlock p q r taken held calm))

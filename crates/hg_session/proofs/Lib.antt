@@ -1,4 +1,5 @@
 pub mod Acted
+pub mod Asking
 pub mod Caused
 pub mod Causes
 pub mod Changes

@@ -1,11 +1,12 @@
 -- What a listing answers, from what its parts answer.
-use Rattle.std.proofs.Common.{ℕ, ◌≡◌, Bool, true, List, [], Err, IsTrue, refl, sym, ap, ◌∙◌, subst, inr}
+use Rattle.std.proofs.Common.{ℕ, ◌≡◌, Bool, true, List, [], Err, IsTrue, refl, sym, ap, ◌∙◌, subst, inl, inr}
 use Rattle.std.specs.Prelude.{MatchBool}
 use Rattle.hg_base.specs.declared.id.Id20.{Id20}
 use Rattle.hg_entry.specs.Table.{Table, flat_of}
 use Rattle.hg_entry.specs.Table as plain
 use Rattle.hg_listing.specs.Full.{IsFullFor}
 use Rattle.hg_flat.specs.Asked.{AsksAll, AsksBehind, IsListedDir, pattern_reads}
+use Rattle.hg_flat.specs.Stored.{AsksStore}
 use Rattle.hg_flat.specs.Met as flat_met
 use Rattle.hg_flat.specs.Parent.{IsAsked, IsLeft, IsServed, asked_by, parent_rows}
 use Rattle.hg_flat.specs.Patterns.{CountsOversize, HadPatterns, Warns, ignored_at, is_of_parent}
@@ -16,14 +17,15 @@ use Rattle.hg_listing.specs.declared.row.Row.{Row}
 use Rattle.hg_listing.specs.declared.row.Wanted.{Wanted}
 use Rattle.hg_ignore.specs.Patterns.{WereRead}
 use Rattle.hg_ignore.specs.declared.warnings.Warning.{Warning}
-use Rattle.hg_shelf.proofs.Histories.{passes_trans}
+use Rattle.hg_shelf.proofs.Histories.{passes_same, passes_trans}
 use Rattle.hg_shelf.proofs.Scenes.{goes_trans}
 use Rattle.hg_shelf.specs.History as shelf
 use Rattle.hg_shelf.specs.Images.{Course, Goes}
 use Rattle.hg_tree.specs.History as tree
+use Rattle.hg_session.specs.Below.{AsksBelow}
+use Rattle.hg_session.specs.Loaded.{AsksRecord, IsLoaded}
 use Rattle.hg_session.specs.Call.{Fails, Looked}
 use Rattle.hg_session.specs.Listed.{AsksLittle, AsksOwn, IsListable, IsListedFor, ListingCause, StatusMet, first_parent}
-use Rattle.hg_session.specs.Loaded.{IsLoaded}
 use Rattle.hg_session.specs.Look.{OnlyReads}
 use Rattle.hg_session.specs.declared.list_fault.ListFault.{ListFault}
 use Rattle.hg_session.specs.declared.list_fault.ListFault.TheVariants as a_list
@@ -44,6 +46,10 @@ only_trans a b c one two three first second third only passes kept held = record
   kept = goes_trans a b c only.kept kept;
   held = held ∙ only.held;
 }
+
+-- where the record alone was asked for
+pub asks_load : (looked : Looked) (wanted : Wanted) → (IsTrue looked.shelf.old.told → AsksRecord looked.shelf.old looked.shelf.new) → IsTrue looked.shelf.old.told → AsksBelow looked wanted
+asks_load looked wanted load told = record { behind = looked.shelf.new; past = (passes_same looked.shelf.new).past; load = load told; store = inl refl }
 
 -- ---- the listing itself, behind a load
 
@@ -126,6 +132,15 @@ module _ (looked : Looked) (wanted : Wanted) (behind : shelf.History) (flat : pl
     loaded,
     by_table (λ f i. AsksBehind (pattern_reads wanted (tree.now looked.tree.old)) (asked_by wanted f) (IsListedDir wanted looked.tree.old looked.tree.new) looked.tree.old looked.tree.new) (asks own),
   )
+
+  -- what was asked for below `.hg`
+  pub asks_below : (IsTrue looked.shelf.old.told → AsksRecord looked.shelf.old behind) → (IsTrue behind.told → AsksStore (later flat id)) → IsTrue looked.shelf.old.told → AsksBelow looked wanted
+  asks_below load store told = record {
+    behind = behind;
+    past = after.past;
+    load = load told;
+    store = inr (table, loaded, by_table (λ f i. AsksStore (later f i)) (store (before.past.told ∙ told)));
+  }
 
 -- warnings that were read say that the patterns were
 pub had_patterns : (wanted : Wanted) (old new : tree.History) (warnings : List Warning) → Warns wanted old new warnings → HadPatterns wanted old new

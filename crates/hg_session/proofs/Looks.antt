@@ -6,7 +6,7 @@ use Rattle.hg_report.specs.declared.fault.Fault.TheVariants as a_fault
 use Rattle.hg_base.specs.Fault.{Rose}
 use Rattle.hg_stream.specs.Stream.{GrownByFront}
 use Rattle.hg_session.specs.Call.{Looked, Sink}
-use Rattle.hg_session.specs.Look.{EndsAs, IsCalm, IsUntold, LeavesAt, Look, Looks, Shows, Stage, at_first, at_printing, at_telling}
+use Rattle.hg_session.specs.Look.{EndsAs, IsCalm, IsUntold, LeavesAt, Look, Looks, Shows, Stage, at_first, at_printing, at_saving, at_telling}
 use Rattle.hg_session.specs.Put.{IsFaultOrMemory, IsSilent, Puts, PutsFront, Tells, TellsLine}
 
 pub not_without : {Q : Type 0} (answered : Option Fault) (fault : Fault) → IsFaultOrMemory answered fault → answered ≡ None → Q
@@ -38,26 +38,29 @@ module _ (mid tail : Sink) (bytes : tail.old ≡ mid.new) (count : tail.before �
       subst (λ (old : Option (List ℕ)). TellsLine old tail.new mid.before tail.after fault) (bytes ∙ silent.bytes)
       (subst (λ (n : ℕ). TellsLine tail.old tail.new n tail.after fault) (count ∙ silent.count) told)
 
-  module _ (look : Look) (out : Sink) (memory : look.Before a_fault.OutOfMemory) where
+  module _ (look : Look) (out : Sink) (memory : look.Before a_fault.OutOfMemory) (saving : (fault : Fault) → look.Saving fault → look.Saving a_fault.OutOfMemory) where
     abbrev Left : Fault → Type 0
     Left fault = (stage : Stage) × LeavesAt look out joined (Tells joined) stage fault
 
     -- the fault that was met, with its line or without one
     left_told : (fault : Fault) → has_line fault ≡ true → Tells tail fault → (stage : Stage) × LeavesAt look out mid (IsUntold mid) stage fault → Left fault
     left_told fault has line (at_first, (is, silent, untold)) = (at_first, (is, silent, line_joined fault untold.silent line))
-    left_told fault has line (at_printing, (ready, front, kind, untold)) = (at_printing, (ready, front, kind, line_joined fault untold.silent line))
+    left_told fault has line (at_printing, (printing, ready, front, kind, untold)) = (at_printing, (printing, ready, front, kind, line_joined fault untold.silent line))
     left_told fault has line (at_telling, (telling, ready, puts, front, is)) = told_apart fault has is
+    left_told fault has line (at_saving, (is, silent, untold)) = (at_saving, (is, silent, line_joined fault untold.silent line))
 
     -- or want of memory for its line
     left_memory : (fault : Fault) → has_line fault ≡ true → Tells tail a_fault.OutOfMemory → (stage : Stage) × LeavesAt look out mid (IsUntold mid) stage fault → Left a_fault.OutOfMemory
     left_memory fault has line (at_first, (is, silent, untold)) = (at_first, (memory, silent, line_joined a_fault.OutOfMemory untold.silent line))
-    left_memory fault has line (at_printing, (ready, front, kind, untold)) = (at_printing, (ready, front, inr refl, line_joined a_fault.OutOfMemory untold.silent line))
+    left_memory fault has line (at_printing, (printing, ready, front, kind, untold)) = (at_printing, (printing, ready, front, inr refl, line_joined a_fault.OutOfMemory untold.silent line))
     left_memory fault has line (at_telling, (telling, ready, puts, front, is)) = told_apart fault has is
+    left_memory fault has line (at_saving, (is, silent, untold)) = (at_saving, (saving fault is, silent, line_joined a_fault.OutOfMemory untold.silent line))
 
     left_untold : (fault : Fault) → has_line fault ≡ false → IsSilent tail → (stage : Stage) × LeavesAt look out mid (IsUntold mid) stage fault → Left fault
     left_untold fault none silent (at_first, (is, quiet, untold)) = absurd (true≢false (sym untold.told ∙ none))
-    left_untold fault none silent (at_printing, (ready, front, kind, untold)) = absurd (true≢false (sym untold.told ∙ none))
+    left_untold fault none silent (at_printing, (printing, ready, front, kind, untold)) = absurd (true≢false (sym untold.told ∙ none))
     left_untold fault none silent (at_telling, (telling, ready, puts, front, is)) = (at_telling, (telling, ready, puts, front_joined look.Told silent front, is))
+    left_untold fault none silent (at_saving, (is, quiet, untold)) = absurd (true≢false (sym untold.told ∙ none))
 
     looks_err : (fault answered : Fault) → Left answered → Looks look out joined (Some answered)
     looks_err fault answered left = record { done = λ none. absurd (cc none); left = left }

@@ -1,5 +1,5 @@
 -- What a status does, from what its parts do.
-use Rattle.std.proofs.Common.{ℕ, ◌≡◌, true, List, Result, Ok, Err, refl, ap, ◌∙◌, subst, inl}
+use Rattle.std.proofs.Common.{ℕ, ◌≡◌, true, List, Result, Ok, Err, IsTrue, refl, ap, ◌∙◌, subst, inl}
 use Rattle.hg_flat.specs.declared.listed.Listed.{Listed}
 use Rattle.hg_listing.specs.declared.fault.StatusFault.TheVariants as a_status
 use Rattle.hg_listing.specs.declared.row.Row.{Row}
@@ -10,6 +10,7 @@ use Rattle.hg_report.specs.Warnings.{warnings_text}
 use Rattle.hg_report.specs.declared.fault.Fault.TheVariants as a_fault
 use Rattle.hg_report.specs.declared.status.Style.{Style}
 use Rattle.hg_stream.specs.Stream.{Grown, GrownByFront}
+use Rattle.hg_session.specs.Below.{AsksBelow}
 use Rattle.hg_session.specs.Call.{Fails, Looked, Sink}
 use Rattle.hg_session.specs.Flags.{style_of, wanted_of}
 use Rattle.hg_session.specs.Listed.{Lists}
@@ -36,12 +37,16 @@ listing_told (a_list.Status fault) = refl
 pub lists_as : (looked : Looked) (flags : StatusFlags) (wanted : Wanted) (result : Result Listed ListFault) → wanted ≡ wanted_of flags → Lists looked wanted result → Lists looked (wanted_of flags) result
 lists_as looked flags wanted result is lists = subst (λ (w : Wanted). Lists looked w result) is lists
 
+pub below_as : (looked : Looked) (flags : StatusFlags) (wanted : Wanted) → wanted ≡ wanted_of flags → (IsTrue looked.shelf.old.told → AsksBelow looked wanted) → IsTrue looked.shelf.old.told
+    → AsksBelow looked (wanted_of flags)
+below_as looked flags wanted is below told = subst (λ (w : Wanted). AsksBelow looked w) is (below told)
+
 pub text_as : (rows : List Row) (text : List ℕ) (style : Style) (flags : StatusFlags) → style ≡ style_of flags → text ≡ text_of style rows → text ≡ text_of (style_of flags) rows
 text_as rows text style flags is same = same ∙ ap (λ (s : Style). text_of s rows) is
 
 -- ---- what a status does, exit by exit
 
-module _ (flags : StatusFlags) (looked : Looked) (out err : Sink) where
+module _ (flags : StatusFlags) (looked : Looked) (out err : Sink) (below : IsTrue looked.shelf.old.told → AsksBelow looked (wanted_of flags)) where
   abbrev wanted : Wanted
   wanted = wanted_of flags
 
@@ -51,6 +56,7 @@ module _ (flags : StatusFlags) (looked : Looked) (out err : Sink) where
     shows = record { done = tt; left = (at_first, ((fault, refl, lists.cause), still, record { told = listing_told fault; silent = silent })) };
     asked = lists.asked;
     asked_own = tt;
+    below = below;
     calm = tt;
   }
 
@@ -61,6 +67,7 @@ module _ (flags : StatusFlags) (looked : Looked) (out err : Sink) where
     shows = record { done = tt; left = (at_first, ((a_list.Read a_read.OutOfMemory, refl, tt), still, record { told = refl; silent = silent })) };
     asked = lists.asked;
     asked_own = tt;
+    below = below;
     calm = tt;
   }
 
@@ -73,6 +80,7 @@ module _ (flags : StatusFlags) (looked : Looked) (out err : Sink) where
         left = (
           at_printing,
           (
+            tt,
             lists.listable,
             record { text = text; is = record { rows = listed.rows; listing = lists.still; is = is }; put = grown; failed = failed },
             inl refl,
@@ -82,6 +90,7 @@ module _ (flags : StatusFlags) (looked : Looked) (out err : Sink) where
       };
       asked = lists.asked;
       asked_own = tt;
+      below = below;
       calm = tt;
     }
 
@@ -104,6 +113,7 @@ module _ (flags : StatusFlags) (looked : Looked) (out err : Sink) where
         };
         asked = lists.asked;
         asked_own = tt;
+        below = below;
         calm = tt;
       }
 
@@ -120,5 +130,6 @@ module _ (flags : StatusFlags) (looked : Looked) (out err : Sink) where
         };
         asked = lists.asked;
         asked_own = lists.asked_own;
+        below = below;
         calm = record { tree = lists.calm_tree; shelf = lists.calm_shelf; regexps = lists.calm_regexps; out = calm_out; err = calm_err };
       }

@@ -1,12 +1,10 @@
 -- What a command that changes the record promises, from what was done under the lock and told behind it.
-use Rattle.std.proofs.Common.{ℕ, ◌≡◌, ◌<◌, ◌≤◌, Bool, true, List, Option, Some, None, Ok, IfSome, is_some, refl, sym, ap, ◌∙◌, subst, arith, inl, inr, ◌⊎◌}
-use Rattle.std.specs.Prelude.{MatchBool}
+use Rattle.std.proofs.Common.{ℕ, ◌≡◌, ◌<◌, ◌≤◌, Bool, true, List, Option, Some, None, Ok, IfSome, IsTrue, is_some, refl, sym, ap, ◌∙◌, subst, arith, inl, inr, ◌⊎◌}
 use Rattle.std.proofs.lemmas.Bool.{cases_lt}
 use Rattle.hg_base.proofs.Faults.{steady_not_rose}
 use Rattle.hg_base.specs.Fault.{IsSteady}
 use Rattle.hg_docket.specs.Number.{next_name}
 use Rattle.hg_entry.specs.Table.{Table}
-use Rattle.hg_report.specs.Fault.{has_line}
 use Rattle.hg_report.specs.declared.fault.Fault.{Fault}
 use Rattle.hg_report.specs.declared.fault.Fault.TheVariants as a_fault
 use Rattle.hg_save.proofs.Loads.{last_within, unstepped_found}
@@ -16,10 +14,13 @@ use Rattle.hg_session.proofs.Looks.{not_without}
 use Rattle.hg_session.proofs.Crashes.{crash_safe, lasting}
 use Rattle.hg_session.proofs.Readings.{unreadable_now}
 use Rattle.hg_session.specs.Acts.{Makes}
-use Rattle.hg_session.specs.Call.{Call, Count, Fails, Saved, Serves, Watched}
-use Rattle.hg_session.specs.Change.{FailsOrUnwritten, Fits, FitsFirst, IsDone, IsEarly, IsLocked, IsMade, IsReadFirst, IsReadSome, IsSafe, IsUnlooked, MayFollowWriting, MetChanging, MetLocking, NoneOurs, Stretch, id_read, makes_in, up_to}
-use Rattle.hg_session.specs.Changed.{IsExpectedChange, IsMadeOf, IsPartlyTold, IsUnwrittenUnless, OnlyLooks, RanChange, TellsFault, status_of}
-use Rattle.hg_session.specs.Put.{IsFaultOrMemory, IsSilent, TellsLine}
+use Rattle.hg_session.specs.Call.{Call, Count, Fails, IsLeftAlone, Saved, Serves, Watched}
+use Rattle.hg_session.specs.Change.{FailsOrUnwritten, Fits, FitsFirst, IsDone, IsEarly, IsLocked, IsMade, IsReadFirst, IsReadSome, IsSafe, MayFollowWriting, MetChanging, MetLocking, NoneOurs, Stretch, id_read, makes_in, up_to}
+use Rattle.hg_session.specs.Changed.{IsChangeText, IsExpectedChange, IsMadeOf, OnlyLooks, RanChange, change_look, status_of}
+use Rattle.hg_session.proofs.Records.{puts_none}
+use Rattle.hg_session.specs.Look.{LeavesAt, Stage, at_first, at_saving, at_telling}
+use Rattle.hg_session.specs.Put.{IsFaultOrMemory, IsSilent, Tells, TellsLine}
+use Rattle.hg_session.specs.Loaded.{AsksRecord}
 use Rattle.hg_session.specs.declared.acting.Changing.{Changing}
 use Rattle.hg_session.specs.declared.acting.Changing.TheVariants as a_change
 use Rattle.hg_session.specs.declared.read_fault.ReadFault.TheVariants as a_read
@@ -127,25 +128,11 @@ module _ (Does : Makes) (copy : Watched tree.History) (a b : Course) (before aft
   met_own a_fault.ShelfFailed safe met p q = steady_not_rose before after q met
   met_own fault safe met p q = absurd met
 
--- ---- what is told
-
--- a fault that is met before anything is told has a line
-changing_told : (Does : Makes) (copy : Watched tree.History) (files : Watched History) (fault : Fault) → MetChanging Does copy files fault → has_line fault ≡ true
-changing_told Does copy _ a_fault.ErrFailed met = absurd met
-changing_told Does copy _ fault met = refl
-
-pub locking_told : (Does : Makes) (copy : Watched tree.History) (files : Watched History) (locks : Count) (fault : Fault) → MetLocking Does copy files locks fault → has_line fault ≡ true
-locking_told Does copy device locks fault (inl met) = changing_told Does copy device fault met
-locking_told Does copy device locks fault (inr (held, rose)) = ap has_line held
-
 -- ---- the whole command
 
-line_of_told : (Does : Makes) (call : Call) (fault : Fault) → has_line fault ≡ true → TellsLine call.err.old call.err.new call.err.before call.err.after fault → TellsFault Does call fault
-line_of_told Does call fault told line = subst (λ (h : Bool). MatchBool h (TellsLine call.err.old call.err.new call.err.before call.err.after fault) (IsPartlyTold Does call)) (sym told) line
-
 module _ (command : Changing) (words : List (List ℕ)) (copy : Watched tree.History) (a b : Course) (before after : ℕ) (locks oversize : Count) (called : Command) (out err : Watched (Option (List ℕ)))
-    (silent : IsSilent out) (uncounted : oversize.after ≡ oversize.before) (looks : OnlyLooks copy) (unlooked : command ≡ a_change.Forget → IsUnlooked copy)
-    (behind : IsUnlooked copy ⊎ IsReadSome (record { old = a.history; new = b.history; before = before; after = after })) (kept : Goes a b) where
+    (silent : IsSilent out) (uncounted : oversize.after ≡ oversize.before) (looks : OnlyLooks copy) (unlooked : command ≡ a_change.Forget → IsLeftAlone copy)
+    (behind : IsLeftAlone copy ⊎ IsReadSome (record { old = a.history; new = b.history; before = before; after = after })) (asked : IsTrue a.history.told → AsksRecord a.history b.history) (kept : Goes a b) where
   abbrev call : Call
   call = record {
     command = called;
@@ -170,6 +157,7 @@ module _ (command : Changing) (words : List (List ℕ)) (copy : Watched tree.His
     ours = is.ours;
     counted = is.counted;
     unwritten = is.unwritten;
+    unasked = is.unasked;
     unlooked = is.unlooked;
     answer = same a_fault.Held is.answer;
   })
@@ -179,6 +167,7 @@ module _ (command : Changing) (words : List (List ℕ)) (copy : Watched tree.His
     uncounted = is.uncounted;
     failed = is.failed;
     unwritten = is.unwritten;
+    unasked = is.unasked;
     unlooked = is.unlooked;
     answer = same a_fault.ShelfFailed is.answer;
   }))
@@ -190,7 +179,7 @@ module _ (command : Changing) (words : List (List ℕ)) (copy : Watched tree.His
     first =
         elim is.first [
           | inl done ↦ inl (same a_fault.ShelfFailed done.0, done.1, done.2, done.3)
-          | inr met ↦ inr (met.0, same met.0 met.1, met.2)
+          | inr met ↦ inr (met.0, same met.0 met.1, met.2, met.3)
         ];
   })))
 
@@ -198,28 +187,33 @@ module _ (command : Changing) (words : List (List ℕ)) (copy : Watched tree.His
   never_none : {Q : Type 0} (fault : Fault) → IsFaultOrMemory None fault → Q
   never_none fault is = not_without None fault is refl
 
+  change_text : (stretch : Stretch a.history b.history) (lines : List ℕ) → IsDone Does call.looked.shelf call.saved stretch.from stretch.to lines → IsChangeText Does call lines
+  change_text stretch lines done = record { stretch = stretch; done = done; lasts = λ calm keep. lasting a b kept calm keep done.is.loaded done.made stretch (done.kept calm) }
+
   pub ran_done : LockedBy None → (status : ℕ) (stretch : Stretch a.history b.history) (lines : List ℕ) (done : IsDone Does call.looked.shelf call.saved stretch.from stretch.to lines) → Grown err.old err.new lines → status ≡ status_of lines
       → (Undisturbed a b → IsSafe Does call.saved None) → copy.after ≡ copy.before → after ≡ before → err.after ≡ err.before → (locks.before < locks.after → ⊥) → (copy.before < copy.after → ⊥)
       → RanChange command words call status None
   ran_done locked status stretch lines done grown is safe calm_tree calm_shelf calm_err unheld well = record {
-    stepped = λ none. record { stretch = stretch; lines = lines; done = done; told = grown; ends = is; lasts = λ calm keep. lasting a b kept calm keep done.is.loaded done.made stretch (done.kept calm) };
+    shows = record {
+      done = λ none. record { ready = tt; printed = puts_none out silent; told = record { text = lines; is = change_text stretch lines done; put = grown } };
+      left = tt;
+    };
+    ends = λ none. is;
     safe = safe;
     crash = λ calm keep first. crash_safe a b kept calm keep Does first None (safe calm);
-    unwritten = tt;
-    cause = tt;
     held = λ rose. absurd (unheld rose);
     tree = λ rose. absurd (well rose);
     complete = λ own p q r steady. done_own Does copy a b before after kept.past own.shelf stretch.from stretch.to lines done;
     calm_tree = λ none. calm_tree;
     calm_shelf = λ well. calm_shelf;
     calm_err = λ none. calm_err;
-    told = tt;
     silent = silent;
     uncounted = uncounted;
     looks = looks;
     behind = behind;
     early = λ never. absurd never;
     unlooked = unlooked;
+    asked = asked;
     kept = kept;
     locked = locked;
   }
@@ -232,24 +226,26 @@ module _ (command : Changing) (words : List (List ℕ)) (copy : Watched tree.His
   pub ran_untold : LockedBy None → (stretch : Stretch a.history b.history) (lines : List ℕ) (done : IsDone Does call.looked.shelf call.saved stretch.from stretch.to lines) → GrownByFront err.old err.new lines → Fails err → after ≡ before
       → (Undisturbed a b → IsSafe Does call.saved None) → (locks.before < locks.after → ⊥) → (copy.before < copy.after → ⊥) → (status : ℕ) → RanChange command words call status (Some a_fault.ErrFailed)
   ran_untold locked stretch lines done grown failed calm_shelf safe unheld well status = record {
-    stepped = λ none. absurd (cc none);
+    shows = record {
+      done = λ none. absurd (cc none);
+      left = (at_telling, (tt, tt, puts_none out silent, record { text = lines; is = change_text stretch lines done; put = grown; failed = failed }, refl));
+    };
+    ends = λ none. absurd (cc none);
     safe = λ calm. safe_untold (safe calm);
     crash = λ calm keep first. crash_safe a b kept calm keep Does first (Some a_fault.ErrFailed) (safe_untold (safe calm));
-    unwritten = inl refl;
-    cause = inr (refl, failed);
     held = λ rose. absurd (unheld rose);
     tree = λ rose. absurd (well rose);
     complete = λ own p q r steady. steady_not_rose err.before err.after r failed;
     calm_tree = λ none. absurd (cc none);
     calm_shelf = λ told. calm_shelf;
     calm_err = λ none. absurd (cc none);
-    told = record { stretch = stretch; lines = lines; done = done; told = grown; failed = failed; lasts = λ calm keep. lasting a b kept calm keep done.is.loaded done.made stretch (done.kept calm) };
     silent = silent;
     uncounted = uncounted;
     looks = looks;
     behind = behind;
     early = λ never. absurd never;
     unlooked = unlooked;
+    asked = asked;
     kept = kept;
     locked = locked_as None (Some a_fault.ErrFailed) (λ fault is. never_none fault is) locked;
   }
@@ -278,25 +274,26 @@ module _ (command : Changing) (words : List (List ℕ)) (copy : Watched tree.His
   never_err : (fault : Fault) → MetLocking Does copy call.looked.shelf locks fault → fault ≡ a_fault.ErrFailed → ⊥
   never_err fault met is = err_met (subst (MetLocking Does copy call.looked.shelf locks) is met)
 
-  -- whether the fault is told, or want of memory for its line
-  unless_same : (fault : Fault) → MetLocking Does copy call.looked.shelf locks fault → FailsOrUnwritten a.history b.history fault → IsUnwrittenUnless call fault
-  unless_same fault met (inl is) = inr (inl (shelf_fails fault is met, inl is))
-  unless_same fault met (inr none) = inr (inr none)
+  -- where it was met, whether it is told, or want of memory for its line
+  stage_same : (fault : Fault) → MetLocking Does copy call.looked.shelf locks fault → FailsOrUnwritten a.history b.history fault → Tells err fault
+      → (stage : Stage) × LeavesAt (change_look Does call) out err (Tells err) stage fault
+  stage_same fault met (inl is) line = (at_saving, ((shelf_fails fault is met, inl is), silent, line))
+  stage_same fault met (inr none) line = (at_first, ((none, met), silent, line))
 
-  unless_memory : (fault : Fault) → MetLocking Does copy call.looked.shelf locks fault → FailsOrUnwritten a.history b.history fault → IsUnwrittenUnless call a_fault.OutOfMemory
-  unless_memory fault met (inl is) = inr (inl (shelf_fails fault is met, inr refl))
-  unless_memory fault met (inr none) = inr (inr none)
+  stage_memory : (fault : Fault) → MetLocking Does copy call.looked.shelf locks fault → FailsOrUnwritten a.history b.history fault → Tells err a_fault.OutOfMemory
+      → (stage : Stage) × LeavesAt (change_look Does call) out err (Tells err) stage a_fault.OutOfMemory
+  stage_memory fault met (inl is) line = (at_saving, ((shelf_fails fault is met, inr refl), silent, line))
+  stage_memory fault met (inr none) line = (at_first, ((none, inl tt), silent, line))
 
   ran_fault : (status : ℕ) (fault answered : Fault) → LockedBy (Some fault) → (answered ≡ fault) ⊎ (answered ≡ a_fault.OutOfMemory) → MetLocking Does copy call.looked.shelf locks fault
-      → (Undisturbed a b → IsSafe Does call.saved (Some fault)) → FailsOrUnwritten a.history b.history fault → (locks.before < locks.after → fault ≡ a_fault.Held) → (copy.before < copy.after → fault ≡ a_fault.TreeFailed) → (IsEarly fault → IsUnlooked copy)
+      → (Undisturbed a b → IsSafe Does call.saved (Some fault)) → FailsOrUnwritten a.history b.history fault → (locks.before < locks.after → fault ≡ a_fault.Held) → (copy.before < copy.after → fault ≡ a_fault.TreeFailed) → (IsEarly fault → IsLeftAlone copy)
       → TellsLine err.old err.new err.before err.after answered → RanChange command words call status (Some answered)
   ran_fault status fault answered locked (inl same) met safe written held failed early line =
       subst (λ (f : Fault). TellsLine err.old err.new err.before err.after f → RanChange command words call status (Some f)) (sym same) (λ told. record {
-        stepped = λ none. absurd (cc none);
+        shows = record { done = λ none. absurd (cc none); left = stage_same fault met written told };
+        ends = λ none. absurd (cc none);
         safe = safe;
         crash = λ calm keep first. crash_safe a b kept calm keep Does first (Some fault) (safe calm);
-        unwritten = unless_same fault met written;
-        cause = inl met;
         held = λ rose. inl (ap Some (held rose));
         tree = λ rose. inl (ap Some (failed rose));
         complete = λ own p q r steady. locked_own fault (safe (calm_own a b own.shelf)) met own.shelf p q steady;
@@ -306,23 +303,22 @@ module _ (command : Changing) (words : List (List ℕ)) (copy : Watched tree.His
           | inr is ↦ absurd (never_err fault met (cc is))
         ];
         calm_err = λ none. absurd (cc none);
-        told = line_of_told Does call fault (locking_told Does copy call.looked.shelf locks fault met) told;
         silent = silent;
         uncounted = uncounted;
         looks = looks;
         behind = behind;
         early = early;
         unlooked = unlooked;
+        asked = asked;
         kept = kept;
         locked = locked;
       }) line
   ran_fault status fault answered locked (inr memory) met safe written held failed early line =
       subst (λ (f : Fault). TellsLine err.old err.new err.before err.after f → RanChange command words call status (Some f)) (sym memory) (λ told. record {
-        stepped = λ none. absurd (cc none);
+        shows = record { done = λ none. absurd (cc none); left = stage_memory fault met written told };
+        ends = λ none. absurd (cc none);
         safe = λ calm. safe_any fault (safe calm);
         crash = λ calm keep first. crash_safe a b kept calm keep Does first (Some a_fault.OutOfMemory) (safe_any fault (safe calm));
-        unwritten = unless_memory fault met written;
-        cause = inl (inl tt);
         held = λ rose. inr refl;
         tree = λ rose. inr refl;
         complete = λ own p q r steady. tt;
@@ -332,19 +328,19 @@ module _ (command : Changing) (words : List (List ℕ)) (copy : Watched tree.His
           | inr is ↦ absurd (cc is)
         ];
         calm_err = λ none. absurd (cc none);
-        told = line_of_told Does call a_fault.OutOfMemory refl told;
         silent = silent;
         uncounted = uncounted;
         looks = looks;
         behind = behind;
         early = λ never. absurd never;
         unlooked = unlooked;
+        asked = asked;
         kept = kept;
         locked = locked_as (Some fault) (Some a_fault.OutOfMemory) (λ met is. inr refl) locked;
       }) line
 
   pub ran_failed : (status : ℕ) (fault : Fault) (answered : Option Fault) → LockedBy (Some fault) → IsFaultOrMemory answered fault → MetLocking Does copy call.looked.shelf locks fault
-      → (Undisturbed a b → IsSafe Does call.saved (Some fault)) → FailsOrUnwritten a.history b.history fault → (locks.before < locks.after → fault ≡ a_fault.Held) → (copy.before < copy.after → fault ≡ a_fault.TreeFailed) → (IsEarly fault → IsUnlooked copy)
+      → (Undisturbed a b → IsSafe Does call.saved (Some fault)) → FailsOrUnwritten a.history b.history fault → (locks.before < locks.after → fault ≡ a_fault.Held) → (copy.before < copy.after → fault ≡ a_fault.TreeFailed) → (IsEarly fault → IsLeftAlone copy)
       → IfSome answered (λ f. TellsLine err.old err.new err.before err.after f) → RanChange command words call status answered
   ran_failed status fault None locked is met safe written held failed early line = not_without None fault is refl
   ran_failed status fault (Some f) locked (inl same) met safe written held failed early line = ran_fault status fault f locked (inl (cc same)) met safe written held failed early line

@@ -1,5 +1,5 @@
 -- What the command that prints the record did, from how it ended.
-use Rattle.std.proofs.Common.{ℕ, ◌≡◌, true, List, [], Option, Some, None, IfSome, refl, sym, ap, ◌∙◌, subst}
+use Rattle.std.proofs.Common.{ℕ, ◌≡◌, true, List, [], Option, Some, None, IfSome, IsTrue, refl, sym, ap, ◌∙◌, subst}
 use Rattle.std.proofs.lemmas.List.{append-nil}
 use Rattle.hg_base.proofs.Faults.{steady_not_rose}
 use Rattle.hg_report.specs.Fault.{has_line}
@@ -7,11 +7,12 @@ use Rattle.hg_report.specs.declared.fault.Fault.{Fault}
 use Rattle.hg_stream.specs.Stream.{Grown}
 use Rattle.hg_shelf.specs.History as shelf
 use Rattle.hg_shelf.proofs.Histories as shelves
-use Rattle.hg_session.specs.Call.{Call, Serves, Sink}
-use Rattle.hg_session.specs.Debug.{HasText, IsEmpty, IsExpectedOf, IsLeftAlone, IsTextIn, RanRecord, record_look}
+use Rattle.hg_session.specs.Loaded.{AsksRecord}
+use Rattle.hg_session.specs.Call.{Call, IsLeftAlone, Serves, Sink}
+use Rattle.hg_session.specs.Debug.{HasText, IsExpectedOf, IsTextIn, RanRecord, record_look}
 use Rattle.hg_session.specs.Load.{of_read}
-use Rattle.hg_session.specs.Look.{LeavesAt, Looks, Stage, at_first, at_printing, at_telling}
-use Rattle.hg_session.specs.Put.{IsSilent, LeavesFront, Puts, Tells}
+use Rattle.hg_session.specs.Look.{LeavesAt, Looks, Stage, at_first, at_printing, at_saving, at_telling}
+use Rattle.hg_session.specs.Put.{IsEmpty, IsSilent, LeavesFront, Puts, Tells}
 use Rattle.hg_session.specs.declared.read_fault.ReadFault.{ReadFault}
 use Rattle.hg_session.specs.declared.read_fault.ReadFault.TheVariants as a_read
 use Rattle.hg_session.proofs.Expectations.{front_by}
@@ -48,8 +49,9 @@ module _ (call : Call) (files : shelf.Passes call.looked.shelf.old call.looked.s
         → IsExpectedOf there (Some fault)
     left_expected fault (at_first, ((f, is, met), silent, line)) p q =
         subst (λ (g : Fault). IsExpectedOf there (Some g)) (sym is) (unreadable_now call.looked.shelf files.past still own.told f met p)
-    left_expected fault (at_printing, (ready, front, kind, line)) p q = absurd (steady_not_rose call.out.before call.out.after q front.failed)
+    left_expected fault (at_printing, (printing, ready, front, kind, line)) p q = absurd (steady_not_rose call.out.before call.out.after q front.failed)
     left_expected fault (at_telling, (never, ready, puts, front, is)) p q = absurd never
+    left_expected fault (at_saving, (never, silent, line)) p q = absurd never
 
   expected_by : (fault : Option Fault) → Looks (record_look call.looked.shelf) call.out call.err fault → shelf.IsOurs call.looked.shelf.old call.looked.shelf.new → Serves call.looked.shelf → Serves call.out
       → IsExpectedOf there fault
@@ -62,14 +64,15 @@ module _ (call : Call) (files : shelf.Passes call.looked.shelf.old call.looked.s
   front_own (Some fault) looks own =
       front_by (HasText call.looked.shelf) (IsTextIn there) (text_own own) (record_look call.looked.shelf) (λ text is. is) call fault looks.left
 
-  pub record_by : (fault : Option Fault) → Looks (record_look call.looked.shelf) call.out call.err fault → IsLeftAlone call.looked.tree → call.looked.oversize.after ≡ call.looked.oversize.before
+  pub record_by : (fault : Option Fault) → Looks (record_look call.looked.shelf) call.out call.err fault → (IsTrue call.looked.shelf.old.told → AsksRecord call.looked.shelf.old call.looked.shelf.new) → IsLeftAlone call.looked.tree → call.looked.oversize.after ≡ call.looked.oversize.before
       → RanRecord call fault
-  record_by fault looks alone uncounted = record {
+  record_by fault looks below alone uncounted = record {
     looks = looks;
     whole = λ none own.
         let printed = (looks.done none).printed in record { text = printed.text; is = text_own own printed.text printed.is; put = printed.put };
     front = front_own fault looks;
     complete = expected_by fault looks;
+    below = below;
     alone = alone;
     uncounted = uncounted;
   }

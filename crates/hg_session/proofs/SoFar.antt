@@ -9,6 +9,7 @@ use Rattle.hg_entry.specs.Table.{Table}
 use Rattle.hg_mixed.specs.Edits.{IsOfSameImage, IsSame, Marks}
 use Rattle.hg_mixed.specs.Held.{Held, table}
 use Rattle.hg_mixed.proofs.Edited.{same_trans}
+use Rattle.hg_ops.specs.Look.{Looks}
 use Rattle.hg_ops.specs.declared.refusal.Refusal.{Refusal}
 use Rattle.hg_session.specs.Acts.{Deed, IsActed, IsStep, Steps, refused_line}
 use Rattle.hg_session.specs.Call.{Watched}
@@ -72,12 +73,12 @@ unmarked a b was now marks is = table_stays a b (λ differs. true≢false (sym (
 
 module _ (command : Changing) (start mid at : History) (old between new : Held) (words : List (List ℕ)) (word : List ℕ) (lines : List ℕ) (one : Option Refusal) (before during after : ℕ)
     (so_far : SoFar command start mid words old between lines before during) (step : (files : Watched shelf.History) → Steps command files mid at word (table between) one (table new))
-    (leaves : Leaves mid at between new) (marks : Marks (IsSame (table new) (table between)) between.changed new.changed) (count : after ≡ during) where
+    (looks : Looks word (table between) mid at) (leaves : Leaves mid at between new) (marks : Marks (IsSame (table new) (table between)) between.changed new.changed) (count : after ≡ during) where
   abbrev deed : Deed
   deed = record { word = word; refused = one }
 
   step_is : (files : Watched shelf.History) → IsStep command files mid at deed (table between) (table new)
-  step_is files = record { past = leaves.passes.past; made = step files }
+  step_is files = record { past = leaves.passes.past; made = step files; looks = looks }
 
   same_more : (IsSame (table between) (table old)) → new.changed ≡ false → IsSame (table new) (table old)
   same_more so is = same_trans (table new) (table between) (table old) (unmarked (table new) (table between) between.changed new.changed marks is) so

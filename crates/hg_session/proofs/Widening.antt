@@ -11,6 +11,7 @@ use Rattle.hg_report.specs.declared.fault.Fault.TheVariants as a_fault
 use Rattle.hg_save.proofs.Loads.{found_longer, last_within, tries_longer}
 use Rattle.hg_save.proofs.Published.{keeps_longer}
 use Rattle.hg_save.proofs.Spans.{files_longer}
+use Rattle.hg_save.specs.Leads.{IsHeld}
 use Rattle.hg_save.specs.Loads.{IsTry, Tries, Try, found_by, id_by}
 use Rattle.hg_save.specs.Record.{data_name, id_in, reading}
 use Rattle.hg_save.specs.Saved.{IsExact, IsLatest, KeepsOthers, ReadsAsBeforeOr, name_after, used_in}
@@ -79,7 +80,7 @@ ids_longer old mid new (one ∷ more) past within = λ i. id_in ((past.stay one.
 -- ---- a call that takes the lock, changes the record and gives the lock back
 
 module _ (a b c d : Course) (lock : Waits a.history b.history) (unlock : Waits c.history d.history) (p : Goes a b) (q : Goes b c) (r : Goes c d)
-    (taken : IsTrue a.history.told → TakenAt a.history d.history b.history.last c.history.last) where
+    (taken : IsTrue a.history.told → TakenAt a.history d.history b.history.last c.history.last) (held : IsTrue b.history.told → IsHeld b.history c.history) where
   pub later : a.history.last ≤ b.history.last
   later = p.past.later
 
@@ -116,6 +117,7 @@ module _ (a b c d : Course) (lock : Waits a.history b.history) (unlock : Waits c
     before = none_wide b.history.last q.past.later (none_within c.history b.history.last);
     behind = none_behind c.history.last (none_within c.history c.history.last);
     taken = taken;
+    held = λ told k from to. let who = r.past.who k to in elim ((held (p.past.told ∙ told)).each k from to) [ inl own ↦ inl (who ∙ own) | inr read ↦ inr (who ∙ read) ];
   }
 
   -- a moment of the change, seen from the end
@@ -169,6 +171,9 @@ module _ (a b c d : Course) (lock : Waits a.history b.history) (unlock : Waits c
         new = is.new;
         over = is.over;
         reads = is.reads;
+        held = is.held;
+        same = is.same;
+        encoded = is.encoded;
         shown = subst (IsExact is.new (scene c from).files) (sym (to_end to far).shown) is.shown;
         left = λ f left. is.left f ((to_end to far).left f left);
       })

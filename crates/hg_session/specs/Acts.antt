@@ -3,7 +3,7 @@ use Rattle.std.specs.Prelude.{ℕ, ◌≡◌, Bool, false, List, [], ◌∷◌, 
 use Rattle.std.specs.List.{AllByRecursion}
 use Rattle.hg_entry.specs.Table.{Table}
 use Rattle.hg_mixed.specs.Edits.{IsSame}
-use Rattle.hg_ops.specs.Look.{Adds}
+use Rattle.hg_ops.specs.Look.{Adds, Looks}
 use Rattle.hg_ops.specs.Step.{IsForget}
 use Rattle.hg_ops.specs.declared.refusal.Refusal.{Refusal}
 use Rattle.hg_report.specs.Refusal.{refusal_line}
@@ -32,10 +32,11 @@ abbrev pub Steps : Changing → Watched shelf.History → tree.History → tree.
 Steps a_command.Add files before after word old refused new = Adds word before after old refused new
 Steps a_command.Forget files before after word old refused new = IsForget word old refused new
 
--- so it does with this word
+-- so it does with this word; of the working copy it looked at nothing but the word's path, and at that only where it isn't tracked
 pub record IsStep (command : Changing) (files : Watched shelf.History) (before after : tree.History) (deed : Deed) (old new : Table) : Type 0 where
   pub past : tree.Extends before after
   pub made : Steps command files before after deed.word old deed.refused new
+  pub looks : Looks deed.word old before after
 
 -- several words were done one after another, each over the tree and the table that those before it left
 abbrev pub AllSteps : Changing → Watched shelf.History → tree.History → tree.History → List Deed → Table → Table → Type 0

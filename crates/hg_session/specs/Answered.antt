@@ -2,13 +2,13 @@
 use Rattle.std.specs.Prelude.{ℕ, ◌≡◌, ◌⊎◌, None, Option, IfSome, MatchOption}
 use Rattle.hg_report.specs.declared.fault.Fault.{Fault}
 use Rattle.hg_report.specs.declared.fault.Fault.TheVariants as a_fault
-use Rattle.hg_session.specs.Call.{Call, Count, Looked, Saved, Sink}
+use Rattle.hg_session.specs.Call.{Call, Count, IsLeftAlone, Looked, Saved, Sink}
 use Rattle.hg_session.specs.Cause.{CommandCause}
 use Rattle.hg_session.specs.Change.{IsUnwritten}
 use Rattle.hg_session.specs.Changed.{RanChange}
 use Rattle.hg_session.specs.Commands.{changing_of}
 use Rattle.hg_session.specs.Crash.{IsSafeFromCrashes}
-use Rattle.hg_session.specs.Debug.{IsLeftAlone, RanRecord}
+use Rattle.hg_session.specs.Debug.{RanRecord}
 use Rattle.hg_session.specs.Look.{IsCalm, IsLook}
 use Rattle.hg_session.specs.Put.{IsFaultOrMemory, IsSilent, Tells}
 use Rattle.hg_session.specs.Status.{RanStatus}

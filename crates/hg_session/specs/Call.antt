@@ -1,5 +1,5 @@
 -- What happened in a call: each device before and after it.
-use Rattle.std.specs.Prelude.{ℕ, List, Option}
+use Rattle.std.specs.Prelude.{ℕ, ◌≡◌, ◌+◌, ◌≤◌, ◌-◌, ◌^◌, min, List, Option}
 use Rattle.hg_base.specs.Fault.{IsSteady, Rose}
 use Rattle.hg_shelf.specs.History as shelf
 use Rattle.hg_shelf.specs.Images.{Course}
@@ -17,9 +17,18 @@ pub record Watched {ℓ} (Told : Type ℓ) : Type ℓ where
 abbrev pub Fails {ℓ} : {Told : Type ℓ} → Watched Told → Type 0
 Fails device = Rose device.before device.after
 
+-- it rose at least twice, or stands at its end
+abbrev pub FailsTwice {ℓ} : {Told : Type ℓ} → Watched Told → Type 0
+FailsTwice device = min (device.before + 2) (2 ^ 64 - 1) ≤ device.after
+
 -- it never failed
 abbrev pub Serves {ℓ} : {Told : Type ℓ} → Watched Told → Type 0
 Serves device = IsSteady device.before device.after
+
+-- a tree wasn't asked for anything, and is as it was
+pub record IsLeftAlone (copy : Watched tree.History) : Type 0 where
+  pub history : copy.new ≡ copy.old
+  pub count : copy.after ≡ copy.before
 
 -- a count before and after a call
 pub record Count : Type 0 where

@@ -7,12 +7,13 @@ use Rattle.hg_report.specs.declared.fault.Fault.{Fault}
 use Rattle.hg_report.specs.declared.fault.Fault.TheVariants as a_fault
 use Rattle.hg_session.specs.Call.{Call, Fails}
 use Rattle.hg_session.specs.Change.{MetLarge, MetSpent, makes_in}
-use Rattle.hg_session.specs.Commands.{changing_of, files_of, is_built}
+use Rattle.hg_session.specs.Commands.{changing_of}
 use Rattle.hg_session.specs.Flags.{wanted_of}
 use Rattle.hg_session.specs.Listed.{StatusMet}
 use Rattle.hg_session.specs.Loaded.{LoadMet, WasLoaded}
 use Rattle.hg_session.specs.declared.acting.Changing.{Changing}
 use Rattle.hg_session.specs.declared.read_fault.ReadFault.TheVariants as a_read
+use Rattle.hg_words.specs.Given.{files_of, is_built}
 use Rattle.hg_words.specs.declared.flags.StatusFlags.{StatusFlags}
 use Rattle.hg_words.specs.declared.given.Command.TheVariants as a_command
 

@@ -1,6 +1,7 @@
 -- What a command that changes the record answers and leaves, and why.
 use Rattle.std.specs.Prelude.{ℕ, ◌≡◌, ◌⊎◌, ◌≤◌, ◌<◌, ◌^◌, Bool, true, false, List, [], Option, Some, None, Result, Ok, Err, IsTrue, is_some}
 use Rattle.hg_append.specs.Encoded.{IsTooLarge}
+use Rattle.hg_append.specs.Encoded as anew
 use Rattle.hg_append.specs.Layout.{size_of}
 use Rattle.hg_append.specs.Tree.{IsTreeOf, Tree}
 use Rattle.hg_append.specs.declared.encoding.Encoded.{Encoded}
@@ -17,7 +18,7 @@ use Rattle.hg_save.specs.Others.{KeepsFiles, KeepsRecords}
 use Rattle.hg_save.specs.Record.{data_name, docket_in, id_in, reading}
 use Rattle.hg_save.specs.Saved.{IsExact, IsLatest, IsOver, KeepsOthers, ReadsAsBeforeOr}
 use Rattle.hg_session.specs.Acts.{IsActed, Makes}
-use Rattle.hg_session.specs.Call.{Call, Count, Fails, Saved, Watched}
+use Rattle.hg_session.specs.Call.{Call, Count, Fails, FailsTwice, IsLeftAlone, Saved, Watched}
 use Rattle.hg_session.specs.Loaded.{IsRead, LoadMet}
 use Rattle.hg_session.specs.Locks.{NotReturned, NotTaken, Refused, Returned, TakenAt}
 use Rattle.hg_session.specs.Put.{IsFaultOrMemory}
@@ -66,6 +67,8 @@ pub record Stretch (old new : shelf.History) : Type 0 where
   pub before : NoneOurs new old.last from
   pub behind : NoneOurs new to new.last
   pub taken : IsTrue old.told → TakenAt old new from to
+  -- within it each step is the caller's, or of one who may only read
+  pub held : IsTrue old.told → (k : ℕ) → from ≤ k → k < to → (new.who k ≡ shelf.us) ⊎ (new.who k ≡ shelf.readers)
 
 -- the caller wrote nothing
 pub record IsUnwritten (old new : shelf.History) : Type 0 where
@@ -113,6 +116,10 @@ pub record IsWritten (found : Table) (before : shelf.Files) (behind : Scene) : T
   pub new : Encoded
   pub over : IsOver (docket_in before) new
   pub reads : reading_of new.docket.items new.bytes.items ≡ Ok found
+  -- they are the encoding of a table in memory that is the same
+  pub held : Held
+  pub same : IsSame (table held) found
+  pub encoded : anew.IsWritten held new
   pub shown : IsExact new before behind.files
   pub left : (f : shelf.Files) → behind.leaves f → IsExact new before f
 
@@ -207,10 +214,6 @@ MetLocking Does copy files locks fault = MetChanging Does copy files fault ⊎ (
 abbrev pub makes_in : Changing → List (List ℕ) → Call → Makes
 makes_in command words call = IsActed command words call.looked.tree call.looked.shelf
 
--- or an error stream that failed while the refused words were told
-abbrev pub ChangeCause : Makes → Call → Fault → Type 0
-ChangeCause Does call fault = MetLocking Does call.looked.tree call.looked.shelf call.locks fault ⊎ ((fault ≡ a_fault.ErrFailed) × Fails call.err)
-
 -- a fault that may be met once something was written: a shelf or an error stream that failed; for the line of the one there may be no memory
 abbrev pub MayFollowWriting : Option Fault → Type 0
 MayFollowWriting None = Unit {0}
@@ -227,18 +230,14 @@ IsSafeHeld Does saved fault =
 
 -- ---- the lock
 
--- the tree isn't asked at all: what it tells and its count of failures stay
-pub record IsUnlooked (copy : Watched tree.History) : Type 0 where
-  pub same : copy.new ≡ copy.old
-  pub count : copy.after ≡ copy.before
-
 -- the lock was refused, which is counted, and nothing else was done
 pub record WasRefused (copy : Watched tree.History) (files : Watched shelf.History) (locks : Count) (fault : Option Fault) : Type 0 where
   pub told : IsTrue files.old.told → Refused files.old files.new
   pub ours : files.new.ours ≡ files.old.ours
   pub counted : Rose locks.before locks.after
   pub unwritten : IsUnwritten files.old files.new
-  pub unlooked : IsUnlooked copy
+  pub unasked : files.new.asked ≡ files.old.asked
+  pub unlooked : IsLeftAlone copy
   pub answer : IsFaultOrMemory fault a_fault.Held
 
 -- taking it failed, and nothing else was done
@@ -248,7 +247,8 @@ pub record WasNotTaken (copy : Watched tree.History) (files : Watched shelf.Hist
   pub uncounted : locks.after ≡ locks.before
   pub failed : Fails files
   pub unwritten : IsUnwritten files.old files.new
-  pub unlooked : IsUnlooked copy
+  pub unasked : files.new.asked ≡ files.old.asked
+  pub unlooked : IsLeftAlone copy
   pub answer : IsFaultOrMemory fault a_fault.ShelfFailed
 
 -- it was taken and given back, after a fault too
@@ -257,13 +257,13 @@ pub record WasReturned (files : Watched shelf.History) (locks : Count) : Type 0 
   pub ours : files.new.ours ≡ false
   pub uncounted : locks.after ≡ locks.before
 
--- it was taken, and giving it back failed, behind a change that was done, or behind a first fault
+-- it was taken, and giving it back failed, behind a change that was done, or behind a first fault; where the shelf failed both times, both are counted
 pub record WasNotReturned (Does : Makes) (copy : Watched tree.History) (files : Watched shelf.History) (saved : Saved) (locks : Count) (fault : Option Fault) : Type 0 where
   pub told : IsTrue files.old.told → NotReturned files.old files.new
   pub uncounted : locks.after ≡ locks.before
   pub failed : Fails files
   pub first : (IsFaultOrMemory fault a_fault.ShelfFailed × (stretch : Stretch saved.old.history saved.new.history) × (lines : List ℕ) × IsDone Does files saved stretch.from stretch.to lines)
-      ⊎ ((met : Fault) × IsFaultOrMemory fault met × MetChanging Does copy files met)
+      ⊎ ((met : Fault) × IsFaultOrMemory fault met × MetChanging Does copy files met × (met ≡ a_fault.ShelfFailed → FailsTwice files))
 
 -- the lock was called for once, and one of these came of it
 abbrev pub IsLocked : Makes → Watched tree.History → Watched shelf.History → Saved → Count → Option Fault → Type 0

@@ -1,22 +1,22 @@
 -- What the commands that change the record promise.
-use Rattle.std.specs.Prelude.{ℕ, Bool, true, false, ◌≡◌, ◌⊎◌, ◌<◌, List, [], ◌∷◌, Option, Some, None, Ok, IsTrue, IfSome, IsSomeAnd, MatchBool, is_some}
+use Rattle.std.specs.Prelude.{ℕ, Bool, true, false, ◌≡◌, ◌⊎◌, ◌<◌, List, [], ◌∷◌, Option, Some, None, Ok, IsTrue, IsSomeAnd, is_some}
 use Rattle.hg_append.specs.Encoded.{IsTooLarge}
 use Rattle.hg_base.specs.Fault.{IsSteady}
 use Rattle.hg_docket.specs.Number.{next_name}
 use Rattle.hg_entry.specs.Table.{Table}
 use Rattle.hg_mixed.specs.Edits.{IsSame}
 use Rattle.hg_mixed.specs.Held.{Held, table}
-use Rattle.hg_report.specs.Fault.{has_line}
 use Rattle.hg_report.specs.declared.fault.Fault.{Fault}
 use Rattle.hg_report.specs.declared.fault.Fault.TheVariants as a_fault
 use Rattle.hg_save.specs.Others.{KeepsRecords}
 use Rattle.hg_save.specs.Record.{id_in, reading}
 use Rattle.hg_save.specs.Saved.{IsLatest}
 use Rattle.hg_session.specs.Acts.{Makes}
-use Rattle.hg_session.specs.Call.{Call, Fails, Serves, Watched}
-use Rattle.hg_session.specs.Change.{ChangeCause, Fits, IsDone, IsEarly, IsLocked, IsReadSome, IsSafe, IsUnlooked, IsUnwritten, Stretch, makes_in}
-use Rattle.hg_session.specs.Loaded.{IsUnreadable}
-use Rattle.hg_session.specs.Put.{IsFaultOrMemory, IsSilent, TellsLine}
+use Rattle.hg_session.specs.Call.{Call, Fails, IsLeftAlone, Serves, Watched}
+use Rattle.hg_session.specs.Change.{Fits, IsDone, IsEarly, IsLocked, IsReadSome, IsSafe, IsUnwritten, MetLocking, Stretch, makes_in}
+use Rattle.hg_session.specs.Loaded.{AsksRecord, IsUnreadable}
+use Rattle.hg_session.specs.Look.{Look, Looks}
+use Rattle.hg_session.specs.Put.{IsEmpty, IsFaultOrMemory, IsSilent}
 use Rattle.hg_session.specs.Crash.{IsCrashSafe, IsLasting, published_in}
 use Rattle.hg_session.specs.Listed.{IsOwn}
 use Rattle.hg_session.specs.declared.acting.Changing.{Changing}
@@ -24,7 +24,6 @@ use Rattle.hg_session.specs.declared.acting.Changing.TheVariants as a_change
 use Rattle.hg_shelf.specs.History as shelf
 use Rattle.hg_shelf.specs.Images.{Goes, last_scene}
 use Rattle.hg_shelf.specs.Polite.{Undisturbed}
-use Rattle.hg_stream.specs.Stream.{Grown, GrownByFront}
 use Rattle.hg_tree.specs.History as tree
 
 -- 1 where a line is told, and else 0
@@ -32,37 +31,26 @@ abbrev pub status_of : List ℕ → ℕ
 status_of [] = 0
 status_of (byte ∷ lines) = 1
 
--- the change was done, its lines were told, and the status says whether there are some
-pub record IsStepped (Does : Makes) (call : Call) (status : ℕ) : Type 0 where
+-- these are the lines of a change that was done while the lock was held
+pub record IsChangeText (Does : Makes) (call : Call) (lines : List ℕ) : Type 0 where
   pub stretch : Stretch call.saved.old.history call.saved.new.history
-  pub lines : List ℕ
   pub done : IsDone Does call.looked.shelf call.saved stretch.from stretch.to lines
-  pub told : Grown call.err.old call.err.new lines
-  pub ends : status ≡ status_of lines
   -- what was published is what a crash leaves from then on, until others publish
   pub lasts : (calm : Undisturbed call.saved.old call.saved.new) → KeepsRecords shelf.others call.saved.new call.saved.old.history.last
       → IsLasting done.is.loaded done.made call.saved stretch.from stretch.to (done.kept calm)
 
--- the change was done, its lines were told, or a front of them, and the stream failed
-pub record IsPartlyTold (Does : Makes) (call : Call) : Type 0 where
-  pub stretch : Stretch call.saved.old.history call.saved.new.history
-  pub lines : List ℕ
-  pub done : IsDone Does call.looked.shelf call.saved stretch.from stretch.to lines
-  pub told : GrownByFront call.err.old call.err.new lines
-  pub failed : Fails call.err
-  -- what was published is what a crash leaves from then on, until others publish
-  pub lasts : (calm : Undisturbed call.saved.old call.saved.new) → KeepsRecords shelf.others call.saved.new call.saved.old.history.last
-      → IsLasting done.is.loaded done.made call.saved stretch.from stretch.to (done.kept calm)
-
--- with a fault its line alone is told; where the error stream failed while the lines of a change were told, a front of these
-abbrev pub TellsFault : Makes → Call → Fault → Type 0
-TellsFault Does call fault = MatchBool (has_line fault) (TellsLine call.err.old call.err.new call.err.before call.err.after fault) (IsPartlyTold Does call)
-
--- the caller wrote nothing, unless the shelf failed, for whose line there may be no memory, or the error stream did behind the change
-abbrev pub IsUnwrittenUnless : Call → Fault → Type 0
-IsUnwrittenUnless call fault =
-    (fault ≡ a_fault.ErrFailed)
-    ⊎ ((Fails call.looked.shelf × ((fault ≡ a_fault.ShelfFailed) ⊎ (fault ≡ a_fault.OutOfMemory))) ⊎ IsUnwritten call.saved.old.history call.saved.new.history)
+-- a command that changes the record prints nothing, and tells its lines once it is done; the caller wrote nothing before a fault, whatever others do,
+-- unless the shelf failed while it saved, for whose line there may be no memory
+abbrev pub change_look : Makes → Call → Look
+change_look Does call = record {
+  Before = λ fault. IsUnwritten call.saved.old.history call.saved.new.history × MetLocking Does call.looked.tree call.looked.shelf call.locks fault;
+  Ready = Unit {0};
+  Printing = ⊥;
+  Text = IsEmpty;
+  Telling = Unit {0};
+  Told = IsChangeText Does call;
+  Saving = λ fault. Fails call.looked.shelf × ((fault ≡ a_fault.ShelfFailed) ⊎ (fault ≡ a_fault.OutOfMemory));
+}
 
 -- the tree is asked for no bytes and no names, and nothing of it is changed
 pub record OnlyLooks (copy : Watched tree.History) : Type 0 where
@@ -113,18 +101,17 @@ IsExpectedChange Does files (Some fault) = IsUnreadable files fault
 
 -- what a command that changes the record did that ended with this status and this fault, or with none
 pub record RanChange (command : Changing) (words : List (List ℕ)) (call : Call) (status : ℕ) (fault : Option Fault) : Type 0 where
-  -- without a fault each word did what it says to the record that was read, the refused ones were told, and the rest is recorded
-  pub stepped : fault ≡ None → IsStepped (makes_in command words call) call status
+  -- without a fault each word did what it says to the record that was read, the refused ones were told, and the rest is recorded; and with one: where it
+  -- was met, why, and what stands in both streams
+  pub shows : Looks (change_look (makes_in command words call) call) call.out call.err fault
+  -- without a fault the status is 1 exactly where a line was told
+  pub ends : (none : fault ≡ None) → status ≡ status_of (shows.done none).told.text
   -- whatever the answer, at each moment of the call a crash leaves the record as it was or as it is after, and so do reads
   pub safe : Undisturbed call.saved.old call.saved.new → IsSafe (makes_in command words call) call.saved fault
   -- and where others keep to how a record is published, also before the lock was got and behind it: at each moment since the call's start a crash
   -- leaves a record of what it might have left then, of what the call published, or of what others published since
   pub crash : (calm : Undisturbed call.saved.old call.saved.new) → KeepsRecords shelf.others call.saved.new call.saved.old.history.last → IsLatest (last_scene call.saved.old)
       → IsCrashSafe (published_in (makes_in command words call) call.saved fault (safe calm)) call.saved
-  -- after a fault that comes before a publication nothing is written, whatever others do
-  pub unwritten : IfSome fault (IsUnwrittenUnless call)
-  -- each fault comes only for its cause
-  pub cause : IfSome fault (ChangeCause (makes_in command words call) call)
   -- a lock that was refused is told as such
   pub held : call.locks.before < call.locks.after → IsFaultOrMemory fault a_fault.Held
   -- and so is a tree that failed, whatever else failed behind it
@@ -136,16 +123,17 @@ pub record RanChange (command : Changing) (words : List (List ℕ)) (call : Call
   pub calm_tree : fault ≡ None → call.looked.tree.after ≡ call.looked.tree.before
   pub calm_shelf : (fault ≡ None) ⊎ (fault ≡ Some a_fault.ErrFailed) → call.looked.shelf.after ≡ call.looked.shelf.before
   pub calm_err : fault ≡ None → call.err.after ≡ call.err.before
-  -- what stands on the error stream after a fault; nothing is printed, and no regexp compiled
-  pub told : IfSome fault (TellsFault (makes_in command words call) call)
+  -- nothing is printed, and no regexp compiled
   pub silent : IsSilent call.out
   pub uncounted : call.looked.oversize.after ≡ call.looked.oversize.before
   pub looks : OnlyLooks call.looked.tree
   -- it is looked at only behind a record that was read
-  pub behind : IsUnlooked call.looked.tree ⊎ IsReadSome call.looked.shelf
-  pub early : IsSomeAnd fault IsEarly → IsUnlooked call.looked.tree
+  pub behind : IsLeftAlone call.looked.tree ⊎ IsReadSome call.looked.shelf
+  pub early : IsSomeAnd fault IsEarly → IsLeftAlone call.looked.tree
   -- where files are forgotten the tree isn't asked
-  pub unlooked : command ≡ a_change.Forget → IsUnlooked call.looked.tree
+  pub unlooked : command ≡ a_change.Forget → IsLeftAlone call.looked.tree
+  -- below `.hg` it asks for no more than a load does
+  pub asked : IsTrue call.looked.shelf.old.told → AsksRecord call.looked.shelf.old call.looked.shelf.new
   -- what was so far stays
   pub kept : Goes call.saved.old call.saved.new
   -- the lock was called for once, also where nothing was to be changed

@@ -1,17 +1,16 @@
 -- What the command that prints the record answers, and why.
-use Rattle.std.specs.Prelude.{ℕ, ◌≡◌, List, [], Option, Some, None, Result, Ok, IfSome, OnOk}
+use Rattle.std.specs.Prelude.{ℕ, ◌≡◌, List, Option, Some, None, Result, Ok, IfSome, IsTrue, OnOk}
 use Rattle.hg_entry.specs.Table.{Table}
 use Rattle.hg_report.specs.Debug.{IsDebugText}
 use Rattle.hg_report.specs.declared.fault.Fault.{Fault}
 use Rattle.hg_save.specs.Record.{record_in}
-use Rattle.hg_session.specs.Call.{Call, Serves, Sink, Watched}
+use Rattle.hg_session.specs.Loaded.{AsksRecord, IsLoaded, IsUnreadable, MetReading, WasLoaded}
+use Rattle.hg_session.specs.Call.{Call, IsLeftAlone, Serves, Sink, Watched}
 use Rattle.hg_session.specs.Load.{of_read}
-use Rattle.hg_session.specs.Loaded.{IsLoaded, IsUnreadable, MetReading, WasLoaded}
 use Rattle.hg_session.specs.Look.{Look, Looks, Shows}
-use Rattle.hg_session.specs.Put.{IsSilent, LeavesFront, Puts}
+use Rattle.hg_session.specs.Put.{IsEmpty, IsSilent, LeavesFront, Puts}
 use Rattle.hg_session.specs.declared.read_fault.ReadFault.{ReadFault}
 use Rattle.hg_shelf.specs.History as shelf
-use Rattle.hg_tree.specs.History as tree
 
 -- ---- what is printed
 
@@ -31,18 +30,16 @@ pub record IsTextIn (files : shelf.Files) (text : List ℕ) : Type 0 where
 abbrev pub OneRecord : Type 0
 OneRecord = (files : shelf.Files) (a b : List ℕ) → IsTextIn files a → IsTextIn files b → a ≡ b
 
--- no lines are told behind it
-abbrev pub IsEmpty : List ℕ → Type 0
-IsEmpty text = text ≡ []
-
 -- the record is read, and its text printed
 abbrev pub record_look : Watched shelf.History → Look
 record_look files = record {
   Before = λ fault. (f : ReadFault) × (fault ≡ of_read f) × MetReading files f;
   Ready = WasLoaded files;
+  Printing = Unit {0};
   Text = HasText files;
-  Told = IsEmpty;
   Telling = ⊥;
+  Told = IsEmpty;
+  Saving = λ fault. ⊥;
 }
 
 -- ---- what has to be answered
@@ -57,13 +54,9 @@ IsExpectedOf files (Some fault) = IsUnreadable files fault
 -- a text that was printed, or a fault, before its line is told
 pub record DoesRecord (files : Watched shelf.History) (out : Sink) (result : Result Unit Fault) : Type 0 where
   pub shows : (err : Sink) → IsSilent err → Shows (record_look files) out err result
+  pub below : IsTrue files.old.told → AsksRecord files.old files.new
   pub calm_shelf : OnOk result (files.after ≡ files.before)
   pub calm_out : OnOk result (out.after ≡ out.before)
-
--- a tree wasn't asked for anything, and is as it was
-pub record IsLeftAlone (copy : Watched tree.History) : Type 0 where
-  pub history : copy.new ≡ copy.old
-  pub count : copy.after ≡ copy.before
 
 -- what the command did that ended with this fault, or with none
 pub record RanRecord (call : Call) (fault : Option Fault) : Type 0 where
@@ -76,6 +69,7 @@ pub record RanRecord (call : Call) (fault : Option Fault) : Type 0 where
   -- where nobody else steps and no count rises, the answer is the expected one, or there was no memory
   pub complete : shelf.IsOurs call.looked.shelf.old call.looked.shelf.new → Serves call.looked.shelf → Serves call.out
       → IsExpectedOf (shelf.now call.looked.shelf.old).files fault
-  -- it doesn't look at the working copy, and compiles no regexp
+  -- below `.hg` it asks for the record alone; it doesn't look at the working copy, and compiles no regexp
+  pub below : IsTrue call.looked.shelf.old.told → AsksRecord call.looked.shelf.old call.looked.shelf.new
   pub alone : IsLeftAlone call.looked.tree
   pub uncounted : call.looked.oversize.after ≡ call.looked.oversize.before

@@ -1,6 +1,7 @@
 pub mod Acts
 pub mod Anew
 pub mod Answered
+pub mod Below
 pub mod Call
 pub mod Cause
 pub mod Change

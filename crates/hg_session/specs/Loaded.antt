@@ -1,7 +1,8 @@
 -- What was read of the record, and what reading it answers, by what a load found.
-use Rattle.std.specs.Prelude.{ℕ, ◌≡◌, List, map, Option, Some, None, Result, Ok, Err, IsTrue, Vec}
+use Rattle.std.specs.Prelude.{ℕ, ◌≡◌, List, ◌∷◌, map, Option, Some, None, Result, Ok, Err, IsTrue, Vec}
 use Rattle.std.specs.List.{AllByRecursion}
 use Rattle.std.specs.declared.alloc.Global.{Global}
+use Rattle.hg_docket.specs.Docket.{docket_of}
 use Rattle.hg_entry.specs.Table.{Table, flat_of}
 use Rattle.hg_flat.specs.Recorded.{Records}
 use Rattle.hg_flat.specs.Shown.{flat_in, rows_of}
@@ -12,11 +13,13 @@ use Rattle.hg_image.specs.declared.fault.NodeFault.{NodeFault}
 use Rattle.hg_report.specs.Debug.{IsDebugText}
 use Rattle.hg_report.specs.declared.fault.Fault.{Fault}
 use Rattle.hg_report.specs.declared.fault.Fault.TheVariants as a_session_fault
-use Rattle.hg_save.specs.Loads.{Tries, Try, found_by, id_by}
-use Rattle.hg_save.specs.Record.{id_in, record_in}
+use Rattle.hg_save.specs.Asked.{docket_ask, named_asks}
+use Rattle.hg_save.specs.Loads.{During, Tries, Try, files_at, found_by, id_by}
+use Rattle.hg_save.specs.Record.{docket_in, id_in, record_in}
 use Rattle.hg_session.specs.Call.{Fails, Watched}
 use Rattle.hg_session.specs.declared.read_fault.ReadFault.{ReadFault}
 use Rattle.hg_session.specs.declared.read_fault.ReadFault.TheVariants as a_fault
+use Rattle.hg_shelf.specs.Asks.{AsksFrontOf}
 use Rattle.hg_shelf.specs.History.{Files, History}
 
 -- ---- what was read
@@ -34,6 +37,13 @@ IsLoaded files table = IsTrue files.old.told → IsRead files.old files.new tabl
 -- some table was
 abbrev pub WasLoaded : Watched History → Type 0
 WasLoaded files = IsTrue files.old.told → (table : Table) × IsRead files.old files.new table
+
+-- the files below `.hg` were asked for no more than a load asks for: the docket as it stood at a moment of the call, and the data file that it names,
+-- each once
+pub record AsksRecord (old new : History) : Type 0 where
+  pub at : ℕ
+  pub during : During old new at
+  pub asks : AsksFrontOf (docket_ask ∷ named_asks (docket_in (files_at new at))) old new
 
 -- ---- what reading it answers
 

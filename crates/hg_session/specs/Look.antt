@@ -1,4 +1,4 @@
--- What a command does that only looks: it reads, it prints, and behind that it tells what its reader is warned of.
+-- Where a command meets a fault, and what stands in its streams then; and what every command does that only looks.
 use Rattle.std.specs.Prelude.{ℕ, ◌≡◌, ◌⊎◌, true, false, List, Option, Some, None, Result, IfErr, IfSome, MatchOption, OnOk}
 use Rattle.hg_report.specs.Fault.{has_line}
 use Rattle.hg_report.specs.declared.fault.Fault.{Fault}
@@ -12,20 +12,24 @@ use Rattle.hg_shelf.specs.History as shelf
 use Rattle.hg_shelf.specs.Images.{Goes, last_scene}
 use Rattle.hg_shelf.specs.Polite.{Undisturbed}
 
--- where a command meets a fault: before it prints, while it prints, while it tells its lines behind that
+-- where a command meets a fault: before it prints or saves, while it prints, while it tells its lines behind that, while it saves; one that changes the
+-- record saves before it tells its lines
 pub data Stage : Type 0 where
   at_first : Stage
   at_printing : Stage
   at_telling : Stage
+  at_saving : Stage
 
--- what a command is about: why it meets a fault before it prints, what is so where it met none, the text that it prints, and the lines behind it,
--- where it tells some
+-- what a command is about: why it meets a fault before it prints or saves, what is so where it met none, the text that it prints, where it prints one,
+-- the lines behind it, where it tells some, and why it meets a fault while it saves
 pub record Look : Type 1 where
   pub Before : Fault → Type 0
   pub Ready : Type 0
+  pub Printing : Type 0
   pub Text : List ℕ → Type 0
-  pub Told : List ℕ → Type 0
   pub Telling : Type 0
+  pub Told : List ℕ → Type 0
+  pub Saving : Fault → Type 0
 
 -- a fault that printing may meet; for the line of the one there may be no memory
 abbrev pub IsOutFault : Fault → Type 0
@@ -35,8 +39,9 @@ IsOutFault fault = (fault ≡ a_fault.OutFailed) ⊎ (fault ≡ a_fault.OutOfMem
 -- what stands on the error stream where nothing but the line of the fault is told
 abbrev pub LeavesAt : Look → Sink → Sink → (Fault → Type 0) → Stage → Fault → Type 0
 LeavesAt look out err Line at_first fault = look.Before fault × IsSilent out × Line fault
-LeavesAt look out err Line at_printing fault = look.Ready × PutsFront look.Text out × IsOutFault fault × Line fault
+LeavesAt look out err Line at_printing fault = look.Printing × look.Ready × PutsFront look.Text out × IsOutFault fault × Line fault
 LeavesAt look out err Line at_telling fault = look.Telling × look.Ready × Puts look.Text out × PutsFront look.Told err × (fault ≡ a_fault.ErrFailed)
+LeavesAt look out err Line at_saving fault = look.Saving fault × IsSilent out × Line fault
 
 -- no fault was met: the text was printed, and the lines behind it were told
 pub record IsShown (look : Look) (out err : Sink) : Type 0 where

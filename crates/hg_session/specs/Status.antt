@@ -22,6 +22,7 @@ use Rattle.hg_report.specs.Warnings.{warnings_text}
 use Rattle.hg_report.specs.declared.fault.Fault.{Fault}
 use Rattle.hg_report.specs.declared.fault.Fault.TheVariants as a_fault
 use Rattle.hg_save.specs.Record.{record_in}
+use Rattle.hg_session.specs.Below.{AsksBelow}
 use Rattle.hg_session.specs.Call.{Call, Looked, Serves, Sink, Watched}
 use Rattle.hg_session.specs.Flags.{style_of, wanted_of}
 use Rattle.hg_session.specs.Listed.{AsksLittle, AsksOwn, IsAskedAt, IsListable, IsListed, IsListedFor, IsOwn, ListingCause, first_parent}
@@ -64,9 +65,11 @@ abbrev pub status_look : StatusFlags → Looked → Look
 status_look flags looked = record {
   Before = λ fault. (f : ListFault) × (fault ≡ of_list f) × ListingCause looked (wanted_of flags) f;
   Ready = IsListable looked (wanted_of flags);
+  Printing = Unit {0};
   Text = IsRowsText flags looked;
-  Told = IsWarningText (wanted_of flags) looked.tree;
   Telling = Unit {0};
+  Told = IsWarningText (wanted_of flags) looked.tree;
+  Saving = λ fault. ⊥;
 }
 
 -- ---- what has to be answered
@@ -135,6 +138,7 @@ pub record DoesStatus (flags : StatusFlags) (looked : Looked) (out err : Sink) (
   pub shows : Shows (status_look flags looked) out err result
   pub asked : AsksLittle looked (wanted_of flags)
   pub asked_own : OnOk result (AsksOwn looked (wanted_of flags))
+  pub below : IsTrue looked.shelf.old.told → AsksBelow looked (wanted_of flags)
   pub calm : OnOk result (IsCalm looked out err)
 
 -- what a status did that ended with this fault, or with none
@@ -156,3 +160,5 @@ pub record RanStatus (flags : StatusFlags) (call : Call) (fault : Option Fault) 
   pub asked : AsksLittle call.looked (wanted_of flags)
   -- without a fault, and where nobody else steps, the patterns are read exactly where they are needed and stand there
   pub asked_own : fault ≡ None → AsksOwn call.looked (wanted_of flags)
+  -- below `.hg` it asks for the record, and then for what its comparisons need, the manifest once at most
+  pub below : IsTrue call.looked.shelf.old.told → AsksBelow call.looked (wanted_of flags)

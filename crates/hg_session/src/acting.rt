@@ -5,6 +5,7 @@ ghost use Rattle.hg_base.specs.Fault.{HasCause};
 ghost use Rattle.hg_mixed.specs.Edits.{IsOfSameImage, IsSame, Marks};
 ghost use Rattle.hg_mixed.specs.Held.{table};
 ghost use Rattle.hg_ops.specs.Cause.{HasOpCause};
+ghost use Rattle.hg_ops.specs.Look.{Looks};
 ghost use Rattle.hg_ops.specs.declared.refusal.OpFault.TheVariants as an_op_fault;
 ghost use Rattle.hg_report.specs.declared.fault.Fault.TheVariants as a_fault;
 ghost use Rattle.hg_session.specs.Acts.{IsActed, Steps, name, refused_line};
@@ -45,6 +46,7 @@ fn step<T: Tree>(
     tree: &mut T,
 ) -> Result<Option<Refusal>, OpFault>
     ensures stepped { (files : Watched shelf.History) → IfOk result (λ refused. Steps command files (T.history tree.old) (T.history tree.new) word.now (table mixed.old) refused (table mixed.new)) }
+    ensures looks { Looks word.now (table mixed.old) (T.history tree.old) (T.history tree.new) }
     ensures changed { OnOk result (Marks (IsSame (table mixed.new) (table mixed.old)) mixed.old.changed mixed.new.changed) }
     ensures image { IsOfSameImage mixed.old mixed.new }
     ensures passes { Passes (T.history tree.old) (T.history tree.new) }

@@ -6,15 +6,17 @@ ghost use Rattle.hg_base.specs.Fault.{HasCause};
 ghost use Rattle.hg_docket.specs.Docket.{docket_of, docket_refusal};
 ghost use Rattle.hg_image.specs.Reading.{data_reading};
 ghost use Rattle.hg_report.specs.declared.fault.Fault.TheVariants as a_fault;
+ghost use Rattle.hg_save.specs.Leads.{IsHeld};
 ghost use Rattle.hg_save.specs.Loads.{Try};
 ghost use Rattle.hg_save.specs.Saved.{Stands};
 ghost use Rattle.hg_session.specs.Acts.{IsActed};
 ghost use Rattle.hg_session.specs.Anew.{CanWrite, IsOpened, IsRecorded, LoadsOrRefuses, MetWriting, WritesOnly};
 ghost use Rattle.hg_session.specs.Change.{FailsOrUnwritten, IsDone, IsEarly, IsReadSome, IsSafeHeld, MetChanging};
 ghost use Rattle.hg_session.specs.Changed.{OnlyLooks};
-ghost use Rattle.hg_session.specs.Loaded.{NodesFind};
+ghost use Rattle.hg_session.specs.Loaded.{AsksRecord, NodesFind};
 ghost use Rattle.hg_session.specs.declared.acting.Changing.TheVariants as a_command;
 ghost use Rattle.hg_session.specs.declared.read_fault.ReadFault.TheVariants as a_read;
+ghost use Rattle.hg_shelf.specs.Asks.{AsksNothing};
 ghost use Rattle.hg_shelf.specs.History.{Passes};
 ghost use Rattle.hg_shelf.specs.Images.{Goes, course, last_scene};
 ghost use Rattle.hg_shelf.specs.Polite.{Undisturbed};
@@ -38,6 +40,7 @@ fn read<S: Shelf>(alloc: Global, shelf: &mut S) -> Result<Loaded, ReadFault>
     ensures few { IfOk result (λ l. length l.docket.items ≤ 512) }
     ensures whole { IfOk result (λ l. docket_refusal l.docket.items ≡ None) }
     ensures cause { HasCause (S.faults shelf.old) (S.faults shelf.new) result (λ e. e ≡ a_read.Failed) }
+    ensures asked { IsTrue (S.history shelf.old).told → AsksRecord (S.history shelf.old) (S.history shelf.new) }
     ensures kept { Goes (course (S.history shelf.old) (S.images shelf.old)) (course (S.history shelf.new) (S.images shelf.new)) }
     ensures locks { S.held shelf.new ≡ S.held shelf.old }
 {
@@ -91,7 +94,8 @@ fn save<S: Shelf>(
     ensures later { S.faults shelf.old ≤ S.faults shelf.new }
     ensures kept { Goes (course (S.history shelf.old) (S.images shelf.old)) (course (S.history shelf.new) (S.images shelf.new)) }
     ensures ours { (S.history shelf.new).ours ≡ (S.history shelf.old).ours }
-    ensures uncalled { (S.history shelf.new).locks ≡ (S.history shelf.old).locks }
+    ensures lock { IsTrue (S.history shelf.old).told → IsHeld (S.history shelf.old) (S.history shelf.new) }
+    ensures unasked { AsksNothing (S.history shelf.old) (S.history shelf.new) }
     ensures locks { S.held shelf.new ≡ S.held shelf.old }
 {
     if !table.changed() {
@@ -157,6 +161,8 @@ pub(crate) fn change_locked<T: Tree, S: Shelf>(
     ensures later { S.faults shelf.old ≤ S.faults shelf.new }
     ensures kept { Goes (course (S.history shelf.old) (S.images shelf.old)) (course (S.history shelf.new) (S.images shelf.new)) }
     ensures ours { (S.history shelf.new).ours ≡ (S.history shelf.old).ours }
+    ensures asked { IsTrue (S.history shelf.old).told → AsksRecord (S.history shelf.old) (S.history shelf.new) }
+    ensures lock { IsTrue (S.history shelf.old).told → IsHeld (S.history shelf.old) (S.history shelf.new) }
     ensures uncalled { (S.history shelf.new).locks ≡ (S.history shelf.old).locks }
     ensures locks { S.held shelf.new ≡ S.held shelf.old }
 {

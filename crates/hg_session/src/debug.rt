@@ -9,7 +9,7 @@ ghost use Rattle.hg_shelf.specs.Images.{course};
 ghost use Rattle.hg_session.specs.Debug.{DoesRecord};
 ghost use Rattle.hg_session.specs.Look.{OnlyReads};
 ghost use Rattle.hg_save.specs.Loads.{Try};
-ghost use Rattle.hg_session.specs.Loaded.{IsBytesOf, NodesFind, Reads};
+ghost use Rattle.hg_session.specs.Loaded.{AsksRecord, IsBytesOf, NodesFind, Reads};
 ghost use Rattle.hg_session.specs.declared.read_fault.ReadFault.TheVariants as a_fault;
 
 use crate::read_fault::ReadFault;
@@ -40,6 +40,7 @@ fn load_text<S: Shelf>(alloc: Global, shelf: &mut S) -> Result<Vec<u8>, ReadFaul
         (record { before = S.held shelf.old; after = S.held shelf.new }) }
     ensures found { IsTrue (S.history shelf.old).told → ((tried : Try) × Reads IsBytesOf (S.history shelf.old) (S.history shelf.new) (tried ∷ []) result) }
     ensures some { IfOk result (λ text. (table : Table) × IsBytesOf table text) }
+    ensures asked { IsTrue (S.history shelf.old).told → AsksRecord (S.history shelf.old) (S.history shelf.new) }
     ensures cause { HasCause (S.faults shelf.old) (S.faults shelf.new) result (λ e. e ≡ a_fault.Failed) }
 {
     let loaded = load(alloc, shelf)?;

@@ -1,5 +1,7 @@
 //! The rows of a status, from the dirstate and the working copy.
 
+ghost use Rattle.std.specs.Prelude.{IsTrue};
+ghost use Rattle.hg_session.specs.Below.{AsksBelow};
 ghost use Rattle.hg_session.specs.Listed.{Lists};
 ghost use Rattle.hg_session.specs.Look.{OnlyReads};
 ghost use Rattle.hg_shelf.specs.Images.{course};
@@ -29,6 +31,14 @@ pub(crate) fn list<T: Tree, S: Shelf, G: Regexps>(
         })
         wanted
         result }
+    ensures below { IsTrue (S.history shelf.old).told
+        → AsksBelow
+        (record {
+          tree = record { old = T.history tree.old; new = T.history tree.new; before = T.faults tree.old; after = T.faults tree.new };
+          shelf = record { old = S.history shelf.old; new = S.history shelf.new; before = S.faults shelf.old; after = S.faults shelf.new };
+          oversize = record { before = G.oversize regexps.old; after = G.oversize regexps.new };
+        })
+        wanted }
     ensures only { OnlyReads
         (record { old = S.history shelf.old; new = S.history shelf.new; before = S.faults shelf.old; after = S.faults shelf.new })
         (record { old = course (S.history shelf.old) (S.images shelf.old); new = course (S.history shelf.new) (S.images shelf.new) })

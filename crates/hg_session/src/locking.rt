@@ -1,6 +1,6 @@
 //! The lock round a change of the record, and what is told of it.
 
-ghost use Rattle.std.specs.Prelude.{◌≡◌, ◌⊎◌, ◌<◌, List, Option, ℕ, IfErr, IfOk, MatchOption, None, OnOk, Err};
+ghost use Rattle.std.specs.Prelude.{◌≡◌, ◌⊎◌, ◌<◌, List, Option, ℕ, IfErr, IfOk, IsTrue, MatchOption, None, OnOk, Err};
 ghost use Rattle.std.specs.Result.{result_err};
 ghost use Rattle.hg_report.specs.declared.fault.Fault.TheVariants as a_fault;
 ghost use Rattle.hg_session.specs.Acts.{IsActed};
@@ -8,6 +8,7 @@ ghost use Rattle.hg_session.specs.Call.{Count, Sink};
 ghost use Rattle.hg_session.specs.Change.{FailsOrUnwritten, IsDone, IsEarly, IsLocked, IsReadSome, IsSafe, MetLocking, Stretch, once_freed};
 ghost use Rattle.hg_session.specs.Changed as changed_is;
 ghost use Rattle.hg_session.specs.Changed.{OnlyLooks, RanChange};
+ghost use Rattle.hg_session.specs.Loaded.{AsksRecord};
 ghost use Rattle.hg_session.specs.Put.{IsSilent};
 ghost use Rattle.hg_session.specs.declared.acting.Changing.TheVariants as a_command;
 ghost use Rattle.hg_shelf.specs.Images.{Goes, course};
@@ -89,6 +90,7 @@ fn change<T: Tree, S: Shelf>(
     ensures calm_tree { OnOk result (T.faults tree.new ≡ T.faults tree.old) }
     ensures calm_shelf { OnOk result (S.faults shelf.new ≡ S.faults shelf.old) }
     ensures kept { Goes (course (S.history shelf.old) (S.images shelf.old)) (course (S.history shelf.new) (S.images shelf.new)) }
+    ensures asked { IsTrue (S.history shelf.old).told → AsksRecord (S.history shelf.old) (S.history shelf.new) }
     ensures locked { IsLocked
         (IsActed
         command

@@ -7,7 +7,7 @@ ghost use Rattle.hg_entry.specs.Table.{Table};
 ghost use Rattle.hg_image.specs.Reading.{data_reading};
 ghost use Rattle.hg_save.specs.Loads.{Try};
 ghost use Rattle.hg_shelf.specs.Images.{course};
-ghost use Rattle.hg_session.specs.Loaded.{IsFlatOf, NodesFind, Reads};
+ghost use Rattle.hg_session.specs.Loaded.{AsksRecord, IsFlatOf, NodesFind, Reads};
 ghost use Rattle.hg_session.specs.Look.{OnlyReads};
 ghost use Rattle.hg_session.specs.declared.read_fault.ReadFault.TheVariants as a_fault;
 
@@ -38,6 +38,7 @@ pub(crate) fn read_flat<S: Shelf>(alloc: Global, shelf: &mut S) -> Result<Flat, 
         (record { before = S.held shelf.old; after = S.held shelf.new }) }
     ensures some { IfOk result (λ flat. (table : Table) × IsFlatOf table flat) }
     ensures found { IsTrue (S.history shelf.old).told → ((tried : Try) × Reads IsFlatOf (S.history shelf.old) (S.history shelf.new) (tried ∷ []) result) }
+    ensures asked { IsTrue (S.history shelf.old).told → AsksRecord (S.history shelf.old) (S.history shelf.new) }
     ensures cause { HasCause (S.faults shelf.old) (S.faults shelf.new) result (λ e. e ≡ a_fault.Failed) }
 {
     let loaded = load(alloc, shelf)?;

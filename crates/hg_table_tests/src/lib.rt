@@ -16,6 +16,8 @@ mod images;
 #[cfg(test)]
 mod manifests;
 #[cfg(test)]
+mod parents;
+#[cfg(test)]
 mod reports;
 #[cfg(test)]
 mod savings;

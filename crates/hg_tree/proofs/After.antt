@@ -1,20 +1,28 @@
 -- One change more: what it makes of what is shown, and that each moment stays well formed.
-use Rattle.std.proofs.Common.{ℕ, ◌≡◌, ◌≤◌, Bool, true, cond, List, [], ◌∷◌, ◌++◌, length, take, inl, inr, refl, sym, ◌∙◌, ap, subst, arith}
+use Rattle.std.proofs.Common.{ℕ, ◌≡◌, ◌≤◌, Bool, true, cond, Some, List, [], ◌∷◌, ◌++◌, length, take, inl, inr, refl, sym, ◌∙◌, ap, subst, arith}
 use Rattle.std.proofs.lemmas.Bool.{cases_lt, cond-true}
 use Rattle.std.proofs.lemmas.List.{take-append-le, take_all, length_push}
-use Rattle.hg_base.specs.PathText.{is_path}
+use Rattle.std.specs.Prelude.{is_some}
+use Rattle.std.specs.Option.{option_and_then}
+use Rattle.hg_base.specs.PathText.{is_path, parent_of}
+use Rattle.hg_base.proofs.Children.{below_parent, same_dir}
 use Rattle.hg_base.specs.declared.time.Time.{Time}
 use Rattle.hg_tree.specs.declared.thing.Thing.{Thing}
 use Rattle.hg_tree.specs.declared.asked.Change.{Change}
+use Rattle.hg_tree.specs.declared.asked.Change.TheVariants as the_change
+use Rattle.hg_tree.specs.declared.asked.Own.{Own}
+use Rattle.hg_tree.specs.declared.asked.Own.TheVariants as an_own
 use Rattle.hg_tree.specs.declared.asked.Outside.TheVariants as a_change
-use Rattle.hg_tree.specs.Moment.{Moment, Things, IsFormed, is_short_thing, empty_at}
-use Rattle.hg_tree.specs.Change.{after, after_place, after_take, by_others, replayed}
-use Rattle.hg_tree.specs.Memory.{IsKept}
+use Rattle.hg_tree.specs.Moment.{Moment, Things, IsFormed, bytes_of, is_short_thing, empty_at}
+use Rattle.hg_tree.specs.Own.{after_extended, after_made, after_unlink, is_loose}
+use Rattle.hg_tree.specs.Change.{after_place, after_take, by_others}
+use Rattle.hg_tree.specs.Memory.{IsKept, after, after_own_change, by_us, replayed}
 use Rattle.hg_tree.proofs.Formed.{formed_placed, formed_taken}
+use Rattle.hg_tree.proofs.Owned.{contents_loose, formed_extended, formed_made, formed_unlinked}
 
-pub replayed_push : (changes : List Change) (change : Change) (start : Moment) → replayed (changes ++ change ∷ []) start ≡ after change.what (replayed changes start)
+pub replayed_push : (changes : List Change) (change : Change) (start : Moment) → replayed (changes ++ change ∷ []) start ≡ after change (replayed changes start)
 replayed_push [] change start = refl
-replayed_push (first ∷ changes) change start = replayed_push changes change (after first.what start)
+replayed_push (first ∷ changes) change start = replayed_push changes change (after first start)
 
 -- what is the same at each path is the same
 pub same_things : (f g : Things) → ((path : List ℕ) → f path ≡ g path) → f ≡ g
@@ -34,7 +42,7 @@ module _ (start : Time) (changes : List Change) (was : Things) (kept : IsKept st
   formed_shown = subst (λ (f : Things). IsFormed (record { clock = start; things = f })) (sym same_now)
       (record { rooted = formed_now.rooted; paths = formed_now.paths; short = formed_now.short })
 
-  formed_more : (change : Change) → IsFormed (after change.what shown_now) → (k : ℕ) → k ≤ length (changes ++ change ∷ [])
+  formed_more : (change : Change) → IsFormed (after change shown_now) → (k : ℕ) → k ≤ length (changes ++ change ∷ [])
       → IsFormed (replayed (take k (changes ++ change ∷ [])) (empty_at start))
   formed_more change next k upto = elim (cases_lt (length changes) k) [
     | inl past ↦
@@ -44,13 +52,50 @@ module _ (start : Time) (changes : List Change) (was : Things) (kept : IsKept st
         subst (λ (l : List Change). IsFormed (replayed l (empty_at start))) (sym (take-append-le k changes (change ∷ []) before)) (kept.formed k before)
   ]
 
-  kept_more : (change : Change) (shown : Things) → IsFormed (after change.what shown_now) → ((path : List ℕ) → shown path ≡ (after change.what (record { clock = start; things = was })).things path)
-      → ((path : List ℕ) → (after change.what (record { clock = start; things = was })).things path ≡ (after change.what shown_now).things path)
+  kept_more : (change : Change) (shown : Things) → IsFormed (after change shown_now) → ((path : List ℕ) → shown path ≡ (after change (record { clock = start; things = was })).things path)
+      → ((path : List ℕ) → (after change (record { clock = start; things = was })).things path ≡ (after change shown_now).things path)
       → IsKept start (changes ++ change ∷ []) shown
   kept_more change shown next as_shown same = record {
     current = λ path. as_shown path ∙ same path ∙ sym (ap (λ (m : Moment). m.things path) (replayed_push changes change (empty_at start)));
     formed = formed_more change next;
   }
+
+  -- the clock stays
+  clock_after : (change : Change) (m : Moment) → (after change m).clock ≡ m.clock
+  clock_after (the_change.ByOthers (a_change.Place path thing time)) m = refl
+  clock_after (the_change.ByOthers (a_change.Take path)) m = refl
+  clock_after (the_change.ByUs (an_own.Unlink path)) m = refl
+  clock_after (the_change.ByUs (an_own.Make path thing)) m = refl
+  clock_after (the_change.ByUs (an_own.Extend path more)) m = refl
+
+  clock_is : (l : List Change) (m : Moment) → (replayed l m).clock ≡ m.clock
+  clock_is [] m = refl
+  clock_is (change ∷ l) m = clock_is l (after change m) ∙ clock_after change m
+
+  shown_is : record { clock = start; things = was } ≡ shown_now
+  shown_is = λ i. record { clock = sym (clock_is changes (empty_at start)) i; things = same_now i }
+
+  pub kept_own : (what : Own) (shown : Things) → IsFormed (after_own_change what (record { clock = start; things = was }))
+      → ((path : List ℕ) → shown path ≡ (after_own_change what (record { clock = start; things = was })).things path) → IsKept start (changes ++ by_us what ∷ []) shown
+  kept_own what shown next as_shown =
+      kept_more (by_us what) shown (subst (λ (m : Moment). IsFormed (after_own_change what m)) shown_is next) as_shown
+      (λ path. ap (λ (m : Moment). (after_own_change what m).things path) shown_is)
+
+  pub kept_unlinked : (path : List ℕ) (shown : Things) → is_path path ≡ true → is_some (option_and_then (λ placed. bytes_of placed.thing) (was path)) ≡ true
+      → ((at : List ℕ) → shown at ≡ after_unlink path start was at) → IsKept start (changes ++ by_us (an_own.Unlink path) ∷ []) shown
+  kept_unlinked path shown is there as_shown =
+      let loose = contents_loose (was path) there in
+      kept_own (an_own.Unlink path) shown
+      (formed_unlinked path start was start loose.0 loose.1 (λ at home. below_parent at path (sym (same_dir (Some at) (parent_of path) home))) formed_shown) as_shown
+
+  pub kept_made : (path : List ℕ) (thing : Thing) (shown : Things) → is_path path ≡ true → is_short_thing thing ≡ true → is_loose (was path) ≡ true
+      → ((at : List ℕ) → shown at ≡ after_made path thing start was at) → IsKept start (changes ++ by_us (an_own.Make path thing) ∷ []) shown
+  kept_made path thing shown is fits loose as_shown =
+      kept_own (an_own.Make path thing) shown (formed_made path thing start was start is fits loose formed_shown) as_shown
+
+  pub kept_extended : (path more : List ℕ) (shown : Things) → ((at : List ℕ) → shown at ≡ after_extended path more start was at)
+      → IsKept start (changes ++ by_us (an_own.Extend path more) ∷ []) shown
+  kept_extended path more shown as_shown = kept_own (an_own.Extend path more) shown (formed_extended path more start was start formed_shown) as_shown
 
   pub kept_placed : (path : List ℕ) (thing : Thing) (time : Time) (shown : Things) → is_path path ≡ true → is_short_thing thing ≡ true
       → ((at : List ℕ) → shown at ≡ after_place path thing time was at) → IsKept start (changes ++ by_others (a_change.Place path thing time) ∷ []) shown

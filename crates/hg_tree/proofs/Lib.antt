@@ -1,9 +1,13 @@
+pub mod Calls
 pub mod After
 pub mod Children
+pub mod DueTurns
 pub mod Faces
 pub mod Formed
 pub mod Histories
+pub mod Making
 pub mod Maps
+pub mod Owned
 pub mod Parents
 pub mod Planting
 pub mod Shown
@@ -12,3 +16,5 @@ pub mod Stable
 pub mod Stillness
 pub mod Telling
 pub mod Times
+pub mod Toward
+pub mod Touching

@@ -4,10 +4,9 @@ use Rattle.std.proofs.lemmas.List.{take_all}
 use Rattle.hg_base.specs.declared.time.Time.{Time}
 use Rattle.hg_tree.specs.declared.asked.Change.{Change}
 use Rattle.hg_tree.specs.Moment.{Moment, Things, AreFit, Lists, empty_at, is_listed}
-use Rattle.hg_tree.specs.Change.{replayed}
 use Rattle.hg_tree.specs.Children.{AreChildren}
 use Rattle.hg_tree.specs.History.{AreFormed, now}
-use Rattle.hg_tree.specs.Memory.{Memory, IsKept, history_of}
+use Rattle.hg_tree.specs.Memory.{Memory, IsKept, history_of, replayed}
 use Rattle.hg_tree.proofs.After.{formed_shown, same_things}
 use Rattle.hg_tree.proofs.Children.{children_fit, children_names}
 
@@ -25,7 +24,7 @@ module _ (memory : Memory) (shown : Things) (kept : IsKept memory.start memory.c
   pub seen_formed : AreFormed (history_of memory)
   seen_formed = record { each = kept.formed }
 
-  now_shown : (now (history_of memory)).things ≡ shown
+  pub now_shown : (now (history_of memory)).things ≡ shown
   now_shown = ap (λ (m : Moment). m.things) (now_is memory) ∙ sym (same_things shown (replayed memory.changes (empty_at memory.start)).things kept.current)
 
   pub seen_lists : (dir : Option (List ℕ)) (names : List (List ℕ)) → AreChildren shown dir names → is_listed shown dir ≡ true → Lists dir (Some names) (now (history_of memory))

@@ -24,7 +24,7 @@ ours_first a b c q ours = record { told = ours.told; ours = λ k from upto. sym 
 pub ours_second : (a b c : History) → Extends a b → IsOurs a c → IsOurs b c
 ours_second a b c p ours = record { told = p.told ∙ ours.told; ours = λ k from upto. ours.ours k (omega (arith, from, p.later)) upto }
 
-who_apart : us ≡ others → ⊥
+pub who_apart : us ≡ others → ⊥
 who_apart is = absurd (cc is)
 
 -- the caller's part of a call that only asks is nothing, so where nobody else steps no step is made

@@ -1,5 +1,5 @@
 -- What a change makes of a working copy.
-use Rattle.std.specs.Prelude.{ℕ, false, ◌||◌, if◌then◌else◌, List, [], ◌∷◌, Some, None}
+use Rattle.std.specs.Prelude.{ℕ, ◌||◌, if◌then◌else◌, List, Some, None}
 use Rattle.std.specs.Str.{bytes_eq}
 use Rattle.hg_base.specs.PathText.{is_below}
 use Rattle.hg_base.specs.declared.time.Time.{Time}
@@ -7,6 +7,7 @@ use Rattle.hg_tree.specs.declared.thing.Thing.{Thing}
 use Rattle.hg_tree.specs.declared.thing.Thing.TheVariants as a_thing
 use Rattle.hg_tree.specs.declared.thing.Placed.{Placed}
 use Rattle.hg_tree.specs.declared.asked.Change.{Change}
+use Rattle.hg_tree.specs.declared.asked.Change.TheVariants as the_change
 use Rattle.hg_tree.specs.declared.asked.Outside.{Outside}
 use Rattle.hg_tree.specs.declared.asked.Outside.TheVariants as a_change
 use Rattle.hg_tree.specs.Moment.{Moment, Things, is_dir, is_dir_thing}
@@ -42,16 +43,11 @@ without_below path things at = if is_below path at then None else things at
 abbrev pub after_take : List ℕ → Things → Things
 after_take path things at = if bytes_eq path at || is_below path at then None else things at
 
--- the moment that a change makes of the one before
-abbrev pub after : Outside → Moment → Moment
-after (a_change.Place path thing time) moment = record moment { things = after_place path thing time moment.things }
-after (a_change.Take path) moment = record moment { things = after_take path moment.things }
+-- the moment that a change of others makes of the one before
+abbrev pub after_outside : Outside → Moment → Moment
+after_outside (a_change.Place path thing time) moment = record moment { things = after_place path thing time moment.things }
+after_outside (a_change.Take path) moment = record moment { things = after_take path moment.things }
 
 -- a change that others made
 abbrev pub by_others : Outside → Change
-by_others what = record { by_us = false; what = what }
-
--- the moment that changes make, the first of them first
-abbrev pub replayed : List Change → Moment → Moment
-replayed [] moment = moment
-replayed (change ∷ more) moment = replayed more (after change.what moment)
+by_others what = the_change.ByOthers what

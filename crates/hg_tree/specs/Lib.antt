@@ -1,9 +1,12 @@
 pub mod Change
 pub mod Children
+pub mod Coming
 pub mod History
 pub mod Honest
 pub mod Memory
 pub mod Moment
+pub mod Own
 pub mod Parents
 pub mod Still
 pub mod Telling
+pub mod Touched

@@ -1,5 +1,5 @@
 -- The directories above a path, while a thing is put there.
-use Rattle.std.specs.Prelude.{ℕ, ◌≡◌, true, false, ◌||◌, List, Option, MatchOption}
+use Rattle.std.specs.Prelude.{ℕ, ◌≡◌, true, false, ◌||◌, List, Option, MatchOption, is_some}
 use Rattle.std.specs.Str.{bytes_eq}
 use Rattle.hg_base.specs.PathText.{is_below}
 use Rattle.hg_tree.specs.Moment.{Things, is_dir}
@@ -21,3 +21,8 @@ AreRootedAbove path things =
 abbrev pub IsMissing : List ℕ → Things → Option (List ℕ) → Type 0
 IsMissing path things missing =
     MatchOption missing (AreDirsAbove path things) (λ dir. IsParent dir path × (is_dir (things dir) ≡ false))
+
+-- above what stands at the path, or above it, something stands everywhere
+abbrev pub AreHeldAbove : List ℕ → Things → Type 0
+AreHeldAbove path things =
+    (at dir : List ℕ) → (bytes_eq path dir || is_below dir path) ≡ true → is_below at dir ≡ true → is_some (things dir) ≡ true → is_some (things at) ≡ true

@@ -20,20 +20,25 @@
 //! `Stillness`, and of faces and times `Faces` and `Telling`.
 #![tactic(auto)]
 
+mod acting;
 mod asked;
+mod coming;
 mod device;
 mod fault;
 mod honest;
 mod listing;
 mod memory;
 mod name;
+mod own;
 mod thing;
 mod things;
+mod touched;
 
-pub use asked::{Asked, Change, Outside};
+pub use asked::{Asked, Change, Due, Outside, Own};
 pub use device::Tree;
 pub use fault::TreeFault;
 pub use honest::{faces_are_listed, faces_stay, faces_tell, honest_past, stays_past};
 pub use memory::MemTree;
 pub use name::Name;
 pub use thing::{Placed, Thing};
+pub use touched::steps_touch;

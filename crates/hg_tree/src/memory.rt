@@ -1,25 +1,30 @@
 //! A working copy in memory, for tests.
 
-ghost use Rattle.std.specs.Prelude.{◌≡◌, ◌≤◌, ◌⊎◌, true, if◌then◌else◌, ◌++◌, ◌∷◌, [], false, length, option_map, IsTrue, OnOk, OnErr, IfOk, IfErr, IfSome, is_ok, is_err};
-ghost use Rattle.hg_base.specs.Calls.{unmade, fails_at, is_due};
+ghost use Rattle.std.specs.Prelude.{◌≡◌, ◌≤◌, ◌⊎◌, true, ◌++◌, ◌∷◌, [], false, length, option_map, IsTrue, OnOk, OnErr, IfOk, IfErr, IfSome, is_ok, is_err, is_some, slice_get};
+ghost use Rattle.hg_base.specs.Calls.{unmade, failed, fails_at, is_due};
 ghost use Rattle.hg_base.specs.Fault.{HasCause, Rose};
 ghost use Rattle.hg_base.specs.Reads.{IsWithin, ReadsBytes};
 ghost use Rattle.hg_tree.specs.declared.asked.Outside.TheVariants as a_change;
 ghost use Rattle.hg_tree.specs.declared.asked.Asked.TheVariants as an_ask;
 ghost use Rattle.hg_tree.specs.declared.fault.TreeFault.TheVariants as a_fault;
-ghost use Rattle.hg_tree.specs.Moment.{AreFit, IsPlain, Lists, bytes_at, is_short_thing, stat_at};
-ghost use Rattle.hg_tree.specs.History.{AreFormed, Asks, Passes, now};
+ghost use Rattle.hg_tree.specs.Moment.{AreFit, IsPlain, Lists, bytes_at, is_file, is_short_thing, stat_at};
+ghost use Rattle.hg_tree.specs.History.{AreFormed, Asks, Extends, Passes, now};
 ghost use Rattle.hg_tree.specs.Change.{by_others};
-ghost use Rattle.hg_tree.specs.Memory.{LeavesListed, LeavesRead, after_call, after_due, after_failure, history_of, noting};
+ghost use Rattle.hg_tree.specs.Memory.{Fails, LeavesListed, LeavesOwn, LeavesRead, LeavesUnnoted, Stops, after_call, after_due, after_failure, coming, coming_of, history_of, noting, own_put, with_own};
+ghost use Rattle.hg_tree.specs.Coming.{due_at, is_short_change};
+ghost use Rattle.hg_tree.specs.Own.{CanPut, CannotPut, Puts, Unlinks, put_thing};
+ghost use Rattle.hg_tree.specs.declared.asked.Own.TheVariants as an_own;
 
-use crate::asked::{Asked, Change, Outside};
+use crate::asked::{Asked, Change, Outside, Own};
+use crate::coming::Coming;
 use crate::device::Tree;
 use crate::fault::TreeFault;
 use crate::listing::{is_listed, names_in};
 use crate::name::Name;
+use crate::own::{extend, is_clear, is_puttable_at, make, thing_of, unlink};
 use crate::thing::{Placed, Thing, bytes_of, stat_of};
 use crate::things::{remove, settle};
-use hg_base::{Calls, Failed, Got, OutOfMemory, Path, PathRef, Stat, Time, read_past};
+use hg_base::{Blob, Calls, Failed, Got, Kind, OutOfMemory, Path, PathRef, Stat, Time, read_past};
 use std::alloc::Global;
 use std::collections::BTreeMap;
 use std::marker::Model;
@@ -29,12 +34,13 @@ use std::marker::Model;
 /// What stands now is kept beside the list of changes, so that a look doesn't go through that list.
 #[derive(Debug, Drop)]
 pub struct MemTree {
-    alloc: Global,
-    start: Time,
-    changes: Vec<Change>,
-    asked: Vec<Asked>,
-    calls: Calls,
-    things: BTreeMap<String, Placed>,
+    pub(crate) alloc: Global,
+    pub(crate) start: Time,
+    pub(crate) changes: Vec<Change>,
+    pub(crate) due: Coming,
+    pub(crate) asked: Vec<Asked>,
+    pub(crate) calls: Calls,
+    pub(crate) things: BTreeMap<String, Placed>,
 }
 
 impl Model for MemTree {
@@ -43,7 +49,7 @@ impl Model for MemTree {
 
     ghost Value = { Memory };
 
-    ghost view = { λ m. record { start = m.start; changes = m.changes.items; asked = m.asked.items; calls = m.calls } };
+    ghost view = { λ m. record { start = m.start; changes = m.changes.items; due = m.due; asked = m.asked.items; calls = m.calls } };
 
     ghost invariant = { λ m. IsKept m.start m.changes.items (get_by_text m.things) };
 }
@@ -53,12 +59,13 @@ impl MemTree {
     pub fn new(alloc: Global, clock: Time) -> Result<MemTree, OutOfMemory>
         ensures { IfOk
             result
-            (λ tree. tree ≡ record { start = clock; changes = []; asked = []; calls = unmade }) }
+            (λ tree. tree ≡ record { start = clock; changes = []; due = []; asked = []; calls = unmade }) }
     {
         Ok(MemTree {
             alloc,
             start: clock,
             changes: Vec::new(alloc),
+            due: Coming::new(alloc),
             asked: Vec::new(alloc),
             calls: Calls::new(alloc),
             things: BTreeMap::new(alloc),
@@ -87,8 +94,7 @@ impl MemTree {
             Placed { thing: copy, mtime },
         )?;
         self.changes
-            .push(Change {
-                by_us: false,
+            .push(Change::ByOthers {
                 what: Outside::Place {
                     path: path_copy,
                     thing,
@@ -110,8 +116,7 @@ impl MemTree {
         self.changes.reserve(1)?;
         remove(&mut self.things, path.text);
         self.changes
-            .push(Change {
-                by_us: false,
+            .push(Change::ByOthers {
                 what: Outside::Take { path: path_copy },
             })
             .unwrap();
@@ -124,6 +129,62 @@ impl MemTree {
         ensures err { OnErr result (self.new ≡ self.old) }
     {
         self.calls.fail_at(call)
+    }
+
+    /// Another makes a change just before a call.
+    pub fn due(&mut self, call: u64, change: Outside) -> Result<(), OutOfMemory>
+        requires { IsTrue (is_short_change change) }
+        ensures ok { OnOk result (self.new ≡ record self.old { due = self.old.due ++ record { call = call; change = change } ∷ [] }) }
+        ensures err { OnErr result (self.new ≡ self.old) }
+    {
+        self.due.push(call, change)
+    }
+
+    // Makes what is due at a call by the one of that number.
+    fn make_one(&mut self, index: usize, call: u64) -> Result<(), OutOfMemory>
+        ensures ok { OnOk
+            result
+            (self.new ≡ record self.old { changes = self.old.changes ++ due_at call (slice_get self.old.due index) }) }
+        ensures err { OnErr result (self.new ≡ self.old) }
+        ensures there { OnErr result (length (due_at call (slice_get self.old.due index)) ≡ 1) }
+    {
+        match self.due.at(self.alloc, index, call)? {
+            Some(Outside::Place { path, thing, mtime }) => self.place(path.as_ref(), thing, mtime),
+            Some(Outside::Take { path }) => self.take(path.as_ref()),
+            None => Ok(()),
+        }
+    }
+
+    fn due_len(&self) -> usize
+        ensures { result ≡ length self.now.due }
+    {
+        self.due.len()
+    }
+
+    // Makes what is due at a call.
+    fn make_due(&mut self, call: u64) -> Result<(), OutOfMemory>
+        ensures ok { OnOk result (self.new ≡ record self.old { changes = self.old.changes ++ coming_of call self.old.due }) }
+        ensures err { OnErr result (Stops call self.old self.new) }
+    {
+        for index in 0..self.due_len() {
+            self.make_one(index, call)?;
+        }
+        Ok(())
+    }
+
+    // Makes what is due just before the next call, and counts that call.
+    pub(crate) fn begin(&mut self) -> Result<(), Failed>
+        ensures ok { OnOk result (self.new ≡ after_call self.old) }
+        ensures failed { OnErr result (Fails self.old self.new) }
+        ensures due { IsTrue (is_due self.old.calls) → is_err result ≡ true }
+        ensures alone { coming self.old ≡ [] → is_err result ≡ is_due self.old.calls }
+        ensures cause { HasCause self.old.calls.faults self.new.calls.faults result (λ e. Unit {0}) }
+    {
+        let call = self.calls.made();
+        match self.make_due(call) {
+            Ok(()) => self.calls.begin(),
+            Err(_) => Err(fail_next(&mut self.calls)),
+        }
     }
 
     /// What the tree was asked so far, the first call first.
@@ -144,7 +205,7 @@ impl MemTree {
         }
     }
 
-    fn bytes(&self, path: &str) -> Option<&[u8]>
+    pub(crate) fn bytes(&self, path: &str) -> Option<&[u8]>
         ensures found { option_map (λ bytes. bytes.now) result ≡ bytes_at (now (history_of self.now)) path.now }
         ensures formed { AreFormed (history_of self.now) }
     {
@@ -170,19 +231,21 @@ impl MemTree {
         ensures cause { HasCause self.old.calls.faults self.new.calls.faults result (λ e. Unit {0}) }
     {
         match self.note_read(path) {
-            Ok(()) => self.calls.begin(),
+            Ok(()) => self.begin(),
             Err(_) => Err(self.unread()),
         }
     }
 
     // A read for whose note there is no memory is counted as one that failed.
     fn unread(&mut self) -> Failed
-        ensures state { self.new ≡ after_failure self.old }
+        ensures state { Fails self.old self.new ⊎ (self.new ≡ after_failure self.old) }
         ensures later { self.old.calls.faults ≤ self.new.calls.faults }
         ensures rose { Rose self.old.calls.faults self.new.calls.faults }
     {
-        let _ = self.unnoted();
-        Failed
+        match self.begin() {
+            Ok(()) => self.calls.fail(),
+            Err(fault) => fault,
+        }
     }
 
     // Notes that a directory is listed.
@@ -198,23 +261,22 @@ impl MemTree {
     // Counts a listing and notes it, also one that fails.
     fn begin_listing(&mut self, dir: Option<PathRef<'_>>) -> Result<(), TreeFault>
         ensures state { LeavesListed (option_map (λ d. d.text.now) dir.entry) result self.old self.new }
-        ensures ended { IfErr result (λ e. e ≡ a_fault.Failed ⊎ is_due self.old.calls ≡ true) }
+        ensures ended { IfErr result (λ e. e ≡ a_fault.Failed ⊎ Fails self.old self.new) }
         ensures cause { HasCause self.old.calls.faults self.new.calls.faults result (λ e. e ≡ a_fault.Failed) }
     {
         match self.note(dir) {
-            Ok(()) => Ok(self.calls.begin()?),
+            Ok(()) => Ok(self.begin()?),
             Err(_) => Err(self.unnoted()),
         }
     }
 
     // A call for whose note there is no memory is counted as one that failed.
     fn unnoted(&mut self) -> TreeFault
-        ensures state { self.new ≡ after_failure self.old }
-        ensures kind { result ≡ (if is_due self.old.calls then a_fault.OutOfMemory else a_fault.Failed) }
+        ensures state { LeavesUnnoted result self.old self.new }
         ensures later { self.old.calls.faults ≤ self.new.calls.faults }
         ensures rose { Rose self.old.calls.faults self.new.calls.faults }
     {
-        match self.calls.begin() {
+        match self.begin() {
             Ok(()) => {
                 self.calls.fail();
                 TreeFault::Failed
@@ -259,17 +321,20 @@ impl Tree for MemTree {
 
     ghost faults = { λ m. m.calls.faults };
 
-    // A call fails exactly where it was told to, and only counts.
+    // A call fails where it was told to, or where there is no memory for what is due, and only counts.
     fn stat(&mut self, path: PathRef<'_>) -> Result<Option<Stat>, Failed>
+        ensures passes { Passes (history_of self.old) (history_of self.new) }
+        ensures asked { Asks (is_ok result) [] (history_of self.old) (history_of self.new) }
         ensures found { IfOk result (λ found. found ≡ stat_at (now (history_of (after_due self.old))) path.entry.text.now) }
         ensures fit { IfOk result (λ found. IfSome found IsPlain) }
         ensures formed { OnOk result (AreFormed (history_of self.new)) }
         ensures cause { HasCause self.old.calls.faults self.new.calls.faults result (λ e. Unit {0}) }
-        ensures due { is_err result ≡ is_due self.old.calls }
+        ensures due { IsTrue (is_due self.old.calls) → is_err result ≡ true }
+        ensures alone { coming self.old ≡ [] → is_err result ≡ is_due self.old.calls }
         ensures answered { OnOk result (self.new ≡ after_call self.old) }
-        ensures failed { OnErr result (self.new ≡ after_failure self.old) }
+        ensures failed { OnErr result (Fails self.old self.new) }
     {
-        self.calls.begin()?;
+        self.begin()?;
         Ok(self.look(path.text))
     }
 
@@ -315,5 +380,56 @@ impl Tree for MemTree {
             Some(bytes) => Ok(Got::Bytes(read_past(bytes, place, buf))),
             None => Ok(Got::Absent),
         }
+    }
+
+    // What was unlinked is a step of the caller's, behind what was due.
+    fn unlink(&mut self, path: PathRef<'_>) -> Result<bool, Failed>
+        ensures past { Extends (history_of self.old) (history_of self.new) }
+        ensures asked { Asks (is_ok result) [] (history_of self.old) (history_of self.new) }
+        ensures done { IfOk result (λ done. Unlinks path.entry.text.now done (history_of self.old) (history_of self.new)) }
+        ensures failed { OnErr result (Passes (history_of self.old) (history_of self.new)) }
+        ensures formed { AreFormed (history_of self.new) }
+        ensures cause { HasCause self.old.calls.faults self.new.calls.faults result (λ e. Unit {0}) }
+        ensures state { LeavesOwn (an_own.Unlink path.entry.text.now) result self.old self.new }
+    {
+        let result = self.unlink_counted(path);
+        self.stays_formed();
+        result
+    }
+
+    // So is what was put.
+    fn put(
+        &mut self,
+        path: PathRef<'_>,
+        kind: Kind,
+        exec: bool,
+        place: u64,
+        bytes: &[u8],
+    ) -> Result<bool, Failed>
+        ensures past { Extends (history_of self.old) (history_of self.new) }
+        ensures asked { Asks (is_ok result) [] (history_of self.old) (history_of self.new) }
+        ensures done { IfOk
+            result
+            (λ done. Puts kind exec place bytes.now path.entry.text.now done (history_of self.old) (history_of self.new)) }
+        ensures failed { OnErr result (Passes (history_of self.old) (history_of self.new)) }
+        ensures formed { AreFormed (history_of self.new) }
+        ensures cause { HasCause self.old.calls.faults self.new.calls.faults result (λ e. Unit {0}) }
+        ensures state { LeavesOwn (own_put kind exec place bytes.now path.entry.text.now) result self.old self.new }
+    {
+        let result = self.put_counted(path, kind, exec, place, bytes);
+        self.stays_formed();
+        result
+    }
+}
+
+// Counts a call that fails.
+fn fail_next(calls: &mut Calls) -> Failed
+    ensures state { calls.new ≡ failed calls.old }
+    ensures later { calls.old.faults ≤ calls.new.faults }
+    ensures rose { Rose calls.old.faults calls.new.faults }
+{
+    match calls.begin() {
+        Ok(()) => calls.fail(),
+        Err(fault) => fault,
     }
 }

@@ -24,8 +24,8 @@ pub fn is_dir(things: &BTreeMap<String, Placed>, path: &str) -> bool
     }
 }
 
-// Puts a thing at the path, and answers what stood there.
-fn put(
+/// Puts a thing at the path, and answers what stood there.
+pub fn put(
     alloc: Global,
     things: &mut BTreeMap<String, Placed>,
     path: &str,
@@ -41,8 +41,8 @@ fn put(
     Ok(things.insert(key, placed)?)
 }
 
-// Sets what stands at the path back to what stood there.
-fn restore(things: &mut BTreeMap<String, Placed>, path: &str, was: Option<Placed>)
+/// Sets what stands at the path to something else, as to what stood there before.
+pub fn restore(things: &mut BTreeMap<String, Placed>, path: &str, was: Option<Placed>)
     requires { IsSome (get_by_text things.old path.now) }
     ensures { (at : List ℕ) → get_by_text things.new at ≡ update bytes_eq (get_by_text things.old) path.now was at }
 {

@@ -3,6 +3,7 @@ use Rattle.hg_entry.specs.Entry.{view}
 use Rattle.hg_mixed.specs.Edits.{after_copy}
 use Rattle.hg_mixed.specs.Held.{table}
 use Rattle.hg_ops.proofs.Forgotten.{leave_both, set_both, source_gone}
+use Rattle.hg_ops.proofs.ForgottenLent.{leave_lends, leave_places}
 use Rattle.hg_ops.proofs.forgetting.leave.Goals as goal
 
 pub returns-in-Ok-clause-table : goal.returns-in-Ok-clause-table
@@ -18,3 +19,12 @@ returns-in-Ok-clause-changed c =
 
 pub returns-in-Ok-clause-err : goal.returns-in-Ok-clause-err
 returns-in-Ok-clause-err c = source_gone c.args.path.text.now c.args.mixed.now c.copy_from.new.self c.set_left.new.mixed c.in-Ok.ensures.table c.set_left.result c.set_left.ensures.err
+
+pub returns-in-Ok-clause-lent : goal.returns-in-Ok-clause-lent
+returns-in-Ok-clause-lent c =
+    leave_lends c.args.path.text.now (view c.args.was) (view c.args.left) c.args.mixed.now c.copy_from.new.self c.set_left.new.mixed c.requires.entry c.requires.tracked c.requires.untracked
+    c.in-Ok.ensures.table c.in-Ok.ensures.lent c.set_left.result c.set_left.ensures.table c.set_left.ensures.lent
+
+pub returns-in-Ok-clause-places : goal.returns-in-Ok-clause-places
+returns-in-Ok-clause-places c =
+    leave_places c.args.path.text.now c.args.mixed.now c.copy_from.new.self c.set_left.new.mixed c.in-Ok.ensures.table c.in-Ok.ensures.places c.set_left.result c.set_left.ensures.places

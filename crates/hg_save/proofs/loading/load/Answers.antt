@@ -22,7 +22,7 @@ returns-clause-kept g c = goes_trans _ _ _ c.read_docket.ensures.kept c.load_nam
 pub returns-in_err-n-clause-asked : goal.returns-in_err-n-clause-asked
 returns-in_err-n-clause-asked g c = λ told.
     let p = err_from_is_err_and c.from_residual.result c.from_residual.ensures.1 in
-    rw p.1 (unread_asks (g.S.Shelf.history c.args.shelf.now) (g.S.Shelf.history c.read_docket.new.shelf) p.0 c.read_docket.ensures.passes (c.in_err-n.ensures.asked told))
+    rw p.1 (unread_asks (g.S.Shelf.history c.args.shelf.now) (g.S.Shelf.history c.read_docket.new.shelf) p.0 c.read_docket.ensures.passes (p.2 ∙ c.in_err-n.ensures.kind) (c.in_err-n.ensures.asked told))
 
 pub returns-clause-asked : goal.returns-clause-asked
 returns-clause-asked g c = λ told.

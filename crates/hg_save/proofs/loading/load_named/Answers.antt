@@ -1,11 +1,12 @@
-use Rattle.std.proofs.Common.{◌≡◌, ◌++◌, subst}
+use Rattle.std.proofs.Common.{◌≡◌, ◌++◌, List, subst}
 use Rattle.std.proofs.Common.{sym, refl, ◌∙◌}
 use Rattle.std.proofs.lemmas.Result.{err_from_is_err_and}
 use Rattle.hg_docket.specs.Docket.{view}
-use Rattle.hg_save.specs.Asked.{data_asks}
+use Rattle.hg_save.specs.Asked.{named_asks}
+use Rattle.hg_save.proofs.Asking.{sound_asks}
+use Rattle.hg_shelf.specs.declared.asked.Asked.{Asked}
 use Rattle.hg_shelf.proofs.Asks.{front_all}
 use Rattle.hg_shelf.specs.Asks.{AsksFrontOf}
-use Rattle.hg_docket.specs.Docket.{Contents, docket_of}
 use Rattle.hg_save.proofs.Loads.{named_fault, named_memory, named_read, named_unread}
 use Rattle.hg_save.proofs.loading.load_named.Goals as goal
 
@@ -36,15 +37,15 @@ pub returns-in_err-nodes-clause-asked : goal.returns-in_err-nodes-clause-asked
 returns-in_err-nodes-clause-asked g c = λ told.
     let p = err_from_is_err_and c.from_residual-in_err-nodes.result c.from_residual-in_err-nodes.ensures.1 in
     rw p.1
-    (subst (λ (d : Contents). AsksFrontOf (data_asks d) (g.S.Shelf.history c.args.shelf.now) (g.S.Shelf.history c.read_data.new.shelf)) c.in_ok-docket.ensures.fields (c.in_err-nodes.ensures.asked told))
+    (subst (λ (asks : List Asked). AsksFrontOf asks (g.S.Shelf.history c.args.shelf.now) (g.S.Shelf.history c.read_data.new.shelf)) (sound_asks c.args.bytes.now (view c.in_ok-docket.docket) (sym c.in_ok-docket.ensures.refused) c.in_ok-docket.ensures.fields) (c.in_err-nodes.ensures.asked told))
 
 pub returns-in_err-extend_from_slice-clause-asked : goal.returns-in_err-extend_from_slice-clause-asked
 returns-in_err-extend_from_slice-clause-asked g c = λ told.
     let p = err_from_is_err_and c.from_residual-in_err-extend_from_slice.result c.from_residual-in_err-extend_from_slice.ensures.1 in
     rw p.1
-    (front_all (data_asks (docket_of c.args.bytes.now)) (g.S.Shelf.history c.args.shelf.now) (g.S.Shelf.history c.read_data.new.shelf)
-    (subst (λ (d : Contents). (g.S.Shelf.history c.read_data.new.shelf).asked ≡ (g.S.Shelf.history c.args.shelf.now).asked ++ data_asks d) c.in_ok-docket.ensures.fields (c.in_ok-nodes.ensures.asked told)))
+    (front_all (named_asks c.args.bytes.now) (g.S.Shelf.history c.args.shelf.now) (g.S.Shelf.history c.read_data.new.shelf)
+    (subst (λ (asks : List Asked). (g.S.Shelf.history c.read_data.new.shelf).asked ≡ (g.S.Shelf.history c.args.shelf.now).asked ++ asks) (sound_asks c.args.bytes.now (view c.in_ok-docket.docket) (sym c.in_ok-docket.ensures.refused) c.in_ok-docket.ensures.fields) (c.in_ok-nodes.ensures.asked told)))
 
 pub returns-clause-asked : goal.returns-clause-asked
 returns-clause-asked g c = λ told.
-    subst (λ (d : Contents). (g.S.Shelf.history c.read_data.new.shelf).asked ≡ (g.S.Shelf.history c.args.shelf.now).asked ++ data_asks d) c.in_ok-docket.ensures.fields (c.in_ok-nodes.ensures.asked told)
+    subst (λ (asks : List Asked). (g.S.Shelf.history c.read_data.new.shelf).asked ≡ (g.S.Shelf.history c.args.shelf.now).asked ++ asks) (sound_asks c.args.bytes.now (view c.in_ok-docket.docket) (sym c.in_ok-docket.ensures.refused) c.in_ok-docket.ensures.fields) (c.in_ok-nodes.ensures.asked told)

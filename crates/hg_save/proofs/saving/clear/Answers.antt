@@ -2,9 +2,10 @@ use Rattle.std.proofs.Common.{◌≡◌, ℕ, List, refl, ap, sym, ◌∙◌, su
 use Rattle.std.proofs.lemmas.Result.{on_ok_weaker}
 use Rattle.hg_docket.specs.Docket.{Contents, docket_of}
 use Rattle.hg_shelf.specs.Images.{course, last_scene}
-use Rattle.hg_shelf.specs.Rules.{Perhaps, without}
+use Rattle.hg_shelf.specs.Rules.{Perhaps, Removes, without}
 use Rattle.hg_save.specs.Leads.{Clears, Leads, OwnSteps, StepBy}
 use Rattle.hg_save.specs.Record.{data_name}
+use Rattle.hg_save.proofs.Held.{held_either, held_same}
 use Rattle.hg_save.proofs.Kept.{goes_there, steps_weaker}
 use Rattle.hg_save.proofs.Names.{empty_id, read_id, some_id}
 use Rattle.hg_save.proofs.Own.{no_call, remove_steps}
@@ -56,3 +57,11 @@ returns-clause-steps g c = λ calm.
     (c.as_str.ensures ∙ c.of.ensures ∙ ap data_name id)
     (remove_steps c.as_str.result.now (course (g.S.Shelf.history c.args.shelf.now) (g.S.Shelf.images c.args.shelf.now)) (course (g.S.Shelf.history c.remove.new.self) (g.S.Shelf.images c.remove.new.self))
     c.requires.held (either c.remove.result (c.remove.ensures.removed calm.told) (c.remove.ensures.perhaps calm.told))))
+
+pub returns-clause-lock : goal.returns-clause-lock
+returns-clause-lock g c = λ told.
+    held_either (Removes c.as_str.result.now) (course (g.S.Shelf.history c.args.shelf.now) (g.S.Shelf.images c.args.shelf.now)) (course (g.S.Shelf.history c.remove.new.self) (g.S.Shelf.images c.remove.new.self))
+    c.requires.held (either c.remove.result (c.remove.ensures.removed told) (c.remove.ensures.perhaps told))
+
+pub returns-then-is_empty-clause-lock : goal.returns-then-is_empty-clause-lock
+returns-then-is_empty-clause-lock g c = λ told. held_same (g.S.Shelf.history c.args.shelf.now)

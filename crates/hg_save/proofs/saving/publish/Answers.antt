@@ -1,12 +1,14 @@
-use Rattle.std.proofs.Common.{arith}
+use Rattle.std.proofs.Common.{◌∙◌, arith}
 use Rattle.std.proofs.lemmas.Result.{err_from_is_err_and}
 use Rattle.hg_shelf.specs.History.{now}
 use Rattle.hg_shelf.specs.Images.{course}
 use Rattle.hg_shelf.proofs.Scenes.{goes_trans, second_part}
 use Rattle.hg_save.proofs.Exits.{crash_four, crash_one, crash_three, crash_two, exact_four, latest_four, latest_one, latest_three, latest_two, left_four, left_one, left_three, left_two, others_four, others_one, others_three, others_two, records_four}
+use Rattle.hg_save.proofs.Held.{held_then}
 use Rattle.hg_save.proofs.Keeping.{keep_four, keep_one, keep_three, keep_two}
 use Rattle.hg_save.proofs.Orderly.{orderly_four, orderly_one, orderly_three, orderly_two}
 use Rattle.hg_save.proofs.Stages.{on_ok}
+use Rattle.hg_save.proofs.Torn.{names_exactly, writes_four, writes_one, writes_three, writes_two}
 use Rattle.hg_save.proofs.saving.publish.Goals as goal
 
 pub returns-in_err-put-clause-crash : goal.returns-in_err-put-clause-crash
@@ -228,3 +230,67 @@ returns-clause-keeping g c =
     (λ calm. record { leads = c.in_ok-put-2.ensures.leads calm; sure = (rw c.as_slice-2.ensures.value at c.in_ok-put-2.ensures.sure) calm })
     (course (g.S.Shelf.history c.swap.new.shelf) (g.S.Shelf.images c.swap.new.shelf)) c.in_ok-swap.ensures.kept c.in_ok-swap.ensures.steps c.in_ok-swap.ensures.done
     (course (g.S.Shelf.history c.clear.new.shelf) (g.S.Shelf.images c.clear.new.shelf)) c.clear.ensures.kept (rw c.as_slice-3.ensures.value at c.clear.ensures.leads) (rw c.as_slice-3.ensures.value at c.clear.ensures.steps)
+
+pub returns-in_err-put-2-clause-lock : goal.returns-in_err-put-2-clause-lock
+returns-in_err-put-2-clause-lock g c = λ told.
+    held_then (g.S.Shelf.history c.args.shelf.now) (g.S.Shelf.history c.put.new.shelf) (g.S.Shelf.history c.put-2.new.shelf) c.in_err-put-2.ensures.kept.past (c.in_ok-put.ensures.lock told) (c.in_err-put-2.ensures.lock (c.in_ok-put.ensures.kept.past.told ∙ told))
+
+pub returns-in_err-swap-clause-lock : goal.returns-in_err-swap-clause-lock
+returns-in_err-swap-clause-lock g c = λ told.
+    held_then (g.S.Shelf.history c.args.shelf.now) (g.S.Shelf.history c.put-2.new.shelf) (g.S.Shelf.history c.swap.new.shelf) c.in_err-swap.ensures.kept.past
+    (held_then (g.S.Shelf.history c.args.shelf.now) (g.S.Shelf.history c.put.new.shelf) (g.S.Shelf.history c.put-2.new.shelf) c.in_ok-put-2.ensures.kept.past (c.in_ok-put.ensures.lock told) (c.in_ok-put-2.ensures.lock (c.in_ok-put.ensures.kept.past.told ∙ told)))
+    (c.in_err-swap.ensures.lock (c.in_ok-put-2.ensures.kept.past.told ∙ c.in_ok-put.ensures.kept.past.told ∙ told))
+
+pub returns-clause-lock : goal.returns-clause-lock
+returns-clause-lock g c = λ told.
+    held_then (g.S.Shelf.history c.args.shelf.now) (g.S.Shelf.history c.swap.new.shelf) (g.S.Shelf.history c.clear.new.shelf) c.clear.ensures.kept.past
+    (held_then (g.S.Shelf.history c.args.shelf.now) (g.S.Shelf.history c.put-2.new.shelf) (g.S.Shelf.history c.swap.new.shelf) c.in_ok-swap.ensures.kept.past
+    (held_then (g.S.Shelf.history c.args.shelf.now) (g.S.Shelf.history c.put.new.shelf) (g.S.Shelf.history c.put-2.new.shelf) c.in_ok-put-2.ensures.kept.past (c.in_ok-put.ensures.lock told) (c.in_ok-put-2.ensures.lock (c.in_ok-put.ensures.kept.past.told ∙ told)))
+    (c.in_ok-swap.ensures.lock (c.in_ok-put-2.ensures.kept.past.told ∙ c.in_ok-put.ensures.kept.past.told ∙ told)))
+    (c.clear.ensures.lock (c.in_ok-swap.ensures.kept.past.told ∙ c.in_ok-put-2.ensures.kept.past.told ∙ c.in_ok-put.ensures.kept.past.told ∙ told))
+
+pub returns-in_err-put-clause-torn : goal.returns-in_err-put-clause-torn
+returns-in_err-put-clause-torn g c =
+    writes_one c.args.loaded.now.docket.items c.args.new.now c.requires.over (course (g.S.Shelf.history c.args.shelf.now) (g.S.Shelf.images c.args.shelf.now)) (course (g.S.Shelf.history c.put.new.shelf) (g.S.Shelf.images c.put.new.shelf)) c.in_err-put.ensures.kept (rw (c.as_str.ensures, c.of-name.ensures, c.as_slice.ensures.value) at c.in_err-put.ensures.torn)
+
+pub returns-in_err-put-clause-named : goal.returns-in_err-put-clause-named
+returns-in_err-put-clause-named g c = λ calm free.
+    names_exactly c.args.new.now (course (g.S.Shelf.history c.args.shelf.now) (g.S.Shelf.images c.args.shelf.now)) (course (g.S.Shelf.history c.put.new.shelf) (g.S.Shelf.images c.put.new.shelf)) (returns-in_err-put-clause-torn g c calm) free
+    (λ is. free.free (now (g.S.Shelf.history c.args.shelf.now)).files (g.met.S.Shelf.named_leaves c.args.shelf.now (g.S.Shelf.history c.args.shelf.now).last (now (g.S.Shelf.history c.args.shelf.now)).files (g.met.S.Shelf.shown_named c.args.shelf.now (g.S.Shelf.history c.args.shelf.now).last calm.told (omega arith))) is)
+
+pub returns-in_err-put-2-clause-torn : goal.returns-in_err-put-2-clause-torn
+returns-in_err-put-2-clause-torn g c =
+    writes_two c.args.loaded.now.docket.items c.args.new.now c.requires.over (course (g.S.Shelf.history c.args.shelf.now) (g.S.Shelf.images c.args.shelf.now)) (course (g.S.Shelf.history c.put.new.shelf) (g.S.Shelf.images c.put.new.shelf)) c.in_ok-put.ensures.kept (rw (c.as_str.ensures, c.of-name.ensures, c.as_slice.ensures.value) at c.in_ok-put.ensures.torn)
+    (course (g.S.Shelf.history c.put-2.new.shelf) (g.S.Shelf.images c.put-2.new.shelf)) c.in_err-put-2.ensures.kept (rw c.as_slice-2.ensures.value at c.in_err-put-2.ensures.torn)
+
+pub returns-in_err-put-2-clause-named : goal.returns-in_err-put-2-clause-named
+returns-in_err-put-2-clause-named g c = λ calm free.
+    names_exactly c.args.new.now (course (g.S.Shelf.history c.args.shelf.now) (g.S.Shelf.images c.args.shelf.now)) (course (g.S.Shelf.history c.put-2.new.shelf) (g.S.Shelf.images c.put-2.new.shelf)) (returns-in_err-put-2-clause-torn g c calm) free
+    (λ is. free.free (now (g.S.Shelf.history c.args.shelf.now)).files (g.met.S.Shelf.named_leaves c.args.shelf.now (g.S.Shelf.history c.args.shelf.now).last (now (g.S.Shelf.history c.args.shelf.now)).files (g.met.S.Shelf.shown_named c.args.shelf.now (g.S.Shelf.history c.args.shelf.now).last calm.told (omega arith))) is)
+
+pub returns-in_err-swap-clause-torn : goal.returns-in_err-swap-clause-torn
+returns-in_err-swap-clause-torn g c =
+    writes_three c.args.loaded.now.docket.items c.args.new.now c.requires.over (course (g.S.Shelf.history c.args.shelf.now) (g.S.Shelf.images c.args.shelf.now)) (course (g.S.Shelf.history c.put.new.shelf) (g.S.Shelf.images c.put.new.shelf)) c.in_ok-put.ensures.kept (rw (c.as_str.ensures, c.of-name.ensures, c.as_slice.ensures.value) at c.in_ok-put.ensures.torn)
+    (course (g.S.Shelf.history c.put-2.new.shelf) (g.S.Shelf.images c.put-2.new.shelf)) c.in_ok-put-2.ensures.kept (rw c.as_slice-2.ensures.value at c.in_ok-put-2.ensures.torn)
+    (λ calm. record { leads = (rw (c.as_str.ensures, c.of-name.ensures) at c.in_ok-put.ensures.leads) calm; sure = (rw (c.as_str.ensures, c.of-name.ensures, c.as_slice.ensures.value) at c.in_ok-put.ensures.sure) calm })
+    (λ calm. record { leads = c.in_ok-put-2.ensures.leads calm; sure = (rw c.as_slice-2.ensures.value at c.in_ok-put-2.ensures.sure) calm })
+    (course (g.S.Shelf.history c.swap.new.shelf) (g.S.Shelf.images c.swap.new.shelf)) c.in_err-swap.ensures.kept c.in_err-swap.ensures.leads
+
+pub returns-in_err-swap-clause-named : goal.returns-in_err-swap-clause-named
+returns-in_err-swap-clause-named g c = λ calm free.
+    names_exactly c.args.new.now (course (g.S.Shelf.history c.args.shelf.now) (g.S.Shelf.images c.args.shelf.now)) (course (g.S.Shelf.history c.swap.new.shelf) (g.S.Shelf.images c.swap.new.shelf)) (returns-in_err-swap-clause-torn g c calm) free
+    (λ is. free.free (now (g.S.Shelf.history c.args.shelf.now)).files (g.met.S.Shelf.named_leaves c.args.shelf.now (g.S.Shelf.history c.args.shelf.now).last (now (g.S.Shelf.history c.args.shelf.now)).files (g.met.S.Shelf.shown_named c.args.shelf.now (g.S.Shelf.history c.args.shelf.now).last calm.told (omega arith))) is)
+
+pub returns-clause-torn : goal.returns-clause-torn
+returns-clause-torn g c =
+    writes_four c.args.loaded.now.docket.items c.args.new.now c.requires.over (course (g.S.Shelf.history c.args.shelf.now) (g.S.Shelf.images c.args.shelf.now)) (course (g.S.Shelf.history c.put.new.shelf) (g.S.Shelf.images c.put.new.shelf)) c.in_ok-put.ensures.kept (rw (c.as_str.ensures, c.of-name.ensures, c.as_slice.ensures.value) at c.in_ok-put.ensures.torn)
+    (course (g.S.Shelf.history c.put-2.new.shelf) (g.S.Shelf.images c.put-2.new.shelf)) c.in_ok-put-2.ensures.kept (rw c.as_slice-2.ensures.value at c.in_ok-put-2.ensures.torn)
+    (λ calm. record { leads = (rw (c.as_str.ensures, c.of-name.ensures) at c.in_ok-put.ensures.leads) calm; sure = (rw (c.as_str.ensures, c.of-name.ensures, c.as_slice.ensures.value) at c.in_ok-put.ensures.sure) calm })
+    (λ calm. record { leads = c.in_ok-put-2.ensures.leads calm; sure = (rw c.as_slice-2.ensures.value at c.in_ok-put-2.ensures.sure) calm })
+    (course (g.S.Shelf.history c.swap.new.shelf) (g.S.Shelf.images c.swap.new.shelf)) c.in_ok-swap.ensures.kept c.in_ok-swap.ensures.leads c.in_ok-swap.ensures.done
+    (course (g.S.Shelf.history c.clear.new.shelf) (g.S.Shelf.images c.clear.new.shelf)) c.clear.ensures.kept (rw c.as_slice-3.ensures.value at c.clear.ensures.leads)
+
+pub returns-clause-named : goal.returns-clause-named
+returns-clause-named g c = λ calm free.
+    names_exactly c.args.new.now (course (g.S.Shelf.history c.args.shelf.now) (g.S.Shelf.images c.args.shelf.now)) (course (g.S.Shelf.history c.clear.new.shelf) (g.S.Shelf.images c.clear.new.shelf)) (returns-clause-torn g c calm) free
+    (λ is. free.free (now (g.S.Shelf.history c.args.shelf.now)).files (g.met.S.Shelf.named_leaves c.args.shelf.now (g.S.Shelf.history c.args.shelf.now).last (now (g.S.Shelf.history c.args.shelf.now)).files (g.met.S.Shelf.shown_named c.args.shelf.now (g.S.Shelf.history c.args.shelf.now).last calm.told (omega arith))) is)

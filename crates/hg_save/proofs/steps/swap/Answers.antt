@@ -3,6 +3,8 @@ use Rattle.hg_shelf.specs.Images.{course}
 use Rattle.hg_shelf.proofs.Scenes.{goes_trans}
 use Rattle.hg_save.proofs.Own.{names_failed_steps, rename_failed_steps, swap_steps}
 use Rattle.hg_save.proofs.Parts.{names_failed, names_whole, rename_failed, rename_whole, swap_done, swap_leads}
+use Rattle.hg_save.proofs.Held.{held_acts, held_either, held_passes, held_then}
+use Rattle.hg_shelf.specs.Rules.{Renames, SyncsNames}
 use Rattle.hg_save.proofs.steps.swap.Goals as goal
 
 pub returns-in_err-rename-clause-leads : goal.returns-in_err-rename-clause-leads
@@ -83,3 +85,18 @@ returns-clause-steps g c = λ calm there.
     (course (g.S.Shelf.history c.args.shelf.now) (g.S.Shelf.images c.args.shelf.now)) (course (g.S.Shelf.history c.rename.new.self) (g.S.Shelf.images c.rename.new.self)) c.requires c.in_ok-rename.ensures.kept there
     (course (g.S.Shelf.history c.sync_names.new.self) (g.S.Shelf.images c.sync_names.new.self))
     c.in_ok-rename.ensures.ours c.in_ok-sync_names.ensures.kept calm (c.in_ok-rename.ensures.renamed calm.told) (c.in_ok-sync_names.ensures.synced (c.in_ok-rename.ensures.kept.past.told ∙ calm.told))
+
+pub returns-in_err-rename-clause-lock : goal.returns-in_err-rename-clause-lock
+returns-in_err-rename-clause-lock g c = λ told. held_either (Renames c.args.from.now c.args.to.now) (course (g.S.Shelf.history c.args.shelf.now) (g.S.Shelf.images c.args.shelf.now)) (course (g.S.Shelf.history c.rename.new.self) (g.S.Shelf.images c.rename.new.self)) c.requires (c.in_err-rename.ensures.perhaps told)
+
+pub returns-in_err-sync_names-clause-lock : goal.returns-in_err-sync_names-clause-lock
+returns-in_err-sync_names-clause-lock g c = λ told.
+    held_then (g.S.Shelf.history c.args.shelf.now) (g.S.Shelf.history c.rename.new.self) (g.S.Shelf.history c.sync_names.new.self) c.in_err-sync_names.ensures.kept.past
+    (held_acts (Renames c.args.from.now c.args.to.now) (course (g.S.Shelf.history c.args.shelf.now) (g.S.Shelf.images c.args.shelf.now)) (course (g.S.Shelf.history c.rename.new.self) (g.S.Shelf.images c.rename.new.self)) c.requires (c.in_ok-rename.ensures.renamed told))
+    (held_passes (g.S.Shelf.history c.rename.new.self) (g.S.Shelf.history c.sync_names.new.self) (c.in_ok-rename.ensures.ours ∙ c.requires) c.in_err-sync_names.ensures.unsynced)
+
+pub returns-clause-lock : goal.returns-clause-lock
+returns-clause-lock g c = λ told.
+    held_then (g.S.Shelf.history c.args.shelf.now) (g.S.Shelf.history c.rename.new.self) (g.S.Shelf.history c.sync_names.new.self) c.in_ok-sync_names.ensures.kept.past
+    (held_acts (Renames c.args.from.now c.args.to.now) (course (g.S.Shelf.history c.args.shelf.now) (g.S.Shelf.images c.args.shelf.now)) (course (g.S.Shelf.history c.rename.new.self) (g.S.Shelf.images c.rename.new.self)) c.requires (c.in_ok-rename.ensures.renamed told))
+    (held_acts SyncsNames (course (g.S.Shelf.history c.rename.new.self) (g.S.Shelf.images c.rename.new.self)) (course (g.S.Shelf.history c.sync_names.new.self) (g.S.Shelf.images c.sync_names.new.self)) (c.in_ok-rename.ensures.ours ∙ c.requires) (c.in_ok-sync_names.ensures.synced (c.in_ok-rename.ensures.kept.past.told ∙ told)))

@@ -25,7 +25,7 @@ loop-i-preserved g c =
           is c.in_ok-put_refused.ensures
           (goes_on c.args.command start mid at c.args.mixed.now c.loop-i.mixed c.step.new.mixed words c.as_str-word.result.now c.loop-i.lines.items c.in_ok-refused.refused
           (g.T.Tree.faults c.args.tree.now) (g.T.Tree.faults c.loop-i.tree) (g.T.Tree.faults c.step.new.tree)
-          c.loop-i.invariant.so_far c.in_ok-refused.ensures.stepped
+          c.loop-i.invariant.so_far c.in_ok-refused.ensures.stepped c.step.ensures.looks
           (record { passes = c.step.ensures.passes; asked = c.step.ensures.asked; image = c.step.ensures.image })
           c.in_ok-refused.ensures.changed c.in_ok-refused.ensures.cause);
     }

@@ -1,14 +1,17 @@
 -- A change of the record: the load, what the words make of it, the publication.
-use Rattle.std.proofs.Common.{Some, None, inl, inr, ap}
+use Rattle.std.proofs.Common.{Some, None, inl, inr, refl, ap, ◌∙◌}
 use Rattle.std.proofs.lemmas.Result.{err_from_is_err_and}
 use Rattle.hg_session.specs.Acts.{IsActed, Makes}
 use Rattle.hg_session.specs.Call.{Watched}
+use Rattle.hg_save.proofs.Held.{held_passes, held_then}
+use Rattle.hg_session.proofs.Asking.{asks_wide}
 use Rattle.hg_session.proofs.Changes.{done_by, met_acting, met_opened, met_read, met_writing, read_some, safe_by, stands}
 use Rattle.hg_session.proofs.Locked.{unwritten, unwritten_unless}
 use Rattle.hg_docket.specs.Docket.{docket_of}
 use Rattle.hg_session.specs.Anew.{IsOpened}
 use Rattle.hg_shelf.specs.History as shelf
 use Rattle.hg_shelf.specs.Images.{Course, course}
+use Rattle.hg_shelf.proofs.Histories.{extends_same}
 use Rattle.hg_shelf.proofs.Scenes.{goes_same, goes_trans, second_part}
 use Rattle.hg_tree.specs.History as tree
 use Rattle.hg_session.proofs.changing.change_locked.Goals as goal
@@ -151,3 +154,32 @@ returns-clause-behind g c =
     let b : Course = course (g.S.Shelf.history c.read.new.shelf) (g.S.Shelf.images c.read.new.shelf) in
     let d : Course = course (g.S.Shelf.history c.save.new.shelf) (g.S.Shelf.images c.save.new.shelf) in
     inr (read_some a b d c.in_ok-loaded.ensures.passes c.in_ok-save.ensures.kept c.in_ok-loaded.loaded c.in_ok-loaded.ensures.whole c.in_ok-loaded.ensures.found c.in_ok-table.ensures.0 c.in_ok-table.ensures.1)
+
+pub returns-in_err-save-clause-asked : goal.returns-in_err-save-clause-asked
+returns-in_err-save-clause-asked g c = λ told.
+    asks_wide (g.S.Shelf.history c.args.shelf.now) (g.S.Shelf.history c.args.shelf.now) (g.S.Shelf.history c.read.new.shelf) (g.S.Shelf.history c.save.new.shelf)
+    (extends_same (g.S.Shelf.history c.args.shelf.now)) refl c.in_err-save.ensures.kept.past c.in_err-save.ensures.unasked.asked (c.in_ok-loaded.ensures.asked told)
+
+pub returns-clause-asked : goal.returns-clause-asked
+returns-clause-asked g c = λ told.
+    asks_wide (g.S.Shelf.history c.args.shelf.now) (g.S.Shelf.history c.args.shelf.now) (g.S.Shelf.history c.read.new.shelf) (g.S.Shelf.history c.save.new.shelf)
+    (extends_same (g.S.Shelf.history c.args.shelf.now)) refl c.in_ok-save.ensures.kept.past c.in_ok-save.ensures.unasked.asked (c.in_ok-loaded.ensures.asked told)
+
+pub returns-in_err-loaded-clause-lock : goal.returns-in_err-loaded-clause-lock
+returns-in_err-loaded-clause-lock g c = λ told. held_passes (g.S.Shelf.history c.args.shelf.now) (g.S.Shelf.history c.read.new.shelf) c.requires c.in_err-loaded.ensures.passes
+
+pub returns-in_err-table-clause-lock : goal.returns-in_err-table-clause-lock
+returns-in_err-table-clause-lock g c = λ told. held_passes (g.S.Shelf.history c.args.shelf.now) (g.S.Shelf.history c.read.new.shelf) c.requires c.in_ok-loaded.ensures.passes
+
+pub returns-in_err-lines-clause-lock : goal.returns-in_err-lines-clause-lock
+returns-in_err-lines-clause-lock g c = λ told. held_passes (g.S.Shelf.history c.args.shelf.now) (g.S.Shelf.history c.read.new.shelf) c.requires c.in_ok-loaded.ensures.passes
+
+pub returns-in_err-save-clause-lock : goal.returns-in_err-save-clause-lock
+returns-in_err-save-clause-lock g c = λ told.
+    held_then (g.S.Shelf.history c.args.shelf.now) (g.S.Shelf.history c.read.new.shelf) (g.S.Shelf.history c.save.new.shelf) c.in_err-save.ensures.kept.past (held_passes (g.S.Shelf.history c.args.shelf.now) (g.S.Shelf.history c.read.new.shelf) c.requires c.in_ok-loaded.ensures.passes)
+    (c.in_err-save.ensures.lock (c.in_ok-loaded.ensures.passes.past.told ∙ told))
+
+pub returns-clause-lock : goal.returns-clause-lock
+returns-clause-lock g c = λ told.
+    held_then (g.S.Shelf.history c.args.shelf.now) (g.S.Shelf.history c.read.new.shelf) (g.S.Shelf.history c.save.new.shelf) c.in_ok-save.ensures.kept.past (held_passes (g.S.Shelf.history c.args.shelf.now) (g.S.Shelf.history c.read.new.shelf) c.requires c.in_ok-loaded.ensures.passes)
+    (c.in_ok-save.ensures.lock (c.in_ok-loaded.ensures.passes.past.told ∙ told))

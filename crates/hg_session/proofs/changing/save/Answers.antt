@@ -1,5 +1,6 @@
 use Rattle.std.proofs.Common.{inl, inr, refl, sym, ◌∙◌}
 use Rattle.std.proofs.lemmas.Result.{err_from_is_err_and}
+use Rattle.hg_save.proofs.Held.{held_same}
 use Rattle.hg_save.proofs.Encodings.{goes_over}
 use Rattle.hg_shelf.specs.Images.{course}
 use Rattle.hg_session.proofs.Locked.{unwritten_here}
@@ -32,7 +33,7 @@ returns-in-Err-clause-met g c = inr (refl, c.in-Err.ensures.cause.rose tt)
 
 pub returns-clause-recorded : goal.returns-clause-recorded
 returns-clause-recorded g c = λ calm stands some.
-    recorded_by c.args.table.now c.in_ok-new.new c.in_ok-new.ensures.reads c.args.loaded.now.docket.items
+    recorded_by c.args.table.now c.in_ok-new.new c.in_ok-new.ensures.reads c.in_ok-new.ensures.written c.args.loaded.now.docket.items
     (course (g.S.Shelf.history c.args.shelf.now) (g.S.Shelf.images c.args.shelf.now)) (course (g.S.Shelf.history c.publish.new.shelf) (g.S.Shelf.images c.publish.new.shelf)) c.requires.over
     (goes_over c.args.loaded.now.docket.items c.args.table.now c.in_ok-new.new c.requires.over c.in_ok-new.ensures.written c.in_ok-new.ensures.reads) stands
     (c.in-Ok.ensures.sure calm) (c.in-Ok.ensures.exact calm) (c.in-Ok.ensures.gone calm)
@@ -46,3 +47,9 @@ returns-clause-safe g c = λ calm stands.
           (sym c.changed.ensures ∙ c.if-not-changed.false) c.requires.over (goes_over c.args.loaded.now.docket.items c.args.table.now c.in_ok-new.new c.requires.over c.in_ok-new.ensures.written c.in_ok-new.ensures.reads)
           stands (c.in-Ok.ensures.crash calm) (c.in-Ok.ensures.left calm) (c.in-Ok.ensures.latest calm stands) (c.in-Ok.ensures.others calm) (c.in-Ok.ensures.orderly calm stands) (c.in-Ok.ensures.keeping calm stands),
     )
+
+pub returns-then-not-changed-clause-lock : goal.returns-then-not-changed-clause-lock
+returns-then-not-changed-clause-lock g c = λ told. held_same (g.S.Shelf.history c.args.shelf.now)
+
+pub returns-in_err-new-clause-lock : goal.returns-in_err-new-clause-lock
+returns-in_err-new-clause-lock g c = λ told. held_same (g.S.Shelf.history c.args.shelf.now)

@@ -2,6 +2,7 @@ use Rattle.std.proofs.lemmas.Result.{err_from_is_err_and}
 use Rattle.hg_docket.specs.Docket.{docket_of}
 use Rattle.hg_image.specs.Reading.{data_reading}
 use Rattle.hg_session.specs.Loaded.{IsBytesOf}
+use Rattle.hg_session.proofs.Asking.{asks_load}
 use Rattle.hg_session.proofs.Readings.{cause_still, read_by, unread}
 use Rattle.hg_session.proofs.debug.load_text.Goals as goal
 
@@ -26,3 +27,9 @@ returns-in_err-loaded-clause-only g c = record { passes = c.load.ensures.passes;
 
 pub returns-clause-only : goal.returns-clause-only
 returns-clause-only g c = record { passes = c.load.ensures.passes; kept = c.load.ensures.kept; held = c.load.ensures.held }
+
+pub returns-in_err-loaded-clause-asked : goal.returns-in_err-loaded-clause-asked
+returns-in_err-loaded-clause-asked g c = λ told. asks_load (g.S.Shelf.history c.args.shelf.now) (g.S.Shelf.history c.load.new.shelf) c.load.result (c.load.ensures.asked told)
+
+pub returns-clause-asked : goal.returns-clause-asked
+returns-clause-asked g c = λ told. asks_load (g.S.Shelf.history c.args.shelf.now) (g.S.Shelf.history c.load.new.shelf) c.load.result (c.load.ensures.asked told)

@@ -23,6 +23,7 @@ returns-in_err-text-clause-does g c =
           ),
         );
       };
+      below = c.load_text.ensures.asked;
       calm_shelf = tt;
       calm_out = tt;
     }
@@ -39,6 +40,7 @@ returns-in-Err-clause-does g c =
         left = (
           at_printing,
           (
+            tt,
             (λ told. (l.0, l.1 told)),
             record {
               text = c.in_ok-text.text.items;
@@ -51,6 +53,7 @@ returns-in-Err-clause-does g c =
           ),
         );
       };
+      below = c.load_text.ensures.asked;
       calm_shelf = tt;
       calm_out = tt;
     }
@@ -74,6 +77,7 @@ returns-clause-does g c =
         };
         left = tt;
       };
+      below = c.load_text.ensures.asked;
       calm_shelf = c.in_ok-text.ensures.cause.quiet;
       calm_out = c.in-Ok.ensures.cause.quiet;
     }

@@ -5,7 +5,7 @@ use Rattle.hg_flat.specs.Shown.{flat_in}
 use Rattle.hg_shelf.specs.Images.{course}
 use Rattle.hg_tree.proofs.Spans.{passes_same}
 use Rattle.hg_session.specs.Call.{Looked}
-use Rattle.hg_session.proofs.Listings.{asks_little, asks_own, cause_status, had_patterns, id_is, listable_by, listed_for, only_trans}
+use Rattle.hg_session.proofs.Listings.{asks_below, asks_little, asks_load, asks_own, cause_status, had_patterns, id_is, listable_by, listed_for, only_trans}
 use Rattle.hg_session.specs.Loaded.{IsFlatOf}
 use Rattle.hg_session.proofs.Readings.{loaded_as, met_reading}
 use Rattle.hg_session.proofs.listing.list.Goals as goal
@@ -100,3 +100,36 @@ returns-clause-only g c =
     (g.S.Shelf.faults c.args.shelf.now) (g.S.Shelf.faults c.read_flat.new.shelf) (g.S.Shelf.faults c.plain_status.new.shelf)
     (g.S.Shelf.held c.args.shelf.now) (g.S.Shelf.held c.read_flat.new.shelf) (g.S.Shelf.held c.plain_status.new.shelf)
     c.read_flat.ensures.only c.plain_status.ensures.passes_shelf c.plain_status.ensures.kept c.plain_status.ensures.held
+
+pub returns-in_err-flat-clause-below : goal.returns-in_err-flat-clause-below
+returns-in_err-flat-clause-below g c = asks_load _ c.args.wanted c.read_flat.ensures.asked
+
+pub returns-in_err-listed-clause-below : goal.returns-in_err-listed-clause-below
+returns-in_err-listed-clause-below g c =
+    let shelf_start = g.S.Shelf.history c.args.shelf.now in
+    let shelf_mid = g.S.Shelf.history c.read_flat.new.shelf in
+    let shelf_end = g.S.Shelf.history c.plain_status.new.shelf in
+    let looked : Looked = record {
+      tree = record { old = g.T.Tree.history c.args.tree.now; new = g.T.Tree.history c.plain_status.new.tree; before = g.T.Tree.faults c.args.tree.now; after = g.T.Tree.faults c.plain_status.new.tree };
+      shelf = record { old = shelf_start; new = shelf_end; before = g.S.Shelf.faults c.args.shelf.now; after = g.S.Shelf.faults c.plain_status.new.shelf };
+      oversize = record { before = g.G.Regexps.oversize c.args.regexps.now; after = g.G.Regexps.oversize c.plain_status.new.regexps };
+    } in
+    let flat = flat_in c.in_ok-flat.flat in
+    let l = loaded_as IsFlatOf looked.shelf shelf_mid c.in_ok-flat.flat c.plain_status.ensures.passes_shelf.past c.in_ok-flat.ensures.found c.in_ok-flat.ensures.some in
+    let id = id_is c.first_parent-parent.result flat l.0 l.2.flat c.first_parent-parent.ensures in
+    asks_below looked c.args.wanted shelf_mid flat l.0 l.2.flat c.first_parent-parent.result id c.plain_status.ensures.passes c.read_flat.ensures.only.passes c.plain_status.ensures.passes_shelf l.1 c.read_flat.ensures.asked c.plain_status.ensures.asked_store
+
+pub returns-clause-below : goal.returns-clause-below
+returns-clause-below g c =
+    let shelf_start = g.S.Shelf.history c.args.shelf.now in
+    let shelf_mid = g.S.Shelf.history c.read_flat.new.shelf in
+    let shelf_end = g.S.Shelf.history c.plain_status.new.shelf in
+    let looked : Looked = record {
+      tree = record { old = g.T.Tree.history c.args.tree.now; new = g.T.Tree.history c.plain_status.new.tree; before = g.T.Tree.faults c.args.tree.now; after = g.T.Tree.faults c.plain_status.new.tree };
+      shelf = record { old = shelf_start; new = shelf_end; before = g.S.Shelf.faults c.args.shelf.now; after = g.S.Shelf.faults c.plain_status.new.shelf };
+      oversize = record { before = g.G.Regexps.oversize c.args.regexps.now; after = g.G.Regexps.oversize c.plain_status.new.regexps };
+    } in
+    let flat = flat_in c.in_ok-flat.flat in
+    let l = loaded_as IsFlatOf looked.shelf shelf_mid c.in_ok-flat.flat c.plain_status.ensures.passes_shelf.past c.in_ok-flat.ensures.found c.in_ok-flat.ensures.some in
+    let id = id_is c.first_parent-parent.result flat l.0 l.2.flat c.first_parent-parent.ensures in
+    asks_below looked c.args.wanted shelf_mid flat l.0 l.2.flat c.first_parent-parent.result id c.plain_status.ensures.passes c.read_flat.ensures.only.passes c.plain_status.ensures.passes_shelf l.1 c.read_flat.ensures.asked c.plain_status.ensures.asked_store

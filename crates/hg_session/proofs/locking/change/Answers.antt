@@ -1,6 +1,7 @@
 -- The lock, the change and giving the lock back, as one call.
 use Rattle.std.proofs.Common.{IsTrue, inl, inr, refl, ◌∙◌}
 use Rattle.hg_session.proofs.Acted.{acted_over}
+use Rattle.hg_session.proofs.Asking.{asks_none, asks_wide}
 use Rattle.hg_session.proofs.Freed.{once_done, once_locked, once_met, once_safe, once_unwritten, refused_same, taken_same}
 use Rattle.hg_session.proofs.Locks.{not_taken_by, noted_taken, refused_by, taken_by}
 use Rattle.hg_session.proofs.Widening.{read_some_wide}
@@ -27,7 +28,7 @@ returns-in-Ok-true-clause-done g c =
     taken_by a.history b.history x.history d.history c.lock.ensures.kept.past c.change_locked-done.ensures.kept.past c.unlock-freed.ensures.kept.past (noted told) c.change_locked-done.ensures.uncalled c.unlock-freed.result
     (c.unlock-freed.ensures.noted (c.change_locked-done.ensures.kept.past.told ∙ c.lock.ensures.kept.past.told ∙ told)) in
     rw c.first_fault.ensures
-    (once_done a b x d c.lock.ensures.waits c.unlock-freed.ensures.waits c.lock.ensures.kept c.change_locked-done.ensures.kept c.unlock-freed.ensures.kept noted c.change_locked-done.ensures.uncalled taken
+    (once_done a b x d c.lock.ensures.waits c.unlock-freed.ensures.waits c.lock.ensures.kept c.change_locked-done.ensures.kept c.unlock-freed.ensures.kept noted c.change_locked-done.ensures.uncalled taken c.change_locked-done.ensures.lock
     _ _ (acted_over c.args.command _ _ c.args.words.now copy) copy (g.S.Shelf.faults c.args.shelf.now) (g.S.Shelf.faults c.lock.new.self) (g.S.Shelf.faults c.change_locked-done.new.shelf) (g.S.Shelf.faults c.unlock-freed.new.self)
     c.change_locked-done.result c.unlock-freed.result c.change_locked-done.ensures.done)
 
@@ -45,7 +46,7 @@ returns-in-Ok-true-clause-met g c =
     taken_by a.history b.history x.history d.history c.lock.ensures.kept.past c.change_locked-done.ensures.kept.past c.unlock-freed.ensures.kept.past (noted told) c.change_locked-done.ensures.uncalled c.unlock-freed.result
     (c.unlock-freed.ensures.noted (c.change_locked-done.ensures.kept.past.told ∙ c.lock.ensures.kept.past.told ∙ told)) in
     rw c.first_fault.ensures
-    (once_met a b x d c.lock.ensures.waits c.unlock-freed.ensures.waits c.lock.ensures.kept c.change_locked-done.ensures.kept c.unlock-freed.ensures.kept noted c.change_locked-done.ensures.uncalled taken
+    (once_met a b x d c.lock.ensures.waits c.unlock-freed.ensures.waits c.lock.ensures.kept c.change_locked-done.ensures.kept c.unlock-freed.ensures.kept noted c.change_locked-done.ensures.uncalled taken c.change_locked-done.ensures.lock
     _ _ (acted_over c.args.command _ _ c.args.words.now copy) copy (g.S.Shelf.faults c.args.shelf.now) (g.S.Shelf.faults c.lock.new.self) (g.S.Shelf.faults c.change_locked-done.new.shelf) (g.S.Shelf.faults c.unlock-freed.new.self)
     _ c.change_locked-done.result c.unlock-freed.result c.in-Ok-true.ensures.cause.quiet c.change_locked-done.ensures.later c.change_locked-done.ensures.met c.unlock-freed.ensures.cause)
 
@@ -63,7 +64,7 @@ returns-in-Ok-true-clause-safe g c = λ calm.
     taken_by a.history b.history x.history d.history c.lock.ensures.kept.past c.change_locked-done.ensures.kept.past c.unlock-freed.ensures.kept.past (noted told) c.change_locked-done.ensures.uncalled c.unlock-freed.result
     (c.unlock-freed.ensures.noted (c.change_locked-done.ensures.kept.past.told ∙ c.lock.ensures.kept.past.told ∙ told)) in
     rw c.first_fault.ensures
-    (once_safe a b x d c.lock.ensures.waits c.unlock-freed.ensures.waits c.lock.ensures.kept c.change_locked-done.ensures.kept c.unlock-freed.ensures.kept noted c.change_locked-done.ensures.uncalled taken
+    (once_safe a b x d c.lock.ensures.waits c.unlock-freed.ensures.waits c.lock.ensures.kept c.change_locked-done.ensures.kept c.unlock-freed.ensures.kept noted c.change_locked-done.ensures.uncalled taken c.change_locked-done.ensures.lock
     _ _ (acted_over c.args.command _ _ c.args.words.now copy) copy (g.S.Shelf.faults c.args.shelf.now) (g.S.Shelf.faults c.lock.new.self) (g.S.Shelf.faults c.change_locked-done.new.shelf) (g.S.Shelf.faults c.unlock-freed.new.self)
     c.change_locked-done.result c.unlock-freed.result c.change_locked-done.ensures.safe calm)
 
@@ -84,7 +85,7 @@ returns-in-Ok-true-clause-unwritten g c =
     taken_by a.history b.history x.history d.history c.lock.ensures.kept.past c.change_locked-done.ensures.kept.past c.unlock-freed.ensures.kept.past (noted told) c.change_locked-done.ensures.uncalled c.unlock-freed.result
     (c.unlock-freed.ensures.noted (c.change_locked-done.ensures.kept.past.told ∙ c.lock.ensures.kept.past.told ∙ told)) in
     rw c.first_fault.ensures
-    (once_unwritten a b x d c.lock.ensures.waits c.unlock-freed.ensures.waits c.lock.ensures.kept c.change_locked-done.ensures.kept c.unlock-freed.ensures.kept noted c.change_locked-done.ensures.uncalled taken
+    (once_unwritten a b x d c.lock.ensures.waits c.unlock-freed.ensures.waits c.lock.ensures.kept c.change_locked-done.ensures.kept c.unlock-freed.ensures.kept noted c.change_locked-done.ensures.uncalled taken c.change_locked-done.ensures.lock
     (λ old new lines changed. Unit {0}) (λ old new lines changed. Unit {0}) (λ old new lines changed is. is) copy (g.S.Shelf.faults c.args.shelf.now) (g.S.Shelf.faults c.lock.new.self) (g.S.Shelf.faults c.change_locked-done.new.shelf) (g.S.Shelf.faults c.unlock-freed.new.self)
     c.change_locked-done.result c.unlock-freed.result c.change_locked-done.ensures.unwritten)
 
@@ -95,7 +96,8 @@ returns-in-Err-clause-locked g c = inr (inl (record {
   uncounted = c.in-Err.ensures.locks.1;
   failed = c.in-Err.ensures.cause.rose tt;
   unwritten = record { none = c.lock.ensures.waits.none };
-  unlooked = record { same = refl; count = refl };
+  unasked = c.lock.ensures.unasked;
+  unlooked = record { history = refl; count = refl };
   answer = inl refl;
 }))
 
@@ -107,7 +109,8 @@ returns-in-Ok-false-clause-locked g c =
       ours = was.0;
       counted = was.1;
       unwritten = record { none = c.lock.ensures.waits.none };
-      unlooked = record { same = refl; count = refl };
+      unasked = c.lock.ensures.unasked;
+      unlooked = record { history = refl; count = refl };
       answer = inl refl;
     })
 
@@ -126,11 +129,22 @@ returns-in-Ok-true-clause-locked g c =
     (c.unlock-freed.ensures.noted (c.change_locked-done.ensures.kept.past.told ∙ c.lock.ensures.kept.past.told ∙ told)) in
     let counted = taken_same _ _ _ _ c.in-Ok-true.field-0 c.in-Ok-true.field-0-test c.in-Ok-true.ensures.locks in
     rw c.first_fault.ensures
-    (once_locked a b x d c.lock.ensures.waits c.unlock-freed.ensures.waits c.lock.ensures.kept c.change_locked-done.ensures.kept c.unlock-freed.ensures.kept noted c.change_locked-done.ensures.uncalled taken
+    (once_locked a b x d c.lock.ensures.waits c.unlock-freed.ensures.waits c.lock.ensures.kept c.change_locked-done.ensures.kept c.unlock-freed.ensures.kept noted c.change_locked-done.ensures.uncalled taken c.change_locked-done.ensures.lock
     _ _ (acted_over c.args.command _ _ c.args.words.now copy) copy (g.S.Shelf.faults c.args.shelf.now) (g.S.Shelf.faults c.lock.new.self) (g.S.Shelf.faults c.change_locked-done.new.shelf) (g.S.Shelf.faults c.unlock-freed.new.self)
     (record { before = g.S.Shelf.held c.args.shelf.now; after = g.S.Shelf.held c.unlock-freed.new.self }) c.change_locked-done.result c.unlock-freed.result c.in-Ok-true.ensures.cause.quiet c.change_locked-done.ensures.later
     (c.unlock-freed.ensures.held ∙ c.change_locked-done.ensures.locks ∙ counted)
     c.change_locked-done.ensures.done c.change_locked-done.ensures.met c.unlock-freed.ensures.cause c.unlock-freed.ensures.unlocks c.unlock-freed.ensures.noted)
+
+pub returns-in-Err-clause-asked : goal.returns-in-Err-clause-asked
+returns-in-Err-clause-asked g c = λ told. asks_none (g.S.Shelf.history c.args.shelf.now) (g.S.Shelf.history c.lock.new.self) c.lock.ensures.kept.past c.lock.ensures.unasked
+
+pub returns-in-Ok-false-clause-asked : goal.returns-in-Ok-false-clause-asked
+returns-in-Ok-false-clause-asked g c = λ told. asks_none (g.S.Shelf.history c.args.shelf.now) (g.S.Shelf.history c.lock.new.self) c.lock.ensures.kept.past c.lock.ensures.unasked
+
+pub returns-in-Ok-true-clause-asked : goal.returns-in-Ok-true-clause-asked
+returns-in-Ok-true-clause-asked g c = λ told.
+    asks_wide (g.S.Shelf.history c.args.shelf.now) (g.S.Shelf.history c.lock.new.self) (g.S.Shelf.history c.change_locked-done.new.shelf) (g.S.Shelf.history c.unlock-freed.new.self)
+    c.lock.ensures.kept.past c.lock.ensures.unasked c.unlock-freed.ensures.kept.past c.unlock-freed.ensures.unasked (c.change_locked-done.ensures.asked (c.lock.ensures.kept.past.told ∙ told))
 
 pub returns-in-Ok-true-clause-kept : goal.returns-in-Ok-true-clause-kept
 returns-in-Ok-true-clause-kept g c =
@@ -154,5 +168,5 @@ returns-in-Ok-true-clause-behind g c =
     (c.unlock-freed.ensures.noted (c.change_locked-done.ensures.kept.past.told ∙ c.lock.ensures.kept.past.told ∙ told)) in
     elim c.change_locked-done.ensures.behind [
       | inl same ↦ inl same
-      | inr read ↦ inr (read_some_wide a b x d c.lock.ensures.waits c.unlock-freed.ensures.waits c.lock.ensures.kept c.change_locked-done.ensures.kept c.unlock-freed.ensures.kept taken read)
+      | inr read ↦ inr (read_some_wide a b x d c.lock.ensures.waits c.unlock-freed.ensures.waits c.lock.ensures.kept c.change_locked-done.ensures.kept c.unlock-freed.ensures.kept taken c.change_locked-done.ensures.lock read)
     ]

@@ -2,6 +2,7 @@ use Rattle.std.proofs.lemmas.Result.{err_from_is_err_and}
 use Rattle.hg_docket.specs.Docket.{docket_of}
 use Rattle.hg_image.specs.Reading.{data_reading}
 use Rattle.hg_session.specs.Loaded.{IsFlatOf}
+use Rattle.hg_session.proofs.Asking.{asks_load}
 use Rattle.hg_session.proofs.Readings.{cause_still, read_by, some_found, unread}
 use Rattle.hg_session.proofs.reading.read_flat.Goals as goal
 
@@ -29,3 +30,9 @@ returns-clause-only g c = record { passes = c.load.ensures.passes; kept = c.load
 
 pub returns-clause-some : goal.returns-clause-some
 returns-clause-some g c = some_found IsFlatOf c.flat_in.result _ c.flat_in.ensures
+
+pub returns-in_err-loaded-clause-asked : goal.returns-in_err-loaded-clause-asked
+returns-in_err-loaded-clause-asked g c = λ told. asks_load (g.S.Shelf.history c.args.shelf.now) (g.S.Shelf.history c.load.new.shelf) c.load.result (c.load.ensures.asked told)
+
+pub returns-clause-asked : goal.returns-clause-asked
+returns-clause-asked g c = λ told. asks_load (g.S.Shelf.history c.args.shelf.now) (g.S.Shelf.history c.load.new.shelf) c.load.result (c.load.ensures.asked told)

@@ -1,0 +1,47 @@
+-- What is asked for below `.hg` while a record is read, in a longer call too.
+use Rattle.std.proofs.Common.{◌≡◌, List, ◌∷◌, ◌++◌, length, take, Result, Ok, Err, sym, ap, ◌∙◌, arith}
+use Rattle.std.proofs.Math.Seq.{take-length}
+use Rattle.std.proofs.lemmas.List.{append-nil}
+use Rattle.hg_docket.specs.Docket.{docket_of}
+use Rattle.hg_save.specs.Asked.{AsksAsOf, docket_ask, named_asks}
+use Rattle.hg_save.specs.Loads.{files_at}
+use Rattle.hg_save.specs.Record.{docket_in}
+use Rattle.hg_save.specs.declared.load_fault.LoadFault.{LoadFault}
+use Rattle.hg_save.specs.declared.loaded.Loaded.{Loaded}
+use Rattle.hg_session.specs.Loaded.{AsksRecord}
+use Rattle.hg_shelf.specs.Asks.{AsksFrontOf, AsksInOrder}
+use Rattle.hg_shelf.specs.History.{Extends, Files, History}
+use Rattle.hg_shelf.specs.declared.asked.Asked.{Asked}
+
+-- all of them are a front of them
+front_of : (asks : List Asked) (old new : History) (result : Result Loaded LoadFault) → AsksInOrder asks old new result → AsksFrontOf asks old new
+front_of asks old new (Ok loaded) is = record { some = length asks; made = is ∙ ap (λ (l : List Asked). old.asked ++ l) (sym (take-length asks)) }
+front_of asks old new (Err fault) front = front
+
+-- what a load asks for
+pub asks_load : (old new : History) (result : Result Loaded LoadFault) → AsksAsOf old new result → AsksRecord old new
+asks_load old new result is =
+    record { at = is.at; during = is.during; asks = front_of (docket_ask ∷ named_asks (docket_in (files_at new is.at))) old new result is.asks }
+
+-- where nothing was asked for
+pub asks_none : (old new : History) → Extends old new → new.asked ≡ old.asked → AsksRecord old new
+asks_none old new past none = record {
+  at = new.last;
+  during = record { from = past.later; to = omega arith };
+  asks = record { some = 0; made = none ∙ sym (append-nil old.asked) };
+}
+
+-- in a longer call whose other parts ask for nothing
+pub asks_wide : (a b c d : History) → Extends a b → b.asked ≡ a.asked → Extends c d → d.asked ≡ c.asked → AsksRecord b c → AsksRecord a d
+asks_wide a b c d first before last behind is =
+    let same : files_at d is.at ≡ files_at c is.at = (last.stay is.at is.during.to).shown in
+    record {
+      at = is.at;
+      during = record { from = omega (arith, first.later, is.during.from); to = omega (arith, is.during.to, last.later) };
+      asks = record {
+        some = is.asks.some;
+        made =
+            behind ∙ is.asks.made ∙ ap (λ (l : List Asked). l ++ take is.asks.some (docket_ask ∷ named_asks (docket_in (files_at c is.at)))) before
+            ∙ ap (λ (f : Files). a.asked ++ take is.asks.some (docket_ask ∷ named_asks (docket_in f))) (sym same);
+      };
+    }
