@@ -74,7 +74,7 @@ def run_words(tests):
     with tests.working_copy() as root:
         put_record(root, b"damaged")
         tests.check("words before the docket", root, b"", UNKNOWN, ["stat"])
-        for word, begins in (("--help", (b"Usage: hgtrack status", b" hgtrack debugdirstate ")), ("--version", (b"hgtrack ",))):
+        for word, begins in (("--help", (b"Usage:\n  hgtrack status [FLAG ..]  ", b"\n  hgtrack debugdirstate  ")), ("--version", (b"hgtrack ",))):
             status, out, err = tests.run(root, [word])
             good = all(it in out for it in begins) and out.endswith(b"\n")
             tests.compare(word, (status, good, err), (0, True, b""))

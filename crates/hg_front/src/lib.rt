@@ -5,7 +5,7 @@
 //! that says what next. `carry` does this and runs the command. `say_more` prints, behind the line of a fault, why a device failed or what to do.
 //!
 //! ```text
-//! own_text(&words);                                    // Some("hgtrack 0.1.0\n") of `--version` alone
+//! own_text(alloc, &words)?;                            // Some("hgtrack 0.1.0\n") of `--version` alone
 //! place(alloc, Some("src"), words)?;                   // of `add main.c`: `add -- src/main.c`
 //! guard(Some("dirstate-v2\nlargefiles\n"), None, &placed);  // Err(Refused { why: Unsupported, what: "largefiles" })
 //! guard(Some("store\n"), None, &placed);               // Err(Refused { why: OldDirstate, what: "dirstate-v2" })

@@ -44,10 +44,12 @@ fn main(rt: HostRuntime) -> ExitCode {
         Ok(words) => words,
         Err(fault) => return ExitCode::from(failed(alloc, fault, &mut err).status),
     };
-    if let Some(text) = own_text(&words) {
-        return ExitCode::from(print(alloc, &mut out, &mut err, text));
-    }
-    ExitCode::from(started(&rt, words, &mut out, &mut err))
+    let status = match own_text(alloc, &words) {
+        Ok(Some(text)) => print(alloc, &mut out, &mut err, text.as_str()),
+        Ok(None) => started(&rt, words, &mut out, &mut err),
+        Err(_) => failed(alloc, Fault::OutOfMemory, &mut err).status,
+    };
+    ExitCode::from(status)
 }
 
 // What a command ends with, from where it is started.
