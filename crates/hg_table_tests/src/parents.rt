@@ -42,7 +42,10 @@ fn manifest(alloc: Global, word: &str) -> Result<Manifest, Fail> {
     }
     let text = bytes(alloc, whole.as_str())?;
     let mut shelf = MemShelf::new(alloc)?;
-    shelf.place("plain/m-1111111111111111111111111111111111111111", text.as_slice())?;
+    shelf.place(
+        "plain/m-1111111111111111111111111111111111111111",
+        text.as_slice(),
+    )?;
     Ok(load(alloc, &mut shelf, &FIRST)?)
 }
 
@@ -68,13 +71,21 @@ fn put(is_so: bool, name: &str, answer: &mut String) -> Result<(), Fail> {
 fn show(m: &Mixed<'_>, path: &str, answer: &mut String) -> Result<(), Fail> {
     let path = PathRef::read(path)?;
     let Some(item) = m.get(path) else {
-        answer.push_str(if m.has_node(path) { " node" } else { " nothing" })?;
+        answer.push_str(if m.has_node(path) {
+            " node"
+        } else {
+            " nothing"
+        })?;
         return Ok(put(m.cache(path).is_some(), " cached", answer)?);
     };
     put(item.entry.w, " tracked", answer)?;
     put(item.entry.p1, " first", answer)?;
     put(item.entry.p2, " second", answer)?;
-    put(item.entry.size.is_some() | item.entry.stamp.is_some(), " seen", answer)?;
+    put(
+        item.entry.size.is_some() | item.entry.stamp.is_some(),
+        " seen",
+        answer,
+    )?;
     put(item.source.is_some(), " copied", answer)
 }
 
@@ -124,6 +135,6 @@ parents a=1 b=2; show a; show b => first second
 ";
 
 #[test]
-fn parents(rt: HostRuntime) -> Result<(), Fail> {
+fn sets_parents(rt: HostRuntime) -> Result<(), Fail> {
     agree::<Parents>(rt.alloc(), "", STEPS)
 }
