@@ -189,7 +189,7 @@ impl<O: Sink + Drop> Sink for Noted<O> {
     ghost faults = { λ o. O.faults o.device };
 
     fn put(&mut self, piece: &[u8]) -> Result<usize, Failed> {
-        self.calls.note("put", path.text);
+        self.calls.note("put", "");
         self.device.put(piece)
     }
 }
