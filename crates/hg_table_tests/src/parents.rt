@@ -135,6 +135,6 @@ parents a=1 b=2; show a; show b => first second
 ";
 
 #[test]
-fn parents(rt: HostRuntime) -> Result<(), Fail> {
+fn sets_parents(rt: HostRuntime) -> Result<(), Fail> {
     agree::<Parents>(rt.alloc(), "", STEPS)
 }
