@@ -194,10 +194,11 @@ def run_failures(tests, calls, scene, template, names):
     return passed
 
 
-# What each call of the record's device is to the system, by the names of its files below `.hg`, which is `.` itself: finding it, what is required, going there, taking the lock,
+# What each call of the record's device is to the system, by the names of its files below `.hg`, which is `.` itself: finding it, by `main` and by the devices, what is required,
+# going there, taking the lock,
 # looking at what isn't there, the size, reading, writing, making sure, renaming over a file or not, making names sure, removing, giving the lock back.
 # (An open file is told by the name that it was opened under.)
-FOUND = ["statx .", "statx requires", "statx ."]
+FOUND = ["statx .", "statx .", "statx requires"]
 STAND = ["chdir .", "statx ."]
 NEW = ["openat", "flock", "statx", "statx", "write", "link", "unlink"]
 LOCK = STAND + ["statx wlock"] + [f"{it} wlock-new" for it in NEW]
