@@ -36,7 +36,7 @@ use Rattle.hg_append.specs.declared.encoding.Encoded.{Encoded}
 use Rattle.hg_append.specs.Tree.{AreBelow, IsTreeOf, Nothing, Node, Tree, heads}
 use Rattle.hg_append.specs.Layout.{behind_node, front_size, list_start, rec_of, size_of, source_text}
 use Rattle.hg_append.specs.Lost.{named_length, reached, waste}
-use Rattle.hg_append.specs.Put.{AreSound, IsSound}
+use Rattle.hg_append.specs.Put.{AreSound, IsWritable}
 use Rattle.hg_append.specs.Encoded.{IsSoundly, ReadsAs, contents_of}
 use Rattle.hg_append.proofs.Sizes.{put_length}
 use Rattle.hg_append.proofs.Snoc.{sound_behind, sound_below}
@@ -89,7 +89,7 @@ row_found P (x ∷ rows) p r all h = step (bytes_eq x.path p) refl h (row_found 
     step false is h more = more h
 
 -- a row reaches what its node takes
-reached_one : (at place : ℕ) (child : ChildData) (under : Tree) → IsSound child
+reached_one : (at place : ℕ) (child : ChildData) (under : Tree) → IsWritable child
     → reached (record { path = child.path; source = child.source; rec = record (rec_of at child under) { place = place } }) ≡ 44 + length child.path + length (source_text child.source)
 reached_one at place child under sound = ap (λ (n : ℕ). 44 + length child.path + n) (named child.source)
   where
@@ -125,7 +125,7 @@ rows_few at place (Node child under behind) =
     omega (arith, both, a, b)
 
 module _ (held : Held) (formed : IsFormed (table held)) where
-  right_one : (dir : Option (List ℕ)) (at place : ℕ) (child : ChildData) (under : Tree) → IsChild held dir child → IsSound child
+  right_one : (dir : Option (List ℕ)) (at place : ℕ) (child : ChildData) (under : Tree) → IsChild held dir child → IsWritable child
       → IsRight (table held) (record { path = child.path; source = child.source; rec = record (rec_of at child under) { place = place } })
   right_one dir at place child under is sound = record {
     node = is.node;

@@ -6,7 +6,7 @@ use Rattle.hg_mixed.specs.Children.{AreChildren, ChildData}
 use Rattle.hg_mixed.specs.Held.{Held}
 use Rattle.hg_append.specs.Tree.{AreBelow, Tree, Nothing, Node, count_in, heads, nodes}
 use Rattle.hg_append.specs.Layout.{behind_node, front_of, front_size, rec_of, records_of, size_of, source_text}
-use Rattle.hg_append.specs.Put.{AreSound, IsSound}
+use Rattle.hg_append.specs.Put.{AreSound, IsWritable}
 
 abbrev pub snoc : Tree → ChildData → Tree → Tree
 snoc Nothing child below = Node child below Nothing
@@ -21,15 +21,15 @@ pub below_snoc : (held : Held) (tree : Tree) (child : ChildData) (below : Tree) 
 below_snoc held Nothing child below all children under = (children, (under, tt))
 below_snoc held (Node first other behind) child below all children under = (all.0, (all.1.0, below_snoc held behind child below all.1.1 children under))
 
-all_both : (xs ys : List ChildData) → AllByRecursion IsSound xs → AllByRecursion IsSound ys → AllByRecursion IsSound (xs ++ ys)
+all_both : (xs ys : List ChildData) → AllByRecursion IsWritable xs → AllByRecursion IsWritable ys → AllByRecursion IsWritable (xs ++ ys)
 all_both [] ys first later = later
 all_both (x ∷ xs) ys first later = (first.0, all_both xs ys first.1 later)
 
-all_left : (xs ys : List ChildData) → AllByRecursion IsSound (xs ++ ys) → AllByRecursion IsSound xs
+all_left : (xs ys : List ChildData) → AllByRecursion IsWritable (xs ++ ys) → AllByRecursion IsWritable xs
 all_left [] ys all = tt
 all_left (x ∷ xs) ys all = (all.0, all_left xs ys all.1)
 
-all_right : (xs ys : List ChildData) → AllByRecursion IsSound (xs ++ ys) → AllByRecursion IsSound ys
+all_right : (xs ys : List ChildData) → AllByRecursion IsWritable (xs ++ ys) → AllByRecursion IsWritable ys
 all_right [] ys all = all
 all_right (x ∷ xs) ys all = all_right xs ys all.1
 
@@ -40,7 +40,7 @@ sound_below child below behind all = all_left (nodes below) (nodes behind) all.1
 pub sound_behind : (child : ChildData) (below behind : Tree) → AreSound (Node child below behind) → AreSound behind
 sound_behind child below behind all = all_right (nodes below) (nodes behind) all.1
 
-pub sound_snoc : (tree : Tree) (child : ChildData) (below : Tree) → AreSound tree → IsSound child → AreSound below → AreSound (snoc tree child below)
+pub sound_snoc : (tree : Tree) (child : ChildData) (below : Tree) → AreSound tree → IsWritable child → AreSound below → AreSound (snoc tree child below)
 sound_snoc Nothing child below all one under = (one, all_both (nodes below) [] under tt)
 sound_snoc (Node first other behind) child below all one under =
     (all.0, all_both (nodes other) (nodes (snoc behind child below)) (sound_below first other behind all) (sound_snoc behind child below (sound_behind first other behind all) one under))

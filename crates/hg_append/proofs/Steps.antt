@@ -18,7 +18,7 @@ use Rattle.hg_append.specs.declared.sums.Sums.{Sums}
 use Rattle.hg_append.specs.declared.lists.Put.{Put}
 use Rattle.hg_append.specs.Tree.{Tree, Nothing, Node, count_in, has_entry, has_source, heads, is_tracked}
 use Rattle.hg_append.specs.Layout.{copy_start, front_of, front_size, list_start, put_of, rec_of, records_of, size_of, source_text}
-use Rattle.hg_append.specs.Put.{AreSums, IsFew, IsPut, IsPutPart, IsSound, Puts, base_in, ended, kept, rec_with, start_with, with_node}
+use Rattle.hg_append.specs.Put.{AreSums, IsFew, IsPut, IsPutPart, IsWritable, Puts, base_in, ended, kept, rec_with, start_with, with_node}
 use Rattle.hg_append.proofs.Sizes.{counted_few, kept_back, size_is}
 use Rattle.hg_append.proofs.Snoc.{below_snoc, count_snoc, front_snoc, heads_snoc, records_snoc, size_snoc, snoc, sound_snoc}
 
@@ -115,7 +115,7 @@ module _ (held : Held) (dir : Option (List ℕ)) (at : ℕ) (children : List Chi
   pub part_more : IsPutPart held dir at children sums old new old_records new_records
       → IsPut held (Some child.path) sums.end under new mid new_records mid_records
       → now ≡ with_node child under.sums sums
-      → IsSound child
+      → IsWritable child
       → Puts now.end (child.path ++ source_text child.source) mid fin
       → Puts now.end (bytes_of (rec_with child (base_in dir) under)) mid_records fin_records
       → IsChild held dir child

@@ -38,7 +38,7 @@ use Rattle.hg_mixed.specs.Written.{fields_for}
 use Rattle.hg_append.specs.Tree.{AreBelow, IsTreeOf, Nothing, Node, Tree, count_in, heads, is_tracked, nodes}
 use Rattle.hg_append.specs.Tree as tree
 use Rattle.hg_append.specs.Layout.{behind_node, front_of, front_size, list_start, put_of, rec_of, records_of, size_of, source_text}
-use Rattle.hg_append.specs.Put.{AreSound, IsSound}
+use Rattle.hg_append.specs.Put.{AreSound, IsWritable}
 use Rattle.hg_append.proofs.Has.{Has, has_all, has_first, has_part, has_record, has_room, has_second}
 use Rattle.hg_append.proofs.Sizes.{counted_few, front_length, put_length, records_length, size_is}
 use Rattle.hg_append.proofs.Snoc.{sound_behind, sound_below}
@@ -100,7 +100,7 @@ pub record Placed (bytes : List ℕ) (at place : ℕ) (child : ChildData) (under
   pub rec : Has bytes place (bytes_of (rec_of at child under))
   pub small : length bytes < 2 ^ 32
 
-module _ (bytes : List ℕ) (at place : ℕ) (child : ChildData) (under : Tree) (placed : Placed bytes at place child under) (sound : IsSound child) where
+module _ (bytes : List ℕ) (at place : ℕ) (child : ChildData) (under : Tree) (placed : Placed bytes at place child under) (sound : IsWritable child) where
   rec_is : Rec
   rec_is = record (rec_of at child under) { place = place }
 
@@ -240,7 +240,7 @@ track_counted f o h = told (has_entry f.flags) refl _ h refl
 sum_of : (a b : ℕ) (x y n m : ℕ) → a ≡ x → b ≡ y → n ≡ m → n + (a + b) ≡ m + x + y
 sum_of a b x y n m p q r = omega (arith, p, q, r)
 
-module _ (test : Row → Bool) (of : ChildData → Bool) (same : (child : ChildData) (r : Row) → IsSound child → r.source ≡ child.source → fields_of r.rec ≡ fields_for child.entry child.cache → test r ≡ of child) where
+module _ (test : Row → Bool) (of : ChildData → Bool) (same : (child : ChildData) (r : Row) → IsWritable child → r.source ≡ child.source → fields_of r.rec ≡ fields_for child.entry child.cache → test r ≡ of child) where
   counted_as : (at place : ℕ) (t : Tree) → AreSound t → count_by test (rows_at at place t) ≡ count_in of t
   counted_as at place Nothing sound = refl
   counted_as at place (Node child under behind) sound =
@@ -268,7 +268,7 @@ has_by_entry f e h = told (has_entry f.flags) _ h
 
 module _ (held : Held) (formed : IsFormed (table held)) where
   -- a source stands at an entry
-  pub source_at_entry : (dir : Option (List ℕ)) (child : ChildData) → IsChild held dir child → IsSound child → (s : List ℕ) → child.source ≡ Some s → has_entry (fields_for child.entry child.cache).flags ≡ true
+  pub source_at_entry : (dir : Option (List ℕ)) (child : ChildData) → IsChild held dir child → IsWritable child → (s : List ℕ) → child.source ≡ Some s → has_entry (fields_for child.entry child.cache).flags ≡ true
   source_at_entry dir child is sound s e = by_entry child.entry refl
     where
       by_entry : (o : Option EntryData) → child.entry ≡ o → has_entry (fields_for child.entry child.cache).flags ≡ true

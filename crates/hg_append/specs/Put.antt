@@ -31,7 +31,7 @@ pub record AreFields (child : ChildData) (f : Fields) : Type 0 where
   pub nanos : f.nanos < 2 ^ 32
 
 -- a node as it can be written: its texts are paths in UTF-8
-pub record IsSound (child : ChildData) : Type 0 where
+pub record IsWritable (child : ChildData) : Type 0 where
   pub path : is_path child.path ≡ true
   pub text : is_utf8 child.path ≡ true
   pub source : (source : List ℕ) → child.source ≡ Some source → (is_path source ≡ true) × (is_utf8 source ≡ true)
@@ -39,7 +39,7 @@ pub record IsSound (child : ChildData) : Type 0 where
 
 -- each node of a tree is
 abbrev pub AreSound : Tree → Type 0
-AreSound tree = AllByRecursion IsSound (nodes tree)
+AreSound tree = AllByRecursion IsWritable (nodes tree)
 
 -- a part was put behind, unless it would end behind the last place that 32 bits can name
 abbrev pub Puts : ℕ → List ℕ → List ℕ → List ℕ → Type 0
@@ -135,6 +135,6 @@ pub record HasPut (held : Held) (child : ChildData) (base_at : ℕ) (sums now : 
   pub mid_records : List ℕ
   pub below : IsPut held (Some child.path) sums.end under old mid old_records mid_records
   pub is : now ≡ with_node child under.sums sums
-  pub sound : IsSound child
+  pub sound : IsWritable child
   pub texts : Puts now.end (child.path ++ source_text child.source) mid new
   pub records : Puts now.end (bytes_of (rec_with child base_at under)) mid_records new_records

@@ -10,7 +10,7 @@ ghost use Rattle.std.specs.Str.{is_utf8};
 ghost use Rattle.hg_base.specs.PathText.{is_path, parent_of};
 ghost use Rattle.hg_append.specs.Layout as layout;
 ghost use Rattle.hg_append.specs.Put as puts;
-ghost use Rattle.hg_append.specs.Put.{AreFields, HasPut, IsFew, IsPut, IsSound, Puts, rec_with};
+ghost use Rattle.hg_append.specs.Put.{AreFields, HasPut, IsFew, IsPut, IsWritable, Puts, rec_with};
 
 use crate::sums::{Sums, ended, none, with_node};
 use hg_base::{OutOfMemory, PathRef};
@@ -143,7 +143,7 @@ fn put_node(
     requires few { IsFew under }
     requires base { base_at ≤ length child.now.path.text.now }
     ensures sums { IfOk result (λ s. s ≡ puts.with_node (shown_child child.now) under.sums sums) }
-    ensures sound { IsSound (shown_child child.now) }
+    ensures sound { IsWritable (shown_child child.now) }
     ensures bytes { IfOk result (λ s. Puts s.end ((shown_child child.now).path ++ layout.source_text (shown_child child.now).source) bytes.old.items bytes.new.items) }
     ensures records { IfOk result (λ s. Puts s.end (bytes_of (rec_with (shown_child child.now) base_at under)) records.old.items records.new.items) }
 {

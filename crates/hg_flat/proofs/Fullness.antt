@@ -17,7 +17,7 @@ use Rattle.hg_compare.specs.Tracked.{ParentRow, is_file_or_link, tracked_letter}
 use Rattle.hg_compare.specs.declared.letter.Letter.{Letter}
 use Rattle.hg_listing.specs.Full.{HasLetter, HasLetterBy, IsFull, IsFullFor, IsTold, wants}
 use Rattle.hg_flat.specs.Kept.{AreNamed, HaveOwnPaths, Kept, KeptRows, flat_from, source_of}
-use Rattle.hg_flat.specs.Listing.{AddsTracked, ArePutFor, Gives, GivesLetter, IsPutFor, IsUnknownIn, IsUntrackedRow, Lists, letter_at, row_under, rows_under, untracked_row}
+use Rattle.hg_flat.specs.Listing.{AddsTracked, ArePutFor, Gives, GivesLetter, IsPutFor, IsUnknownIn, IsUntrackedRow, ListsUnknown, letter_at, row_under, rows_under, untracked_row}
 use Rattle.hg_listing.specs.Order.{row_order, whole_order}
 use Rattle.hg_flat.specs.Parent.{IsAsked, IsServed, asked_by, is_compared, is_plain_entry, parent_rows}
 use Rattle.hg_flat.specs.Patterns.{ignored_at, needs_patterns}
@@ -103,7 +103,7 @@ module _ (p1 p2 : List ℕ) (kept : KeptRows) (files : shelves.Files) (id : Id20
 
   module _ (S : List ℕ → Type 0) (Left : FlatRow → Type 0) (rows : List FlatRow) (own : HaveOwnPaths rows) (holds : Holds kept rows) (left : (k : FlatRow) → Contains rows k → S k.path → Left k) (a b : List Row)
       (tracked : AddsTracked Left files id moment wanted rows [] a) (state : List Piece) (asks : (path : List ℕ) → S path → keeps path ≡ false → needs_patterns wanted ≡ true → state ≡ Ignore moment)
-      (lists : Lists keeps (Gives wanted state) S (IsUnknownIn keeps moment None) a b) where
+      (lists : ListsUnknown keeps (Gives wanted state) S (IsUnknownIn keeps moment None) a b) where
     abbrev Put : FlatRow → List Row → Type 0
     Put = IsPutFor Left files id moment wanted
 

@@ -1,6 +1,6 @@
 -- A status goes on: what it keeps of its parent, and what was asked below `.hg`.
 use Rattle.std.proofs.Common.{◌≡◌, Option, Some, None, IsTrue}
-use Rattle.hg_flat.specs.Course.{AsksWhole, Goes, IsKeptManifest, IsManifest, upto}
+use Rattle.hg_flat.specs.Course.{AsksWhole, Proceeds, IsKeptManifest, IsManifest, upto}
 use Rattle.hg_flat.specs.Met.{Status}
 use Rattle.hg_flat.specs.Stored.{AsksStore}
 use Rattle.hg_flat.specs.declared.parent.Loaded.{Loaded}
@@ -16,7 +16,7 @@ kept_later : (s : Status) (copy later : trees.History) (old new : shelves.Histor
 kept_later s copy later old new None first second is = tt
 kept_later s copy later old new (Some loaded) first second is = manifest_later s copy later old new loaded.manifest first second is
 
-pub goes_on : (s : Status) (copy later : trees.History) (old new : shelves.History) (parent : Parent) → trees.Passes copy later → shelves.Passes old new → new.asked ≡ old.asked → Goes (upto s copy old) parent → Goes (upto s later new) parent
+pub goes_on : (s : Status) (copy later : trees.History) (old new : shelves.History) (parent : Parent) → trees.Passes copy later → shelves.Passes old new → new.asked ≡ old.asked → Proceeds (upto s copy old) parent → Proceeds (upto s later new) parent
 goes_on s copy later old new parent first second same goes = record {
   tree = tree.passes_trans s.tree_old copy later goes.tree first;
   shelf = shelf.passes_trans s.shelf_old old new goes.shelf second;
@@ -26,8 +26,8 @@ goes_on s copy later old new parent first second same goes = record {
 }
 
 -- with a manifest that is loaded
-pub goes_loaded : (s : Status) (copy later : trees.History) (old new : shelves.History) (parent : Parent) (loaded : Loaded) → trees.Passes copy later → shelves.Passes old new → Goes (upto s copy old) parent
-    → IsManifest (upto s later new) loaded.manifest → (IsTrue s.shelf_old.told → AsksWhole (upto s later new)) → Goes (upto s later new) (record { id = parent.id; loaded = Some loaded })
+pub goes_loaded : (s : Status) (copy later : trees.History) (old new : shelves.History) (parent : Parent) (loaded : Loaded) → trees.Passes copy later → shelves.Passes old new → Proceeds (upto s copy old) parent
+    → IsManifest (upto s later new) loaded.manifest → (IsTrue s.shelf_old.told → AsksWhole (upto s later new)) → Proceeds (upto s later new) (record { id = parent.id; loaded = Some loaded })
 goes_loaded s copy later old new parent loaded first second goes is whole = record {
   tree = tree.passes_trans s.tree_old copy later goes.tree first;
   shelf = shelf.passes_trans s.shelf_old old new goes.shelf second;
@@ -37,5 +37,5 @@ goes_loaded s copy later old new parent loaded first second goes is whole = reco
 }
 
 -- what was asked so far
-pub goes_store : (s : Status) (copy : trees.History) (files : shelves.History) (parent : Parent) → Goes (upto s copy files) parent → IsTrue s.shelf_old.told → AsksStore (upto s copy files)
+pub goes_store : (s : Status) (copy : trees.History) (files : shelves.History) (parent : Parent) → Proceeds (upto s copy files) parent → IsTrue s.shelf_old.told → AsksStore (upto s copy files)
 goes_store s copy files parent goes told = store_of (upto s copy files) parent.loaded (goes.asked told)

@@ -12,7 +12,7 @@ use Rattle.hg_compare.specs.declared.letter.Letter.{Letter}
 use Rattle.hg_compare.specs.declared.letter.Letter.TheVariants as a_letter
 use Rattle.hg_listing.specs.Full.{wants}
 use Rattle.hg_flat.specs.Kept.{Kept}
-use Rattle.hg_flat.specs.Listing.{Gives, GivesLetter, IsEntered, Lists, PutsUntracked, is_from, rows_if, untracked_row}
+use Rattle.hg_flat.specs.Listing.{Gives, GivesLetter, IsEntered, ListsUnknown, PutsUntracked, is_from, rows_if, untracked_row}
 use Rattle.hg_flat.specs.Patterns.{needs_patterns}
 use Rattle.hg_listing.specs.declared.row.Row.{Row}
 use Rattle.hg_listing.specs.declared.row.Wanted.{Wanted}
@@ -123,5 +123,5 @@ puts_row wanted state has path text letter old new none same given asks is =
 -- ---- a listing that isn't wanted
 
 -- where no patterns are needed no letter is given
-pub lists_unneeded : (kept : Kept) (wanted : Wanted) (state : List Piece) (S P : List ℕ → Type 0) (rows : List Row) → false ≡ needs_patterns wanted → Lists kept (Gives wanted state) S P rows rows
+pub lists_unneeded : (kept : Kept) (wanted : Wanted) (state : List Piece) (S P : List ℕ → Type 0) (rows : List Row) → false ≡ needs_patterns wanted → ListsUnknown kept (Gives wanted state) S P rows rows
 lists_unneeded kept wanted state S P rows none = lists_none kept (Gives wanted state) S P rows (λ p l meets here gives. absurd (cc (none, gives_needs wanted state p l gives)))

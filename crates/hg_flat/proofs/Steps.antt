@@ -20,7 +20,7 @@ use Rattle.hg_compare.specs.Tracked.{is_file_or_link, is_file_or_link_thing}
 use Rattle.hg_compare.specs.declared.letter.Letter.{Letter}
 use Rattle.hg_listing.specs.Full.{wants}
 use Rattle.hg_flat.specs.Kept.{Kept}
-use Rattle.hg_flat.specs.Listing.{Gives, GivesLetter, HoldsFor, IsUnknownAmong, IsUnknownFrom, IsUnknownIn, Lists, PutsUntracked, rows_if, untracked_row}
+use Rattle.hg_flat.specs.Listing.{Gives, GivesLetter, HoldsFor, IsUnknownAmong, IsUnknownFrom, IsUnknownIn, ListsUnknown, PutsUntracked, rows_if, untracked_row}
 use Rattle.hg_listing.specs.declared.row.Row.{Row}
 use Rattle.hg_listing.specs.declared.row.Wanted.{Wanted}
 use Rattle.hg_flat.proofs.Alike.{alike_back, among_moved, from_moved, in_moved}
@@ -105,14 +105,14 @@ module _ (kept : Kept) (wanted : Wanted) (state : List Piece) (old mid : History
   abbrev later : (p : List ℕ) → Untouched mid old.last p → IsUnknownFrom kept (now old) path p → IsUnknownFrom kept (now mid) path p
   later p is u = from_moved kept (now old) (now mid) p (alike_then old mid mid first same p is) path u
 
-  pub look_none : (rows : List Row) → found ≡ None → Lists kept (Gives wanted state) (Untouched mid old.last) (IsUnknownFrom kept (now old) path) rows rows
+  pub look_none : (rows : List Row) → found ≡ None → ListsUnknown kept (Gives wanted state) (Untouched mid old.last) (IsUnknownFrom kept (now old) path) rows rows
   look_none rows none =
       lists_none kept (Gives wanted state) (Untouched mid old.last) (IsUnknownFrom kept (now old) path) rows
       (λ p l is u gives.
       let s : Seen (now mid) path found = sees (told_then old mid mid first same p is) in
       let not = none_is ((now mid).things path) (sym none ∙ s.is) in nothing_from kept (now mid) s.formed path p not.0 not.1 (later p is u))
 
-  pub look_other : (stat : Stat) (rows : List Row) → found ≡ Some stat → stat.kind ≡ a_kind.Other → Lists kept (Gives wanted state) (Untouched mid old.last) (IsUnknownFrom kept (now old) path) rows rows
+  pub look_other : (stat : Stat) (rows : List Row) → found ≡ Some stat → stat.kind ≡ a_kind.Other → ListsUnknown kept (Gives wanted state) (Untouched mid old.last) (IsUnknownFrom kept (now old) path) rows rows
   look_other stat rows some kind =
       lists_none kept (Gives wanted state) (Untouched mid old.last) (IsUnknownFrom kept (now old) path) rows
       (λ p l is u gives.
@@ -126,7 +126,7 @@ module _ (kept : Kept) (wanted : Wanted) (state : List Piece) (old mid : History
       only_here kept (now mid) s.formed path p (not_dir ((now mid).things path) (file_is ((now mid).things path) stat (sym some ∙ s.is) kind)) (later p is u)
 
   put_by : (stat : Stat) (a b : List Row) (letter : Letter) (asks : Bool) → wants wanted letter ≡ asks → kept path ≡ false → found ≡ Some stat → (stat.kind ≡ a_kind.File) ⊎ (stat.kind ≡ a_kind.Link) → GivesLetter state path letter
-      → b ≡ a ++ rows_if asks (untracked_row letter path) → Lists kept (Gives wanted state) (Untouched mid old.last) (IsUnknownFrom kept (now old) path) a b
+      → b ≡ a ++ rows_if asks (untracked_row letter path) → ListsUnknown kept (Gives wanted state) (Untouched mid old.last) (IsUnknownFrom kept (now old) path) a b
   put_by stat a b letter true asks is some kind given put =
       lists_one kept (Gives wanted state) (Untouched mid old.last) (IsUnknownFrom kept (now old) path) a b path letter put is (asks, given)
       (λ l gives. one_letter state path l letter gives.1 given)
@@ -136,7 +136,7 @@ module _ (kept : Kept) (wanted : Wanted) (state : List Piece) (old mid : History
       (here_from kept (now mid) s.formed path (file_is ((now mid).things path) stat (sym some ∙ s.is) kind) is))
       (only_file stat some kind)
   put_by stat a b letter false asks is some kind given put =
-      subst (λ (n : List Row). Lists kept (Gives wanted state) (Untouched mid old.last) (IsUnknownFrom kept (now old) path) a n) (sym (put ∙ append-nil a))
+      subst (λ (n : List Row). ListsUnknown kept (Gives wanted state) (Untouched mid old.last) (IsUnknownFrom kept (now old) path) a n) (sym (put ∙ append-nil a))
       (lists_none kept (Gives wanted state) (Untouched mid old.last) (IsUnknownFrom kept (now old) path) a
       (λ p l meets u gives.
       let at : p ≡ path = only_file stat some kind p meets u in
@@ -144,20 +144,20 @@ module _ (kept : Kept) (wanted : Wanted) (state : List Piece) (old mid : History
       absurd (cc (asks, sym (ap (wants wanted) one) ∙ gives.0))))
 
   file_by : (stat : Stat) (a b : List Row) (has : Bool) → kept path ≡ has → found ≡ Some stat → (stat.kind ≡ a_kind.File) ⊎ (stat.kind ≡ a_kind.Link)
-      → PutsUntracked has wanted state path a b → Lists kept (Gives wanted state) (Untouched mid old.last) (IsUnknownFrom kept (now old) path) a b
+      → PutsUntracked has wanted state path a b → ListsUnknown kept (Gives wanted state) (Untouched mid old.last) (IsUnknownFrom kept (now old) path) a b
   file_by stat a b false is some kind puts = put_by stat a b puts.letter (wants wanted puts.letter) refl is some kind puts.given puts.put
   file_by stat a b true is some kind rows =
-      subst (λ (n : List Row). Lists kept (Gives wanted state) (Untouched mid old.last) (IsUnknownFrom kept (now old) path) a n) (sym rows)
+      subst (λ (n : List Row). ListsUnknown kept (Gives wanted state) (Untouched mid old.last) (IsUnknownFrom kept (now old) path) a n) (sym rows)
       (lists_none kept (Gives wanted state) (Untouched mid old.last) (IsUnknownFrom kept (now old) path) a
       (λ p l meets u gives. let at = ap kept (only_file stat some kind p meets u) in absurd (cc (u.untracked.1, at, is))))
 
   -- a file or link has a row exactly where it has no entry and its letter is wanted
   pub look_file : (stat : Stat) (a b : List Row) → found ≡ Some stat → (stat.kind ≡ a_kind.File) ⊎ (stat.kind ≡ a_kind.Link)
-      → PutsUntracked (kept path) wanted state path a b → Lists kept (Gives wanted state) (Untouched mid old.last) (IsUnknownFrom kept (now old) path) a b
+      → PutsUntracked (kept path) wanted state path a b → ListsUnknown kept (Gives wanted state) (Untouched mid old.last) (IsUnknownFrom kept (now old) path) a b
   look_file stat a b some kind rows = file_by stat a b (kept path) refl some kind rows
 
   -- of a directory that is ignored nothing is wanted where I isn't
-  pub look_left : (rows : List Row) → wanted.i ≡ false → Ignored state path → Lists kept (Gives wanted state) (Untouched mid old.last) (IsUnknownFrom kept (now old) path) rows rows
+  pub look_left : (rows : List Row) → wanted.i ≡ false → Ignored state path → ListsUnknown kept (Gives wanted state) (Untouched mid old.last) (IsUnknownFrom kept (now old) path) rows rows
   look_left rows unwanted ignored =
       lists_none kept (Gives wanted state) (Untouched mid old.last) (IsUnknownFrom kept (now old) path) rows
       (λ p l is u gives. none_left wanted state path p l unwanted ignored u.inside gives)
@@ -165,7 +165,7 @@ module _ (kept : Kept) (wanted : Wanted) (state : List Piece) (old mid : History
 -- a directory has the rows of what stands in it
 pub look_dir : (kept : Kept) (wanted : Wanted) (state : List Piece) (old mid new : History) → Extends old mid → Extends mid new → (path text : List ℕ) (found : Option Stat) → (IsTrue old.told → Seen (now mid) path found) → (stat : Stat) (a b : List Row)
     → found ≡ Some stat → stat.kind ≡ a_kind.Dir → text ≡ path
-    → Lists kept (Gives wanted state) (Untouched new mid.last) (IsUnknownIn kept (now mid) (Some text)) a b → Lists kept (Gives wanted state) (Untouched new old.last) (IsUnknownFrom kept (now old) path) a b
+    → ListsUnknown kept (Gives wanted state) (Untouched new mid.last) (IsUnknownIn kept (now mid) (Some text)) a b → ListsUnknown kept (Gives wanted state) (Untouched new old.last) (IsUnknownFrom kept (now old) path) a b
 look_dir kept wanted state old mid new first second path text found sees stat a b some kind same lists =
     lists_moved kept (Gives wanted state) (Untouched new mid.last) (Untouched new old.last) (IsUnknownIn kept (now mid) (Some path)) (IsUnknownFrom kept (now old) path) a b
     (second_part old mid new first second)
@@ -173,7 +173,7 @@ look_dir kept wanted state old mid new first second path text found sees stat a 
     (λ p is u.
     in_from kept (now mid) (formed p is) path p (dir_is ((now mid).things path) stat (sym some ∙ (sees (told p is)).is) kind)
     (from_moved kept (now old) (now mid) p (alike_then old mid new first second p is) path u))
-    (subst (λ (t : List ℕ). Lists kept (Gives wanted state) (Untouched new mid.last) (IsUnknownIn kept (now mid) (Some t)) a b) same lists)
+    (subst (λ (t : List ℕ). ListsUnknown kept (Gives wanted state) (Untouched new mid.last) (IsUnknownIn kept (now mid) (Some t)) a b) same lists)
   where
     told : (p : List ℕ) → Untouched new old.last p → IsTrue old.told
     told p is = told_then old mid new first second p is
@@ -196,7 +196,7 @@ formed_at : (mid : History) (dir : Option (List ℕ)) (names : Option (List (Lis
 formed_at mid dir names named = named.formed.each mid.last (omega arith)
 
 pub visit_none : (kept : Kept) (wanted : Wanted) (state : List Piece) (old mid : History) → Extends old mid → (dir : Option (List ℕ)) (names : Option (List (List ℕ))) → (IsTrue old.told → Named mid dir names) → (rows : List Row) → names ≡ None
-    → Lists kept (Gives wanted state) (Untouched mid old.last) (IsUnknownIn kept (now old) dir) rows rows
+    → ListsUnknown kept (Gives wanted state) (Untouched mid old.last) (IsUnknownIn kept (now old) dir) rows rows
 visit_none kept wanted state old mid first dir names named rows none =
     lists_none kept (Gives wanted state) (Untouched mid old.last) (IsUnknownIn kept (now old) dir) rows
     (λ p l is u gives.
@@ -206,7 +206,7 @@ visit_none kept wanted state old mid first dir names named rows none =
 
 pub visit_nested : (kept : Kept) (wanted : Wanted) (state : List Piece) (old mid new : History) → Extends old mid → Extends mid new → (dir : Option (List ℕ)) (names : Option (List (List ℕ))) → (IsTrue old.told → Named mid dir names)
     → (these text : List (List ℕ)) (found : Bool) (rows : List Row) → names ≡ Some these → text ≡ these → (AreNames (now mid) dir text → HoldsFor (Untouched new mid.last) (now mid) dir found) → found ≡ true
-    → Lists kept (Gives wanted state) (Untouched new old.last) (IsUnknownIn kept (now old) dir) rows rows
+    → ListsUnknown kept (Gives wanted state) (Untouched new old.last) (IsUnknownIn kept (now old) dir) rows rows
 visit_nested kept wanted state old mid new first second dir names named these text found rows some same holds is_true =
     lists_none kept (Gives wanted state) (Untouched new old.last) (IsUnknownIn kept (now old) dir) rows
     (λ p l is u gives.
@@ -218,7 +218,7 @@ visit_nested kept wanted state old mid new first second dir names named these te
 pub visit_rest : (kept : Kept) (wanted : Wanted) (state : List Piece) (old mid later new : History) → Extends old mid → Extends mid later → Extends later new → (dir : Option (List ℕ)) (names : Option (List (List ℕ))) → (IsTrue old.told → Named mid dir names)
     → (these text again : List (List ℕ)) (found : Bool) (a b : List Row) → names ≡ Some these → text ≡ these → again ≡ these
     → (AreNames (now mid) dir text → HoldsFor (Untouched later mid.last) (now mid) dir found) → found ≡ false
-    → Lists kept (Gives wanted state) (Untouched new later.last) (IsUnknownAmong kept (now later) dir again) a b → Lists kept (Gives wanted state) (Untouched new old.last) (IsUnknownIn kept (now old) dir) a b
+    → ListsUnknown kept (Gives wanted state) (Untouched new later.last) (IsUnknownAmong kept (now later) dir again) a b → ListsUnknown kept (Gives wanted state) (Untouched new old.last) (IsUnknownIn kept (now old) dir) a b
 visit_rest kept wanted state old mid later new first second third dir names named these text again found a b some same too holds is_false lists =
     lists_moved kept (Gives wanted state) (Untouched new later.last) (Untouched new old.last) (IsUnknownAmong kept (now later) dir again) (IsUnknownIn kept (now old) dir) a b
     (second_part old later new past third)
@@ -253,8 +253,8 @@ visit_rest kept wanted state old mid later new first second third dir names name
 
 pub each_more : (kept : Kept) (wanted : Wanted) (state : List Piece) (old mid new : History) → Extends old mid → Extends mid new → (dir : Option (List ℕ)) (names : List (List ℕ)) (i : ℕ) (name text path : List ℕ) (a b c : List Row)
     → i < length names → name ≡ get_or names i name → text ≡ name → path ≡ joined dir text
-    → Lists kept (Gives wanted state) (Untouched mid old.last) (IsUnknownAmong kept (now old) dir (take i names)) a b → Lists kept (Gives wanted state) (Untouched new mid.last) (IsUnknownFrom kept (now mid) path) b c
-    → Lists kept (Gives wanted state) (Untouched new old.last) (IsUnknownAmong kept (now old) dir (take (i + 1) names)) a c
+    → ListsUnknown kept (Gives wanted state) (Untouched mid old.last) (IsUnknownAmong kept (now old) dir (take i names)) a b → ListsUnknown kept (Gives wanted state) (Untouched new mid.last) (IsUnknownFrom kept (now mid) path) b c
+    → ListsUnknown kept (Gives wanted state) (Untouched new old.last) (IsUnknownAmong kept (now old) dir (take (i + 1) names)) a c
 each_more kept wanted state old mid new first second dir names i name text path a b c below is same at before one =
     among_more kept (Gives wanted state) (Untouched new old.last) (now old) dir names i name a b c below (sym is)
     (lists_moved kept (Gives wanted state) (Untouched mid old.last) (Untouched new old.last) (IsUnknownAmong kept (now old) dir (take i names)) (IsUnknownAmong kept (now old) dir (take i names)) a b
@@ -263,13 +263,13 @@ each_more kept wanted state old mid new first second dir names i name text path 
     (second_part old mid new first second)
     (λ p meets u. from_moved kept (now mid) (now old) p (alike_now old mid new first second p meets) (joined dir name) u)
     (λ p meets u. from_moved kept (now old) (now mid) p (alike_then old mid new first second p meets) (joined dir name) u)
-    (subst (λ (q : List ℕ). Lists kept (Gives wanted state) (Untouched new mid.last) (IsUnknownFrom kept (now mid) q) b c) (at ∙ ap (joined dir) same) one))
+    (subst (λ (q : List ℕ). ListsUnknown kept (Gives wanted state) (Untouched new mid.last) (IsUnknownFrom kept (now mid) q) b c) (at ∙ ap (joined dir) same) one))
 
 -- ---- over the whole span
 
 -- what was listed behind a span is so over the whole, for paths that nobody touches over it
 pub lists_later : (old mid new : History) → Extends old mid → Extends mid new → (kept : Kept) (L : List ℕ → Letter → Type 0) (S : List ℕ → Type 0) → ((p : List ℕ) → S p → Untouched new old.last p) → (a b : List Row)
-    → Lists kept L (Untouched new mid.last) (IsUnknownIn kept (now mid) None) a b → Lists kept L S (IsUnknownIn kept (now old) None) a b
+    → ListsUnknown kept L (Untouched new mid.last) (IsUnknownIn kept (now mid) None) a b → ListsUnknown kept L S (IsUnknownIn kept (now old) None) a b
 lists_later old mid new first second kept L S own a b lists =
     lists_moved kept L (Untouched new mid.last) S (IsUnknownIn kept (now mid) None) (IsUnknownIn kept (now old) None) a b
     (λ p meets. second_part old mid new first second p (own p meets))

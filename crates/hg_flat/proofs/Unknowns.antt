@@ -18,7 +18,7 @@ use Rattle.hg_compare.specs.declared.letter.Letter.{Letter}
 use Rattle.hg_tree.specs.Moment.{is_dir_thing}
 use Rattle.hg_listing.specs.Full.{is_repository}
 use Rattle.hg_flat.specs.Kept.{Kept}
-use Rattle.hg_flat.specs.Listing.{AreUnknown, IsUnknownAmong, IsUnknownFrom, IsUnknownIn, IsVisibleFrom, IsUntrackedRow, Lists, holds_repository, is_from, is_inside, untracked_row}
+use Rattle.hg_flat.specs.Listing.{AreUnknown, IsUnknownAmong, IsUnknownFrom, IsUnknownIn, IsVisibleFrom, IsUntrackedRow, ListsUnknown, holds_repository, is_from, is_inside, untracked_row}
 use Rattle.hg_listing.specs.declared.row.Row.{Row}
 use Rattle.hg_flat.proofs.Among.{reached, Reached}
 
@@ -66,19 +66,19 @@ unknown_moved kept L S T P Q xs meets there back are = record {
   all = λ path letter m here given. are.all path letter (meets path m) (back path m here) given;
 }
 
-pub lists_none : (kept : Kept) (L : List ℕ → Letter → Type 0) (S P : List ℕ → Type 0) (rows : List Row) → ((p : List ℕ) (l : Letter) → S p → P p → L p l → ⊥) → Lists kept L S P rows rows
+pub lists_none : (kept : Kept) (L : List ℕ → Letter → Type 0) (S P : List ℕ → Type 0) (rows : List Row) → ((p : List ℕ) (l : Letter) → S p → P p → L p l → ⊥) → ListsUnknown kept L S P rows rows
 lists_none kept L S P rows never = ([], sym (append-nil rows), unknown_none kept L S P never)
 
 pub lists_one : (kept : Kept) (L : List ℕ → Letter → Type 0) (S P : List ℕ → Type 0) (old new : List Row) (path : List ℕ) (letter : Letter) → new ≡ old ++ untracked_row letter path ∷ [] → kept path ≡ false → L path letter
-    → ((l : Letter) → L path l → l ≡ letter) → (S path → P path) → ((p : List ℕ) → S p → P p → p ≡ path) → Lists kept L S P old new
+    → ((l : Letter) → L path l → l ≡ letter) → (S path → P path) → ((p : List ℕ) → S p → P p → p ≡ path) → ListsUnknown kept L S P old new
 lists_one kept L S P old new path letter is none given one here only =
     (untracked_row letter path ∷ [], is, unknown_one kept L S P path letter none given one here only)
 
-pub lists_trans : (kept : Kept) (L : List ℕ → Letter → Type 0) (S P Q : List ℕ → Type 0) (a b c : List Row) → Lists kept L S P a b → Lists kept L S Q b c → Lists kept L S (λ p. P p ⊎ Q p) a c
+pub lists_trans : (kept : Kept) (L : List ℕ → Letter → Type 0) (S P Q : List ℕ → Type 0) (a b c : List Row) → ListsUnknown kept L S P a b → ListsUnknown kept L S Q b c → ListsUnknown kept L S (λ p. P p ⊎ Q p) a c
 lists_trans kept L S P Q a b c (xs, is, first) (ys, also, second) =
     (xs ++ ys, also ∙ ap (λ (l : List Row). l ++ ys) is ∙ append_assoc a xs ys, unknown_append kept L S P Q xs ys first second)
 
-pub lists_moved : (kept : Kept) (L : List ℕ → Letter → Type 0) (S T P Q : List ℕ → Type 0) (old new : List Row) → ((p : List ℕ) → T p → S p) → ((p : List ℕ) → T p → P p → Q p) → ((p : List ℕ) → T p → Q p → P p) → Lists kept L S P old new → Lists kept L T Q old new
+pub lists_moved : (kept : Kept) (L : List ℕ → Letter → Type 0) (S T P Q : List ℕ → Type 0) (old new : List Row) → ((p : List ℕ) → T p → S p) → ((p : List ℕ) → T p → P p → Q p) → ((p : List ℕ) → T p → Q p → P p) → ListsUnknown kept L S P old new → ListsUnknown kept L T Q old new
 lists_moved kept L S T P Q old new meets there back (xs, is, are) = (xs, is, unknown_moved kept L S T P Q xs meets there back are)
 
 -- ---- things
@@ -246,11 +246,11 @@ module _ (kept : Kept) (moment : Moment) (formed : IsFormed moment) where
 
 -- ---- the names one by one
 
-pub among_none : (kept : Kept) (L : List ℕ → Letter → Type 0) (S : List ℕ → Type 0) (moment : Moment) (dir : Option (List ℕ)) (rows : List Row) → Lists kept L S (IsUnknownAmong kept moment dir []) rows rows
+pub among_none : (kept : Kept) (L : List ℕ → Letter → Type 0) (S : List ℕ → Type 0) (moment : Moment) (dir : Option (List ℕ)) (rows : List Row) → ListsUnknown kept L S (IsUnknownAmong kept moment dir []) rows rows
 among_none kept L S moment dir rows = lists_none kept L S (IsUnknownAmong kept moment dir []) rows (λ p l meets (name, among, u) given. absurd (cc (among)))
 
 pub among_more : (kept : Kept) (L : List ℕ → Letter → Type 0) (S : List ℕ → Type 0) (moment : Moment) (dir : Option (List ℕ)) (names : List (List ℕ)) (i : ℕ) (name : List ℕ) (a b c : List Row) → i < length names → get_or names i name ≡ name
-    → Lists kept L S (IsUnknownAmong kept moment dir (take i names)) a b → Lists kept L S (IsUnknownFrom kept moment (joined dir name)) b c → Lists kept L S (IsUnknownAmong kept moment dir (take (i + 1) names)) a c
+    → ListsUnknown kept L S (IsUnknownAmong kept moment dir (take i names)) a b → ListsUnknown kept L S (IsUnknownFrom kept moment (joined dir name)) b c → ListsUnknown kept L S (IsUnknownAmong kept moment dir (take (i + 1) names)) a c
 among_more kept L S moment dir names i name a b c below is first second =
     lists_moved kept L S S (λ p. IsUnknownAmong kept moment dir (take i names) p ⊎ IsUnknownFrom kept moment (joined dir name) p) (IsUnknownAmong kept moment dir (take (i + 1) names)) a c
     (λ p meets. meets)

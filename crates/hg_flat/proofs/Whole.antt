@@ -11,7 +11,7 @@ use Rattle.hg_tree.specs.Still.{Untouched}
 use Rattle.hg_tree.proofs.Histories.{extends_trans}
 use Rattle.hg_tree.proofs.Stillness.{alike_between}
 use Rattle.hg_flat.specs.Course.{IsKeptState, pieces_of}
-use Rattle.hg_flat.specs.Listing.{AddsTracked, Gives, IsLeftRow, IsUnknownIn, Lists}
+use Rattle.hg_flat.specs.Listing.{AddsTracked, Gives, IsLeftRow, IsUnknownIn, ListsUnknown}
 use Rattle.hg_flat.specs.Parent.{IsLeft, asked_by}
 use Rattle.hg_flat.specs.Patterns.{needs_patterns}
 use Rattle.hg_flat.specs.Shown.{flat_in, kept_of, rows_of}
@@ -47,8 +47,8 @@ module _ (flat : Flat) (wanted : Wanted) (id : Id20) (old mid later new : trees.
       (λ k left. left_second wanted id old mid later first.past second.past files since k left)
       (λ k left. alike_between old mid later k.path first.past second.past left.own) added
 
-  pub lists_whole : (L : List Piece) (a b : List Row) → Lists (kept_of flat) (Gives wanted L) (Untouched new later.last) (IsUnknownIn (kept_of flat) (trees.now later) None) a b
-      → Lists (kept_of flat) (Gives wanted L) Left (IsUnknownIn (kept_of flat) (trees.now old) None) a b
+  pub lists_whole : (L : List Piece) (a b : List Row) → ListsUnknown (kept_of flat) (Gives wanted L) (Untouched new later.last) (IsUnknownIn (kept_of flat) (trees.now later) None) a b
+      → ListsUnknown (kept_of flat) (Gives wanted L) Left (IsUnknownIn (kept_of flat) (trees.now old) None) a b
   lists_whole L a b lists = lists_later old later new past third.past (kept_of flat) (Gives wanted L) Left (λ path left. left.own) a b lists
 
   -- where the patterns decide the letter of a path that is left, they are those of the start

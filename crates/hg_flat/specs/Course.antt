@@ -126,7 +126,7 @@ HasAsked s None = s.shelf_new.asked ≡ s.shelf_old.asked
 HasAsked s (Some loaded) = AsksWhole s
 
 -- a status that has come so far, with what it keeps of its parent
-pub record Goes (s : Status) (parent : Parent) : Type 0 where
+pub record Proceeds (s : Status) (parent : Parent) : Type 0 where
   pub tree : trees.Passes s.tree_old s.tree_new
   pub shelf : shelves.Passes s.shelf_old s.shelf_new
   pub same : parent.id ≡ s.id

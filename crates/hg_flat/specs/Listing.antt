@@ -191,8 +191,8 @@ pub record AreUnknown (kept : Kept) (L : List ℕ → Letter → Type 0) (S P : 
   pub all : (path : List ℕ) (letter : Letter) → S path → P path → L path letter → Contains rows (untracked_row letter path)
 
 -- such rows were put behind the rows so far
-abbrev pub Lists : Kept → (List ℕ → Letter → Type 0) → (List ℕ → Type 0) → (List ℕ → Type 0) → List Row → List Row → Type 0
-Lists kept L S P old new = (more : List Row) × (new ≡ old ++ more) × AreUnknown kept L S P more
+abbrev pub ListsUnknown : Kept → (List ℕ → Letter → Type 0) → (List ℕ → Type 0) → (List ℕ → Type 0) → List Row → List Row → Type 0
+ListsUnknown kept L S P old new = (more : List Row) × (new ≡ old ++ more) × AreUnknown kept L S P more
 
 -- whether the directory is a repository of its own is as it was at the moment, for each path in it that meets S
 abbrev pub HoldsFor : (List ℕ → Type 0) → Moment → Option (List ℕ) → Bool → Type 0

@@ -10,7 +10,7 @@ ghost use Rattle.hg_shelf.specs.Images as images;
 ghost use Rattle.hg_tree.specs.History as trees;
 ghost use Rattle.hg_tree.specs.Moment.{stat_at};
 ghost use Rattle.hg_listing.specs.Cause.{HasShelfCause, HasStatusCause};
-ghost use Rattle.hg_flat.specs.Course.{Goes, IsFound, IsJudged, LacksIn, LoadsParent, MetBy, compared_letter, letter_of, upto};
+ghost use Rattle.hg_flat.specs.Course.{Proceeds, IsFound, IsJudged, LacksIn, LoadsParent, MetBy, compared_letter, letter_of, upto};
 ghost use Rattle.hg_flat.specs.Met.{Status};
 ghost use Rattle.hg_flat.specs.Parent.{KeepsRow, WasAsked, row_of};
 ghost use Rattle.hg_flat.specs.Stored.{AsksStore, IsContents};
@@ -158,13 +158,13 @@ fn first_letter<T: Tree, S: Shelf>(
     ensures held { S.held shelf.new ≡ S.held shelf.old }
     ensures goes { OnOk
         result
-        ((s : Status) → Goes (upto s (T.history tree.old) (S.history shelf.old)) parent.old
+        ((s : Status) → Proceeds (upto s (T.history tree.old) (S.history shelf.old)) parent.old
         → WasAsked s.asks s.tree_old (T.history tree.new) path.entry.text.now
-        → Goes (upto s (T.history tree.new) (S.history shelf.new)) parent.new) }
+        → Proceeds (upto s (T.history tree.new) (S.history shelf.new)) parent.new) }
     // Where nobody touches the path and what the parent has of it, it is the letter of that.
     ensures found { IfOk
         result
-        (λ letter. (s : Status) → Goes (upto s (T.history tree.old) (S.history shelf.old)) parent.old
+        (λ letter. (s : Status) → Proceeds (upto s (T.history tree.old) (S.history shelf.old)) parent.old
         → IsTrue (T.history tree.old).told
         → StaysShown (T.history tree.old) (T.history tree.new) path.entry.text.now
         → KeepsRow (S.history shelf.new) s.shelf_old.last s.id path.entry.text.now
@@ -172,12 +172,12 @@ fn first_letter<T: Tree, S: Shelf>(
         → IsFound (shelves.now s.shelf_old).files s.id (trees.now (T.history tree.old)) path.entry.text.now letter) }
     ensures met { IfErr
         result
-        (λ fault. (s : Status) → Goes (upto s (T.history tree.old) (S.history shelf.old)) parent.old
+        (λ fault. (s : Status) → Proceeds (upto s (T.history tree.old) (S.history shelf.old)) parent.old
         → MetBy (upto s (T.history tree.new) (S.history shelf.new)) path.entry.text.now before.now fault) }
     ensures asked { IsTrue (T.history tree.old).told → Reads before.now.size path.entry.text.now (T.history tree.old) (T.history tree.new) }
     ensures store { IfErr
         result
-        (λ fault. (s : Status) → Goes (upto s (T.history tree.old) (S.history shelf.old)) parent.old
+        (λ fault. (s : Status) → Proceeds (upto s (T.history tree.old) (S.history shelf.old)) parent.old
         → WasAsked s.asks s.tree_old (T.history tree.new) path.entry.text.now
         → IsTrue s.shelf_old.told
         → AsksStore (upto s (T.history tree.new) (S.history shelf.new))) }
@@ -205,13 +205,13 @@ pub(crate) fn compared_letter<T: Tree, S: Shelf>(
     ensures held { S.held shelf.new ≡ S.held shelf.old }
     ensures goes { OnOk
         result
-        ((s : Status) → Goes (upto s (T.history tree.old) (S.history shelf.old)) parent.old
+        ((s : Status) → Proceeds (upto s (T.history tree.old) (S.history shelf.old)) parent.old
         → WasAsked s.asks s.tree_old (T.history tree.new) path.entry.text.now
-        → Goes (upto s (T.history tree.new) (S.history shelf.new)) parent.new) }
+        → Proceeds (upto s (T.history tree.new) (S.history shelf.new)) parent.new) }
     // Where nobody touches the path and what the parent has of it, it is the letter of that.
     ensures found { IfOk
         result
-        (λ letter. (s : Status) → Goes (upto s (T.history tree.old) (S.history shelf.old)) parent.old
+        (λ letter. (s : Status) → Proceeds (upto s (T.history tree.old) (S.history shelf.old)) parent.old
         → IsTrue (T.history tree.old).told
         → StaysShown (T.history tree.old) (T.history tree.new) path.entry.text.now
         → KeepsRow (S.history shelf.new) s.shelf_old.last s.id path.entry.text.now
@@ -219,12 +219,12 @@ pub(crate) fn compared_letter<T: Tree, S: Shelf>(
         → IsFound (shelves.now s.shelf_old).files s.id (trees.now (T.history tree.old)) path.entry.text.now letter) }
     ensures met { IfErr
         result
-        (λ fault. (s : Status) → Goes (upto s (T.history tree.old) (S.history shelf.old)) parent.old
+        (λ fault. (s : Status) → Proceeds (upto s (T.history tree.old) (S.history shelf.old)) parent.old
         → MetBy (upto s (T.history tree.new) (S.history shelf.new)) path.entry.text.now before.now fault) }
     ensures asked { IsTrue (T.history tree.old).told → Reads before.now.size path.entry.text.now (T.history tree.old) (T.history tree.new) }
     ensures store { IfErr
         result
-        (λ fault. (s : Status) → Goes (upto s (T.history tree.old) (S.history shelf.old)) parent.old
+        (λ fault. (s : Status) → Proceeds (upto s (T.history tree.old) (S.history shelf.old)) parent.old
         → WasAsked s.asks s.tree_old (T.history tree.new) path.entry.text.now
         → IsTrue s.shelf_old.told
         → AsksStore (upto s (T.history tree.new) (S.history shelf.new))) }

@@ -7,7 +7,7 @@ ghost use Rattle.hg_tree.specs.History as trees;
 ghost use Rattle.hg_tree.specs.Moment.{stat_at};
 ghost use Rattle.hg_flat.specs.Asked.{AsksReads};
 ghost use Rattle.hg_listing.specs.Cause.{HasShelfCause, HasStatusCause};
-ghost use Rattle.hg_flat.specs.Course.{Goes, MetParent, upto};
+ghost use Rattle.hg_flat.specs.Course.{Proceeds, MetParent, upto};
 ghost use Rattle.hg_listing.specs.Full.{wants};
 ghost use Rattle.hg_flat.specs.Listing.{AddsTracked, AsksRow, IsLeftRow, IsLetterFor, is_file_or_link_kind, marked_letter, row_under, rows_under, wants_bytes, wants_tracked};
 ghost use Rattle.hg_flat.specs.Met.{Status};
@@ -89,13 +89,13 @@ fn letter_there<T: Tree, S: Shelf>(
     ensures held { S.held shelf.new ≡ S.held shelf.old }
     ensures goes { OnOk
         result
-        ((s : Status) → Goes (upto s (T.history tree.old) (S.history shelf.old)) parent.old
+        ((s : Status) → Proceeds (upto s (T.history tree.old) (S.history shelf.old)) parent.old
         → AsksRow wanted kept.now s.asks
         → (IsTrue (T.history tree.old).told → stat_at (trees.now (T.history tree.old)) kept.now.path ≡ Some there.now)
-        → Goes (upto s (T.history tree.new) (S.history shelf.new)) parent.new) }
+        → Proceeds (upto s (T.history tree.new) (S.history shelf.new)) parent.new) }
     ensures found { IfOk
         result
-        (λ letter. (s : Status) → Goes (upto s (T.history tree.old) (S.history shelf.old)) parent.old
+        (λ letter. (s : Status) → Proceeds (upto s (T.history tree.old) (S.history shelf.old)) parent.old
         → (IsTrue (T.history tree.old).told → stat_at (trees.now (T.history tree.old)) kept.now.path ≡ Some there.now)
         → IsLetterFor
         (IsLeftRow
@@ -113,7 +113,7 @@ fn letter_there<T: Tree, S: Shelf>(
         letter) }
     ensures met { IfErr
         result
-        (λ fault. (s : Status) → Goes (upto s (T.history tree.old) (S.history shelf.old)) parent.old
+        (λ fault. (s : Status) → Proceeds (upto s (T.history tree.old) (S.history shelf.old)) parent.old
         → AsksRow wanted kept.now s.asks
         → (IsTrue (T.history tree.old).told → stat_at (trees.now (T.history tree.old)) kept.now.path ≡ Some there.now)
         → MetParent (upto s (T.history tree.new) (S.history shelf.new)) fault) }
@@ -127,7 +127,7 @@ fn letter_there<T: Tree, S: Shelf>(
         → shelf.new ≡ shelf.old }
     ensures store { IfErr
         result
-        (λ fault. (s : Status) → Goes (upto s (T.history tree.old) (S.history shelf.old)) parent.old
+        (λ fault. (s : Status) → Proceeds (upto s (T.history tree.old) (S.history shelf.old)) parent.old
         → AsksRow wanted kept.now s.asks
         → (IsTrue (T.history tree.old).told → stat_at (trees.now (T.history tree.old)) kept.now.path ≡ Some there.now)
         → IsTrue s.shelf_old.told
@@ -160,12 +160,12 @@ fn find_letter<T: Tree, S: Shelf>(
     ensures held { S.held shelf.new ≡ S.held shelf.old }
     ensures goes { OnOk
         result
-        ((s : Status) → Goes (upto s (T.history tree.old) (S.history shelf.old)) parent.old
+        ((s : Status) → Proceeds (upto s (T.history tree.old) (S.history shelf.old)) parent.old
         → AsksRow wanted kept.now s.asks
-        → Goes (upto s (T.history tree.new) (S.history shelf.new)) parent.new) }
+        → Proceeds (upto s (T.history tree.new) (S.history shelf.new)) parent.new) }
     ensures found { IfOk
         result
-        (λ letter. (s : Status) → Goes (upto s (T.history tree.old) (S.history shelf.old)) parent.old
+        (λ letter. (s : Status) → Proceeds (upto s (T.history tree.old) (S.history shelf.old)) parent.old
         → IsLetterFor
         (IsLeftRow
         wanted
@@ -182,7 +182,7 @@ fn find_letter<T: Tree, S: Shelf>(
         letter) }
     ensures met { IfErr
         result
-        (λ fault. (s : Status) → Goes (upto s (T.history tree.old) (S.history shelf.old)) parent.old
+        (λ fault. (s : Status) → Proceeds (upto s (T.history tree.old) (S.history shelf.old)) parent.old
         → AsksRow wanted kept.now s.asks
         → MetParent (upto s (T.history tree.new) (S.history shelf.new)) fault) }
     ensures asked { (asks : Asking) → AsksRow wanted kept.now asks
@@ -193,7 +193,7 @@ fn find_letter<T: Tree, S: Shelf>(
         → shelf.new ≡ shelf.old }
     ensures store { IfErr
         result
-        (λ fault. (s : Status) → Goes (upto s (T.history tree.old) (S.history shelf.old)) parent.old
+        (λ fault. (s : Status) → Proceeds (upto s (T.history tree.old) (S.history shelf.old)) parent.old
         → AsksRow wanted kept.now s.asks
         → IsTrue s.shelf_old.told
         → AsksStore (upto s (T.history tree.new) (S.history shelf.new))) }
@@ -276,12 +276,12 @@ pub(crate) fn add_tracked<T: Tree, S: Shelf>(
     ensures held { S.held shelf.new ≡ S.held shelf.old }
     ensures goes { OnOk
         result
-        ((s : Status) → Goes (upto s (T.history tree.old) (S.history shelf.old)) parent.old
+        ((s : Status) → Proceeds (upto s (T.history tree.old) (S.history shelf.old)) parent.old
         → AsksRow wanted kept.now s.asks
-        → Goes (upto s (T.history tree.new) (S.history shelf.new)) parent.new) }
+        → Proceeds (upto s (T.history tree.new) (S.history shelf.new)) parent.new) }
     ensures row { OnOk
         result
-        ((s : Status) → Goes (upto s (T.history tree.old) (S.history shelf.old)) parent.old
+        ((s : Status) → Proceeds (upto s (T.history tree.old) (S.history shelf.old)) parent.old
         → AddsTracked
         (IsLeftRow
         wanted
@@ -299,7 +299,7 @@ pub(crate) fn add_tracked<T: Tree, S: Shelf>(
         rows.new.items) }
     ensures met { IfErr
         result
-        (λ fault. (s : Status) → Goes (upto s (T.history tree.old) (S.history shelf.old)) parent.old
+        (λ fault. (s : Status) → Proceeds (upto s (T.history tree.old) (S.history shelf.old)) parent.old
         → AsksRow wanted kept.now s.asks
         → MetParent (upto s (T.history tree.new) (S.history shelf.new)) fault) }
     ensures asked { (asks : Asking) → AsksRow wanted kept.now asks
@@ -310,7 +310,7 @@ pub(crate) fn add_tracked<T: Tree, S: Shelf>(
         → shelf.new ≡ shelf.old }
     ensures store { IfErr
         result
-        (λ fault. (s : Status) → Goes (upto s (T.history tree.old) (S.history shelf.old)) parent.old
+        (λ fault. (s : Status) → Proceeds (upto s (T.history tree.old) (S.history shelf.old)) parent.old
         → AsksRow wanted kept.now s.asks
         → IsTrue s.shelf_old.told
         → AsksStore (upto s (T.history tree.new) (S.history shelf.new))) }

@@ -9,7 +9,7 @@ ghost use Rattle.hg_tree.specs.Still.{Untouched};
 ghost use Rattle.hg_tree.specs.Moment.{AreFit, AreNames, has_dir, is_among, is_dir, stat_at};
 ghost use Rattle.hg_listing.specs.Cause.{HasListingCause};
 ghost use Rattle.hg_flat.specs.Asked.{AsksFor, AsksNothing, IsDirAmong, IsDirFrom, IsDirIn};
-ghost use Rattle.hg_flat.specs.Listing.{Gives, HoldsFor, IsEntered, IsUnknownAmong, IsUnknownFrom, IsUnknownIn, Lists, holds_repository, shows_dir};
+ghost use Rattle.hg_flat.specs.Listing.{Gives, HoldsFor, IsEntered, IsUnknownAmong, IsUnknownFrom, IsUnknownIn, ListsUnknown, holds_repository, shows_dir};
 ghost use Rattle.hg_flat.specs.Shown.{kept_of};
 
 use crate::flat::Flat;
@@ -94,7 +94,7 @@ fn look<T: Tree>(
     ensures passes { Passes (T.history tree.old) (T.history tree.new) }
     ensures listed { OnOk
         result
-        (Lists
+        (ListsUnknown
         (kept_of flat.now)
         (Gives wanted (state_asked matcher.old))
         (Untouched (T.history tree.new) (T.history tree.old).last)
@@ -151,7 +151,7 @@ fn look_each<T: Tree>(
     ensures passes { Passes (T.history tree.old) (T.history tree.new) }
     ensures listed { OnOk
         result
-        (Lists
+        (ListsUnknown
         (kept_of flat.now)
         (Gives wanted (state_asked matcher.old))
         (Untouched (T.history tree.new) (T.history tree.old).last)
@@ -194,7 +194,7 @@ pub(crate) fn visit<T: Tree>(
     ensures passes { Passes (T.history tree.old) (T.history tree.new) }
     ensures listed { OnOk
         result
-        (Lists
+        (ListsUnknown
         (kept_of flat.now)
         (Gives wanted (state_asked matcher.old))
         (Untouched (T.history tree.new) (T.history tree.old).last)

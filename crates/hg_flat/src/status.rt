@@ -13,7 +13,7 @@ ghost use Rattle.hg_listing.specs.Full.{IsFull, IsFullFor};
 ghost use Rattle.hg_flat.specs.Met.{Met};
 ghost use Rattle.hg_flat.specs.Parent.{IsAsked, IsLeft, IsServed, WasAsked, asked_by, parent_rows};
 ghost use Rattle.hg_flat.specs.Patterns.{CountsOversize, HadPatterns, Warns, ignored_at, is_of_parent, needs_patterns};
-ghost use Rattle.hg_flat.specs.Listing.{AddsTracked, Gives, IsEntered, IsLeftRow, IsUnknownIn, Lists};
+ghost use Rattle.hg_flat.specs.Listing.{AddsTracked, Gives, IsEntered, IsLeftRow, IsUnknownIn, ListsUnknown};
 ghost use Rattle.hg_flat.specs.Stored.{AsksStore};
 ghost use Rattle.hg_flat.specs.Shown.{flat_in, kept_of};
 
@@ -117,7 +117,7 @@ fn add_others<T: Tree>(
     ensures passes { trees.Passes (T.history tree.old) (T.history tree.new) }
     ensures listed { OnOk
         result
-        (Lists
+        (ListsUnknown
         (kept_of flat.now)
         (Gives wanted (pieces_of (option_map (λ i. i.now) ignore.entry)))
         (Untouched (T.history tree.new) (T.history tree.old).last)
@@ -155,7 +155,7 @@ fn add_others<T: Tree>(
     )
 }
 
-/// Lists each path with a wanted letter: first each path with an entry, in order, then, where `?` or I is wanted, everything that stands in
+/// ListsUnknown each path with a wanted letter: first each path with an entry, in order, then, where `?` or I is wanted, everything that stands in
 /// the working copy, each directory once.
 ///
 /// Where `?` or I is wanted, `.hgignore` is read first: a path without an entry is ignored where a line of it matches the path or a directory above

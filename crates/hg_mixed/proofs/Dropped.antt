@@ -5,7 +5,7 @@ use Rattle.std.specs.Str.{bytes_eq}
 use Rattle.hg_base.proofs.Within.{same_bytes}
 use Rattle.hg_entry.specs.Entry.{EntryData, StampData}
 use Rattle.hg_entry.specs.Table.{Table}
-use Rattle.hg_mixed.specs.Drop.{Goes, IsPruned, after_clear, bare}
+use Rattle.hg_mixed.specs.Drop.{IsPrunedAt, IsPruned, after_clear, bare}
 use Rattle.hg_mixed.specs.Edits.{IsFormed, IsSame}
 use Rattle.hg_mixed.specs.Held.{table_of}
 use Rattle.hg_mixed.specs.Memory.{InMemory, memory_table}
@@ -19,7 +19,7 @@ pub record AreAlike (a b : Table) : Type 0 where
   pub nodes : (at : List ℕ) → a.nodes at ≡ b.nodes at
   pub caches : (at : List ℕ) → a.caches at ≡ b.caches at
 
-alike_goes : (path : List ℕ) (a b : Table) → AreAlike a b → (at : List ℕ) → Goes path a at → Goes path b at
+alike_goes : (path : List ℕ) (a b : Table) → AreAlike a b → (at : List ℕ) → IsPrunedAt path a at → IsPrunedAt path b at
 alike_goes path a b alike at g = record {
   on_way = g.on_way;
   alone = λ other way is. let more = g.alone other way (alike.nodes other ∙ is) in (more.0, sym (alike.entries other) ∙ more.1);

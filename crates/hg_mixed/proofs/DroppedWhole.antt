@@ -12,7 +12,7 @@ use Rattle.hg_entry.specs.Entry.{StampData}
 use Rattle.hg_entry.specs.Table.{Table}
 use Rattle.hg_image.specs.Reading as reading
 use Rattle.hg_image.specs.Rows.{Row}
-use Rattle.hg_mixed.specs.Drop.{Goes, IsPruned, after_clear}
+use Rattle.hg_mixed.specs.Drop.{IsPrunedAt, IsPruned, after_clear}
 use Rattle.hg_mixed.specs.Edits.{IsFormed, IsSame}
 use Rattle.hg_mixed.specs.Held.{Held, table}
 use Rattle.hg_mixed.specs.Lent.{covers}
@@ -70,7 +70,7 @@ pruned_formed path was left formed p = record {
     stays : (at : List ℕ) → was.nodes at ≡ true → p.gone at ≡ false → left.nodes at ≡ true
     stays at is kept = p.nodes at ∙ and_from (was.nodes at) (not (p.gone at)) is (not_from_false (p.gone at) kept)
 
-    goes_on : (dir at : List ℕ) → is_below dir at ≡ true → was.nodes at ≡ true → Goes path was dir → Goes path was at
+    goes_on : (dir at : List ℕ) → is_below dir at ≡ true → was.nodes at ≡ true → IsPrunedAt path was dir → IsPrunedAt path was at
     goes_on dir at below is g = record {
       on_way = (g.alone at (within_below dir at below) is).0;
       alone = λ other way there. g.alone other (within_trans dir at other (within_below dir at below) way) there;
@@ -105,7 +105,7 @@ module _ (docket : Contents) (rows : List Row) (left : List (List ℕ × List Ro
   ]
 
   -- what stands below a node that goes is in memory, and on the way to the path
-  reach : (at : List ℕ) → Goes path (after_clear path own) at → (n : ℕ) (x : List ℕ) → length x < n → is_within at x ≡ true → (whole docket rows left own).nodes x ≡ true
+  reach : (at : List ℕ) → IsPrunedAt path (after_clear path own) at → (n : ℕ) (x : List ℕ) → length x < n → is_within at x ≡ true → (whole docket rows left own).nodes x ≡ true
       → (covers left x ≡ false) × (is_within x path ≡ true)
   reach at g zero x more way is = absurd (omega arith)
   reach at g (suc n) x more way is = elim (within_split at x way) [
@@ -123,7 +123,7 @@ module _ (docket : Contents) (rows : List Row) (left : List (List ℕ × List Ro
         (not_covered, (g.alone x way (own_here x not_covered is)).0)
   ]
 
-  goes_whole : (at : List ℕ) → Goes path (after_clear path own) at → Goes path (after_clear path (whole docket rows left own)) at
+  goes_whole : (at : List ℕ) → IsPrunedAt path (after_clear path own) at → IsPrunedAt path (after_clear path (whole docket rows left own)) at
   goes_whole at g = record {
     on_way = g.on_way;
     alone = λ other way is.
@@ -131,7 +131,7 @@ module _ (docket : Contents) (rows : List Row) (left : List (List ℕ × List Ro
         (reached.1, entry_here other reached.0 ∙ (g.alone other way (own_here other reached.0 is)).1);
   }
 
-  goes_own : (at : List ℕ) → Goes path (after_clear path (whole docket rows left own)) at → Goes path (after_clear path own) at
+  goes_own : (at : List ℕ) → IsPrunedAt path (after_clear path (whole docket rows left own)) at → IsPrunedAt path (after_clear path own) at
   goes_own at g = record {
     on_way = g.on_way;
     alone = λ other way is.

@@ -13,7 +13,7 @@ use Rattle.hg_base.specs.PathText.{is_below, is_path, parent_of}
 use Rattle.hg_base.proofs.Children.{below_parent}
 use Rattle.hg_base.proofs.Paths.{path_above, path_some}
 use Rattle.hg_mixed.specs.ChildOf.{AreAtPaths}
-use Rattle.hg_mixed.specs.Kids.{AreKids, AreLeftBefore, IsFrom, IsQuiet, Looks, Seeks, below_dir, beside, is_before}
+use Rattle.hg_mixed.specs.Kids.{AreKids, AreLeftBefore, IsFrom, IsQuiet, LooksOn, Seeks, below_dir, beside, is_before}
 use Rattle.hg_mixed.specs.Lists.{dir_text, has_rows_in, or_root}
 use Rattle.hg_mixed.specs.Node.{NodeData, node_at}
 use Rattle.std.specs.Prelude.{is_some}
@@ -48,10 +48,10 @@ module _ (rows old rest : List (List ℕ × NodeData)) (kid : List ℕ × NodeDa
   pub first_there : node_at rows kid.0 ≡ Some kid.1
   first_there = left_now.1.placed.0.1
 
-  pub first_has : (next : Option (List ℕ)) (has : Bool) → Looks rows known kid.0 has next → has ≡ has_rows_in rows kid.0
+  pub first_has : (next : Option (List ℕ)) (has : Bool) → LooksOn rows known kid.0 has next → has ≡ has_rows_in rows kid.0
   first_has next has looks = looks.here left_now.1.quiet.0
 
-  pub left_on : (next : Option (List ℕ)) (has : Bool) → Looks rows known kid.0 has next → AreAtPaths rest × AreLeftBefore rows next rest
+  pub left_on : (next : Option (List ℕ)) (has : Bool) → LooksOn rows known kid.0 has next → AreAtPaths rest × AreLeftBefore rows next rest
   left_on next has looks =
       let now = left_now in (
         now.0.1,
@@ -117,17 +117,17 @@ module _ (rows : List (List ℕ × NodeData)) (path : List ℕ) (good : is_path 
           quiet at less (past_all dir path at next (below_parent dir path is) (below_parent dir at is_dir) out from)
 
   -- what a search finds, and that alone which matters beside the path
-  pub looked : (known next : Option (List ℕ)) (has : Bool) → Seeks rows path has next → Looks rows known path has (beside path next)
+  pub looked : (known next : Option (List ℕ)) (has : Bool) → Seeks rows path has next → LooksOn rows known path has (beside path next)
   looked known next has seeks = record {
     here = λ _. seeks.here;
     on = inr (narrowed (parent_of path) next refl seeks.from seeks.quiet);
   }
 
 -- what surely has no nodes is told without a search
-pub looked_early : (rows : List (List ℕ × NodeData)) (path : List ℕ) (known : Option (List ℕ)) → has_rows_in rows path ≡ false → Looks rows known path false known
+pub looked_early : (rows : List (List ℕ × NodeData)) (path : List ℕ) (known : Option (List ℕ)) → has_rows_in rows path ≡ false → LooksOn rows known path false known
 looked_early rows path known none = record { here = λ _. sym none; on = inl refl }
 
-pub looked_before : (rows : List (List ℕ × NodeData)) (path : List ℕ) (known : Option (List ℕ)) → is_before known path ≡ true → Looks rows known path false known
+pub looked_before : (rows : List (List ℕ × NodeData)) (path : List ℕ) (known : Option (List ℕ)) → is_before known path ≡ true → LooksOn rows known path false known
 looked_before rows path known before = record { here = λ quiet. sym (quiet before); on = inl refl }
 
 -- nodes stand at paths

@@ -11,7 +11,7 @@ use Rattle.hg_base.proofs.Components.{parent_joined}
 use Rattle.hg_base.proofs.Within.{above_is, above_none, equal_bytes, same_bytes, within_below, within_itself, within_split, within_trans}
 use Rattle.hg_entry.specs.Entry.{EntryData, StampData}
 use Rattle.hg_entry.specs.Table.{Table}
-use Rattle.hg_mixed.specs.Drop.{Goes, IsPruned, bare}
+use Rattle.hg_mixed.specs.Drop.{IsPrunedAt, IsPruned, bare}
 use Rattle.hg_mixed.specs.Edits.{IsFormed}
 use Rattle.hg_mixed.specs.Lists.{has_rows_in, or_root}
 use Rattle.hg_mixed.specs.Node.{IsPut, NodeData, entry_in, node_at, source_in}
@@ -25,7 +25,7 @@ and_true true = refl
 and_true false = refl
 
 -- a table of which nothing goes
-nothing_goes : (path : List ℕ) (was : Table) → ((at : List ℕ) → Goes path was at → ⊥) → IsPruned path was was
+nothing_goes : (path : List ℕ) (was : Table) → ((at : List ℕ) → IsPrunedAt path was at → ⊥) → IsPruned path was was
 nothing_goes path was none = record {
   gone = λ at. false;
   stale = λ at. false;
@@ -148,7 +148,7 @@ module _ (path : List ℕ) (test : List ℕ → Bool) (good : is_path path ≡ t
         );
   }
 
-  path_goes : Goes path was path
+  path_goes : IsPrunedAt path was path
   path_goes = record {
     on_way = within_itself path;
     alone = λ other way is. elim (within_split path other way) [
@@ -162,7 +162,7 @@ module _ (path : List ℕ) (test : List ℕ → Bool) (good : is_path path ≡ t
     pruned_root = record {
       gone = bytes_eq path;
       stale = λ at. false;
-      goes = λ at h. subst (Goes path was) (same_bytes path at h) path_goes;
+      goes = λ at h. subst (IsPrunedAt path was) (same_bytes path at h) path_goes;
       all_go = λ at g. elim (within_split at path g.on_way) [
         | inl e ↦ ap (bytes_eq path) (sym e) ∙ equal_bytes path
         | inr up ↦ absurd (both_ways (is_below at path) (above_none path good root at) up)
@@ -186,7 +186,7 @@ module _ (path : List ℕ) (test : List ℕ → Bool) (good : is_path path ≡ t
     to_path : (at : List ℕ) → is_within at dir ≡ true → is_within at path ≡ true
     to_path at way = within_below at path (above_is dir path good parent at ∙ way)
 
-    more_goes : (at : List ℕ) → Goes dir mid at → Goes path was at
+    more_goes : (at : List ℕ) → IsPrunedAt dir mid at → IsPrunedAt path was at
     more_goes at g = record {
       on_way = to_path at g.on_way;
       alone = λ other way is. elim (cases_Bool (bytes_eq path other)) [
@@ -197,7 +197,7 @@ module _ (path : List ℕ) (test : List ℕ → Bool) (good : is_path path ≡ t
       ];
     }
 
-    goes_more : (at : List ℕ) → Goes path was at → bytes_eq path at ≡ false → Goes dir mid at
+    goes_more : (at : List ℕ) → IsPrunedAt path was at → bytes_eq path at ≡ false → IsPrunedAt dir mid at
     goes_more at g other = record {
       on_way = to_dir at g.on_way other;
       alone = λ next way is.
@@ -209,7 +209,7 @@ module _ (path : List ℕ) (test : List ℕ → Bool) (good : is_path path ≡ t
       gone = λ at. bytes_eq path at || up.gone at;
       stale = λ at. bytes_eq dir at || up.stale at;
       goes = λ at h. elim (cases_Bool (bytes_eq path at)) [
-        | inl same ↦ subst (Goes path was) (same_bytes path at same) path_goes
+        | inl same ↦ subst (IsPrunedAt path was) (same_bytes path at same) path_goes
         | inr other ↦ more_goes at (up.goes at (sym (ap (λ (b : Bool). b || up.gone at) other) ∙ h))
       ];
       all_go = λ at g. elim (cases_Bool (bytes_eq path at)) [

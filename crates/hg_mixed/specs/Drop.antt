@@ -14,7 +14,7 @@ abbrev pub after_clear : List ℕ → Table → Table
 after_clear path t = record t { entries = update bytes_eq t.entries path None; sources = update bytes_eq t.sources path None }
 
 -- a node on the way to a path goes: each node at or below it is on the way to the path too and has no entry
-pub record Goes (path : List ℕ) (t : Table) (at : List ℕ) : Type 0 where
+pub record IsPrunedAt (path : List ℕ) (t : Table) (at : List ℕ) : Type 0 where
   pub on_way : is_within at path ≡ true
   pub alone : (other : List ℕ) → is_within at other ≡ true → t.nodes other ≡ true → (is_within other path ≡ true) × (t.entries other ≡ None)
 
@@ -23,8 +23,8 @@ pub record Goes (path : List ℕ) (t : Table) (at : List ℕ) : Type 0 where
 pub record IsPruned (path : List ℕ) (was left : Table) : Type 0 where
   pub gone : List ℕ → Bool
   pub stale : List ℕ → Bool
-  pub goes : (at : List ℕ) → gone at ≡ true → Goes path was at
-  pub all_go : (at : List ℕ) → Goes path was at → gone at ≡ true
+  pub goes : (at : List ℕ) → gone at ≡ true → IsPrunedAt path was at
+  pub all_go : (at : List ℕ) → IsPrunedAt path was at → gone at ≡ true
   pub is_stale : (dir : List ℕ) → stale dir ≡ true → (at : List ℕ) × (gone at ≡ true) × (parent_of at ≡ Some dir)
   pub all_stale : (dir at : List ℕ) → gone at ≡ true → parent_of at ≡ Some dir → stale dir ≡ true
   pub p1 : left.p1 ≡ was.p1

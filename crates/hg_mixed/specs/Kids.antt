@@ -74,6 +74,6 @@ abbrev pub IsQuiet : List (List ℕ × NodeData) → List ℕ → Option (List �
 IsQuiet rows path next = (at : List ℕ) → dir_text at ≡ dir_text path → is_lt (slice_cmp nat_cmp path at) ≡ true → is_before next at ≡ true → has_rows_in rows at ≡ false
 
 -- a look for a directory's nodes, where those before the next that is known have none
-pub record Looks (rows : List (List ℕ × NodeData)) (known : Option (List ℕ)) (dir : List ℕ) (has : Bool) (next : Option (List ℕ)) : Type 0 where
+pub record LooksOn (rows : List (List ℕ × NodeData)) (known : Option (List ℕ)) (dir : List ℕ) (has : Bool) (next : Option (List ℕ)) : Type 0 where
   pub here : (is_before known dir ≡ true → has_rows_in rows dir ≡ false) → has ≡ has_rows_in rows dir
   pub on : (next ≡ known) ⊎ IsQuiet rows dir next

@@ -7,7 +7,7 @@ ghost use Rattle.hg_mixed.specs.Children.{AreNodesIn};
 ghost use Rattle.hg_mixed.specs.Edits.{IsFormed};
 ghost use Rattle.hg_mixed.specs.Memory.{memory_table};
 ghost use Rattle.std.specs.String.{string_bytes};
-ghost use Rattle.hg_mixed.specs.Kids.{Looks, Takes, beside, is_before};
+ghost use Rattle.hg_mixed.specs.Kids.{LooksOn, Takes, beside, is_before};
 ghost use Rattle.hg_mixed.specs.Lists.{data_of, or_root};
 ghost use Rattle.hg_mixed.specs.Node.{node_at};
 
@@ -91,7 +91,7 @@ fn look<'t>(
 ) -> (bool, Option<&'t str>)
     requires path { is_path (string_bytes dir.now) ≡ true }
     requires there { node_at nodes.now (string_bytes dir.now) ≡ Some (data_of node.now) }
-    ensures { Looks nodes.entry.now (option_map (λ n. n.now) next.entry) (string_bytes dir.now) result.0 (option_map (λ n. n.now) result.1) }
+    ensures { LooksOn nodes.entry.now (option_map (λ n. n.now) next.entry) (string_bytes dir.now) result.0 (option_map (λ n. n.now) result.1) }
 {
     let path = PathRef { text: dir.as_str() };
     if nodes.is_childless(path.text, node) {

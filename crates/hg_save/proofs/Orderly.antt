@@ -9,7 +9,7 @@ use Rattle.hg_shelf.specs.Rules.{Perhaps, moved, without}
 use Rattle.hg_shelf.proofs.Scenes.{goes_same, goes_trans, first_part, second_part}
 use Rattle.hg_save.specs.Leads.{ButFor, Clears, FirstBy, IsDone, Leads, OnceBy, OwnSteps, StepBy}
 use Rattle.hg_save.specs.Others.{IsOrderly, IsPublication, KeepsRecords, RecordsAs}
-use Rattle.hg_save.specs.Record.{IsSound, data_name, docket_in, id_in, reading}
+use Rattle.hg_save.specs.Record.{IsReadable, data_name, docket_in, id_in, reading}
 use Rattle.hg_save.specs.Saved.{IsFree, IsLatest, IsOver, Stands, name_after, new_docket, published, used_in}
 use Rattle.hg_save.proofs.Names.{never_itself, next_free, next_other}
 use Rattle.hg_save.proofs.Kept.{leads_gone, perhaps_gone, steps_weaker}
@@ -95,7 +95,7 @@ module _ (loaded : List ℕ) (new : Encoded) (over : IsOver loaded new) where
     used_by d f is (inl same) named = absurd (set.free.free d (step.since.left d is) (sym (same_id d f (same (codes "dirstate"))) ∙ named))
     used_by d f is (inr moves) named = used_published loaded new f over (moved_ready new d f (set.ready d (step.since.left d is)) moves)
 
-    moved_orderly : IsSound (published new) → IsOrderly x y
+    moved_orderly : IsReadable (published new) → IsOrderly x y
     moved_orderly sound = record {
       left = λ f is. let was = step.left f is in left_by was.0 f was.1 was.2;
       sound = λ any. (sound.0, reads_published loaded new y.files over holds ∙ sound.1);
@@ -111,7 +111,7 @@ module _ (loaded : List ℕ) (new : Encoded) (over : IsOver loaded new) where
       };
     }
 
-  swapped_orderly : (s x y : Scene) → IsSet s → IsSound (published new) → OnceBy s (moved new_docket (codes "dirstate")) x y → IsOrderly x y
+  swapped_orderly : (s x y : Scene) → IsSet s → IsReadable (published new) → OnceBy s (moved new_docket (codes "dirstate")) x y → IsOrderly x y
   swapped_orderly s x y set sound (inl still) = still_orderly x y still
   swapped_orderly s x y set sound (inr first) = moved_orderly s x y set first sound
 
@@ -175,7 +175,7 @@ module _ (loaded : List ℕ) (new : Encoded) (over : IsOver loaded new) where
           free = free_at c each c.history.last later (omega arith);
         }
 
-  swapped_steps : (c d : Course) → IsSet (last_scene c) → IsSound (published new) → OwnSteps (OnceBy (last_scene c) (moved new_docket (codes "dirstate"))) c d → OwnSteps IsOrderly c d
+  swapped_steps : (c d : Course) → IsSet (last_scene c) → IsReadable (published new) → OwnSteps (OnceBy (last_scene c) (moved new_docket (codes "dirstate"))) c d → OwnSteps IsOrderly c d
   swapped_steps c d set sound steps = record { each = λ k after before is. swapped_orderly (last_scene c) (scene d k) (scene d (k + 1)) set sound (steps.each k after before is) }
 
   cleared_steps : (d z : Course) → Each d z (Holds new) → OwnSteps (StepBy (Perhaps (without (data_name (docket_of loaded).id)))) d z → OwnSteps IsOrderly d z
@@ -194,7 +194,7 @@ module _ (loaded : List ℕ) (new : Encoded) (over : IsOver loaded new) (a b : C
   steps_one leads steps stands latest = data_steps loaded new over a stands latest b (spared_one loaded new over a b leads) steps
 
   pub orderly_one : (Undisturbed a b → Leads (ButFor (data_name new.id)) a b) → (Undisturbed a b → OwnSteps (StepBy (ButFor (data_name new.id))) a b)
-      → Undisturbed a b → Stands loaded (last_scene a) → IsLatest (last_scene a) → IsSound (published new) → KeepsRecords us b a.history.last
+      → Undisturbed a b → Stands loaded (last_scene a) → IsLatest (last_scene a) → IsReadable (published new) → KeepsRecords us b a.history.last
   orderly_one leads steps calm stands latest sound = keeps a b (steps_one (leads calm) (steps calm) stands latest)
 
   -- and the docket beside the old one
@@ -205,7 +205,7 @@ module _ (loaded : List ℕ) (new : Encoded) (over : IsOver loaded new) (a b : C
         (docket_steps loaded new over a stands latest b c first (spared_two loaded new over a b c first second data_leads docket_leads) (two (second_part a b c first calm)))
 
     pub orderly_two : (Undisturbed a b → Leads (ButFor (data_name new.id)) a b) → (Undisturbed b c → Leads (ButFor new_docket) b c)
-        → Undisturbed a c → Stands loaded (last_scene a) → IsLatest (last_scene a) → IsSound (published new) → KeepsRecords us c a.history.last
+        → Undisturbed a c → Stands loaded (last_scene a) → IsLatest (last_scene a) → IsReadable (published new) → KeepsRecords us c a.history.last
     orderly_two data_leads docket_leads calm stands latest sound =
         keeps a c (steps_two calm (data_leads (first_part a b c second calm)) (docket_leads (second_part a b c first calm)) stands latest)
 
@@ -227,12 +227,12 @@ module _ (loaded : List ℕ) (new : Encoded) (over : IsOver loaded new) (a b : C
       there : Undisturbed a d → IsSome ((last_scene c).files new_docket)
       there calm = ap is_some (put_two calm).sure.shown
 
-      steps_three : Undisturbed a d → Stands loaded (last_scene a) → IsLatest (last_scene a) → IsSound (published new) → OwnSteps IsOrderly a d
+      steps_three : Undisturbed a d → Stands loaded (last_scene a) → IsLatest (last_scene a) → IsReadable (published new) → OwnSteps IsOrderly a d
       steps_three calm stands latest sound =
           steps_on IsOrderly a c d orderly_along (steps_two (calm_two calm) (put_one calm).leads (put_two calm).leads stands latest) third
           (swapped_steps loaded new over c d (set_at loaded new over a stands latest b c first second (put_one calm) (put_two calm)) sound (three (calm_three calm) (there calm)))
 
-      pub orderly_three : Undisturbed a d → Stands loaded (last_scene a) → IsLatest (last_scene a) → IsSound (published new) → KeepsRecords us d a.history.last
+      pub orderly_three : Undisturbed a d → Stands loaded (last_scene a) → IsLatest (last_scene a) → IsReadable (published new) → KeepsRecords us d a.history.last
       orderly_three calm stands latest sound = keeps a d (steps_three calm stands latest sound)
 
       -- the docket has its place, and the old data file goes
@@ -247,7 +247,7 @@ module _ (loaded : List ℕ) (new : Encoded) (over : IsOver loaded new) (a b : C
         held : Undisturbed a d → (f : Files) → (last_scene d).leaves f → Holds new f
         held calm = done_left loaded new over a c d (ready_left loaded new over a b c second (put_one calm) (put_two calm)) (done (calm_three calm) (there calm))
 
-        pub orderly_four : Undisturbed a z → Stands loaded (last_scene a) → IsLatest (last_scene a) → IsSound (published new) → KeepsRecords us z a.history.last
+        pub orderly_four : Undisturbed a z → Stands loaded (last_scene a) → IsLatest (last_scene a) → IsReadable (published new) → KeepsRecords us z a.history.last
         orderly_four calm stands latest sound =
             keeps a z (steps_on IsOrderly a d z orderly_along (steps_three (calm_front calm) stands latest sound) fourth
             (cleared_steps loaded new over d z (cleared_each loaded new over a d z (held (calm_front calm)) (leads_gone (docket_of loaded).id d z (leads (calm_four calm))))

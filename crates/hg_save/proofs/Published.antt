@@ -11,7 +11,7 @@ use Rattle.hg_shelf.specs.Images.{Course, Goes, Remains, Scene, scene}
 use Rattle.hg_shelf.specs.Polite.{OthersOnlyRead}
 use Rattle.hg_docket.specs.Docket.{docket_of}
 use Rattle.hg_save.specs.Others.{IsOrderly, IsPublication, KeepsRecords, RecordsAs, WasPublished}
-use Rattle.hg_save.specs.Record.{IsSound, docket_in, id_in, reading}
+use Rattle.hg_save.specs.Record.{IsReadable, docket_in, id_in, reading}
 use Rattle.hg_save.specs.Saved.{IsLatest, name_after, used_in}
 
 -- what was published by a moment was by a later one
@@ -59,7 +59,7 @@ orderly_same a b x y to back there from step =
           subst (λ (f : Files). RecordsAs f c) (sym there.shown) new.1,
         )
       ];
-      sound = λ is. subst (λ (f : Files). IsSound (reading f)) (sym there.shown) (step.sound (fresh is));
+      sound = λ is. subst (λ (f : Files). IsReadable (reading f)) (sym there.shown) (step.sound (fresh is));
       latest = λ is. latest_still b y there (step.latest (fresh is));
     }
 
@@ -84,7 +84,7 @@ keeps_longer by a b from goes none keep = record {
 }
 
 -- what was published is sound
-pub published_sound : (c : Course) (start end : ℕ) (r : Option (Result Table RecordFault)) → KeepsRecords others c start → end ≤ c.history.last → WasPublished c start end r → IsSound r
+pub published_sound : (c : Course) (start end : ℕ) (r : Option (Result Table RecordFault)) → KeepsRecords others c start → end ≤ c.history.last → WasPublished c start end r → IsReadable r
 published_sound c start end r keep within was =
     let is = (keep.each was.at was.from (omega (arith, was.to, within)) was.by).sound was.fresh in
     (is.0, sym was.shown ∙ is.1)

@@ -6,7 +6,7 @@ use Rattle.hg_image.specs.Reading.{RecordFault}
 use Rattle.hg_shelf.specs.History.{Files, History, Who, others}
 use Rattle.hg_shelf.specs.Images.{Course, Scene, scene}
 use Rattle.hg_save.specs.Loads.{During, files_at}
-use Rattle.hg_save.specs.Record.{IsSound, data_in, data_name, docket_in, id_in, reading}
+use Rattle.hg_save.specs.Record.{IsReadable, data_in, data_name, docket_in, id_in, reading}
 use Rattle.hg_save.specs.Saved.{IsLatest, name_after}
 use Rattle.hg_save.specs.declared.loaded.Loaded.{Loaded}
 
@@ -108,7 +108,7 @@ IsPublication before behind = docket_in behind.files ≡ docket_in before.files 
 -- where another docket came to stand, those that reads show then; these are sound, and no docket that a crash might leave is ahead of that one
 pub record IsOrderly (before behind : Scene) : Type 0 where
   pub left : (c : Files) → behind.leaves c → ((d : Files) × before.leaves d × RecordsAs d c) ⊎ (IsPublication before behind × RecordsAs behind.files c)
-  pub sound : IsPublication before behind → IsSound (reading behind.files)
+  pub sound : IsPublication before behind → IsReadable (reading behind.files)
   pub latest : IsPublication before behind → IsLatest behind
 
 -- from a moment on each step of one keeps to how a record is published

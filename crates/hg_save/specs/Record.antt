@@ -38,8 +38,8 @@ abbrev pub reading : Files → Option (Result Table RecordFault)
 reading files = record_in files files
 
 -- a record is sound: it is there, and no fault
-abbrev pub IsSound : Option (Result Table RecordFault) → Type 0
-IsSound recorded = (t : Table) × (recorded ≡ Some (Ok t))
+abbrev pub IsReadable : Option (Result Table RecordFault) → Type 0
+IsReadable recorded = (t : Table) × (recorded ≡ Some (Ok t))
 
 -- the identifier that the docket names
 abbrev pub id_in : Files → List ℕ

@@ -9,7 +9,7 @@ ghost use Rattle.hg_shelf.specs.Images.{Goes, course, last_scene};
 ghost use Rattle.hg_shelf.specs.Polite.{Undisturbed};
 ghost use Rattle.hg_save.specs.Leads.{Clears, IsHeld, Leads, OwnSteps, StepBy};
 ghost use Rattle.hg_save.specs.Others.{KeepsFiles, KeepsRecords};
-ghost use Rattle.hg_save.specs.Record.{IsSound, data_name};
+ghost use Rattle.hg_save.specs.Record.{IsReadable, data_name};
 ghost use Rattle.hg_save.specs.Saved.{HoldsExactly, IsFree, IsLatest, IsOver, KeepsOthers, LeavesOnly, NamesExactly, Records, ShowsOnly, Stands, WritesOnly, published};
 
 use crate::loaded::Loaded;
@@ -121,7 +121,7 @@ pub fn publish<S: Shelf>(shelf: &mut S, loaded: &Loaded, new: &Encoded) -> Resul
     ensures orderly { Undisturbed (course (S.history shelf.old) (S.images shelf.old)) (course (S.history shelf.new) (S.images shelf.new))
         → Stands loaded.now.docket.items (last_scene (course (S.history shelf.old) (S.images shelf.old)))
         → IsLatest (last_scene (course (S.history shelf.old) (S.images shelf.old)))
-        → IsSound (published new.now)
+        → IsReadable (published new.now)
         → KeepsRecords us (course (S.history shelf.new) (S.images shelf.new)) (S.history shelf.old).last }
     // And each keeps the data that dockets name, the new one's too once it stands.
     ensures keeping { Undisturbed (course (S.history shelf.old) (S.images shelf.old)) (course (S.history shelf.new) (S.images shelf.new))

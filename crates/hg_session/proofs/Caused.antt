@@ -18,7 +18,7 @@ use Rattle.hg_session.specs.Flags.{wanted_of}
 use Rattle.hg_session.specs.Listed.{AsksOwn, ListingCause}
 use Rattle.hg_session.specs.Load.{of_list, of_read}
 use Rattle.hg_session.specs.Loaded.{MetReading}
-use Rattle.hg_session.specs.Look.{EndsAs, IsCalm, IsLook, IsOutFault, LeavesAt, Looks, OnlyReads, Stage, at_first, at_printing, at_saving, at_telling}
+use Rattle.hg_session.specs.Look.{EndsAs, IsCalm, IsLook, IsOutFault, LeavesAt, Concludes, OnlyReads, Stage, at_first, at_printing, at_saving, at_telling}
 use Rattle.hg_session.specs.Put.{IsFaultOrMemory, IsSilent, Tells}
 use Rattle.hg_session.specs.Status.{DoesStatus, RanStatus, status_look}
 use Rattle.hg_session.specs.declared.acting.Changing.{Changing}
@@ -67,7 +67,7 @@ module _ (call : Call) (flags : StatusFlags) (is : call.command ≡ a_command.St
   left_cause fault (at_telling, (telling, ready, puts, front, same)) = subst (CommandCause call) (sym same) front.failed
   left_cause fault (at_saving, (never, silent, line)) = absurd never
 
-  pub status_cause : (fault : Option Fault) → Looks (status_look flags call.looked) call.out call.err fault → IfSome fault (CommandCause call)
+  pub status_cause : (fault : Option Fault) → Concludes (status_look flags call.looked) call.out call.err fault → IfSome fault (CommandCause call)
   status_cause None looks = tt
   status_cause (Some fault) looks = left_cause fault looks.left
 
@@ -77,7 +77,7 @@ record_left call fault (at_printing, (printing, ready, front, kind, line)) = by_
 record_left call fault (at_telling, (never, ready, puts, front, same)) = absurd never
 record_left call fault (at_saving, (never, silent, line)) = absurd never
 
-pub record_cause : (call : Call) (fault : Option Fault) → Looks (record_look call.looked.shelf) call.out call.err fault → IfSome fault (CommandCause call)
+pub record_cause : (call : Call) (fault : Option Fault) → Concludes (record_look call.looked.shelf) call.out call.err fault → IfSome fault (CommandCause call)
 record_cause call None looks = tt
 record_cause call (Some fault) looks = record_left call fault looks.left
 
@@ -106,7 +106,7 @@ module _ (call : Call) (command : Changing) (is : changing_of call.command ≡ S
   change_left fault (at_telling, (telling, ready, puts, front, same)) = subst (CommandCause call) (sym same) front.failed
   change_left fault (at_saving, ((failed, kind), silent, line)) = by_saving fault failed kind
 
-  changed_cause : (fault : Option Fault) → Looks (change_look (makes_in command (files_of call.command) call) call) call.out call.err fault → IfSome fault (CommandCause call)
+  changed_cause : (fault : Option Fault) → Concludes (change_look (makes_in command (files_of call.command) call) call) call.out call.err fault → IfSome fault (CommandCause call)
   changed_cause None looks = tt
   changed_cause (Some fault) looks = change_left fault looks.left
 
@@ -160,7 +160,7 @@ pub answered_status : (command : Command) (flags : StatusFlags) (looked : Looked
     → IsAnswered (record { command = command; looked = looked; saved = saved; locks = locks; out = out; err = joined mid tail bytes count }) code fault
 answered_status command flags looked saved locks out mid tail bytes count done code fault is does only none ends =
     let call : Call = record { command = command; looked = looked; saved = saved; locks = locks; out = out; err = joined mid tail bytes count } in
-    let looks : Looks (status_look flags looked) out (joined mid tail bytes count) fault =
+    let looks : Concludes (status_look flags looked) out (joined mid tail bytes count) fault =
     looks_by mid tail bytes count (status_look flags looked) out (a_list.Read a_read.OutOfMemory, refl, tt) (λ f never. absurd never) done code fault does.shows ends in
     let ran : RanStatus flags call fault =
     status_by flags call does.tree only.passes fault looks does.asked (λ none. from_well mid tail bytes count (AsksOwn looked (wanted_of flags)) done code fault ends does.asked_own none) does.below in
@@ -176,7 +176,7 @@ pub answered_record : (command : Command) (copy : Watched tree.History) (files :
 answered_record command copy files oversize saved locks out mid tail bytes count done code fault is alone uncounted silent does only none ends =
     let looked : Looked = record { tree = copy; shelf = files; oversize = oversize } in
     let call : Call = record { command = command; looked = looked; saved = saved; locks = locks; out = out; err = joined mid tail bytes count } in
-    let looks : Looks (record_look files) out (joined mid tail bytes count) fault =
+    let looks : Concludes (record_look files) out (joined mid tail bytes count) fault =
     looks_by mid tail bytes count (record_look files) out (a_read.OutOfMemory, refl, tt) (λ f never. absurd never) done code fault (does.shows mid silent) ends in
     answered_looked call code fault (subst (λ (c : Command). Ran c call code fault) (sym is) (record_by call only.passes fault looks does.below alone uncounted))
     (record { only = only; crash = λ calm keep first. crash_unwritten saved.old saved.new only.kept calm keep none first; calm = calm_by mid tail bytes count looked out done code fault ends (calm_all done does.calm_shelf does.calm_out); status = ends.status })

@@ -8,7 +8,7 @@ use Rattle.hg_report.specs.declared.fault.Fault.{Fault}
 use Rattle.hg_save.proofs.Published.{keeps_front, keeps_later, latest_still, latest_until, left_until, published_earlier, published_later, published_sound}
 use Rattle.hg_save.proofs.Spans.{files_front}
 use Rattle.hg_save.specs.Others.{KeepsRecords, WasPublished}
-use Rattle.hg_save.specs.Record.{IsSound, reading}
+use Rattle.hg_save.specs.Record.{IsReadable, reading}
 use Rattle.hg_save.specs.Saved.{IsLatest, ReadsAsBeforeOr}
 use Rattle.hg_session.specs.Acts.{Makes}
 use Rattle.hg_session.specs.Call.{Saved}
@@ -59,8 +59,8 @@ module _ (a b : Course) (goes : Goes a b) (calm : Undisturbed a b) (keep : Keeps
         | inr was ↦ inr (inr (published_earlier b start to k (reading f) later was))
       ]
 
-  known_sound : (Own : Option (Result Table RecordFault) → Type 0) → ((r : Option (Result Table RecordFault)) → Own r → IsSound r) → LeavesSound (last_scene a) → (k : ℕ) → k ≤ b.history.last
-      → (r : Option (Result Table RecordFault)) → IsKnown Own k r → IsSound r
+  known_sound : (Own : Option (Result Table RecordFault) → Type 0) → ((r : Option (Result Table RecordFault)) → Own r → IsReadable r) → LeavesSound (last_scene a) → (k : ℕ) → k ≤ b.history.last
+      → (r : Option (Result Table RecordFault)) → IsKnown Own k r → IsReadable r
   known_sound Own own_sound sound k within r (inl was) = let is = sound was.0 was.1 in (is.0, was.2 ∙ is.1)
   known_sound Own own_sound sound k within r (inr (inl own)) = own_sound r own
   known_sound Own own_sound sound k within r (inr (inr was)) = published_sound b start k r keep within was

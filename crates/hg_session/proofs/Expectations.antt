@@ -37,7 +37,7 @@ use Rattle.hg_session.specs.Flags.{wanted_of}
 use Rattle.hg_session.specs.Listed.{AsksLittle, AsksOwn, IsAskedAt, IsListable, IsListed, IsListedFor, IsOwn, IsUntouched, ListingCause, first_parent, status_over}
 use Rattle.hg_session.specs.Load.{of_list, of_read}
 use Rattle.hg_session.specs.Loaded.{IsLoaded, IsUnreadable}
-use Rattle.hg_session.specs.Look.{LeavesAt, Look, Looks, Stage, at_first, at_printing, at_saving, at_telling}
+use Rattle.hg_session.specs.Look.{LeavesAt, Look, Concludes, Stage, at_first, at_printing, at_saving, at_telling}
 use Rattle.hg_session.specs.Put.{LeavesFront, Tells}
 use Rattle.hg_session.specs.Status.{HasBadManifest, HasBadPatterns, IsExpected, IsFullText, IsReady, IsRowsText, LacksContents, RanStatus, status_look}
 use Rattle.hg_session.specs.declared.list_fault.ListFault.{ListFault}
@@ -214,19 +214,19 @@ module _ (flags : StatusFlags) (call : Call) (copy : tree.Passes call.looked.tre
   left_expected own fault (at_telling, (telling, ready, puts, front, is)) p q r w = absurd (steady_not_rose call.err.before call.err.after w front.failed)
   left_expected own fault (at_saving, (never, silent, line)) p q r w = absurd never
 
-  expected_by : (fault : Option Fault) → Looks (status_look flags call.looked) call.out call.err fault
+  expected_by : (fault : Option Fault) → Concludes (status_look flags call.looked) call.out call.err fault
       → IsOwn call.looked → Serves call.looked.tree → Serves call.looked.shelf → Serves call.out → Serves call.err → Expected fault
   expected_by None looks own p q r w = none_expected call.looked copy files own (wanted_of flags) (looks.done refl).ready
   expected_by (Some fault) looks own p q r w = left_expected own fault looks.left p q r w
 
-  front_own : (fault : Option Fault) → Looks (status_look flags call.looked) call.out call.err fault → IsOwn call.looked
+  front_own : (fault : Option Fault) → Concludes (status_look flags call.looked) call.out call.err fault → IsOwn call.looked
       → IfSome fault (λ _. LeavesFront (IsFullText flags (shelf.now call.looked.shelf.old).files (tree.now call.looked.tree.old)) call.out)
   front_own None looks own = tt
   front_own (Some fault) looks own =
       front_by (IsRowsText flags call.looked) (IsFullText flags (shelf.now call.looked.shelf.old).files (tree.now call.looked.tree.old)) (text_own call.looked copy files own flags)
       (status_look flags call.looked) (λ text is. is) call fault looks.left
 
-  pub status_by : (fault : Option Fault) → Looks (status_look flags call.looked) call.out call.err fault → AsksLittle call.looked (wanted_of flags) → (fault ≡ None → AsksOwn call.looked (wanted_of flags))
+  pub status_by : (fault : Option Fault) → Concludes (status_look flags call.looked) call.out call.err fault → AsksLittle call.looked (wanted_of flags) → (fault ≡ None → AsksOwn call.looked (wanted_of flags))
       → (IsTrue call.looked.shelf.old.told → AsksBelow call.looked (wanted_of flags)) → RanStatus flags call fault
   status_by fault looks asked asked_own below = record {
     looks = looks;

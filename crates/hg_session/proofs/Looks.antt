@@ -6,7 +6,7 @@ use Rattle.hg_report.specs.declared.fault.Fault.TheVariants as a_fault
 use Rattle.hg_base.specs.Fault.{Rose}
 use Rattle.hg_stream.specs.Stream.{GrownByFront}
 use Rattle.hg_session.specs.Call.{Looked, Sink}
-use Rattle.hg_session.specs.Look.{EndsAs, IsCalm, IsUntold, LeavesAt, Look, Looks, Shows, Stage, at_first, at_printing, at_saving, at_telling}
+use Rattle.hg_session.specs.Look.{EndsAs, IsCalm, IsUntold, LeavesAt, Look, Concludes, Shows, Stage, at_first, at_printing, at_saving, at_telling}
 use Rattle.hg_session.specs.Put.{IsFaultOrMemory, IsSilent, Puts, PutsFront, Tells, TellsLine}
 
 pub not_without : {Q : Type 0} (answered : Option Fault) (fault : Fault) → IsFaultOrMemory answered fault → answered ≡ None → Q
@@ -62,27 +62,27 @@ module _ (mid tail : Sink) (bytes : tail.old ≡ mid.new) (count : tail.before �
     left_untold fault none silent (at_telling, (telling, ready, puts, front, is)) = (at_telling, (telling, ready, puts, front_joined look.Told silent front, is))
     left_untold fault none silent (at_saving, (is, quiet, untold)) = absurd (true≢false (sym untold.told ∙ none))
 
-    looks_err : (fault answered : Fault) → Left answered → Looks look out joined (Some answered)
+    looks_err : (fault answered : Fault) → Left answered → Concludes look out joined (Some answered)
     looks_err fault answered left = record { done = λ none. absurd (cc none); left = left }
 
     answered_as : (fault : Fault) (answered : Option Fault) → has_line fault ≡ true → IsFaultOrMemory answered fault → IfSome answered (Tells tail)
-        → (stage : Stage) × LeavesAt look out mid (IsUntold mid) stage fault → Looks look out joined answered
+        → (stage : Stage) × LeavesAt look out mid (IsUntold mid) stage fault → Concludes look out joined answered
     answered_as fault None has is line left = not_without None fault is refl
     answered_as fault (Some answered) has (inl same) line left =
         let is : answered ≡ fault = cc same in
-        subst (λ (f : Fault). Tells tail f → Looks look out joined (Some f)) (sym is) (λ told. looks_err fault fault (left_told fault has told left)) line
+        subst (λ (f : Fault). Tells tail f → Concludes look out joined (Some f)) (sym is) (λ told. looks_err fault fault (left_told fault has told left)) line
     answered_as fault (Some answered) has (inr none) line left =
         let is : answered ≡ a_fault.OutOfMemory = cc none in
-        subst (λ (f : Fault). Tells tail f → Looks look out joined (Some f)) (sym is) (λ told. looks_err fault a_fault.OutOfMemory (left_memory fault has told left)) line
+        subst (λ (f : Fault). Tells tail f → Concludes look out joined (Some f)) (sym is) (λ told. looks_err fault a_fault.OutOfMemory (left_memory fault has told left)) line
 
-    pub looks_by : (done : Result Unit Fault) (code : ℕ) (fault : Option Fault) → Shows look out mid done → EndsAs tail done code fault → Looks look out joined fault
-    looks_by (Ok u) code fault shows ends = subst (λ (f : Option Fault). Looks look out joined f) (sym ends.well.0) (record {
+    pub looks_by : (done : Result Unit Fault) (code : ℕ) (fault : Option Fault) → Shows look out mid done → EndsAs tail done code fault → Concludes look out joined fault
+    looks_by (Ok u) code fault shows ends = subst (λ (f : Option Fault). Concludes look out joined f) (sym ends.well.0) (record {
       done = λ none. record { ready = shows.done.ready; printed = shows.done.printed; told = puts_joined look.Told ends.well.1 shows.done.told };
       left = tt;
     })
     looks_by (Err met) code fault shows ends = elim ends.ill [
       | inl (has, is, line) ↦ answered_as met fault has is line shows.left
-      | inr (none, is, silent) ↦ subst (λ (f : Option Fault). Looks look out joined f) (sym is) (looks_err met met (left_untold met none silent shows.left))
+      | inr (none, is, silent) ↦ subst (λ (f : Option Fault). Concludes look out joined f) (sym is) (looks_err met met (left_untold met none silent shows.left))
     ]
 
   -- without a fault there was none before the line of one would be told

@@ -11,7 +11,7 @@ use Rattle.hg_mixed.specs.Held.{Held, table}
 use Rattle.hg_ops.proofs.Added.{same_table}
 use Rattle.hg_save.specs.Leads.{Leads}
 use Rattle.hg_save.specs.Others.{KeepsFiles, KeepsRecords}
-use Rattle.hg_save.specs.Record.{IsSound, data_name}
+use Rattle.hg_save.specs.Record.{IsReadable, data_name}
 use Rattle.hg_save.specs.Saved.{HoldsExactly, IsFree, IsLatest, IsOver, KeepsOthers, LeavesOnly, Records, ShowsOnly, Stands, published}
 use Rattle.hg_save.proofs.Names.{next_free}
 use Rattle.hg_session.proofs.SameTables.{one_table}
@@ -47,7 +47,7 @@ module _ (held : Held) (new : Encoded) (reads : ReadsAs (table held) (reading_of
 
   pub over_by : (loaded : List ℕ) (a b : Course) → held.changed ≡ true → held.docket.id ≡ (docket_of loaded).id → IsOver loaded new → Stands loaded (last_scene a)
       → (IsFree new.id (last_scene a) → LeavesOnly a b (published new)) → (IsFree new.id (last_scene a) → ShowsOnly a b (published new)) → (IsLatest (last_scene a) → IsLatest (last_scene b))
-      → Leads (KeepsOthers (docket_of loaded).id new.id) a b → (IsLatest (last_scene a) → IsSound (published new) → KeepsRecords us b a.history.last) → KeepsFiles us b.history a.history.last
+      → Leads (KeepsOthers (docket_of loaded).id new.id) a b → (IsLatest (last_scene a) → IsReadable (published new) → KeepsRecords us b a.history.last) → KeepsFiles us b.history a.history.last
       → IsOverwritten held a b
   over_by loaded a b changed same over stands crash shown latest others orderly keeping = record {
     changed = changed;

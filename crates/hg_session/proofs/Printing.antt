@@ -13,7 +13,7 @@ use Rattle.hg_stream.specs.Stream.{Grown, GrownByFront}
 use Rattle.hg_session.specs.Below.{AsksBelow}
 use Rattle.hg_session.specs.Call.{Fails, Looked, Sink}
 use Rattle.hg_session.specs.Flags.{style_of, wanted_of}
-use Rattle.hg_session.specs.Listed.{Lists}
+use Rattle.hg_session.specs.Listed.{ListsCopy}
 use Rattle.hg_session.specs.Load.{of_list}
 use Rattle.hg_session.specs.Look.{at_first, at_printing, at_telling}
 use Rattle.hg_session.specs.Put.{IsSilent}
@@ -34,8 +34,8 @@ listing_told (a_list.Status a_status.OutOfMemory) = refl
 listing_told (a_list.Status fault) = refl
 
 -- what a listing does is so by the flags, and so is the text
-pub lists_as : (looked : Looked) (flags : StatusFlags) (wanted : Wanted) (result : Result Listed ListFault) → wanted ≡ wanted_of flags → Lists looked wanted result → Lists looked (wanted_of flags) result
-lists_as looked flags wanted result is lists = subst (λ (w : Wanted). Lists looked w result) is lists
+pub lists_as : (looked : Looked) (flags : StatusFlags) (wanted : Wanted) (result : Result Listed ListFault) → wanted ≡ wanted_of flags → ListsCopy looked wanted result → ListsCopy looked (wanted_of flags) result
+lists_as looked flags wanted result is lists = subst (λ (w : Wanted). ListsCopy looked w result) is lists
 
 pub below_as : (looked : Looked) (flags : StatusFlags) (wanted : Wanted) → wanted ≡ wanted_of flags → (IsTrue looked.shelf.old.told → AsksBelow looked wanted) → IsTrue looked.shelf.old.told
     → AsksBelow looked (wanted_of flags)
@@ -50,7 +50,7 @@ module _ (flags : StatusFlags) (looked : Looked) (out err : Sink) (below : IsTru
   abbrev wanted : Wanted
   wanted = wanted_of flags
 
-  pub met_listing : (fault : ListFault) → Lists looked wanted (Err fault) → IsSilent out → IsSilent err → DoesStatus flags looked out err (Err (of_list fault))
+  pub met_listing : (fault : ListFault) → ListsCopy looked wanted (Err fault) → IsSilent out → IsSilent err → DoesStatus flags looked out err (Err (of_list fault))
   met_listing fault lists still silent = record {
     tree = lists.tree;
     shows = record { done = tt; left = (at_first, ((fault, refl, lists.cause), still, record { told = listing_told fault; silent = silent })) };
@@ -61,7 +61,7 @@ module _ (flags : StatusFlags) (looked : Looked) (out err : Sink) (below : IsTru
   }
 
   -- there was no memory for a text
-  pub met_memory : (listed : Listed) → Lists looked wanted (Ok listed) → IsSilent out → IsSilent err → DoesStatus flags looked out err (Err a_fault.OutOfMemory)
+  pub met_memory : (listed : Listed) → ListsCopy looked wanted (Ok listed) → IsSilent out → IsSilent err → DoesStatus flags looked out err (Err a_fault.OutOfMemory)
   met_memory listed lists still silent = record {
     tree = lists.tree;
     shows = record { done = tt; left = (at_first, ((a_list.Read a_read.OutOfMemory, refl, tt), still, record { told = refl; silent = silent })) };
@@ -71,7 +71,7 @@ module _ (flags : StatusFlags) (looked : Looked) (out err : Sink) (below : IsTru
     calm = tt;
   }
 
-  module _ (listed : Listed) (text : List ℕ) (lists : Lists looked wanted (Ok listed)) (is : text ≡ text_of (style_of flags) listed.rows) where
+  module _ (listed : Listed) (text : List ℕ) (lists : ListsCopy looked wanted (Ok listed)) (is : text ≡ text_of (style_of flags) listed.rows) where
     pub met_printing : GrownByFront out.old out.new text → Fails out → IsSilent err → DoesStatus flags looked out err (Err a_fault.OutFailed)
     met_printing grown failed silent = record {
       tree = lists.tree;

@@ -11,7 +11,7 @@ use Rattle.hg_session.specs.Loaded.{AsksRecord}
 use Rattle.hg_session.specs.Call.{Call, IsLeftAlone, Serves, Sink}
 use Rattle.hg_session.specs.Debug.{HasText, IsExpectedOf, IsTextIn, RanRecord, record_look}
 use Rattle.hg_session.specs.Load.{of_read}
-use Rattle.hg_session.specs.Look.{LeavesAt, Looks, Stage, at_first, at_printing, at_saving, at_telling}
+use Rattle.hg_session.specs.Look.{LeavesAt, Concludes, Stage, at_first, at_printing, at_saving, at_telling}
 use Rattle.hg_session.specs.Put.{IsEmpty, IsSilent, LeavesFront, Puts, Tells}
 use Rattle.hg_session.specs.declared.read_fault.ReadFault.{ReadFault}
 use Rattle.hg_session.specs.declared.read_fault.ReadFault.TheVariants as a_read
@@ -53,18 +53,18 @@ module _ (call : Call) (files : shelf.Passes call.looked.shelf.old call.looked.s
     left_expected fault (at_telling, (never, ready, puts, front, is)) p q = absurd never
     left_expected fault (at_saving, (never, silent, line)) p q = absurd never
 
-  expected_by : (fault : Option Fault) → Looks (record_look call.looked.shelf) call.out call.err fault → shelf.IsOurs call.looked.shelf.old call.looked.shelf.new → Serves call.looked.shelf → Serves call.out
+  expected_by : (fault : Option Fault) → Concludes (record_look call.looked.shelf) call.out call.err fault → shelf.IsOurs call.looked.shelf.old call.looked.shelf.new → Serves call.looked.shelf → Serves call.out
       → IsExpectedOf there fault
   expected_by None looks own p q = let ready = (looks.done refl).ready own.told in (ready.0, read_now call.looked.shelf files.past (still own) own.told ready.0 ready.1)
   expected_by (Some fault) looks own p q = left_expected own fault looks.left p q
 
-  front_own : (fault : Option Fault) → Looks (record_look call.looked.shelf) call.out call.err fault → shelf.IsOurs call.looked.shelf.old call.looked.shelf.new
+  front_own : (fault : Option Fault) → Concludes (record_look call.looked.shelf) call.out call.err fault → shelf.IsOurs call.looked.shelf.old call.looked.shelf.new
       → IfSome fault (λ _. LeavesFront (IsTextIn there) call.out)
   front_own None looks own = tt
   front_own (Some fault) looks own =
       front_by (HasText call.looked.shelf) (IsTextIn there) (text_own own) (record_look call.looked.shelf) (λ text is. is) call fault looks.left
 
-  pub record_by : (fault : Option Fault) → Looks (record_look call.looked.shelf) call.out call.err fault → (IsTrue call.looked.shelf.old.told → AsksRecord call.looked.shelf.old call.looked.shelf.new) → IsLeftAlone call.looked.tree → call.looked.oversize.after ≡ call.looked.oversize.before
+  pub record_by : (fault : Option Fault) → Concludes (record_look call.looked.shelf) call.out call.err fault → (IsTrue call.looked.shelf.old.told → AsksRecord call.looked.shelf.old call.looked.shelf.new) → IsLeftAlone call.looked.tree → call.looked.oversize.after ≡ call.looked.oversize.before
       → RanRecord call fault
   record_by fault looks below alone uncounted = record {
     looks = looks;

@@ -15,7 +15,7 @@ use Rattle.hg_session.specs.Acts.{Makes}
 use Rattle.hg_session.specs.Call.{Call, Fails, IsLeftAlone, Serves, Watched}
 use Rattle.hg_session.specs.Change.{Fits, IsDone, IsEarly, IsLocked, IsReadSome, IsSafe, IsUnwritten, MetLocking, Stretch, makes_in}
 use Rattle.hg_session.specs.Loaded.{AsksRecord, IsUnreadable}
-use Rattle.hg_session.specs.Look.{Look, Looks}
+use Rattle.hg_session.specs.Look.{Look, Concludes}
 use Rattle.hg_session.specs.Put.{IsEmpty, IsFaultOrMemory, IsSilent}
 use Rattle.hg_session.specs.Crash.{IsCrashSafe, IsLasting, published_in}
 use Rattle.hg_session.specs.Listed.{IsOwn}
@@ -103,7 +103,7 @@ IsExpectedChange Does files (Some fault) = IsUnreadable files fault
 pub record RanChange (command : Changing) (words : List (List ℕ)) (call : Call) (status : ℕ) (fault : Option Fault) : Type 0 where
   -- without a fault each word did what it says to the record that was read, the refused ones were told, and the rest is recorded; and with one: where it
   -- was met, why, and what stands in both streams
-  pub shows : Looks (change_look (makes_in command words call) call) call.out call.err fault
+  pub shows : Concludes (change_look (makes_in command words call) call) call.out call.err fault
   -- without a fault the status is 1 exactly where a line was told
   pub ends : (none : fault ≡ None) → status ≡ status_of (shows.done none).told.text
   -- whatever the answer, at each moment of the call a crash leaves the record as it was or as it is after, and so do reads

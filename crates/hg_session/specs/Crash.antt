@@ -6,7 +6,7 @@ use Rattle.hg_image.specs.Reading.{RecordFault}
 use Rattle.hg_mixed.specs.Edits.{IsSame}
 use Rattle.hg_report.specs.declared.fault.Fault.{Fault}
 use Rattle.hg_save.specs.Others.{KeepsFiles, KeepsRecords, WasPublished}
-use Rattle.hg_save.specs.Record.{IsSound, reading}
+use Rattle.hg_save.specs.Record.{IsReadable, reading}
 use Rattle.hg_save.specs.Saved.{IsLatest}
 use Rattle.hg_session.specs.Acts.{Makes}
 use Rattle.hg_session.specs.Call.{Saved}
@@ -21,7 +21,7 @@ MightBeLeft s recorded = (d : Files) × s.leaves d × (recorded ≡ reading d)
 
 -- whatever a crash leaves is a sound record
 abbrev pub LeavesSound : Scene → Type 0
-LeavesSound s = (c : Files) → s.leaves c → IsSound (reading c)
+LeavesSound s = (c : Files) → s.leaves c → IsReadable (reading c)
 
 -- the table that a change published, where it published one
 abbrev pub published_in : (Does : Makes) (saved : Saved) (fault : Option Fault) → IsSafe Does saved fault → Option Table

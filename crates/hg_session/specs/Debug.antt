@@ -7,7 +7,7 @@ use Rattle.hg_save.specs.Record.{record_in}
 use Rattle.hg_session.specs.Loaded.{AsksRecord, IsLoaded, IsUnreadable, MetReading, WasLoaded}
 use Rattle.hg_session.specs.Call.{Call, IsLeftAlone, Serves, Sink, Watched}
 use Rattle.hg_session.specs.Load.{of_read}
-use Rattle.hg_session.specs.Look.{Look, Looks, Shows}
+use Rattle.hg_session.specs.Look.{Look, Concludes, Shows}
 use Rattle.hg_session.specs.Put.{IsEmpty, IsSilent, LeavesFront, Puts}
 use Rattle.hg_session.specs.declared.read_fault.ReadFault.{ReadFault}
 use Rattle.hg_shelf.specs.History as shelf
@@ -61,7 +61,7 @@ pub record DoesRecord (files : Watched shelf.History) (out : Sink) (result : Res
 -- what the command did that ended with this fault, or with none
 pub record RanRecord (call : Call) (fault : Option Fault) : Type 0 where
   -- without a fault, the text of the table that was read was printed, and nothing told; and with one, why, and what stands in both streams
-  pub looks : Looks (record_look call.looked.shelf) call.out call.err fault
+  pub looks : Concludes (record_look call.looked.shelf) call.out call.err fault
   -- where nobody else made a step below `.hg`, it is that of the record that stands there, and with a fault a front of it stands there, or nothing
   pub whole : fault ≡ None → shelf.IsOurs call.looked.shelf.old call.looked.shelf.new → Puts (IsTextIn (shelf.now call.looked.shelf.old).files) call.out
   pub front : shelf.IsOurs call.looked.shelf.old call.looked.shelf.new

@@ -125,7 +125,7 @@ AsksOwn looked wanted =
     × AsksBehind (pattern_reads wanted (tree.now looked.tree.old)) (asking wanted table) (IsListedDir wanted looked.tree.old looked.tree.new) looked.tree.old looked.tree.new
 
 -- what a listing does: it only asks, and answers the rows and the warnings, or a fault
-pub record Lists (looked : Looked) (wanted : Wanted) (result : Result Listed ListFault) : Type 0 where
+pub record ListsCopy (looked : Looked) (wanted : Wanted) (result : Result Listed ListFault) : Type 0 where
   pub tree : tree.Passes looked.tree.old looked.tree.new
   pub still : IfOk result (λ listed. IsListedFor looked wanted listed.rows)
   pub warns : IfOk result (λ listed. Warns wanted looked.tree.old looked.tree.new listed.warnings)

@@ -66,7 +66,7 @@ pub record EndsAs (err : Sink) (done : Result Unit Fault) (code : ℕ) (fault : 
   pub status : MatchOption fault (code ≡ 0) (λ f. code ≡ 255)
 
 -- a command that ended with this fault, or with none
-pub record Looks (look : Look) (out err : Sink) (fault : Option Fault) : Type 0 where
+pub record Concludes (look : Look) (out err : Sink) (fault : Option Fault) : Type 0 where
   -- without a fault the text was printed, and the lines behind it were told
   pub done : fault ≡ None → IsShown look out err
   -- and with one: where it was met, why, and what stands in both streams

@@ -28,7 +28,7 @@ use Rattle.hg_session.specs.Flags.{style_of, wanted_of}
 use Rattle.hg_session.specs.Listed.{AsksLittle, AsksOwn, IsAskedAt, IsListable, IsListed, IsListedFor, IsOwn, ListingCause, first_parent}
 use Rattle.hg_session.specs.Load.{of_list}
 use Rattle.hg_session.specs.Loaded.{IsUnreadable}
-use Rattle.hg_session.specs.Look.{IsCalm, Look, Looks, Shows}
+use Rattle.hg_session.specs.Look.{IsCalm, Look, Concludes, Shows}
 use Rattle.hg_session.specs.Put.{LeavesFront, Puts}
 use Rattle.hg_session.specs.declared.list_fault.ListFault.{ListFault}
 use Rattle.hg_shelf.specs.History as shelf
@@ -145,7 +145,7 @@ pub record DoesStatus (flags : StatusFlags) (looked : Looked) (out err : Sink) (
 pub record RanStatus (flags : StatusFlags) (call : Call) (fault : Option Fault) : Type 0 where
   -- without a fault, the rows printed have each path that is left alone meanwhile exactly under its letter, and no two are of one path, and the
   -- warnings were told behind them; and with one, why, and what stands in both streams
-  pub looks : Looks (status_look flags call.looked) call.out call.err fault
+  pub looks : Concludes (status_look flags call.looked) call.out call.err fault
   -- where nobody else made a step, the rows are the full listing, and with a fault a front of its text stands there, or nothing
   pub whole : fault ≡ None → IsOwn call.looked
       → Puts (IsFullText flags (shelf.now call.looked.shelf.old).files (tree.now call.looked.tree.old)) call.out

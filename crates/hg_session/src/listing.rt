@@ -2,7 +2,7 @@
 
 ghost use Rattle.std.specs.Prelude.{IsTrue};
 ghost use Rattle.hg_session.specs.Below.{AsksBelow};
-ghost use Rattle.hg_session.specs.Listed.{Lists};
+ghost use Rattle.hg_session.specs.Listed.{ListsCopy};
 ghost use Rattle.hg_session.specs.Look.{OnlyReads};
 ghost use Rattle.hg_shelf.specs.Images.{course};
 
@@ -23,7 +23,7 @@ pub(crate) fn list<T: Tree, S: Shelf, G: Regexps>(
     regexps: &mut G,
     wanted: Wanted,
 ) -> Result<Listed, ListFault>
-    ensures lists { Lists
+    ensures lists { ListsCopy
         (record {
           tree = record { old = T.history tree.old; new = T.history tree.new; before = T.faults tree.old; after = T.faults tree.new };
           shelf = record { old = S.history shelf.old; new = S.history shelf.new; before = S.faults shelf.old; after = S.faults shelf.new };

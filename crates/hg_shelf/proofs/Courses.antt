@@ -6,7 +6,7 @@ use Rattle.hg_base.specs.Calls.{Counted, failed}
 use Rattle.hg_shelf.specs.History.{Files, Extends, Passes, Waits, By, label, now, us}
 use Rattle.hg_shelf.specs.Images.{Scene, Remains, Goes, Acts, course}
 use Rattle.hg_shelf.specs.Memory.{Memory, Fails, Lacks, after_call, after_due, after_own, asking, before_call, by_us, coming, coming_of, empty, history_of, images_of, maker, maker_at, next, replayed}
-use Rattle.hg_shelf.specs.Sound.{IsSound, replayed_sound}
+use Rattle.hg_shelf.specs.Sound.{LeavesNamed, replayed_sound}
 use Rattle.hg_shelf.specs.declared.asked.Asked.{Asked}
 use Rattle.hg_shelf.specs.declared.asked.LockCall.{LockCall}
 use Rattle.hg_shelf.specs.declared.outside.Change.{Change}
@@ -161,7 +161,7 @@ module _ (old new : Memory) (what : Step) (is : new ≡ after_own what old) wher
       ∙ maker_behind old.changes (coming old) (k - length old.changes)
       ∙ coming_others old.calls.made old.ours old.due (k - length old.changes) (omega (arith, from, to, size_before))
 
-  pub acts_own : (rule : Scene → Scene → Type 0) → ((s : Scene) → IsSound s → rule s (next what s)) → Acts rule (course (history_of old) (images_of old)) (course (history_of new) (images_of new))
+  pub acts_own : (rule : Scene → Scene → Type 0) → ((s : Scene) → LeavesNamed s → rule s (next what s)) → Acts rule (course (history_of old) (images_of old)) (course (history_of new) (images_of new))
   acts_own rule meets = record {
     place = length (old.changes ++ coming old);
     from = omega (arith, size_before);

@@ -5,7 +5,7 @@ use Rattle.hg_shelf.specs.History.{Files}
 use Rattle.hg_shelf.specs.Images.{Scene, Remains}
 use Rattle.hg_shelf.specs.Memory.{next, renamed, with_file}
 use Rattle.hg_shelf.specs.Rules.{Writes, Syncs, SyncsNames, Renames, Removes, Written, content, overwritten}
-use Rattle.hg_shelf.specs.Sound.{IsSound}
+use Rattle.hg_shelf.specs.Sound.{LeavesNamed}
 use Rattle.hg_shelf.specs.Torn.{other_name, same_name}
 use Rattle.hg_shelf.specs.declared.outside.Step.TheVariants as a_step
 
@@ -15,16 +15,16 @@ written_shown name place bytes files = record {
   here = ap (λ (t : Bool). if t then Some (overwritten (content (files name)) place bytes) else files name) (same_name name);
 }
 
-pub meets_wrote : (name : List ℕ) (place : ℕ) (bytes : List ℕ) (s : Scene) → IsSound s → Writes name place bytes s (next (a_step.Wrote name place bytes) s)
+pub meets_wrote : (name : List ℕ) (place : ℕ) (bytes : List ℕ) (s : Scene) → LeavesNamed s → Writes name place bytes s (next (a_step.Wrote name place bytes) s)
 meets_wrote name place bytes s sound = record { shown = written_shown name place bytes s.files; left = λ c there. there; done = λ c there. there }
 
-pub meets_synced : (name : List ℕ) (s : Scene) → IsSound s → Syncs name s (next (a_step.Synced name) s)
+pub meets_synced : (name : List ℕ) (s : Scene) → LeavesNamed s → Syncs name s (next (a_step.Synced name) s)
 meets_synced name s sound = record {
   same = record { shown = refl; left = λ c there. there.0; done = λ c there. there.0 };
   sure = λ bytes c is there. there.1 bytes is;
 }
 
-pub meets_synced_names : (s : Scene) → IsSound s → SyncsNames s (next a_step.SyncedNames s)
+pub meets_synced_names : (s : Scene) → LeavesNamed s → SyncsNames s (next a_step.SyncedNames s)
 meets_synced_names s sound = record {
   same = record { shown = refl; left = sound; done = λ c there. there };
   sure = λ c there. there;
@@ -40,8 +40,8 @@ renames (Some bytes) from to s is = record {
   absent = λ none. absurd (cc (is, none));
 }
 
-pub meets_renamed : (from to : List ℕ) (s : Scene) → IsSound s → Renames from to s (next (a_step.Renamed from to) s)
+pub meets_renamed : (from to : List ℕ) (s : Scene) → LeavesNamed s → Renames from to s (next (a_step.Renamed from to) s)
 meets_renamed from to s sound = renames (s.files from) from to s refl
 
-pub meets_removed : (name : List ℕ) (s : Scene) → IsSound s → Removes name s (next (a_step.Removed name) s)
+pub meets_removed : (name : List ℕ) (s : Scene) → LeavesNamed s → Removes name s (next (a_step.Removed name) s)
 meets_removed name s sound = record { shown = λ at. refl; left = λ c there. there; done = λ c there. there }

@@ -9,14 +9,14 @@ use Rattle.hg_shelf.specs.declared.outside.Change.{Change}
 use Rattle.hg_shelf.specs.declared.outside.Step.{Step}
 use Rattle.hg_shelf.specs.declared.outside.Step.TheVariants as a_step
 
-abbrev pub IsSound : Scene → Type 0
-IsSound s = (c : Files) → s.named c → s.leaves c
+abbrev pub LeavesNamed : Scene → Type 0
+LeavesNamed s = (c : Files) → s.named c → s.leaves c
 
-renamed_sound : (file : Option (List ℕ)) (from to : List ℕ) (s : Scene) → IsSound s → IsSound (renamed file from to s)
+renamed_sound : (file : Option (List ℕ)) (from to : List ℕ) (s : Scene) → LeavesNamed s → LeavesNamed (renamed file from to s)
 renamed_sound None from to s sound = sound
 renamed_sound (Some bytes) from to s sound = λ c done. (done.0, sound done.0 done.1, inr done.2)
 
-pub next_sound : (what : Step) (s : Scene) → IsSound s → IsSound (next what s)
+pub next_sound : (what : Step) (s : Scene) → LeavesNamed s → LeavesNamed (next what s)
 next_sound (a_step.Placed name bytes) s sound = λ c done. (done.0, sound done.0 done.1, done.2)
 next_sound (a_step.Taken name) s sound = λ c done. (done.0, sound done.0 done.1, done.2)
 next_sound (a_step.Wrote name place bytes) s sound = λ c done. (done.0, sound done.0 done.1, done.2)
@@ -25,7 +25,7 @@ next_sound (a_step.Renamed from to) s sound = renamed_sound (s.files from) from 
 next_sound a_step.SyncedNames s sound = λ c done. done
 next_sound (a_step.Removed name) s sound = λ c done. (done.0, sound done.0 done.1, inr done.2)
 
-pub replayed_sound : (changes : List Change) (s : Scene) → IsSound s → IsSound (replayed changes s)
+pub replayed_sound : (changes : List Change) (s : Scene) → LeavesNamed s → LeavesNamed (replayed changes s)
 replayed_sound [] s sound = sound
 replayed_sound (change ∷ more) s sound = replayed_sound more (next change.what s) (next_sound change.what s sound)
 

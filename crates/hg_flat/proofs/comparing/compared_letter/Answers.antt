@@ -5,7 +5,7 @@ use Rattle.hg_compare.specs.Same.{StaysShown}
 use Rattle.hg_shelf.specs.History as shelf
 use Rattle.hg_tree.specs.History as tree
 use Rattle.hg_tree.specs.Moment.{stat_at}
-use Rattle.hg_flat.specs.Course.{Goes, HasAsked, IsFound, IsKeptManifest, IsManifest, LacksIn, MetBy, upto}
+use Rattle.hg_flat.specs.Course.{Proceeds, HasAsked, IsFound, IsKeptManifest, IsManifest, LacksIn, MetBy, upto}
 use Rattle.hg_flat.specs.Met.{Status}
 use Rattle.hg_flat.specs.Parent.{KeepsRow, row_of}
 use Rattle.hg_flat.proofs.Manifests.{always, always_failed, found_letter, manifest_later, met_in, ok_each}
@@ -33,7 +33,7 @@ returns-in-Some-clause-goes g c =
 
 pub returns-in-Some-clause-found : goal.returns-in-Some-clause-found
 returns-in-Some-clause-found g c =
-    ok_each c.letter_in.result (λ s. Goes (upto s (g.T.Tree.history c.args.tree.now) (g.S.Shelf.history c.args.shelf.now)) c.args.parent.now)
+    ok_each c.letter_in.result (λ s. Proceeds (upto s (g.T.Tree.history c.args.tree.now) (g.S.Shelf.history c.args.shelf.now)) c.args.parent.now)
     (λ s. IsTrue (g.T.Tree.history c.args.tree.now).told)
     (λ s. StaysShown (g.T.Tree.history c.args.tree.now) (g.T.Tree.history c.letter_in.new.tree) c.args.path.text.now)
     (λ s. KeepsRow (g.S.Shelf.history c.letter_in.new.shelf) s.shelf_old.last s.id c.args.path.text.now)
@@ -50,7 +50,7 @@ returns-in-Some-clause-found g c =
 pub returns-in-Some-clause-met : goal.returns-in-Some-clause-met
 returns-in-Some-clause-met g c =
     IfErr-weaker c.letter_in.result (LacksIn (g.S.Shelf.history c.args.shelf.now) (g.S.Shelf.history c.letter_in.new.shelf) (row_of c.in-Some.loaded.manifest c.args.path.text.now) c.args.before.now)
-    (λ fault. (s : Status) → Goes (upto s (g.T.Tree.history c.args.tree.now) (g.S.Shelf.history c.args.shelf.now)) c.args.parent.now
+    (λ fault. (s : Status) → Proceeds (upto s (g.T.Tree.history c.args.tree.now) (g.S.Shelf.history c.args.shelf.now)) c.args.parent.now
     → MetBy (upto s (g.T.Tree.history c.letter_in.new.tree) (g.S.Shelf.history c.letter_in.new.shelf)) c.args.path.text.now c.args.before.now fault)
     (λ fault lacks s goes.
     met_in s (g.T.Tree.history c.letter_in.new.tree) (g.S.Shelf.history c.args.shelf.now) (g.S.Shelf.history c.letter_in.new.shelf) c.in-Some.loaded.manifest c.args.path.text.now c.args.before.now fault goes.shelf

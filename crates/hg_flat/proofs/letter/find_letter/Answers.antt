@@ -7,7 +7,7 @@ use Rattle.hg_shelf.proofs.Histories as shelf
 use Rattle.hg_tree.specs.History as trees
 use Rattle.hg_tree.specs.Moment.{stat_at}
 use Rattle.hg_tree.proofs.Stillness.{alike_between}
-use Rattle.hg_flat.specs.Course.{Goes, MetParent, upto}
+use Rattle.hg_flat.specs.Course.{Proceeds, MetParent, upto}
 use Rattle.hg_flat.specs.Listing.{AsksRow, IsLeftRow, IsLetterFor}
 use Rattle.hg_flat.specs.Met.{Status}
 use Rattle.hg_flat.proofs.Asking.{asked_later, reads_behind}
@@ -38,9 +38,9 @@ returns-clause-found g c =
     let new = g.T.Tree.history c.letter_there.new.tree in
     let files = g.S.Shelf.history c.letter_there.new.shelf in
     IfOk-weaker c.letter_there.result
-    (λ (letter : Option Letter). (s : Status) → Goes (upto s mid (g.S.Shelf.history c.args.shelf.now)) c.args.parent.now → (IsTrue mid.told → stat_at (trees.now mid) c.args.kept.now.path ≡ Some c.in-Some.there)
+    (λ (letter : Option Letter). (s : Status) → Proceeds (upto s mid (g.S.Shelf.history c.args.shelf.now)) c.args.parent.now → (IsTrue mid.told → stat_at (trees.now mid) c.args.kept.now.path ≡ Some c.in-Some.there)
     → IsLetterFor (IsLeftRow c.args.wanted s.id new mid.last files s.shelf_old.last) (shelves.now s.shelf_old).files s.id (trees.now mid) c.args.wanted c.args.kept.now letter)
-    (λ (letter : Option Letter). (s : Status) → Goes (upto s old (g.S.Shelf.history c.args.shelf.now)) c.args.parent.now
+    (λ (letter : Option Letter). (s : Status) → Proceeds (upto s old (g.S.Shelf.history c.args.shelf.now)) c.args.parent.now
     → IsLetterFor (IsLeftRow c.args.wanted s.id new old.last files s.shelf_old.last) (shelves.now s.shelf_old).files s.id (trees.now old) c.args.wanted c.args.kept.now letter)
     (λ letter found s goes.
     found_moved (IsLeftRow c.args.wanted s.id new mid.last files s.shelf_old.last) (IsLeftRow c.args.wanted s.id new old.last files s.shelf_old.last) (shelves.now s.shelf_old).files s.id (trees.now mid) (trees.now old)
@@ -78,9 +78,9 @@ returns-clause-met g c =
     let files = g.S.Shelf.history c.args.shelf.now in
     let later = g.S.Shelf.history c.letter_there.new.shelf in
     IfErr-weaker c.letter_there.result
-    (λ (fault : StatusFault). (s : Status) → Goes (upto s mid files) c.args.parent.now → AsksRow c.args.wanted c.args.kept.now s.asks → (IsTrue mid.told → stat_at (trees.now mid) c.args.kept.now.path ≡ Some c.in-Some.there)
+    (λ (fault : StatusFault). (s : Status) → Proceeds (upto s mid files) c.args.parent.now → AsksRow c.args.wanted c.args.kept.now s.asks → (IsTrue mid.told → stat_at (trees.now mid) c.args.kept.now.path ≡ Some c.in-Some.there)
     → MetParent (upto s new later) fault)
-    (λ (fault : StatusFault). (s : Status) → Goes (upto s old files) c.args.parent.now → AsksRow c.args.wanted c.args.kept.now s.asks → MetParent (upto s new later) fault)
+    (λ (fault : StatusFault). (s : Status) → Proceeds (upto s old files) c.args.parent.now → AsksRow c.args.wanted c.args.kept.now s.asks → MetParent (upto s new later) fault)
     (λ fault met s goes agrees.
     met s (goes_on s old mid files files c.args.parent.now c.stat.ensures.passes (shelf.passes_same files) refl goes) agrees
     (λ told. ap (stat_at (trees.now mid)) (sym c.as_ref.ensures) ∙ sym (c.in_ok-there.ensures.found (sym c.stat.ensures.passes.past.told ∙ told)) ∙ c.in-Some.is))
@@ -94,9 +94,9 @@ returns-clause-store g c =
     let files = g.S.Shelf.history c.args.shelf.now in
     let later = g.S.Shelf.history c.letter_there.new.shelf in
     IfErr-weaker c.letter_there.result
-    (λ (fault : StatusFault). (s : Status) → Goes (upto s mid files) c.args.parent.now → AsksRow c.args.wanted c.args.kept.now s.asks → (IsTrue mid.told → stat_at (trees.now mid) c.args.kept.now.path ≡ Some c.in-Some.there)
+    (λ (fault : StatusFault). (s : Status) → Proceeds (upto s mid files) c.args.parent.now → AsksRow c.args.wanted c.args.kept.now s.asks → (IsTrue mid.told → stat_at (trees.now mid) c.args.kept.now.path ≡ Some c.in-Some.there)
     → IsTrue s.shelf_old.told → AsksStore (upto s new later))
-    (λ (fault : StatusFault). (s : Status) → Goes (upto s old files) c.args.parent.now → AsksRow c.args.wanted c.args.kept.now s.asks → IsTrue s.shelf_old.told → AsksStore (upto s new later))
+    (λ (fault : StatusFault). (s : Status) → Proceeds (upto s old files) c.args.parent.now → AsksRow c.args.wanted c.args.kept.now s.asks → IsTrue s.shelf_old.told → AsksStore (upto s new later))
     (λ fault store s goes agrees.
     store s (goes_on s old mid files files c.args.parent.now c.stat.ensures.passes (shelf.passes_same files) refl goes) agrees
     (λ told. ap (stat_at (trees.now mid)) (sym c.as_ref.ensures) ∙ sym (c.in_ok-there.ensures.found (sym c.stat.ensures.passes.past.told ∙ told)) ∙ c.in-Some.is))

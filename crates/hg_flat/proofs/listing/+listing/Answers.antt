@@ -9,7 +9,7 @@ use Rattle.hg_tree.proofs.Spans.{passes_same, passes_trans}
 use Rattle.hg_ignore.specs.Asked.{state_asked}
 use Rattle.hg_ignore.specs.State.{Ignored, Piece}
 use Rattle.hg_flat.specs.Asked.{AsksFor, IsDirAmong, IsDirFrom, IsDirIn}
-use Rattle.hg_flat.specs.Listing.{Gives, IsEntered, IsUnknownFrom, IsUnknownIn, Lists}
+use Rattle.hg_flat.specs.Listing.{Gives, IsEntered, IsUnknownFrom, IsUnknownIn, ListsUnknown}
 use Rattle.hg_flat.specs.Shown.{kept_of}
 use Rattle.hg_flat.proofs.Asks.{asks_none, asks_nothing, asks_one, dir_asks, dir_asks_on, each_asks, each_more_asks, look_asks, plain_at, visit_asks}
 use Rattle.hg_flat.proofs.Ignoring.{above_name, entered, left_out}
@@ -47,7 +47,7 @@ look-returns-else-leaves_out-clause-listed g t c =
     c.in-Some.stat c.args.rows.now.items c.visit.new.rows.items c.in-Some.is c.in-Dir.is c.as_ref-dir.ensures)
     (subst
     (λ (s : List Piece). OnOk c.visit.result
-    (Lists (kept_of c.args.flat.now) (Gives c.args.wanted s) (Untouched (g.T.Tree.history c.visit.new.tree) (g.T.Tree.history c.stat.new.self).last)
+    (ListsUnknown (kept_of c.args.flat.now) (Gives c.args.wanted s) (Untouched (g.T.Tree.history c.visit.new.tree) (g.T.Tree.history c.stat.new.self).last)
     (IsUnknownIn (kept_of c.args.flat.now) (now (g.T.Tree.history c.stat.new.self)) (Some c.as_ref-dir.result.text.now)) c.args.rows.now.items c.visit.new.rows.items))
     c.is_ignored-ignored.ensures.same c.visit.ensures.listed)
 
@@ -64,7 +64,7 @@ look_each-loop-name-preserved g t c = record {
       each_more (kept_of c.args.flat.now) c.args.wanted (state_asked c.args.matcher.now) (g.T.Tree.history c.args.tree.now) (g.T.Tree.history c.loop-name.tree) (g.T.Tree.history c.look.new.tree) c.loop-name.invariant.passes.past c.look.ensures.passes.past
       (option_map (λ d. d.text.now) c.args.dir) c.args.names.now c.loop-name.name-index c.name-item.result c.as_str.result.now c.in_ok-path.path c.args.rows.now.items c.loop-name.rows.items c.look.new.rows.items
       c.loop-name-test.true c.name-item.is c.as_str.ensures.text c.in_ok-path.ensures c.loop-name.invariant.listed
-      (subst (λ (s : List Piece). Lists (kept_of c.args.flat.now) (Gives c.args.wanted s) (Untouched (g.T.Tree.history c.look.new.tree) (g.T.Tree.history c.loop-name.tree).last) (IsUnknownFrom (kept_of c.args.flat.now) (now (g.T.Tree.history c.loop-name.tree)) c.in_ok-path.path) c.loop-name.rows.items c.look.new.rows.items)
+      (subst (λ (s : List Piece). ListsUnknown (kept_of c.args.flat.now) (Gives c.args.wanted s) (Untouched (g.T.Tree.history c.look.new.tree) (g.T.Tree.history c.loop-name.tree).last) (IsUnknownFrom (kept_of c.args.flat.now) (now (g.T.Tree.history c.loop-name.tree)) c.in_ok-path.path) c.loop-name.rows.items c.look.new.rows.items)
       c.loop-name.invariant.same c.in_ok-look.ensures.listed);
   asked = λ told.
       each_more_asks (IsEntered c.args.wanted (state_asked c.args.matcher.now)) (g.T.Tree.history c.args.tree.now) (g.T.Tree.history c.loop-name.tree) (g.T.Tree.history c.look.new.tree) c.loop-name.invariant.passes c.look.ensures.passes.past

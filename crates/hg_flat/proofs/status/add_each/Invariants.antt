@@ -3,7 +3,7 @@ use Rattle.hg_shelf.specs.History as shelves
 use Rattle.hg_shelf.specs.Images as images
 use Rattle.hg_tree.specs.History as trees
 use Rattle.hg_flat.specs.Asked.{AsksReads}
-use Rattle.hg_flat.specs.Course.{Goes}
+use Rattle.hg_flat.specs.Course.{Proceeds}
 use Rattle.hg_flat.specs.Listing.{AddsTracked, IsLeftRow}
 use Rattle.hg_flat.specs.Parent.{WasAsked, asked_by}
 use Rattle.hg_flat.specs.Shown.{flat_in}
@@ -12,7 +12,7 @@ use Rattle.hg_flat.proofs.status.add_each.Given as goal
 -- the rows of the paths so far stand behind those that were there
 abbrev pub invariant-loop-kept : goal.invariant-loop-kept
 invariant-loop-kept g l = record {
-  goes : Goes (record {
+  goes : Proceeds (record {
     wanted = l.wanted;
     asks = asked_by l.wanted (flat_in l.flat);
     id = l.p1;

@@ -10,7 +10,7 @@ use Rattle.hg_tree.proofs.Histories.{extends_same, extends_trans}
 use Rattle.hg_tree.proofs.Spans.{ours_first, passes_trans}
 use Rattle.hg_flat.specs.Asked.{AsksFor, IsDirIn}
 use Rattle.hg_flat.specs.Course.{pieces_of}
-use Rattle.hg_flat.specs.Listing.{Gives, IsEntered, IsUnknownIn, Lists}
+use Rattle.hg_flat.specs.Listing.{Gives, IsEntered, IsUnknownIn, ListsUnknown}
 use Rattle.hg_listing.specs.Order.{whole_order}
 use Rattle.hg_flat.specs.Parent.{Asking, WasAsked, asked_by, parent_rows}
 use Rattle.hg_flat.specs.Patterns.{ignored_at, needs_patterns}
@@ -50,7 +50,7 @@ returns-clause-still g c =
     (asks_start flat c.args.wanted c.args.p1.now old mid later new c.read_patterns.ensures.passes c.add_each.ensures.passes c.add_others.ensures.passes files start.last c.in_ok-ignore.ignore c.in_ok-ignore.ensures.kept)
     (lists_whole flat c.args.wanted c.args.p1.now old mid later new c.read_patterns.ensures.passes c.add_each.ensures.passes c.add_others.ensures.passes files start.last (pieces_of c.in_ok-ignore.ignore) c.add_each.new.rows.items c.add_others.new.rows.items
     (subst
-    (λ (o : Option (List Piece)). Lists (kept_of flat) (Gives c.args.wanted (pieces_of o)) (Untouched new later.last) (IsUnknownIn (kept_of flat) (trees.now later) None) c.add_each.new.rows.items c.add_others.new.rows.items)
+    (λ (o : Option (List Piece)). ListsUnknown (kept_of flat) (Gives c.args.wanted (pieces_of o)) (Untouched new later.last) (IsUnknownIn (kept_of flat) (trees.now later) None) c.add_each.new.rows.items c.add_others.new.rows.items)
     c.as_ref.ensures.value c.in_ok-add_others.ensures.listed))
     c.sort.new.self.items c.dedup.new.self.items c.in_ok-sort.ensures.permutation c.in_ok-sort.ensures.sorted
     (dedup_is (eq_by_cmp whole_order) c.sort.new.self.items c.dedup.new.self.items c.dedup.ensures.filtered))
@@ -91,7 +91,7 @@ returns-clause-served g c =
     (asks_start flat c.args.wanted c.args.p1.now old mid later new c.read_patterns.ensures.passes c.add_each.ensures.passes c.add_others.ensures.passes files start.last c.in_ok-ignore.ignore c.in_ok-ignore.ensures.kept)
     (lists_whole flat c.args.wanted c.args.p1.now old mid later new c.read_patterns.ensures.passes c.add_each.ensures.passes c.add_others.ensures.passes files start.last (pieces_of c.in_ok-ignore.ignore) c.add_each.new.rows.items c.add_others.new.rows.items
     (subst
-    (λ (o : Option (List Piece)). Lists (kept_of flat) (Gives c.args.wanted (pieces_of o)) (Untouched new later.last) (IsUnknownIn (kept_of flat) (trees.now later) None) c.add_each.new.rows.items c.add_others.new.rows.items)
+    (λ (o : Option (List Piece)). ListsUnknown (kept_of flat) (Gives c.args.wanted (pieces_of o)) (Untouched new later.last) (IsUnknownIn (kept_of flat) (trees.now later) None) c.add_each.new.rows.items c.add_others.new.rows.items)
     c.as_ref.ensures.value c.in_ok-add_others.ensures.listed))
 
 -- ---- the patterns

@@ -1,7 +1,7 @@
 use Rattle.std.proofs.Common.{sym, ap, subst, ◌∙◌, ℕ, List, Option}
 use Rattle.std.specs.Option.{option_map}
 use Rattle.std.specs.String.{string_bytes}
-use Rattle.hg_mixed.specs.Kids.{Looks, beside, is_before}
+use Rattle.hg_mixed.specs.Kids.{LooksOn, beside, is_before}
 use Rattle.hg_mixed.proofs.LeftBefore.{looked, looked_before, looked_early}
 use Rattle.hg_mixed.specs.Lists.{has_rows_in}
 use Rattle.hg_mixed.proofs.own_children.look.Goals as goal
@@ -20,5 +20,5 @@ pub returns : goal.returns
 returns c =
     let known : Option (List ℕ) = option_map (λ n. n.now) c.args.next in
     let next : Option (List ℕ) = option_map (λ n. n.now) c.seek-has.result.1 in
-    subst (Looks c.args.nodes.now known (string_bytes c.args.dir.now) c.seek-has.result.0) (sym (c.beside.ensures ∙ ap (λ (p : List ℕ). beside p next) c.as_str.ensures.value))
+    subst (LooksOn c.args.nodes.now known (string_bytes c.args.dir.now) c.seek-has.result.0) (sym (c.beside.ensures ∙ ap (λ (p : List ℕ). beside p next) c.as_str.ensures.value))
     (looked c.args.nodes.now (string_bytes c.args.dir.now) c.requires.path known next c.seek-has.result.0 c.seek-has.ensures)
