@@ -153,6 +153,9 @@ pub fn take_all<'a>(
     ensures moved { IsMoved (docket.view image.entry.docket) (image_rows image.entry) left.old memory.old left.new memory.new }
     ensures all { OnOk result (CoversNone left.new) }
 {
+    if left.is_empty() {
+        return Ok(());
+    }
     take_whole(memory, left, image, image.root())?;
     // (What is lent still has nothing.)
     left.clear(memory.alloc());

@@ -42,11 +42,8 @@ after_add path t = after_set path (entry_added (t.entries path)) t
 -- of a file or a link that isn't tracked: refused where a tracked path stands above it or below it, and then with the least of these
 abbrev pub RefusesBeside : List ℕ → Table → Option Refusal → Type 0
 RefusesBeside path t None = IsLeast (clashes path t.entries) None
-RefusesBeside path t (Some a_refusal.BadPath) = ⊥
-RefusesBeside path t (Some a_refusal.NotThere) = ⊥
-RefusesBeside path t (Some a_refusal.NotTracked) = ⊥
-RefusesBeside path t (Some a_refusal.Special) = ⊥
 RefusesBeside path t (Some (a_refusal.Clash other)) = IsLeast (clashes path t.entries) (Some other)
+RefusesBeside path t (Some refusal) = ⊥
 
 -- why what a look shows can't be tracked: nothing is there, or neither a file nor a link
 abbrev pub thing_refusal : Option Stat → Option Refusal

@@ -34,6 +34,12 @@ of_encode an_encode_fault.IdsSpent = a_fault.IdsSpent
 abbrev pub of_op : OpFault → Fault
 of_op an_op_fault.OutOfMemory = a_fault.OutOfMemory
 of_op an_op_fault.TreeFailed = a_fault.TreeFailed
+of_op an_op_fault.ShelfFailed = a_fault.ShelfFailed
+of_op (an_op_fault.NoManifest id) = a_fault.NoManifest id
+of_op (an_op_fault.ManifestTooLarge size) = a_fault.ManifestTooLarge size
+of_op (an_op_fault.ManifestLine line) = a_fault.ManifestLine line
+of_op (an_op_fault.ManifestOrder line) = a_fault.ManifestOrder line
+of_op (an_op_fault.NoContents id) = a_fault.NoContents id
 
 abbrev pub of_words : WordsFault → Fault
 of_words a_words_fault.OutOfMemory = a_fault.OutOfMemory

@@ -174,6 +174,12 @@ impl From<OpFault> for Fault {
         match fault {
             OpFault::OutOfMemory => Fault::OutOfMemory,
             OpFault::TreeFailed => Fault::TreeFailed,
+            OpFault::ShelfFailed => Fault::ShelfFailed,
+            OpFault::NoManifest { id } => Fault::NoManifest { id },
+            OpFault::ManifestTooLarge { size } => Fault::ManifestTooLarge { size },
+            OpFault::ManifestLine { line } => Fault::ManifestLine { line },
+            OpFault::ManifestOrder { line } => Fault::ManifestOrder { line },
+            OpFault::NoContents { id } => Fault::NoContents { id },
         }
     }
 }

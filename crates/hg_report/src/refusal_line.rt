@@ -24,6 +24,10 @@ fn put_refusal(line: &mut Vec<u8>, refusal: &Refusal) -> Result<(), OutOfMemory>
         Refusal::NotTracked => put(line, "not tracked"),
         Refusal::Special => put(line, "not a file"),
         Refusal::Clash { other } => put_clash(line, other.as_str()),
+        Refusal::Changed => put(line, "modified"),
+        Refusal::Added => put(line, "marked for add"),
+        Refusal::StillThere => put(line, "still there"),
+        Refusal::Exists => put(line, "exists"),
     }
 }
 
