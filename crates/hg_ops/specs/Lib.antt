@@ -2,7 +2,9 @@ pub mod Cause
 pub mod Collected
 pub mod Dropping
 pub mod Look
+pub mod Parent
 pub mod Parents
+pub mod Remove
 pub mod Setting
 pub mod Step
 pub mod Untracked
