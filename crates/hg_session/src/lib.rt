@@ -16,6 +16,7 @@ mod acting;
 mod change_fault;
 mod changing;
 mod choosing;
+mod copying;
 mod debug;
 mod ending;
 mod flags;
@@ -26,6 +27,7 @@ mod looking;
 mod printed;
 mod read_fault;
 mod reading;
+mod removing;
 mod reparenting;
 
 pub use choosing::command;
