@@ -3,7 +3,6 @@
 ghost use Rattle.hg_session.specs.Answered.{IsAnswered};
 ghost use Rattle.hg_shelf.specs.Images.{course};
 
-use crate::acting::Changing;
 use crate::debug::print_record;
 use crate::ending::{Outcome, failed};
 use crate::locking::change_record;
@@ -57,14 +56,8 @@ pub fn command<T: Tree, S: Shelf, G: Regexps, O: Sink, E: Sink>(
             let done = print_record(alloc, shelf, out);
             ended(alloc, done, err)
         }
-        Command::Add { files } => change_record(alloc, Changing::Add, files, tree, shelf, err),
-        Command::Forget { files } => change_record(
-            alloc,
-            Changing::Forget,
-            files,
-            tree,
-            shelf,
-            err,
+        Command::Add { .. } | Command::Forget { .. } => change_record(
+            alloc, command, tree, shelf, err,
         ),
         _ => failed(alloc, Fault::NotBuilt, err),
     }
