@@ -15,7 +15,7 @@ use Rattle.hg_session.specs.Acts.{Makes}
 use Rattle.hg_session.specs.Call.{Call, Fails, IsLeftAlone, Serves, Watched}
 use Rattle.hg_session.specs.Change.{Fits, IsDone, IsEarly, IsLocked, IsReadSome, IsSafe, IsUnwritten, MetLocking, Stretch, makes_in}
 use Rattle.hg_session.specs.Loaded.{AsksRecord, IsUnreadable}
-use Rattle.hg_session.specs.Look.{Look, Concludes}
+use Rattle.hg_session.specs.Look.{Look, Concludes, saves_first}
 use Rattle.hg_session.specs.Put.{IsEmpty, IsFaultOrMemory, IsSilent}
 use Rattle.hg_session.specs.Crash.{IsCrashSafe, IsLasting, published_in}
 use Rattle.hg_session.specs.Listed.{IsOwn}
@@ -50,6 +50,7 @@ change_look Does call = record {
   Telling = Unit {0};
   Told = IsChangeText Does call;
   Saving = λ fault. Fails call.looked.shelf × ((fault ≡ a_fault.ShelfFailed) ⊎ (fault ≡ a_fault.OutOfMemory));
+  order = saves_first;
 }
 
 -- the tree is asked for no bytes and no names, and nothing of it is changed
