@@ -1,5 +1,5 @@
 -- The cause of a fault in the table of all commands, from the stage at which a command met it; and the whole answer of a call.
-use Rattle.std.proofs.Common.{ℕ, ◌≡◌, false, List, Option, Some, None, Result, Ok, Err, IfSome, OnOk, refl, sym, ap, ◌∙◌, subst, inl, inr}
+use Rattle.std.proofs.Common.{ℕ, ◌≡◌, false, List, Option, Some, None, Result, Ok, Err, IfSome, IsTrue, refl, sym, ap, ◌∙◌, subst, inl, inr}
 use Rattle.std.specs.Option.{MatchOption}
 use Rattle.std.specs.Prelude.{◌⊎◌}
 use Rattle.hg_base.specs.Fault.{Rose}
@@ -13,11 +13,11 @@ use Rattle.hg_session.specs.Change.{IsUnwritten, MetChanging, makes_in}
 use Rattle.hg_session.specs.Changed.{RanChange, change_look}
 use Rattle.hg_session.specs.Commands.{changing_of}
 use Rattle.hg_session.specs.Crash.{published_in}
-use Rattle.hg_session.specs.Debug.{DoesRecord, record_look}
+use Rattle.hg_session.specs.Debug.{AnswersPrinting, Prints, ShowsRecord}
 use Rattle.hg_session.specs.Flags.{wanted_of}
 use Rattle.hg_session.specs.Listed.{AsksOwn, ListingCause}
-use Rattle.hg_session.specs.Load.{of_list, of_read}
-use Rattle.hg_session.specs.Loaded.{MetReading}
+use Rattle.hg_session.specs.Load.{of_list, of_print, of_read}
+use Rattle.hg_session.specs.Loaded.{AsksRecord, MetReading}
 use Rattle.hg_session.specs.Look.{EndsAs, IsCalm, IsLook, IsOutFault, LeavesAt, Concludes, OnlyReads, Stage, at_first, at_printing, at_saving, at_telling}
 use Rattle.hg_session.specs.Put.{IsFaultOrMemory, IsSilent, Tells}
 use Rattle.hg_session.specs.Status.{DoesStatus, RanStatus, status_look}
@@ -25,11 +25,13 @@ use Rattle.hg_session.specs.declared.acting.Changing.{Changing}
 use Rattle.hg_session.specs.declared.acting.Changing.TheVariants as a_change
 use Rattle.hg_session.specs.declared.list_fault.ListFault.{ListFault}
 use Rattle.hg_session.specs.declared.list_fault.ListFault.TheVariants as a_list
+use Rattle.hg_session.specs.declared.print_fault.PrintFault.{PrintFault}
+use Rattle.hg_session.specs.declared.print_fault.PrintFault.TheVariants as a_print
 use Rattle.hg_session.specs.declared.read_fault.ReadFault.{ReadFault}
 use Rattle.hg_session.specs.declared.read_fault.ReadFault.TheVariants as a_read
 use Rattle.hg_session.proofs.Crashes.{crash_unwritten}
 use Rattle.hg_session.proofs.Expectations.{status_by}
-use Rattle.hg_session.proofs.Looks.{calm_by, from_well, joined, looks_by, not_without}
+use Rattle.hg_session.proofs.Looks.{calm_by, from_well, joined, looks_by, not_without, status_failed}
 use Rattle.hg_session.proofs.Readings.{was_loaded}
 use Rattle.hg_session.proofs.Records.{record_by}
 use Rattle.hg_shelf.specs.History as shelf
@@ -71,15 +73,14 @@ module _ (call : Call) (flags : StatusFlags) (is : call.command ≡ a_command.St
   status_cause None looks = tt
   status_cause (Some fault) looks = left_cause fault looks.left
 
-record_left : (call : Call) (fault : Fault) → (stage : Stage) × LeavesAt (record_look call.looked.shelf) call.out call.err Tells stage fault → CommandCause call fault
-record_left call fault (at_first, ((f, same, met), silent, line)) = subst (CommandCause call) (sym same) (by_reading call f met)
-record_left call fault (at_printing, (printing, ready, front, kind, line)) = by_printing call fault kind front.failed
-record_left call fault (at_telling, (never, ready, puts, front, same)) = absurd never
-record_left call fault (at_saving, (never, left)) = absurd never
+printed_cause : (call : Call) (fault : PrintFault) → Prints call.looked.shelf call.out (Err fault) → CommandCause call (of_print fault)
+printed_cause call (a_print.Read fault) prints = by_reading call fault prints.0
+printed_cause call a_print.OutFailed prints = prints.failed
 
-pub record_cause : (call : Call) (fault : Option Fault) → Concludes (record_look call.looked.shelf) call.out call.err fault → IfSome fault (CommandCause call)
-record_cause call None looks = tt
-record_cause call (Some fault) looks = record_left call fault looks.left
+record_cause : (call : Call) (fault : Option Fault) (came : Result Unit PrintFault) → Prints call.looked.shelf call.out came → AnswersPrinting call.err came fault → IfSome fault (CommandCause call)
+record_cause call fault (Ok done) prints (none, silent) = subst (λ (f : Option Fault). IfSome f (CommandCause call)) (sym none) tt
+record_cause call fault (Err met) prints (inl same, told) = subst (λ (f : Option Fault). IfSome f (CommandCause call)) (sym same) (printed_cause call met prints)
+record_cause call fault (Err met) prints (inr memory, told) = subst (λ (f : Option Fault). IfSome f (CommandCause call)) (sym memory) tt
 
 -- ---- a command that changes the record
 
@@ -169,22 +170,14 @@ answered_status command flags looked saved locks out mid tail bytes count done c
     (status_cause call flags is fault looks)
 
 -- the command that prints the record
-pub answered_record : (command : Command) (copy : Watched tree.History) (files : Watched shelf.History) (oversize : Count) (saved : Saved) (locks : Count) (out mid tail : Sink) (bytes : tail.old ≡ mid.new)
-    (count : tail.before ≡ mid.after) (done : Result Unit Fault) (code : ℕ) (fault : Option Fault) → command ≡ a_command.DebugDirstate → IsLeftAlone copy → oversize.after ≡ oversize.before → IsSilent mid
-    → DoesRecord files out done → OnlyReads files saved locks → IsUnwritten saved.old.history saved.new.history → EndsAs tail done code fault
-    → IsAnswered (record { command = command; looked = record { tree = copy; shelf = files; oversize = oversize }; saved = saved; locks = locks; out = out; err = joined mid tail bytes count }) code fault
-answered_record command copy files oversize saved locks out mid tail bytes count done code fault is alone uncounted silent does only none ends =
-    let looked : Looked = record { tree = copy; shelf = files; oversize = oversize } in
-    let call : Call = record { command = command; looked = looked; saved = saved; locks = locks; out = out; err = joined mid tail bytes count } in
-    let looks : Concludes (record_look files) out (joined mid tail bytes count) fault =
-    looks_by mid tail bytes count (record_look files) out (a_read.OutOfMemory, refl, tt) (λ f never. absurd never) done code fault (does.shows mid silent) ends in
-    answered_looked call code fault (subst (λ (c : Command). Ran c call code fault) (sym is) (record_by call only.passes fault looks does.below alone uncounted))
-    (record { only = only; crash = λ calm keep first. crash_unwritten saved.old saved.new only.kept calm keep none first; calm = calm_by mid tail bytes count looked out done code fault ends (calm_all done does.calm_shelf does.calm_out); status = ends.status })
-    (record_cause call fault looks)
-  where
-    calm_all : (done : Result Unit Fault) → OnOk done (files.after ≡ files.before) → OnOk done (out.after ≡ out.before) → OnOk done (IsCalm (record { tree = copy; shelf = files; oversize = oversize }) out mid)
-    calm_all (Ok u) calm_shelf calm_out = record { tree = alone.count; shelf = calm_shelf; regexps = uncounted; out = calm_out; err = silent.count }
-    calm_all (Err fault) calm_shelf calm_out = tt
+pub answered_record : (call : Call) (code : ℕ) (fault : Option Fault) → call.command ≡ a_command.DebugDirstate → ShowsRecord call.looked.shelf call.out call.err fault
+    → (IsTrue call.looked.shelf.old.told → AsksRecord call.looked.shelf.old call.looked.shelf.new) → IsLeftAlone call.looked.tree → call.looked.oversize.after ≡ call.looked.oversize.before
+    → (fault ≡ None → IsCalm call.looked call.out call.err) → OnlyReads call.looked.shelf call.saved call.locks → IsUnwritten call.saved.old.history call.saved.new.history
+    → MatchOption fault (code ≡ 0) (λ f. code ≡ 255) → IsAnswered call code fault
+answered_record call code fault is shows below alone uncounted calm only none status =
+    answered_looked call code fault (subst (λ (c : Command). Ran c call code fault) (sym is) (record_by call only.passes fault shows below alone uncounted))
+    (record { only = only; crash = λ calm keep first. crash_unwritten call.saved.old call.saved.new only.kept calm keep none first; calm = calm; status = status })
+    (record_cause call fault shows.came shows.prints shows.tells)
 
 -- ---- a command that isn't built
 
@@ -201,10 +194,6 @@ module _ (call : Call) (code : ℕ) (fault : Option Fault) (unbuilt : IsUnbuilt 
   unbuilt_cause answered (inl same) is = subst (λ (f : Option Fault). IfSome f (CommandCause call)) (sym same) is
   unbuilt_cause answered (inr memory) is = subst (λ (f : Option Fault). IfSome f (CommandCause call)) (sym memory) tt
 
-  status_failed : (answered : Option Fault) → IsFaultOrMemory answered a_fault.NotBuilt → code ≡ 255 → MatchOption answered (code ≡ 0) (λ f. code ≡ 255)
-  status_failed answered (inl same) is = subst (λ (f : Option Fault). MatchOption f (code ≡ 0) (λ f. code ≡ 255)) (sym same) is
-  status_failed answered (inr memory) is = subst (λ (f : Option Fault). MatchOption f (code ≡ 0) (λ f. code ≡ 255)) (sym memory) is
-
   pub answered_unbuilt : ((flags : StatusFlags) → call.command ≡ a_command.Status flags → ⊥) → ((files : List (List ℕ)) → call.command ≡ a_command.Add files → ⊥)
       → ((files : List (List ℕ)) → call.command ≡ a_command.Forget files → ⊥) → (call.command ≡ a_command.DebugDirstate → ⊥) → shelf.Passes call.looked.shelf.old call.looked.shelf.new → code ≡ 255
       → IsAnswered call code fault
@@ -215,6 +204,6 @@ module _ (call : Call) (code : ℕ) (fault : Option Fault) (unbuilt : IsUnbuilt 
         only = record { passes = passes; kept = unbuilt.idle.kept; held = unbuilt.idle.held };
         crash = λ calm keep first. crash_unwritten call.saved.old call.saved.new unbuilt.idle.kept calm keep unbuilt.idle.unwritten first;
         calm = λ none. not_without fault a_fault.NotBuilt unbuilt.answered none;
-        status = status_failed fault unbuilt.answered is;
+        status = status_failed code a_fault.NotBuilt fault unbuilt.answered is;
       })
       (unbuilt_cause fault unbuilt.answered ran.1)

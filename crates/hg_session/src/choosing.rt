@@ -4,7 +4,7 @@ ghost use Rattle.hg_session.specs.Answered.{IsAnswered};
 ghost use Rattle.hg_session.specs.Call.{counted, saved_by, watched};
 
 use crate::acting::Changing;
-use crate::debug::print_record;
+use crate::debug::show_record;
 use crate::ending::{Outcome, failed};
 use crate::locking::change_record;
 use crate::looking::{ended, status};
@@ -53,10 +53,7 @@ pub fn command<T: Tree, S: Shelf, G: Regexps, O: Sink, E: Sink>(
             let done = status(alloc, *flags, tree, shelf, regexps, out, err);
             ended(alloc, done, err)
         }
-        Command::DebugDirstate => {
-            let done = print_record(alloc, shelf, out);
-            ended(alloc, done, err)
-        }
+        Command::DebugDirstate => show_record(alloc, shelf, out, err),
         Command::Add { files } => change_record(alloc, Changing::Add, files, tree, shelf, err),
         Command::Forget { files } => change_record(
             alloc,

@@ -22,6 +22,7 @@ mod list_fault;
 mod listing;
 mod locking;
 mod looking;
+mod print_fault;
 mod printed;
 mod read_fault;
 mod reading;

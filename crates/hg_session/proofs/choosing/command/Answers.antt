@@ -13,9 +13,10 @@ returns-in-Status g c =
 
 pub returns-in-DebugDirstate : goal.returns-in-DebugDirstate
 returns-in-DebugDirstate g c =
-    answered_record c.args.command.now _ _ _ _ _ _ (record { old = g.E.Sink.bytes c.args.err.now; new = g.E.Sink.bytes c.args.err.now; before = g.E.Sink.faults c.args.err.now; after = g.E.Sink.faults c.args.err.now }) _ refl refl
-    c.print_record-done.result c.ended-in-DebugDirstate.result.status c.ended-in-DebugDirstate.result.fault c.in-DebugDirstate.is
-    (record { history = refl; count = refl }) refl (record { bytes = refl; count = refl }) c.print_record-done.ensures.does c.print_record-done.ensures.only (unwritten _ _ c.print_record-done.ensures.only.passes) c.ended-in-DebugDirstate.ensures
+    answered_record _ c.show_record.result.status c.show_record.result.fault c.in-DebugDirstate.is c.show_record.ensures.shows c.show_record.ensures.below
+    (record { history = refl; count = refl }) refl
+    (λ none. record { tree = refl; shelf = c.show_record.ensures.calm_shelf none; regexps = refl; out = c.show_record.ensures.calm_out none; err = c.show_record.ensures.calm_err none })
+    c.show_record.ensures.only (unwritten _ _ c.show_record.ensures.only.passes) c.show_record.ensures.status
 
 pub returns-in-Add : goal.returns-in-Add
 returns-in-Add g c =
