@@ -3,7 +3,6 @@
 ghost use Rattle.hg_session.specs.Answered.{IsAnswered};
 ghost use Rattle.hg_session.specs.Call.{counted, saved_by, watched};
 
-use crate::acting::Changing;
 use crate::debug::show_record;
 use crate::ending::{Outcome, failed};
 use crate::locking::change_record;
@@ -54,14 +53,8 @@ pub fn command<T: Tree, S: Shelf, G: Regexps, O: Sink, E: Sink>(
             ended(alloc, done, err)
         }
         Command::DebugDirstate => show_record(alloc, shelf, out, err),
-        Command::Add { files } => change_record(alloc, Changing::Add, files, tree, shelf, err),
-        Command::Forget { files } => change_record(
-            alloc,
-            Changing::Forget,
-            files,
-            tree,
-            shelf,
-            err,
+        Command::Add { .. } | Command::Forget { .. } => change_record(
+            alloc, command, tree, shelf, err,
         ),
         _ => failed(alloc, Fault::NotBuilt, err),
     }

@@ -13,6 +13,7 @@
 #![tactic(auto)]
 
 mod acting;
+mod change_fault;
 mod changing;
 mod choosing;
 mod debug;
@@ -26,6 +27,7 @@ mod print_fault;
 mod printed;
 mod read_fault;
 mod reading;
+mod reparenting;
 
 pub use choosing::command;
 pub use ending::{Outcome, failed};
