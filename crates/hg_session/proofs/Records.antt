@@ -10,6 +10,7 @@ use Rattle.hg_session.specs.Loaded.{AsksRecord}
 use Rattle.hg_session.specs.Call.{Call, IsLeftAlone, Serves, Sink}
 use Rattle.hg_session.specs.Debug.{AnswersPrinting, HasText, IsExpectedOf, IsTextIn, Prints, RanRecord, ShowsRecord}
 use Rattle.hg_session.specs.Load.{of_print}
+use Rattle.hg_session.specs.Look.{IsLook}
 use Rattle.hg_session.specs.Put.{IsEmpty, IsSilent, LeavesFront, Puts}
 use Rattle.hg_session.specs.declared.print_fault.PrintFault.{PrintFault}
 use Rattle.hg_session.specs.declared.print_fault.PrintFault.TheVariants as a_print
@@ -62,8 +63,8 @@ module _ (call : Call) (files : shelf.Passes call.looked.shelf.old call.looked.s
   front_own (Some fault) (Err met) prints answers own = front_met met prints own
 
   pub record_by : (fault : Option Fault) → ShowsRecord call.looked.shelf call.out call.err fault → (IsTrue call.looked.shelf.old.told → AsksRecord call.looked.shelf.old call.looked.shelf.new) → IsLeftAlone call.looked.tree → call.looked.oversize.after ≡ call.looked.oversize.before
-      → RanRecord call fault
-  record_by fault shows below alone uncounted = record {
+      → (code : ℕ) → IsLook call code fault → RanRecord call code fault
+  record_by fault shows below alone uncounted code look = record {
     shows = shows;
     whole = whole_own fault shows.came shows.prints shows.tells;
     front = front_own fault shows.came shows.prints shows.tells;
@@ -71,4 +72,5 @@ module _ (call : Call) (files : shelf.Passes call.looked.shelf.old call.looked.s
     below = below;
     alone = alone;
     uncounted = uncounted;
+    look = look;
   }

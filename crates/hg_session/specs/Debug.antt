@@ -7,6 +7,7 @@ use Rattle.hg_save.specs.Record.{record_in}
 use Rattle.hg_session.specs.Loaded.{AsksRecord, IsLoaded, IsUnreadable, MetReading}
 use Rattle.hg_session.specs.Call.{Call, IsLeftAlone, Serves, Sink, Watched}
 use Rattle.hg_session.specs.Load.{of_print}
+use Rattle.hg_session.specs.Look.{IsLook}
 use Rattle.hg_session.specs.Put.{IsFaultOrMemory, IsSilent, LeavesFront, Puts, PutsFront, Tells}
 use Rattle.hg_session.specs.declared.print_fault.PrintFault.{PrintFault}
 use Rattle.hg_session.specs.declared.print_fault.PrintFault.TheVariants as a_print
@@ -56,8 +57,8 @@ pub record ShowsRecord (files : Watched shelf.History) (out err : Sink) (answere
   pub prints : Prints files out came
   pub tells : AnswersPrinting err came answered
 
--- what the command did that ended with this fault, or with none
-pub record RanRecord (call : Call) (fault : Option Fault) : Type 0 where
+-- what the command did that ended with this status and this fault, or with none
+pub record RanRecord (call : Call) (code : ℕ) (fault : Option Fault) : Type 0 where
   -- without a fault, the text of the table that was read was printed, and nothing told; and with one, why, and what stands in both streams
   pub shows : ShowsRecord call.looked.shelf call.out call.err fault
   -- where nobody else made a step below `.hg`, it is that of the record that stands there, and with a fault a front of it stands there, or nothing
@@ -71,3 +72,5 @@ pub record RanRecord (call : Call) (fault : Option Fault) : Type 0 where
   pub below : IsTrue call.looked.shelf.old.told → AsksRecord call.looked.shelf.old call.looked.shelf.new
   pub alone : IsLeftAlone call.looked.tree
   pub uncounted : call.looked.oversize.after ≡ call.looked.oversize.before
+  -- nothing below `.hg` is changed, and no lock asked for
+  pub look : IsLook call code fault

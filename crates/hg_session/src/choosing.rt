@@ -53,9 +53,11 @@ pub fn command<T: Tree, S: Shelf, G: Regexps, O: Sink, E: Sink>(
             ended(alloc, done, err)
         }
         Command::DebugDirstate => show_record(alloc, shelf, out, err),
-        Command::Add { .. } | Command::Forget { .. } => change_record(
-            alloc, command, tree, shelf, err,
-        ),
-        _ => failed(alloc, Fault::NotBuilt, err),
+        Command::Add { .. }
+        | Command::Forget { .. }
+        | Command::Remove { .. }
+        | Command::Copy { .. }
+        | Command::SetParents { .. } => change_record(alloc, command, tree, shelf, err),
+        Command::DebugScript | Command::DebugLoad { .. } => failed(alloc, Fault::NotBuilt, err),
     }
 }
