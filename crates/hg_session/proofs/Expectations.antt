@@ -37,7 +37,7 @@ use Rattle.hg_session.specs.Flags.{wanted_of}
 use Rattle.hg_session.specs.Listed.{AsksLittle, AsksOwn, IsAskedAt, IsListable, IsListed, IsListedFor, IsOwn, IsUntouched, ListingCause, first_parent, status_over}
 use Rattle.hg_session.specs.Load.{of_list, of_read}
 use Rattle.hg_session.specs.Loaded.{IsLoaded, IsUnreadable}
-use Rattle.hg_session.specs.Look.{LeavesAt, LeftBySaving, Look, Concludes, Order, Stage, at_first, at_printing, at_saving, at_telling, saves_first, saves_last}
+use Rattle.hg_session.specs.Look.{IsLook, LeavesAt, LeftBySaving, Look, Concludes, Order, Stage, at_first, at_printing, at_saving, at_telling, saves_first, saves_last}
 use Rattle.hg_session.specs.Put.{LeavesFront, Tells}
 use Rattle.hg_session.specs.Status.{HasBadManifest, HasBadPatterns, IsExpected, IsFullText, IsReady, IsRowsText, LacksContents, RanStatus, status_look}
 use Rattle.hg_session.specs.declared.list_fault.ListFault.{ListFault}
@@ -231,8 +231,8 @@ module _ (flags : StatusFlags) (call : Call) (copy : tree.Passes call.looked.tre
       (status_look flags call.looked) (λ text is. is) call fault looks.left
 
   pub status_by : (fault : Option Fault) → Concludes (status_look flags call.looked) call.out call.err fault → AsksLittle call.looked (wanted_of flags) → (fault ≡ None → AsksOwn call.looked (wanted_of flags))
-      → (IsTrue call.looked.shelf.old.told → AsksBelow call.looked (wanted_of flags)) → RanStatus flags call fault
-  status_by fault looks asked asked_own below = record {
+      → (IsTrue call.looked.shelf.old.told → AsksBelow call.looked (wanted_of flags)) → (code : ℕ) → IsLook call code fault → RanStatus flags call code fault
+  status_by fault looks asked asked_own below code look = record {
     looks = looks;
     whole = λ none own.
         let printed = (looks.done none).printed in
@@ -243,4 +243,5 @@ module _ (flags : StatusFlags) (call : Call) (copy : tree.Passes call.looked.tre
     asked = asked;
     asked_own = asked_own;
     below = below;
+    look = look;
   }

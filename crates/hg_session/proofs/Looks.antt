@@ -1,5 +1,6 @@
 -- How a command ends that only looks, from what it did and what is told behind it.
 use Rattle.std.proofs.Common.{ℕ, ◌≡◌, true, false, List, Option, Some, None, Result, Ok, Err, IfSome, OnOk, refl, sym, ap, ◌∙◌, subst, inl, inr, true≢false}
+use Rattle.std.specs.Option.{MatchOption}
 use Rattle.hg_report.specs.Fault.{has_line}
 use Rattle.hg_report.specs.declared.fault.Fault.{Fault}
 use Rattle.hg_report.specs.declared.fault.Fault.TheVariants as a_fault
@@ -12,6 +13,11 @@ use Rattle.hg_session.specs.Put.{IsFaultOrMemory, IsSilent, Puts, PutsFront, Put
 pub not_without : {Q : Type 0} (answered : Option Fault) (fault : Fault) → IsFaultOrMemory answered fault → answered ≡ None → Q
 not_without answered fault (inl same) none = absurd (cc (same, none))
 not_without answered fault (inr memory) none = absurd (cc (memory, none))
+
+-- the status of a fault that was told
+pub status_failed : (code : ℕ) (fault : Fault) (answered : Option Fault) → IsFaultOrMemory answered fault → code ≡ 255 → MatchOption answered (code ≡ 0) (λ f. code ≡ 255)
+status_failed code fault answered (inl same) is = subst (λ (f : Option Fault). MatchOption f (code ≡ 0) (λ f. code ≡ 255)) (sym same) is
+status_failed code fault answered (inr memory) is = subst (λ (f : Option Fault). MatchOption f (code ≡ 0) (λ f. code ≡ 255)) (sym memory) is
 
 -- a fault with a line isn't that of the error stream
 told_apart : {Q : Type 0} (fault : Fault) → has_line fault ≡ true → fault ≡ a_fault.ErrFailed → Q

@@ -82,7 +82,7 @@ pub record Concludes (look : Look) (out err : Sink) (fault : Option Fault) : Typ
   -- and with one: where it was met, why, and what stands in both streams
   pub left : IfSome fault (λ f. (stage : Stage) × LeavesAt look out err Tells stage f)
 
--- ---- what every such command leaves as it was
+-- ---- what a command leaves as it was that only looks
 
 -- the files below `.hg` are only asked: the caller makes no step, its lock stays, the moments so far stay with what a crash may leave, and no lock
 -- was refused
@@ -99,7 +99,7 @@ pub record IsCalm (looked : Looked) (output errors : Sink) : Type 0 where
   pub out : output.after ≡ output.before
   pub err : errors.after ≡ errors.before
 
--- what a call did whose command doesn't change the record
+-- what every such call did
 pub record IsLook (call : Call) (code : ℕ) (fault : Option Fault) : Type 0 where
   pub only : OnlyReads call.looked.shelf call.saved call.locks
   -- and a crash leaves nothing that the call published

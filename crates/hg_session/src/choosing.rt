@@ -3,7 +3,7 @@
 ghost use Rattle.hg_session.specs.Answered.{IsAnswered};
 ghost use Rattle.hg_session.specs.Call.{counted, saved_by, watched};
 
-use crate::debug::print_record;
+use crate::debug::show_record;
 use crate::ending::{Outcome, failed};
 use crate::locking::change_record;
 use crate::looking::{ended, status};
@@ -52,13 +52,12 @@ pub fn command<T: Tree, S: Shelf, G: Regexps, O: Sink, E: Sink>(
             let done = status(alloc, *flags, tree, shelf, regexps, out, err);
             ended(alloc, done, err)
         }
-        Command::DebugDirstate => {
-            let done = print_record(alloc, shelf, out);
-            ended(alloc, done, err)
-        }
-        Command::Add { .. } | Command::Forget { .. } => change_record(
-            alloc, command, tree, shelf, err,
-        ),
-        _ => failed(alloc, Fault::NotBuilt, err),
+        Command::DebugDirstate => show_record(alloc, shelf, out, err),
+        Command::Add { .. }
+        | Command::Forget { .. }
+        | Command::Remove { .. }
+        | Command::Copy { .. }
+        | Command::SetParents { .. } => change_record(alloc, command, tree, shelf, err),
+        Command::DebugScript | Command::DebugLoad { .. } => failed(alloc, Fault::NotBuilt, err),
     }
 }
