@@ -18,8 +18,10 @@
 //! No call takes memory.
 #![tactic(auto)]
 
+mod laws;
 mod stamp;
 mod vouch;
 
+pub use laws::{matches_tell, noted_vouches, stamps_tell, vouching_tells};
 pub use stamp::{matches, stamp_of};
 pub use vouch::vouches;
