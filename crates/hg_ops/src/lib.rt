@@ -26,6 +26,7 @@
 
 mod adding;
 mod entries;
+mod finding;
 mod forgetting;
 mod laws;
 mod parent;
