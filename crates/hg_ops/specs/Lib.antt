@@ -1,5 +1,6 @@
 pub mod Cause
 pub mod Collected
+pub mod Copy
 pub mod Dropping
 pub mod Finding
 pub mod Look

@@ -25,6 +25,8 @@
 #![tactic(auto)]
 
 mod adding;
+mod copy_refusal;
+mod copying;
 mod entries;
 mod finding;
 mod forgetting;
@@ -37,6 +39,8 @@ mod removing;
 mod wanted;
 
 pub use adding::add;
+pub use copy_refusal::CopyRefusal;
+pub use copying::copy;
 pub use forgetting::forget;
 pub use laws::{one_add, one_forget, one_set_parents};
 pub use parent::Parent;

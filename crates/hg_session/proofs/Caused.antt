@@ -61,21 +61,21 @@ module _ (call : Call) (flags : StatusFlags) (is : call.command ≡ a_command.St
   by_listing (a_list.Status (a_status.RegexpTooBig line)) cause = ((flags, is, cause.0), cause.1)
   by_listing (a_list.Status fault) cause = (flags, is, cause)
 
-  left_cause : (fault : Fault) → (stage : Stage) × LeavesAt (status_look flags call.looked) call.out call.err (Tells call.err) stage fault → CommandCause call fault
+  left_cause : (fault : Fault) → (stage : Stage) × LeavesAt (status_look flags call.looked) call.out call.err Tells stage fault → CommandCause call fault
   left_cause fault (at_first, ((f, same, cause), silent, line)) = subst (CommandCause call) (sym same) (by_listing f cause)
   left_cause fault (at_printing, (printing, ready, front, kind, line)) = by_printing call fault kind front.failed
   left_cause fault (at_telling, (telling, ready, puts, front, same)) = subst (CommandCause call) (sym same) front.failed
-  left_cause fault (at_saving, (never, silent, line)) = absurd never
+  left_cause fault (at_saving, (never, left)) = absurd never
 
   pub status_cause : (fault : Option Fault) → Concludes (status_look flags call.looked) call.out call.err fault → IfSome fault (CommandCause call)
   status_cause None looks = tt
   status_cause (Some fault) looks = left_cause fault looks.left
 
-record_left : (call : Call) (fault : Fault) → (stage : Stage) × LeavesAt (record_look call.looked.shelf) call.out call.err (Tells call.err) stage fault → CommandCause call fault
+record_left : (call : Call) (fault : Fault) → (stage : Stage) × LeavesAt (record_look call.looked.shelf) call.out call.err Tells stage fault → CommandCause call fault
 record_left call fault (at_first, ((f, same, met), silent, line)) = subst (CommandCause call) (sym same) (by_reading call f met)
 record_left call fault (at_printing, (printing, ready, front, kind, line)) = by_printing call fault kind front.failed
 record_left call fault (at_telling, (never, ready, puts, front, same)) = absurd never
-record_left call fault (at_saving, (never, silent, line)) = absurd never
+record_left call fault (at_saving, (never, left)) = absurd never
 
 pub record_cause : (call : Call) (fault : Option Fault) → Concludes (record_look call.looked.shelf) call.out call.err fault → IfSome fault (CommandCause call)
 record_cause call None looks = tt
@@ -99,12 +99,12 @@ module _ (call : Call) (command : Changing) (is : changing_of call.command ≡ S
   by_saving fault failed (inl same) = subst (CommandCause call) (sym same) failed
   by_saving fault failed (inr same) = subst (CommandCause call) (sym same) tt
 
-  change_left : (fault : Fault) → (stage : Stage) × LeavesAt (change_look (makes_in command (files_of call.command) call) call) call.out call.err (Tells call.err) stage fault → CommandCause call fault
+  change_left : (fault : Fault) → (stage : Stage) × LeavesAt (change_look (makes_in command (files_of call.command) call) call) call.out call.err Tells stage fault → CommandCause call fault
   change_left fault (at_first, ((none, inl met), silent, line)) = by_changing fault met
   change_left fault (at_first, ((none, inr (held, rose)), silent, line)) = subst (CommandCause call) (sym held) (command, is, rose)
   change_left fault (at_printing, (never, ready, front, kind, line)) = absurd never
   change_left fault (at_telling, (telling, ready, puts, front, same)) = subst (CommandCause call) (sym same) front.failed
-  change_left fault (at_saving, ((failed, kind), silent, line)) = by_saving fault failed kind
+  change_left fault (at_saving, ((failed, kind), left)) = by_saving fault failed kind
 
   changed_cause : (fault : Option Fault) → Concludes (change_look (makes_in command (files_of call.command) call) call) call.out call.err fault → IfSome fault (CommandCause call)
   changed_cause None looks = tt

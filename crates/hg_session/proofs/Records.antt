@@ -45,13 +45,13 @@ module _ (call : Call) (files : shelf.Passes call.looked.shelf.old call.looked.s
     text_own : (text : List ℕ) → HasText call.looked.shelf text → IsTextIn there text
     text_own text has = record { table = has.table; recorded = read_now call.looked.shelf files.past still own.told has.table (has.read own.told); is = has.is }
 
-    left_expected : (fault : Fault) → (stage : Stage) × LeavesAt (record_look call.looked.shelf) call.out call.err (Tells call.err) stage fault → Serves call.looked.shelf → Serves call.out
+    left_expected : (fault : Fault) → (stage : Stage) × LeavesAt (record_look call.looked.shelf) call.out call.err Tells stage fault → Serves call.looked.shelf → Serves call.out
         → IsExpectedOf there (Some fault)
     left_expected fault (at_first, ((f, is, met), silent, line)) p q =
         subst (λ (g : Fault). IsExpectedOf there (Some g)) (sym is) (unreadable_now call.looked.shelf files.past still own.told f met p)
     left_expected fault (at_printing, (printing, ready, front, kind, line)) p q = absurd (steady_not_rose call.out.before call.out.after q front.failed)
     left_expected fault (at_telling, (never, ready, puts, front, is)) p q = absurd never
-    left_expected fault (at_saving, (never, silent, line)) p q = absurd never
+    left_expected fault (at_saving, (never, left)) p q = absurd never
 
   expected_by : (fault : Option Fault) → Concludes (record_look call.looked.shelf) call.out call.err fault → shelf.IsOurs call.looked.shelf.old call.looked.shelf.new → Serves call.looked.shelf → Serves call.out
       → IsExpectedOf there fault

@@ -1,18 +1,17 @@
 -- What is promised of a call: one record of facts over what happened in it, a sentence a field.
-use Rattle.std.specs.Prelude.{ℕ, ◌≡◌, ◌⊎◌, None, Option, IfSome, MatchOption}
+use Rattle.std.specs.Prelude.{ℕ, ◌≡◌, ◌⊎◌, false, None, Option, IfSome, MatchOption}
 use Rattle.hg_report.specs.declared.fault.Fault.{Fault}
 use Rattle.hg_report.specs.declared.fault.Fault.TheVariants as a_fault
 use Rattle.hg_session.specs.Call.{Call, Count, IsLeftAlone, Looked, Saved, Sink}
 use Rattle.hg_session.specs.Cause.{CommandCause}
 use Rattle.hg_session.specs.Change.{IsUnwritten}
 use Rattle.hg_session.specs.Changed.{RanChange}
-use Rattle.hg_session.specs.Commands.{changing_of}
+use Rattle.hg_session.specs.Commands.{is_change}
 use Rattle.hg_session.specs.Crash.{IsSafeFromCrashes}
 use Rattle.hg_session.specs.Debug.{RanRecord}
 use Rattle.hg_session.specs.Look.{IsCalm, IsLook}
 use Rattle.hg_session.specs.Put.{IsFaultOrMemory, IsSilent, Tells}
 use Rattle.hg_session.specs.Status.{RanStatus}
-use Rattle.hg_session.specs.declared.acting.Changing.TheVariants as a_change
 use Rattle.hg_shelf.specs.Images.{Goes}
 use Rattle.hg_words.specs.declared.given.Command.{Command}
 use Rattle.hg_words.specs.declared.given.Command.TheVariants as a_command
@@ -37,8 +36,8 @@ pub record IsUnbuilt (call : Call) (fault : Option Fault) : Type 0 where
 -- what a command did that ended with this status and this fault, or with none
 abbrev pub Ran : Command → Call → ℕ → Option Fault → Type 0
 Ran (a_command.Status flags) call code fault = RanStatus flags call fault
-Ran (a_command.Add files) call code fault = RanChange a_change.Add files call code fault
-Ran (a_command.Forget files) call code fault = RanChange a_change.Forget files call code fault
+Ran (a_command.Add files) call code fault = RanChange call code fault
+Ran (a_command.Forget files) call code fault = RanChange call code fault
 Ran a_command.DebugDirstate call code fault = RanRecord call fault
 Ran command call code fault = IsUnbuilt call fault
 
@@ -47,7 +46,7 @@ pub record IsAnswered (call : Call) (code : ℕ) (fault : Option Fault) : Type 0
   -- what its command did
   pub ran : Ran call.command call code fault
   -- where that doesn't change the record, nothing below `.hg` is changed, and no lock asked for
-  pub look : changing_of call.command ≡ None → IsLook call code fault
+  pub look : is_change call.command ≡ false → IsLook call code fault
   -- each fault comes only for its cause
   pub cause : IfSome fault (CommandCause call)
   -- where a device failed there is a fault

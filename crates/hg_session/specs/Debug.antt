@@ -7,7 +7,7 @@ use Rattle.hg_save.specs.Record.{record_in}
 use Rattle.hg_session.specs.Loaded.{AsksRecord, IsLoaded, IsUnreadable, MetReading, WasLoaded}
 use Rattle.hg_session.specs.Call.{Call, IsLeftAlone, Serves, Sink, Watched}
 use Rattle.hg_session.specs.Load.{of_read}
-use Rattle.hg_session.specs.Look.{Look, Concludes, Shows}
+use Rattle.hg_session.specs.Look.{Look, Concludes, Shows, saves_last}
 use Rattle.hg_session.specs.Put.{IsEmpty, IsSilent, LeavesFront, Puts}
 use Rattle.hg_session.specs.declared.read_fault.ReadFault.{ReadFault}
 use Rattle.hg_shelf.specs.History as shelf
@@ -40,6 +40,7 @@ record_look files = record {
   Telling = ⊥;
   Told = IsEmpty;
   Saving = λ fault. ⊥;
+  order = saves_last;
 }
 
 -- ---- what has to be answered

@@ -28,7 +28,7 @@ use Rattle.hg_session.specs.Flags.{style_of, wanted_of}
 use Rattle.hg_session.specs.Listed.{AsksLittle, AsksOwn, IsAskedAt, IsListable, IsListed, IsListedFor, IsOwn, ListingCause, first_parent}
 use Rattle.hg_session.specs.Load.{of_list}
 use Rattle.hg_session.specs.Loaded.{IsUnreadable}
-use Rattle.hg_session.specs.Look.{IsCalm, Look, Concludes, Shows}
+use Rattle.hg_session.specs.Look.{IsCalm, Look, Concludes, Shows, saves_last}
 use Rattle.hg_session.specs.Put.{LeavesFront, Puts}
 use Rattle.hg_session.specs.declared.list_fault.ListFault.{ListFault}
 use Rattle.hg_shelf.specs.History as shelf
@@ -70,6 +70,7 @@ status_look flags looked = record {
   Telling = Unit {0};
   Told = IsWarningText (wanted_of flags) looked.tree;
   Saving = λ fault. ⊥;
+  order = saves_last;
 }
 
 -- ---- what has to be answered

@@ -5,7 +5,7 @@ ghost use Rattle.hg_base.specs.Fault.{HasCause};
 ghost use Rattle.hg_docket.specs.Docket.{docket_of, docket_refusal};
 ghost use Rattle.hg_entry.specs.Table.{Table};
 ghost use Rattle.hg_image.specs.Reading.{data_reading};
-ghost use Rattle.hg_shelf.specs.Images.{course};
+ghost use Rattle.hg_session.specs.Call.{counted, saved_by, watched};
 ghost use Rattle.hg_session.specs.Debug.{DoesRecord};
 ghost use Rattle.hg_session.specs.Look.{OnlyReads};
 ghost use Rattle.hg_save.specs.Loads.{Try};
@@ -35,9 +35,9 @@ fn text_in(alloc: Global, loaded: &Loaded) -> Result<Vec<u8>, ReadFault>
 // Loads the dirstate, and answers the text of all that it records.
 fn load_text<S: Shelf>(alloc: Global, shelf: &mut S) -> Result<Vec<u8>, ReadFault>
     ensures only { OnlyReads
-        (record { old = S.history shelf.old; new = S.history shelf.new; before = S.faults shelf.old; after = S.faults shelf.new })
-        (record { old = course (S.history shelf.old) (S.images shelf.old); new = course (S.history shelf.new) (S.images shelf.new) })
-        (record { before = S.held shelf.old; after = S.held shelf.new }) }
+        (watched S.history S.faults shelf.old shelf.new)
+        (saved_by S.history S.images shelf.old shelf.new)
+        (counted S.held shelf.old shelf.new) }
     ensures found { IsTrue (S.history shelf.old).told → ((tried : Try) × Reads IsBytesOf (S.history shelf.old) (S.history shelf.new) (tried ∷ []) result) }
     ensures some { IfOk result (λ text. (table : Table) × IsBytesOf table text) }
     ensures asked { IsTrue (S.history shelf.old).told → AsksRecord (S.history shelf.old) (S.history shelf.new) }
@@ -54,13 +54,13 @@ pub(crate) fn print_record<S: Shelf, O: Sink>(
     out: &mut O,
 ) -> Result<(), Fault>
     ensures does { DoesRecord
-        (record { old = S.history shelf.old; new = S.history shelf.new; before = S.faults shelf.old; after = S.faults shelf.new })
-        (record { old = O.bytes out.old; new = O.bytes out.new; before = O.faults out.old; after = O.faults out.new })
+        (watched S.history S.faults shelf.old shelf.new)
+        (watched O.bytes O.faults out.old out.new)
         result }
     ensures only { OnlyReads
-        (record { old = S.history shelf.old; new = S.history shelf.new; before = S.faults shelf.old; after = S.faults shelf.new })
-        (record { old = course (S.history shelf.old) (S.images shelf.old); new = course (S.history shelf.new) (S.images shelf.new) })
-        (record { before = S.held shelf.old; after = S.held shelf.new }) }
+        (watched S.history S.faults shelf.old shelf.new)
+        (saved_by S.history S.images shelf.old shelf.new)
+        (counted S.held shelf.old shelf.new) }
 {
     let text = load_text(alloc, shelf)?;
     match put_all(out, text.as_slice()) {

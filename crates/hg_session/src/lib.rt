@@ -13,6 +13,7 @@
 #![tactic(auto)]
 
 mod acting;
+mod change_fault;
 mod changing;
 mod choosing;
 mod debug;
@@ -25,6 +26,7 @@ mod looking;
 mod printed;
 mod read_fault;
 mod reading;
+mod reparenting;
 
 pub use choosing::command;
 pub use ending::{Outcome, failed};
