@@ -18,6 +18,8 @@ mod paths;
 #[cfg(test)]
 mod shelves;
 #[cfg(test)]
+mod stamps;
+#[cfg(test)]
 mod streams;
 #[cfg(test)]
 mod trees;

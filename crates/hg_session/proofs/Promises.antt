@@ -311,12 +311,12 @@ module _ (command : Command) (copy : Watched tree.History) (a b : Course) (befor
 
   -- where it was met, whether it is told, or want of memory for its line
   stage_same : (fault : ChangeFault) → MetLocking Does copy call.looked.shelf locks fault → FailsOrUnwritten a.history b.history fault → Tells err (of_change fault)
-      → (stage : Stage) × LeavesAt (change_look Does call) out err (Tells err) stage (of_change fault)
+      → (stage : Stage) × LeavesAt (change_look Does call) out err Tells stage (of_change fault)
   stage_same fault met (inl is) line = (at_saving, ((shelf_fails fault is met, inl (ap of_change is)), silent, line))
   stage_same fault met (inr none) line = (at_first, ((none, (fault, refl, met)), silent, line))
 
   stage_memory : (fault : ChangeFault) → MetLocking Does copy call.looked.shelf locks fault → FailsOrUnwritten a.history b.history fault → Tells err a_fault.OutOfMemory
-      → (stage : Stage) × LeavesAt (change_look Does call) out err (Tells err) stage a_fault.OutOfMemory
+      → (stage : Stage) × LeavesAt (change_look Does call) out err Tells stage a_fault.OutOfMemory
   stage_memory fault met (inl is) line = (at_saving, ((shelf_fails fault is met, inr refl), silent, line))
   stage_memory fault met (inr none) line = (at_first, ((none, (a_change_fault.Op an_op.OutOfMemory, refl, inl tt)), silent, line))
 

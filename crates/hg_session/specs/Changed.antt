@@ -17,7 +17,7 @@ use Rattle.hg_session.specs.Acts.{ChangesTree, Makes}
 use Rattle.hg_session.specs.Call.{Call, Fails, IsLeftAlone, Serves, Watched}
 use Rattle.hg_session.specs.Change.{AsksChange, Fits, IsDone, IsEarly, IsLocked, IsReadSome, IsSafe, IsUnwritten, MetLocking, Stretch, makes_in, of_change}
 use Rattle.hg_session.specs.Loaded.{IsUnreadable}
-use Rattle.hg_session.specs.Look.{Look, Concludes}
+use Rattle.hg_session.specs.Look.{Look, Concludes, saves_first}
 use Rattle.hg_session.specs.Put.{IsEmpty, IsFaultOrMemory, IsSilent}
 use Rattle.hg_session.specs.Crash.{IsCrashSafe, IsLasting, published_in}
 use Rattle.hg_session.specs.Listed.{IsOwn}
@@ -51,6 +51,7 @@ change_look Does call = record {
   Telling = Unit {0};
   Told = IsChangeText Does call;
   Saving = λ fault. Fails call.looked.shelf × ((fault ≡ a_fault.ShelfFailed) ⊎ (fault ≡ a_fault.OutOfMemory));
+  order = saves_first;
 }
 
 -- ---- what has to be answered
