@@ -300,7 +300,7 @@ module _ (command : Command) (copy : Watched tree.History) (a b : Course) (befor
   locked_own : (fault : ChangeFault) → IsSafe Does call.saved (Some (of_change fault)) → MetLocking Does copy call.looked.shelf locks fault → IsOurs a.history b.history → Serves copy → Serves call.looked.shelf
       → IsSteady locks.before locks.after → IsExpectedChange Does (now a.history).files (Some (of_change fault))
   locked_own fault safe (inl met) own p q steady = met_own Does copy a b before after kept.past own fault safe met p q
-  locked_own fault safe (inr (held, rose)) own p q steady = absurd (steady_not_rose locks.before locks.after steady rose)
+  locked_own fault safe (inr (held, rose, alone)) own p q steady = absurd (steady_not_rose locks.before locks.after steady rose)
 
   shelf_met : MetLocking Does copy call.looked.shelf locks a_change_fault.ShelfFailed → MetChanging Does copy call.looked.shelf a_change_fault.ShelfFailed
   shelf_met (inl met) = met

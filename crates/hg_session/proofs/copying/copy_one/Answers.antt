@@ -1,7 +1,7 @@
 -- The one copy: what it makes, and the line of a refusal.
 use Rattle.std.proofs.Common.{◌≡◌, [], List, ℕ, Option, Some, None, refl, sym, ◌∙◌}
 use Rattle.std.proofs.lemmas.Result.{err_from_is_err_and}
-use Rattle.hg_session.proofs.Copying.{no_line}
+use Rattle.hg_session.proofs.CopyLines.{no_line}
 use Rattle.hg_session.proofs.SoFar.{unmarked}
 use Rattle.hg_session.proofs.copying.copy_one.Goals as goal
 

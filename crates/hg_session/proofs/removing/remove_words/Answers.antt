@@ -7,7 +7,7 @@ use Rattle.hg_mixed.specs.Held.{table}
 use Rattle.hg_ops.specs.Parent.{KeepsParent}
 use Rattle.hg_ops.specs.declared.refusal.OpFault.TheVariants as an_op
 use Rattle.hg_session.specs.Acts.{TakesAway, refused_line, span_of}
-use Rattle.hg_session.proofs.Removing.{asks_kept, asks_needed, needed_more, so_far_wide, split_more, split_word, stops_at, stops_behind, store_cause, takes_extends, takes_longer, takes_more, takes_none_yet, tree_cause, tree_failed, word_among}
+use Rattle.hg_session.proofs.TakenWords.{asks_kept, asks_needed, needed_more, so_far_wide, split_more, split_word, stops_at, stops_behind, store_cause, takes_extends, takes_longer, takes_more, takes_none_yet, tree_cause, tree_failed, word_among}
 use Rattle.hg_session.proofs.SoFar.{goes_on, goes_on_at, image_trans, none_yet}
 use Rattle.hg_shelf.proofs.Histories.{extends_same, passes_trans}
 use Rattle.hg_shelf.proofs.Scenes.{goes_same, goes_trans}

@@ -1,7 +1,7 @@
 -- New parents: the manifests of both, and then the table.
 use Rattle.std.proofs.Common.{Ok, Err, refl, ◌∙◌}
 use Rattle.std.proofs.lemmas.Result.{err_from_is_err_and}
-use Rattle.hg_session.proofs.Reparenting.{cause_as, front_behind, not_tree, stops_first, stops_second}
+use Rattle.hg_session.proofs.ParentLoads.{cause_as, front_behind, not_tree, stops_first, stops_second}
 use Rattle.hg_session.proofs.SoFar.{unmarked}
 use Rattle.hg_shelf.proofs.Asks.{front_longer, order_front}
 use Rattle.hg_shelf.proofs.Histories.{extends_same, passes_trans}

@@ -108,7 +108,7 @@ module _ (after : Bool) (words : List (List ℕ)) (start mid at : History) (firs
     new = some.new;
     before = some.before;
     behind = extends_trans some.new mid at some.behind second;
-    table = some.table;
+    was = some.was;
     need = some.need;
   }
 
@@ -122,7 +122,7 @@ module _ (after : Bool) (words : List (List ℕ)) (start mid at : History) (firs
 
   module _ (word : List ℕ) (among : is_among word words ≡ true) (t : Table) where
     abbrev word_needs : NeedsRow (needs_row after word t) word mid at → NeedsSome after words whole
-    word_needs need = record { word = word; among = among; old = mid; new = at; before = first; behind = extends_same at; table = t; need = need }
+    word_needs need = record { word = word; among = among; old = mid; new = at; before = first; behind = extends_same at; was = t; need = need }
 
     word_reads : (read : ReadsWord (needs_row after word t) word mid at) (pieces : InPieces read.size (an_ask.Read word) mid.asked at.asked)
         → AllByRecursion (IsWordRead after words whole) (replicate pieces.pieces (an_ask.Read word))
