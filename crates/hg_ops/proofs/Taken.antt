@@ -4,7 +4,7 @@ use Rattle.std.proofs.lemmas.Bool.{cases_lt}
 use Rattle.std.specs.Option.{option_and_then}
 use Rattle.std.specs.Prelude.{IfErr, IfOk, IsTrue, MatchBool, OnErr, OnOk}
 use Rattle.hg_base.proofs.Within.{equal_bytes}
-use Rattle.hg_base.specs.PathText.{is_same_dir, parent_of}
+use Rattle.hg_base.specs.PathText.{is_path, is_same_dir, parent_of}
 use Rattle.hg_base.specs.declared.stat.Stat.{Stat}
 use Rattle.hg_entry.specs.Steps.{is_file}
 use Rattle.hg_entry.specs.Table.{Table}
@@ -13,7 +13,8 @@ use Rattle.hg_ops.specs.Cause.{HasOpCause}
 use Rattle.hg_ops.specs.Finding.{Finds, FindsBy, FindsByRow, FindsIn, FindsShown, FindsThere, TakesFound, refusal_of}
 use Rattle.hg_ops.specs.Parent.{AsksStore, KeepsParent, Span, upto}
 use Rattle.hg_ops.specs.Parents.{row_at}
-use Rattle.hg_ops.specs.Remove.{IsChangedFile, IsGone, IsUnchangedFile, IsUnlikeRow, MetRemoving, RefusesBehind, RefusesByRow, RefusesShown, Removes, Takes, WasGone, compared, early_refusal, may_take, needs_row}
+use Rattle.hg_ops.specs.Look.{WasShown}
+use Rattle.hg_ops.specs.Remove.{IsChangedFile, IsGone, IsUnchangedFile, IsUnlikeRow, MetRemoving, NeedsRow, RefusesBehind, RefusesByRow, RefusesShown, Removes, SeesClean, StopsRemoving, Takes, TakesClean, WasGone, compared, early_refusal, entry_refusal, may_take, needs_row}
 use Rattle.hg_ops.specs.Step.{IsForgotten}
 use Rattle.hg_ops.specs.declared.finding.Found.{Found}
 use Rattle.hg_ops.specs.declared.finding.Found.TheVariants as a_find
@@ -21,6 +22,7 @@ use Rattle.hg_ops.specs.declared.parent.Parent.{Parent}
 use Rattle.hg_ops.specs.declared.refusal.OpFault.{OpFault}
 use Rattle.hg_ops.specs.declared.refusal.OpFault.TheVariants as a_fault
 use Rattle.hg_ops.specs.declared.refusal.Refusal.{Refusal}
+use Rattle.hg_ops.specs.declared.refusal.Refusal.TheVariants as a_refusal
 use Rattle.hg_ops.proofs.Added.{same_table, shown_last}
 use Rattle.hg_ops.proofs.FoundSpans.{match_map, met_longer, need_longer, reads_longer, reads_none}
 use Rattle.hg_shelf.specs.History as shelves
@@ -147,9 +149,56 @@ is_gone a_find.Changed path old mid new looks nothing taken is = tt
 is_gone a_find.Unchanged path old mid new looks nothing taken is = λ told. gone_last path old mid new looks is.0 (taken refl (looks.past.told ∙ told))
 is_gone a_find.Nothing path old mid new looks nothing taken is = λ told. subst (λ (h : History). WasGone old h path) (sym is) (nothing refl told)
 
+-- ---- what was seen of a file that is taken away
+
+clean_in : (needs : Bool) (path : List ℕ) (old new : History) (s : Span) (before : Stat) (is : FindsByRow path old new s before a_find.Unchanged) → NeedsRow needs path old new → (o : Option FileRow) → row_at is.rows path ≡ o
+    → FindsIn path old new s.old s.new before o a_find.Unchanged → needs ≡ true → is_file before.kind ≡ true → (IsTrue old.told → WasShown old new path (Some before)) → SeesClean needs path old new s
+clean_in needs path old new s before is need None has seen decides file was = absurd (cc seen)
+clean_in needs path old new s before is need (Some row) has seen decides file was = record {
+  need = record { decides = decides; stat = before; file = file; was = was };
+  rows = is.rows;
+  read = is.read;
+  row = row;
+  has = has;
+  alike = seen.0;
+  same = seen.1;
+}
+
+clean_there : (file after needs : Bool) (path : List ℕ) (old new : History) (s : Span) (before : Stat) (found : Found) → found ≡ a_find.Unchanged → is_file before.kind ≡ file → (IsTrue old.told → WasShown old new path (Some before))
+    → MatchBool file (MatchBool after (found ≡ a_find.StillThere) (MatchBool needs (FindsByRow path old new s before found) (found ≡ a_find.Changed))) (found ≡ a_find.Nothing) → SeesClean needs path old new s
+clean_there false after needs path old new s before found same file was is = absurd (cc (same, is))
+clean_there true true needs path old new s before found same file was is = absurd (cc (same, is))
+clean_there true false false path old new s before found same file was is = absurd (cc (same, is))
+clean_there true false true path old new s before found same file was is =
+    let by = subst (FindsByRow path old new s before) same is in
+    clean_in true path old new s before by (record { decides = refl; stat = before; file = file; was = was }) (row_at by.rows path) refl by.seen refl file was
+
+clean_shown : (after needs : Bool) (path : List ℕ) (old new : History) (s : Span) (shown : Option Stat) (found : Found) → found ≡ a_find.Unchanged → (IsTrue old.told → WasShown old new path shown)
+    → FindsShown after needs path old new s shown found → SeesClean needs path old new s
+clean_shown after needs path old new s None found same was is = absurd (cc (same, is))
+clean_shown after needs path old new s (Some before) found same was is = clean_there (is_file before.kind) after needs path old new s before found same refl was is
+
+takes_clean : (after : Bool) (path : List ℕ) (old mid new : History) (s : Span) (was : Table) (found : Found) → early_refusal after path was ≡ None → Finds after (needs_row after path was) path old mid s found → found ≡ a_find.Unchanged
+    → TakesFound found path mid new → TakesClean after path was old mid new s
+takes_clean after path old mid new s was found early finds same takes =
+    let taken = subst (λ (f : Found). TakesFound f path mid new) same takes in
+    record {
+      early = early;
+      clean = clean_shown after (needs_row after path was) path old mid s finds.shown found same finds.was_shown finds.seen;
+      past = taken.0;
+      taken = taken.1;
+    }
+
+took_by : (after : Bool) (path : List ℕ) (old mid new : History) (s : Span) (was : Table) (found : Found) → early_refusal after path was ≡ None → Finds after (needs_row after path was) path old mid s found → TakesFound found path mid new
+    → Passes mid new ⊎ ((refusal_of found ≡ None) × TakesClean after path was old mid new s)
+took_by after path old mid new s was a_find.StillThere early finds takes = inl (same_passes mid new takes)
+took_by after path old mid new s was a_find.Changed early finds takes = inl (same_passes mid new takes)
+took_by after path old mid new s was a_find.Unchanged early finds takes = inr (refl, takes_clean after path old mid new s was a_find.Unchanged early finds refl takes)
+took_by after path old mid new s was a_find.Nothing early finds takes = inl (same_passes mid new takes)
+
 -- ---- all of it
 
-pub removes_found : (after : Bool) (path : List ℕ) (old mid new : History) (s : Span) (was : Table) (found : Found) (refused : Option Refusal) (made : Table) → early_refusal after path was ≡ None → Passes old mid → shelves.Passes s.old s.new
+removes_found : (after : Bool) (path : List ℕ) (old mid new : History) (s : Span) (was : Table) (found : Found) (refused : Option Refusal) (made : Table) → early_refusal after path was ≡ None → Passes old mid → shelves.Passes s.old s.new
     → (after ≡ true → found ≡ a_find.Unchanged → ⊥) → Finds after (needs_row after path was) path old mid s found → refused ≡ refusal_of found → TakesFound found path mid new
     → (found ≡ a_find.Unchanged → IsTrue mid.told → bytes_at (now new) path ≡ None) → IsForgotten path refused was made → Removes after path old new s was refused made
 removes_found after path old mid new s was found refused made early looks reads never finds same takes taken forgotten = record {
@@ -163,18 +212,44 @@ removes_found after path old mid new s was found refused made early looks reads 
       subst (λ (o : Option Refusal). RefusesBehind o after (needs_row after path was) path old mid s finds.shown refused) (sym early)
       (subst (RefusesShown after (needs_row after path was) path old mid s finds.shown) (sym same) (shown_refuses after (needs_row after path was) path old mid s finds.shown found finds.seen));
   takes = subst (λ (o : Option Refusal). Takes (may_take after (Ok o)) path mid new) (sym same) (takes_ok after found path mid new never takes);
+  took =
+      subst (λ (o : Option Refusal). Passes mid new ⊎ ((o ≡ None) × TakesClean after path was old mid new s)) (sym same)
+      (took_by after path old mid new s was found early finds takes);
   gone = subst (IsGone path old new) (sym same) (is_gone found path old mid new looks finds.gone taken takes);
   table = forgotten;
 }
 
-pub removes_ok : (after : Bool) (path : List ℕ) (old mid new : History) (s : Span) (was : Table) (found : Found) (made : Table) (result : Result (Option Refusal) OpFault) → early_refusal after path was ≡ None → Passes old mid
-    → (after ≡ true → found ≡ a_find.Unchanged → ⊥) → IfOk result (λ refused. refused ≡ refusal_of found) → TakesFound found path mid new
-    → (found ≡ a_find.Unchanged → OnOk result (IsTrue mid.told → bytes_at (now new) path ≡ None)) → IfOk result (λ refused. IsForgotten path refused was made)
-    → (P : Span → Type 0) → ((s : Span) → P s → shelves.Passes s.old s.new) → ((s : Span) → P s → Finds after (needs_row after path was) path old mid s found)
-    → IfOk result (λ refused. (s : Span) → P s → Removes after path old new s was refused made)
-removes_ok after path old mid new s was found made (Err fault) early looks never same takes taken forgotten P reads finds = tt
-removes_ok after path old mid new s was found made (Ok refused) early looks never same takes taken forgotten P reads finds =
-    λ s keeps. removes_found after path old mid new s was found refused made early looks (reads s keeps) never (finds s keeps) same takes taken forgotten
+module _ (after needs : Bool) (path : List ℕ) (old mid new : History) (was made : Table) (later : shelves.History) (found : Found) (result : Result (Option Refusal) OpFault) (P : Span → Type 0)
+    (same_needs : needs ≡ needs_row after path was) (early : early_refusal after path was ≡ None) (looks : Passes old mid) (reads : (s : Span) → P s → shelves.Passes s.old later)
+    (finds : (s : Span) → P s → Finds after needs path old mid (upto s later) found) (takes : TakesFound found path mid new) where
+  finds_needed : (s : Span) → P s → Finds after (needs_row after path was) path old mid (upto s later) found
+  finds_needed s keeps = subst (λ (b : Bool). Finds after b path old mid (upto s later) found) same_needs (finds s keeps)
+
+  pub removes_ok : (after ≡ true → found ≡ a_find.Unchanged → ⊥) → IfOk result (λ refused. refused ≡ refusal_of found)
+      → (found ≡ a_find.Unchanged → OnOk result (IsTrue mid.told → bytes_at (now new) path ≡ None)) → IfOk result (λ refused. IsForgotten path refused was made)
+      → IfOk result (λ refused. (s : Span) → P s → Removes after path old new (upto s later) was refused made)
+  removes_ok never same taken forgotten = by result same taken forgotten
+    where
+      by : (r : Result (Option Refusal) OpFault) → IfOk r (λ refused. refused ≡ refusal_of found) → (found ≡ a_find.Unchanged → OnOk r (IsTrue mid.told → bytes_at (now new) path ≡ None))
+          → IfOk r (λ refused. IsForgotten path refused was made) → IfOk r (λ refused. (s : Span) → P s → Removes after path old new (upto s later) was refused made)
+      by (Err fault) same taken forgotten = tt
+      by (Ok refused) same taken forgotten = λ s keeps. removes_found after path old mid new (upto s later) was found refused made early looks (reads s keeps) never (finds_needed s keeps) same takes taken forgotten
+
+  pub stops : IfErr result (λ fault. (s : Span) → P s → StopsRemoving after path was old new (upto s later))
+  stops = by result
+    where
+      each : (s : Span) → P s → StopsRemoving after path was old new (upto s later)
+      each s keeps = elim (took_by after path old mid new (upto s later) was found early (finds_needed s keeps) takes) as (λ _. StopsRemoving after path was old new (upto s later)) [
+        | inl passes ↦ inl (passes_trans old mid new looks passes)
+        | inr took ↦ inr (mid, looks, took.1)
+      ]
+
+      by : (r : Result (Option Refusal) OpFault) → IfErr r (λ fault. (s : Span) → P s → StopsRemoving after path was old new (upto s later))
+      by (Ok refused) = tt
+      by (Err fault) = each
+
+pub early_no_path : (after : Bool) (word : List ℕ) (t : Table) → is_path word ≡ false → early_refusal after word t ≡ Some a_refusal.BadPath
+early_no_path after word t bad = ap (λ (b : Bool). cond b (entry_refusal after (t.entries word)) (Some a_refusal.BadPath)) bad
 
 -- a word that is refused by what is recorded
 pub removes_early : (after : Bool) (path : List ℕ) (h : History) (s : Span) (t : Table) (refusal : Refusal) → early_refusal after path t ≡ Some refusal → shelves.Passes s.old s.new → Removes after path h h s t (Some refusal) t
@@ -188,6 +263,7 @@ removes_early after path h s t refusal early reads = record {
   refusal =
       subst (λ (o : Option Refusal). RefusesBehind o after (needs_row after path t) path h h s (stat_at (now h) path) (Some refusal)) (sym early) refl;
   takes = takes_passes (may_take after (Ok (Some refusal))) path h h (passes_same h);
+  took = inl (passes_same h);
   gone = tt;
   table = same_table t;
 }

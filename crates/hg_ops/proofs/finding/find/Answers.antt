@@ -18,7 +18,7 @@ pub returns-in-Ok-Some-clause-found : goal.returns-in-Ok-Some-clause-found
 returns-in-Ok-Some-clause-found g c =
     find_found c.args.after c.args.needs c.args.path.text.now (g.T.Tree.history c.args.tree.now) (g.T.Tree.history c.stat.new.self) (g.T.Tree.history c.find_there.new.tree)
     (g.S.Shelf.history c.find_there.new.shelf) c.in-Ok-Some.before (λ s. KeepsParent (upto s (g.S.Shelf.history c.args.shelf.now)) c.args.parent.now) c.stat.ensures.passes c.find_there.ensures.tree_passes
-    (λ told. cc (c.in-Ok-Some.field-0-is, c.in-Ok-Some.before-is, c.in-Ok-Some.ensures.found told))
+    (λ told. cc (c.in-Ok-Some.field-0-is, c.in-Ok-Some.ensures.found told))
     c.find_there.result
     (λ s keeps. shelves.passes_trans s.old (g.S.Shelf.history c.args.shelf.now) (g.S.Shelf.history c.find_there.new.shelf) keeps.passes c.find_there.ensures.shelf_passes)
     c.find_there.ensures.found
@@ -27,7 +27,7 @@ pub returns-in-Ok-Some-clause-met : goal.returns-in-Ok-Some-clause-met
 returns-in-Ok-Some-clause-met g c =
     find_met c.args.after c.args.needs c.args.path.text.now (g.T.Tree.history c.args.tree.now) (g.T.Tree.history c.stat.new.self) (g.T.Tree.history c.find_there.new.tree)
     (g.S.Shelf.history c.find_there.new.shelf) c.in-Ok-Some.before (λ s. KeepsParent (upto s (g.S.Shelf.history c.args.shelf.now)) c.args.parent.now) c.stat.ensures.passes c.find_there.ensures.tree_passes
-    (λ told. cc (c.in-Ok-Some.field-0-is, c.in-Ok-Some.before-is, c.in-Ok-Some.ensures.found told))
+    (λ told. cc (c.in-Ok-Some.field-0-is, c.in-Ok-Some.ensures.found told))
     c.find_there.result c.find_there.ensures.met c.find_there.ensures.compared
 
 pub returns-in-Ok-Some-clause-asked : goal.returns-in-Ok-Some-clause-asked
@@ -40,7 +40,7 @@ returns-in-Ok-Some-clause-asked g c = elim c.find_there.ensures.needed [
   | inr need ↦
       find_reads c.args.after c.args.needs c.args.path.text.now (g.T.Tree.history c.args.tree.now) (g.T.Tree.history c.stat.new.self) (g.T.Tree.history c.find_there.new.tree)
       (g.S.Shelf.history c.find_there.new.shelf) c.in-Ok-Some.before (λ s. KeepsParent (upto s (g.S.Shelf.history c.args.shelf.now)) c.args.parent.now) c.stat.ensures.passes c.find_there.ensures.tree_passes
-      (λ told. cc (c.in-Ok-Some.field-0-is, c.in-Ok-Some.before-is, c.in-Ok-Some.ensures.found told))
+      (λ told. cc (c.in-Ok-Some.field-0-is, c.in-Ok-Some.ensures.found told))
       need.0 need.1
       (λ told. asked_nothing _ (g.T.Tree.history c.args.tree.now) (g.T.Tree.history c.stat.new.self) (c.stat.ensures.asked told))
       c.find_there.ensures.asked
@@ -53,6 +53,6 @@ returns-in-Ok-Some-clause-needed g c = elim c.find_there.ensures.needed [
       inr
       (find_need c.args.after c.args.needs c.args.path.text.now (g.T.Tree.history c.args.tree.now) (g.T.Tree.history c.stat.new.self) (g.T.Tree.history c.find_there.new.tree)
       (g.S.Shelf.history c.find_there.new.shelf) c.in-Ok-Some.before (λ s. KeepsParent (upto s (g.S.Shelf.history c.args.shelf.now)) c.args.parent.now) c.stat.ensures.passes c.find_there.ensures.tree_passes
-      (λ told. cc (c.in-Ok-Some.field-0-is, c.in-Ok-Some.before-is, c.in-Ok-Some.ensures.found told))
+      (λ told. cc (c.in-Ok-Some.field-0-is, c.in-Ok-Some.ensures.found told))
       need.0 need.1)
 ]
