@@ -1,9 +1,15 @@
 pub mod Added
+pub mod AskingStore
 pub mod Collecting
 pub mod Dropping
+pub mod ExactlyRefused
 pub mod Forgotten
 pub mod ForgottenLent
+pub mod FoundSpans
+pub mod LongerSpan
 pub mod NewParents
 pub mod OneParents
 pub mod OneStep
+pub mod ReadParent
 pub mod Setting
+pub mod Taken

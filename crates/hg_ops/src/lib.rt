@@ -35,6 +35,7 @@ mod parent;
 mod parents;
 mod paths;
 mod refusal;
+mod remove_laws;
 mod removing;
 mod wanted;
 
@@ -46,4 +47,5 @@ pub use laws::{one_add, one_forget, one_set_parents};
 pub use parent::Parent;
 pub use parents::set_parents;
 pub use refusal::{OpFault, Refusal};
+pub use remove_laws::{one_remove, remove_is_exact, remove_stays};
 pub use removing::remove;
