@@ -2,6 +2,7 @@ pub mod Cause
 pub mod Collected
 pub mod Copy
 pub mod Dropping
+pub mod Finding
 pub mod Look
 pub mod Parent
 pub mod Parents

@@ -74,10 +74,10 @@ is_by_row (Some entry) copied = entry.w && entry.p1 && not entry.p2 && not copie
 abbrev pub needs_row : Bool → List ℕ → Table → Bool
 needs_row after word t = is_path word && not after && is_by_row (t.entries word) (is_some (t.sources word))
 
--- a comparison of a path with a row, over a span of the files below `.hg`
-abbrev pub compared : List ℕ → FileRow → History → History → Span → Compared
-compared path row old new s =
-    record { path = path; name = contents_name row.id.0; tree_old = old; tree_new = new; shelf_old = s.old; shelf_new = s.new }
+-- a comparison of a path with a row
+abbrev pub compared : List ℕ → FileRow → History → History → shelf.History → shelf.History → Compared
+compared path row old new files later =
+    record { path = path; name = contents_name row.id.0; tree_old = old; tree_new = new; shelf_old = files; shelf_new = later }
 
 -- a file as the row's was seen, or that nothing is there any more
 pub record IsAsRow (c : Compared) (row : FileRow) (before : Stat) : Type 0 where
@@ -87,7 +87,7 @@ pub record IsAsRow (c : Compared) (row : FileRow) (before : Stat) : Type 0 where
 -- another was seen; where there is no row, any is another
 abbrev pub IsUnlikeRow : List ℕ → History → History → Span → Stat → Option FileRow → Type 0
 IsUnlikeRow path old new s before None = Unit {0}
-IsUnlikeRow path old new s before (Some row) = (is_alike row before ≡ false) ⊎ IsOther (compared path row old new s) before
+IsUnlikeRow path old new s before (Some row) = (is_alike row before ≡ false) ⊎ IsOther (compared path row old new s.old s.new) before
 
 -- what a look showed is as the first parent has it
 pub record IsUnchangedFile (path : List ℕ) (old new : History) (s : Span) (before : Stat) : Type 0 where
@@ -95,7 +95,7 @@ pub record IsUnchangedFile (path : List ℕ) (old new : History) (s : Span) (bef
   pub read : IsManifest s rows
   pub row : FileRow
   pub has : row_at rows path ≡ Some row
-  pub seen : IsAsRow (compared path row old new s) row before
+  pub seen : IsAsRow (compared path row old new s.old s.new) row before
 
 -- it isn't
 pub record IsChangedFile (path : List ℕ) (old new : History) (s : Span) (before : Stat) : Type 0 where

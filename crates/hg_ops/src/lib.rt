@@ -28,6 +28,7 @@ mod adding;
 mod copy_refusal;
 mod copying;
 mod entries;
+mod finding;
 mod forgetting;
 mod laws;
 mod parent;
