@@ -7,13 +7,20 @@ import shutil
 import stat
 
 from calls import ERRORS, Calls, has_gcc, let_go, watched
-from commits import P1, PARENT, W, put_commit, put_entries
-from folder import NOBODY, aborted, as_nobody, because, lay_out, lines, put, seen
+from commits import P1, PARENT, W, put_commit
+from dirstate import written
+from folder import NOBODY, aborted, as_nobody, because, lay_out, lines, put, put_record, seen
 from refusing import files_of
 from saving import NEXT, Scene, copied, counted, failed, run_failures, run_stops, short, stopped, told
 
 ONE, OTHER = b"one\n", b"other\n"
 LARGE = bytes(i * i % 251 for i in range(200_000))
+
+
+def put_tracked(root, tracked):
+    """The record of these paths, each in the commit and tracked (`n`) or added (`a`)."""
+    flags = {os.fsencode(path): W | P1 if letter == "n" else W for path, letter in tracked.items()}
+    put_record(root, *written(list(flags), flags, p1=PARENT))
 
 
 class Changed(Scene):
@@ -26,7 +33,7 @@ class Changed(Scene):
     def make(self, root):
         lay_out(root, [NEXT])
         put_commit(root, [(path, ONE, b"") for path, letter in self.before.items() if letter == "n"])
-        put_entries(root, [(path, W | P1 if letter == "n" else W, "") for path, letter in self.before.items()])
+        put_tracked(root, self.before)
         for path in set(self.before) - set(self.missing):
             os.makedirs(os.path.dirname(f"{root}/{path}"), exist_ok=True)
             if path == "l":
@@ -123,7 +130,7 @@ def lay_exchanged(room):
     root = f"{room}/root"
     names = ["a", "d/b", "d/e/c"]
     put_commit(root, [(it, ONE, b"") for it in names])
-    put_entries(root, [(it, W | P1, "") for it in names])
+    put_tracked(root, dict.fromkeys(names, "n"))
     for folder, content in ((root, ONE), (f"{room}/outside", OTHER)):
         for name in ("a", "d/b", "d/e/c", "b", "e/c"):
             if folder != root or name in names:
@@ -222,7 +229,7 @@ def run_no_room(tests):
         with tests.working_copy() as root:
             lay_out(root, ["d/b"])
             put_commit(root, [("a", LARGE, b"")])
-            put_entries(root, [("a", W | P1, "")])
+            put_tracked(root, {"a": "n"})
             put(f"{root}/a", LARGE)
             before = tests.run(root, ("debugdirstate",))
             answer = tests.run(root, ("copy", "a", target), preexec_fn=files_of(most))
@@ -237,7 +244,7 @@ def run_no_room(tests):
             tests.compare(f"{case}: the copy is whole", (standing(root, [target])[target] == LARGE, tests.run(root, ("status", "-C"))[1]), (True, lines(f"A {target}", "  a", "? d/b")))
     with tests.working_copy() as root:
         put_commit(root, [("a", LARGE, b"x"), ("empty", b"", b"")])
-        put_entries(root, [("a", W | P1, ""), ("empty", W | P1, "")])
+        put_tracked(root, {"a": "n", "empty": "n"})
         put(f"{root}/a", LARGE)
         put(f"{root}/empty", b"")
         os.chmod(f"{root}/a", 0o755)
