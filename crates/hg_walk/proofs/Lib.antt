@@ -1,6 +1,7 @@
 pub mod Again
 pub mod Cached
 pub mod Growing
+pub mod Keeps
 pub mod Listed
 pub mod Noted
 pub mod Parts

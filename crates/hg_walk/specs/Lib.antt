@@ -1,3 +1,4 @@
+pub mod EditLaws
 pub mod Keeping
 pub mod Laws
 pub mod Notes

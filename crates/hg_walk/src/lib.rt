@@ -16,8 +16,10 @@
 //! body, and its clause is the law.
 #![tactic(auto)]
 
+mod edits;
 mod laws;
 
+pub use edits::{caches_are_kept, times_are_kept};
 pub use laws::{
     good_with_notes, listed_is_seen, noted_is_earned, notes_are_trusted, notes_grow,
     right_in_parts, timeless_are_right, trust_stays, trusted_are_right, worked_case,
