@@ -41,6 +41,10 @@ with_id what id = what ++ encode_lower id.0
 abbrev pub at_ignore_line : ℕ → List ℕ → List ℕ
 at_ignore_line line what = codes ".hgignore line " ++ (decimal line ++ (codes ": " ++ what))
 
+-- what is wrong with a line of a script
+abbrev pub at_script_line : ℕ → List ℕ → List ℕ
+at_script_line line what = codes "script line " ++ (decimal line ++ (codes " is " ++ what))
+
 abbrev pub words_of : Fault → List ℕ
 words_of a_fault.OutOfMemory = codes "out of memory"
 words_of a_fault.NotBuilt = codes "not built yet"
@@ -67,8 +71,13 @@ words_of (a_fault.TooLarge size) = codes "dirstate data would have " ++ (decimal
 words_of a_fault.IdsSpent = codes "no identifier is left"
 words_of a_fault.TreeFailed = codes "working copy failed"
 words_of a_fault.ShelfFailed = codes ".hg failed"
+words_of a_fault.InFailed = codes "input failed"
 words_of a_fault.OutFailed = codes "output failed"
 words_of a_fault.ErrFailed = []
+words_of (a_fault.ScriptLine n) = at_script_line n (codes "too long")
+words_of (a_fault.ScriptText n) = at_script_line n (codes "not text")
+words_of (a_fault.ScriptNested n) = at_script_line n (codes "a script")
+words_of (a_fault.ScriptTooLarge size) = codes "script of more than 67108864 bytes"
 
 -- a fault has a line, but for the one where the error stream failed
 abbrev pub has_line : Fault → Bool

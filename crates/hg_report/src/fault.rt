@@ -62,10 +62,20 @@ pub enum Fault {
     TreeFailed,
     /// The files below `.hg` failed.
     ShelfFailed,
+    /// Standard input failed.
+    InFailed,
     /// Standard output failed.
     OutFailed,
     /// The error stream failed while warnings were written.
     ErrFailed,
+    /// The line of that number of a script, from 1, is over 65,536 bytes long.
+    ScriptLine { n: u32 },
+    /// That line isn't UTF-8.
+    ScriptText { n: u32 },
+    /// The command of that line is a script itself.
+    ScriptNested { n: u32 },
+    /// The script has at least so many bytes, over 67,108,864.
+    ScriptTooLarge { size: u64 },
 }
 
 impl From<OutOfMemory> for Fault {

@@ -5,7 +5,7 @@ ghost use Rattle.std.specs.Fmt.{decimal};
 ghost use Rattle.std.specs.List.{flat_map};
 ghost use Rattle.std.specs.String.{string_bytes};
 ghost use Rattle.hg_report.specs.Fault as words_are;
-ghost use Rattle.hg_report.specs.Fault.{at_ignore_line, at_node, docket_words, line_of, node_words, with_id, words_of};
+ghost use Rattle.hg_report.specs.Fault.{at_ignore_line, at_node, at_script_line, docket_words, line_of, node_words, with_id, words_of};
 
 use crate::fault::Fault;
 use hg_base::{Id20, OutOfMemory};
@@ -117,6 +117,12 @@ fn argument_text(alloc: Global, word: u32) -> Result<String, OutOfMemory>
     Ok(format!(in alloc; "argument {word} is not a node")?)
 }
 
+fn script_text(alloc: Global, line: u32, what: &str) -> Result<String, OutOfMemory>
+    ensures { IfOk result (λ text. string_bytes text ≡ at_script_line line what.now) }
+{
+    Ok(format!(in alloc; "script line {line} is {what}")?)
+}
+
 fn put_words(alloc: Global, line: &mut Vec<u8>, fault: &Fault) -> Result<(), OutOfMemory>
     ensures { OnOk result (line.new.items ≡ line.old.items ++ words_of fault.now) }
 {
@@ -156,8 +162,13 @@ fn put_words(alloc: Global, line: &mut Vec<u8>, fault: &Fault) -> Result<(), Out
         Fault::IdsSpent => put(line, "no identifier is left"),
         Fault::TreeFailed => put(line, "working copy failed"),
         Fault::ShelfFailed => put(line, ".hg failed"),
+        Fault::InFailed => put(line, "input failed"),
         Fault::OutFailed => put(line, "output failed"),
         Fault::ErrFailed => Ok(()),
+        Fault::ScriptLine { n } => put(line, script_text(alloc, *n, "too long")?.as_str()),
+        Fault::ScriptText { n } => put(line, script_text(alloc, *n, "not text")?.as_str()),
+        Fault::ScriptNested { n } => put(line, script_text(alloc, *n, "a script")?.as_str()),
+        Fault::ScriptTooLarge { .. } => put(line, "script of more than 67108864 bytes"),
     }
 }
 

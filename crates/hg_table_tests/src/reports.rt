@@ -186,6 +186,21 @@ fn pattern_fault(case: &str) -> Option<Fault> {
     }
 }
 
+// What may be wrong with a script.
+fn script_fault(case: &str) -> Option<Fault> {
+    let n = small(case, 1);
+    match word(case, 0) {
+        "input" => Some(Fault::InFailed),
+        "script-line" => Some(Fault::ScriptLine { n }),
+        "script-text" => Some(Fault::ScriptText { n }),
+        "script-nested" => Some(Fault::ScriptNested { n }),
+        "script-size" => Some(Fault::ScriptTooLarge {
+            size: great(case, 1),
+        }),
+        _ => None,
+    }
+}
+
 // What may be wrong with saving.
 fn saving_fault(case: &str) -> Option<Fault> {
     let size = great(case, 1);
@@ -255,6 +270,9 @@ impl Play for Inputs {
         if let Some(fault) = parent_fault(case) {
             return print_fault(alloc, &fault, answer);
         }
+        if let Some(fault) = script_fault(case) {
+            return print_fault(alloc, &fault, answer);
+        }
         let fault = pattern_fault(case).ok_or("no such fault")?;
         print_fault(alloc, &fault, answer)
     }
@@ -272,6 +290,11 @@ glob 1 => abort: .hgignore line 1: glob\n
 regexp 4294967295 => abort: .hgignore line 4294967295: regexp\n
 regexp-size 20 => abort: .hgignore line 20: size\n
 include 3 => abort: .hgignore line 3: include\n
+input => abort: input failed\n
+script-line 4294967295 => abort: script line 4294967295 is too long\n
+script-text 1 => abort: script line 1 is not text\n
+script-nested 2 => abort: script line 2 is a script\n
+script-size 67108865 => abort: script of more than 67108864 bytes\n
 ";
 
 struct Others;
