@@ -44,6 +44,7 @@ entry_refusal after (Some entry) =
 abbrev pub early_refusal : Bool → List ℕ → Table → Option Refusal
 early_refusal after word t = if is_path word then entry_refusal after (t.entries word) else Some a_refusal.BadPath
 
+-- the letter is M
 abbrev pub is_modified : Option Letter → Bool
 is_modified (Some a_letter.M) = true
 is_modified letter = false
@@ -55,6 +56,7 @@ placed_refusal true (Some entry) copied row placed = if is_file_or_link placed t
 placed_refusal false (Some entry) copied row placed =
     if is_modified (tracked_letter row (marks_of entry) copied placed) then Some a_refusal.Changed else None
 
+-- the first of two that is one
 abbrev pub first_refusal : Option Refusal → Option Refusal → Option Refusal
 first_refusal (Some refusal) second = Some refusal
 first_refusal None second = second
@@ -66,6 +68,7 @@ remove_refusal after word t row placed =
 
 -- ---- why a word is refused, by what was seen at moments of a call
 
+-- an entry whose marks, with no copy source, leave it to the row of the first parent whether its file is changed
 abbrev pub is_by_row : Option EntryData → Bool → Bool
 is_by_row None copied = false
 is_by_row (Some entry) copied = entry.w && entry.p1 && not entry.p2 && not copied
@@ -97,12 +100,13 @@ pub record IsUnchangedFile (path : List ℕ) (old new : History) (s : Span) (bef
   pub has : row_at rows path ≡ Some row
   pub seen : IsAsRow (compared path row old new s.old s.new) row before
 
--- it isn't
+-- what a look showed isn't as the first parent has it, or that has no row of the path
 pub record IsChangedFile (path : List ℕ) (old new : History) (s : Span) (before : Stat) : Type 0 where
   pub rows : Rows
   pub read : IsManifest s rows
   pub seen : IsUnlikeRow path old new s before (row_at rows path)
 
+-- so the row decides
 abbrev pub RefusesByRow : List ℕ → History → History → Span → Stat → Option Refusal → Type 0
 RefusesByRow path old new s before None = IsUnchangedFile path old new s before
 RefusesByRow path old new s before (Some a_refusal.Changed) = IsChangedFile path old new s before
@@ -119,6 +123,7 @@ abbrev pub RefusesShown : Bool → Bool → List ℕ → History → History →
 RefusesShown after needs word old new s None refused = refused ≡ None
 RefusesShown after needs word old new s (Some before) refused = MatchBool (is_file before.kind) (RefusesFile after needs word old new s before refused) (refused ≡ None)
 
+-- where nothing recorded refuses the word
 abbrev pub RefusesBehind : Option Refusal → Bool → Bool → List ℕ → History → History → Span → Option Stat → Option Refusal → Type 0
 RefusesBehind (Some refusal) after needs word old new s shown refused = refused ≡ Some refusal
 RefusesBehind None after needs word old new s shown refused = RefusesShown after needs word old new s shown refused
@@ -180,6 +185,7 @@ pub record WasGone (old new : History) (path : List ℕ) : Type 0 where
   pub gone_then : bytes_at (new.at moment) path ≡ None
   pub gone_last : IsOurs old new → bytes_at (now new) path ≡ None
 
+-- so where the word isn't refused
 abbrev pub IsGone : List ℕ → History → History → Option Refusal → Type 0
 IsGone word old new (Some refusal) = Unit {0}
 IsGone word old new None = IsTrue old.told → WasGone old new word

@@ -1,5 +1,5 @@
 use Rattle.std.proofs.Common.{ap, inl, inr, ◌∙◌}
-use Rattle.hg_ops.specs.Parent.{KeepsParent, Span, upto}
+use Rattle.hg_ops.specs.Parent.{KeepsParent, upto}
 use Rattle.hg_ops.proofs.AskingStore.{keeps_store}
 use Rattle.hg_ops.proofs.FoundSpans.{asked_nothing, find_found, find_met, find_need, find_nothing, find_reads, reads_none}
 use Rattle.hg_shelf.proofs.Histories as shelves

@@ -1,5 +1,4 @@
-use Rattle.std.proofs.Common.{sym, subst, ◌≡◌, ◌∙◌}
-use Rattle.std.specs.Prelude.{IsTrue}
+use Rattle.std.proofs.Common.{sym, subst, ◌∙◌}
 use Rattle.std.proofs.lemmas.Result.{IfErr-weaker, IfOk-weaker}
 use Rattle.hg_ops.specs.Finding.{FindsByRow, FindsIn, LacksIn, MetBy}
 use Rattle.hg_ops.specs.Parent.{HasAsked, IsKeptManifest, IsManifest, KeepsParent, Span, upto}

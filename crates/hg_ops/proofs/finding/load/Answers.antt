@@ -1,4 +1,4 @@
-use Rattle.std.proofs.Common.{Ok, Err, refl, sym, ◌∙◌, subst}
+use Rattle.std.proofs.Common.{Ok, Err, refl, sym, subst}
 use Rattle.hg_manifest.specs.Load.{asks_of}
 use Rattle.hg_ops.specs.Parent.{LacksManifest, upto}
 use Rattle.hg_ops.proofs.ReadParent.{load_done, load_failed, loads_room}

@@ -1,7 +1,7 @@
-use Rattle.std.proofs.Common.{◌∙◌, inl, inr, sym, subst, Bool}
+use Rattle.std.proofs.Common.{◌∙◌, inl, inr, subst, Bool}
 use Rattle.hg_mixed.specs.Held.{table}
-use Rattle.hg_ops.specs.Parent.{KeepsParent, Span, upto}
-use Rattle.hg_ops.specs.Remove.{MetRemoving, NeedsRow, ReadsWord, may_take}
+use Rattle.hg_ops.specs.Parent.{KeepsParent, upto}
+use Rattle.hg_ops.specs.Remove.{MetRemoving, NeedsRow, ReadsWord}
 use Rattle.hg_ops.proofs.AskingStore.{keeps_store}
 use Rattle.hg_ops.proofs.FoundSpans.{need_longer, reads_longer}
 use Rattle.hg_ops.proofs.ReadParent.{always_failed}
