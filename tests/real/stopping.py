@@ -122,7 +122,7 @@ def run_stopped(tests):
     tests.compare("calls whose failure changes nothing, of remove and copy", passed, {"statx of copy", "statx of .hg"})
 
 
-# The command, and whether it reads in the folder that is exchanged.
+# What is done while the folder `d` is exchanged.
 EXCHANGED = [["copy", "a", "d/new"], ["copy", "a", "d/e/f/new"], ["copy", "d/b", "new"], ["remove", "d/b"], ["remove", "d/e/c", "a"]]
 
 
@@ -211,16 +211,18 @@ def run_rights(tests):
             how = {"preexec_fn": lambda: os.umask(0o022), **as_nobody()}
             answer = tests.run(root, words, **how)
             for path in modes:
-                os.chmod(f"{root}/{path}", 0o755 if os.path.isdir(f"{root}/{path}") else 0o644) if os.path.lexists(f"{root}/{path}") else None
+                if os.path.lexists(f"{root}/{path}"):
+                    os.chmod(f"{root}/{path}", 0o755 if os.path.isdir(f"{root}/{path}") else 0o644)
             wanted = (255, b"", aborted("working copy failed") + because(name, DENIED)) if name else (0, b"", b"")
-            case = f"{', '.join(f'{mode:03o} {path or chr(46)}' for path, mode in modes.items())}: {' '.join(words)}"
+            named = ", ".join(f"{mode:03o} {path or '.'}" for path, mode in modes.items())
+            case = f"{named}: {' '.join(words)}"
             tests.compare(case, (answer, [os.path.lexists(f"{root}/{it}") for it in PATHS]), (wanted, stand))
             tests.compare(f"{case}: the record", (tests.run(root, ("debugdirstate",)) == before, os.path.lexists(f"{root}/.hg/wlock")), (name is not None, False))
             if os.path.lexists(f"{root}/new"):
                 tests.compare(f"{case}: the copy is as the user's mask has it", stat.S_IMODE(os.lstat(f"{root}/new").st_mode), 0o644)
 
 
-# how many bytes a file may have, the target, and how many the copy then has; a program too
+# how many bytes a file may have, the target, and how many the copy then has
 NO_ROOM = [(1_000, "new", 1_000), (70_000, "d/e/new", 70_000), (131_072, "new", 131_072), (199_999, "d/new", 199_999)]
 
 
