@@ -1,9 +1,14 @@
 pub mod Added
 pub mod Collecting
+pub mod Course
 pub mod Dropping
 pub mod Forgotten
 pub mod ForgottenLent
+pub mod Grown
+pub mod Moments
 pub mod NewParents
 pub mod OneParents
 pub mod OneStep
+pub mod OwnPuts
 pub mod Setting
+pub mod Tracked

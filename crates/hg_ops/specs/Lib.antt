@@ -1,9 +1,13 @@
 pub mod Cause
 pub mod Collected
 pub mod Copy
+pub mod Copying
 pub mod Dropping
 pub mod Look
 pub mod Parents
+pub mod Parts
+pub mod Putting
+pub mod Seen
 pub mod Setting
 pub mod Step
 pub mod Untracked

@@ -32,7 +32,9 @@ mod forgetting;
 mod laws;
 mod parents;
 mod paths;
+mod putting;
 mod refusal;
+mod vacant;
 mod wanted;
 
 pub use adding::add;
