@@ -10,5 +10,6 @@ pub mod NewParents
 pub mod OneParents
 pub mod OneStep
 pub mod OwnPuts
+pub mod Pieces
 pub mod Setting
 pub mod Tracked

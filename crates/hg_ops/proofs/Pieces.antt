@@ -22,7 +22,7 @@ use Rattle.hg_tree.specs.Moment.{Moment, bytes_at}
 use Rattle.hg_tree.specs.Own.{Acts, CanPut, CannotPut, IsPut, IsPuttable}
 use Rattle.hg_tree.proofs.Histories.{extends_same, extends_trans}
 use Rattle.hg_tree.proofs.Spans.{now_same, ours_first, ours_second, who_apart}
-use Rattle.hg_ops.proofs.Grown.{first_can, first_grown, grown_done, link_whole, size_is}
+use Rattle.hg_ops.proofs.Grown.{first_can, first_grown, grown_done, grown_piece, link_whole, size_is}
 use Rattle.hg_ops.proofs.OwnPuts.{cuts_wider, goes_trans, put_wider}
 
 -- ---- one read, and one put
@@ -162,7 +162,8 @@ module _ (from to : List ℕ) (stat : Stat) (a b : History) (width : ℕ) (wide 
       }
 
       module _ (c : History) (more : Extends b c)
-          (rest_asked : IsTrue b.told → (before : List Asked) → InPieces width (an_ask.Read from) before b.asked → InPieces stat.size (an_ask.Read from) before c.asked)
+          (first : ℕ) (same : first ≡ width)
+          (rest_asked : IsTrue b.told → (before : List Asked) → InPieces first (an_ask.Read from) before b.asked → InPieces stat.size (an_ask.Read from) before c.asked)
           (rest_goes : IsTrue b.told → GoesPutting from to stat b c) where
         ends_rest : (result : Result (Option CopyRefusal) OpFault) → (IsTrue b.told → IfOk result (PutsRest from to stat b c)) → IsTrue a.told → IfOk result (PutsAll from to stat a c)
         ends_rest (Ok None) ends told = put_wider from to stat a a b c 0 (omega arith) more (subst (Puts from to stat 0 a b) is (found told))
@@ -170,11 +171,34 @@ module _ (from to : List ℕ) (stat : Stat) (a b : History) (width : ℕ) (wide 
         ends_rest (Err fault) ends told = tt
 
         pub putting_rest : stat.kind ≡ a_kind.File → (result : Result (Option CopyRefusal) OpFault) → (IsTrue b.told → IfOk result (PutsRest from to stat b c))
-            → (IsOurs b c → Completes from to stat width b c result) → IsPutting from to stat a c result
+            → (IsOurs b c → Completes from to stat first b c result) → IsPutting from to stat a c result
         putting_rest file result ends rest = record {
           past = extends_trans a b c past more;
-          reads = λ told. rest_asked (past.told ∙ told) a.asked (asked told);
+          reads = λ told. rest_asked (past.told ∙ told) a.asked (subst (λ (w : ℕ). InPieces w (an_ask.Read from) a.asked b.asked) (sym same) (asked told));
           goes = λ told. goes_trans from to stat a b c past more (goes told) (rest_goes (past.told ∙ told));
           ends = ends_rest result ends;
-          whole = λ ours bytes can. rest (ours_second a b c past ours) bytes (now a) can file (first_piece (ours_first a b c more ours) bytes can).1;
+          whole = λ ours bytes can.
+              rest (ours_second a b c past ours) bytes (now a) can file
+              (subst (λ (w : ℕ). IsGrown to stat bytes (now a) w (now b)) (sym same) (first_piece (ours_first a b c more ours) bytes can).1);
         }
+
+-- ---- a piece behind the first
+
+pub end_never : a_piece.End ≡ a_piece.More → ⊥
+end_never h = absurd (cc h)
+
+pub over_never : (refusal : CopyRefusal) → a_piece.Over refusal ≡ a_piece.More → ⊥
+over_never refusal h = absurd (cc h)
+
+pub take_small : (width : ℕ) (room : List ℕ) → length room ≡ 65536 → length (take width room) ≤ 65536
+take_small width room is = let cut = length-take width room in omega (arith, cut, is)
+
+pub rest_piece : (from to : List ℕ) (stat : Stat) (bytes : List ℕ) (start : Moment) → CanCopy from to stat bytes start → (place width wide : ℕ) → wide ≡ width → (before after : Moment)
+    → IsGrown to stat bytes start place before → stat.kind ≡ a_kind.File → 0 < place → place + width ≤ stat.size → (piece : Piece)
+    → (bytes_at before from ≡ Some bytes → place + wide ≤ length bytes → CanPut stat.kind stat.exec place (piece_of bytes place wide) to before.things
+    → PutsWhole to stat place (piece_of bytes place wide) before after piece)
+    → (piece ≡ a_piece.More) × IsGrown to stat bytes start (place + width) after
+rest_piece from to stat bytes start can place width wide same before after grown file some fits piece whole =
+    let size = size_is from to stat bytes start can in
+    let is = grown_piece from to stat bytes start can place before grown file some wide (omega (arith, fits, size, same)) after piece whole in
+    (is.0, subst (λ (w : ℕ). IsGrown to stat bytes start (place + w) after) same is.1)

@@ -76,7 +76,7 @@ fn copy_paths<T: Tree>(
     ensures cause { HasOpCause (T.faults tree.old) (T.faults tree.new) result }
     ensures kind { IfErr result IsCopyFault }
 {
-    match look(mixed, tree, from, to) {
+    match look_at_both(mixed, tree, from, to) {
         Err(fault) => Err(fault),
         Ok(Look::Refused(refusal)) => Ok(Some(refusal)),
         Ok(Look::Free(stat)) => copy_free(alloc, mixed, tree, from, to, &stat),
@@ -93,7 +93,7 @@ pub(crate) enum Look {
 }
 
 // Looks at the source and at the target.
-fn look<T: Tree>(
+fn look_at_both<T: Tree>(
     mixed: &mut Mixed<'_>,
     tree: &mut T,
     from: PathRef<'_>,
