@@ -25,6 +25,8 @@ use Rattle.hg_ops.specs.declared.copying.Look.TheVariants as a_look
 use Rattle.hg_ops.specs.declared.refusal.OpFault.{OpFault}
 use Rattle.hg_ops.specs.declared.refusal.Refusal.{Refusal}
 use Rattle.hg_ops.specs.declared.refusal.Refusal.TheVariants as a_refusal
+use Rattle.hg_tree.specs.declared.asked.Asked.{Asked}
+use Rattle.hg_tree.specs.declared.asked.Asked.TheVariants as an_ask
 use Rattle.hg_tree.specs.History.{History, AreFormed, IsOurs, Passes, now}
 use Rattle.hg_tree.specs.Moment.{Moment, IsFormed, bytes_at, bytes_of, is_short, is_short_thing, stat_at, stat_of}
 use Rattle.hg_tree.specs.Own.{put_thing}
@@ -158,6 +160,11 @@ module _ (from to : List ℕ) (t : Table) where
         pub free_target : RefusesTarget to t (During b c) None → Looked from to t a c None
         free_target target = record { passes = passes_trans a b c passes more; refusal = looks_by (During a c) None (source_on, target_on None target) }
 
+  pub shown_was : (a b c : History) → Passes a b → Passes b c → (stat : Stat) → (IsTrue a.told → Some stat ≡ stat_at (now b) from) → IsTrue a.told → WasStat from stat a c
+  shown_was a b c passes more stat found told =
+      was_wider a a b c (λ moment. stat_at moment from ≡ Some stat) (omega arith) more.past
+      (was_last a b (λ moment. stat_at moment from ≡ Some stat) passes.past.later (sym (found told)))
+
   -- ---- nothing was done
 
   pub copying_none : (a b : History) (result : Result (Option CopyRefusal) OpFault) → Passes a b → (IsTrue a.told → b.asked ≡ a.asked) → (is_some (words_refusal from to t) ≡ true → b ≡ a)
@@ -194,7 +201,7 @@ module _ (from to : List ℕ) (t : Table) where
   readable_thing a_thing.Dir time is = absurd (true≢false (sym is))
   readable_thing a_thing.Other time is = absurd (true≢false (sym is))
 
-  is_file_stat : Option Stat → Bool
+  abbrev is_file_stat : Option Stat → Bool
   is_file_stat None = false
   is_file_stat (Some stat) = is_file stat.kind
 
@@ -246,7 +253,7 @@ module _ (from to : List ℕ) (t : Table) where
       told_on told = looked.passes.past.told ∙ told
 
       reads_on : (size : ℕ) → b.asked ≡ a.asked → Reads size from b c → Reads size from a c
-      reads_on size same reads = record { pieces = reads.pieces; few = reads.few; asked = reads.asked ∙ ap (λ l. l ++ replicate reads.pieces _) same }
+      reads_on size same reads = record { pieces = reads.pieces; few = reads.few; asked = reads.asked ∙ ap (λ (l : List Asked). l ++ replicate reads.pieces (an_ask.Read from)) same }
 
       works : Works from to t a c
       works = record {
@@ -301,5 +308,5 @@ module _ (from to : List ℕ) (t : Table) where
 
 pub copies_of : (from to : List ℕ) (a c : History) (old new : Held) (result : Result (Option CopyRefusal) OpFault) → IsCopying from to (table old) a c result → Tables from to old new result
     → IfOk result (λ refused. Copies from to a c (table old) refused (table new))
-copies_of from to a c old new (Ok refused) copying tables = record { comes = copying.comes; table = tables.made; exact = copying.exact }
-copies_of from to a c old new (Err fault) copying tables = tt
+copies_of from to a c old new (Ok refused) course tables = record { comes = course.comes; table = tables.made; exact = course.exact }
+copies_of from to a c old new (Err fault) course tables = tt

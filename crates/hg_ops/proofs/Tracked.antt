@@ -1,6 +1,6 @@
 -- A target is tracked as a copy.
 use Rattle.std.proofs.Common.{ℕ, ◌≡◌, Bool, true, false, cond, not, ◌&&◌, ◌||◌, List, Option, Some, None, Result, Ok, Err, refl, sym, ap, ◌∙◌, subst, true≢false, inl, inr, ◌⊎◌}
-use Rattle.std.specs.Prelude.{IfOk, IfSome, OnErr, OnOk}
+use Rattle.std.specs.Prelude.{IfOk, IfSome, OnErr, OnOk, option_map}
 use Rattle.std.specs.Str.{bytes_eq}
 use Rattle.std.proofs.lemmas.Bool.{cases_Bool, cond-false}
 use Rattle.hg_base.proofs.Within.{equal_bytes, same_bytes}
@@ -9,12 +9,13 @@ use Rattle.hg_entry.specs.Entry.{EntryData}
 use Rattle.hg_entry.specs.Steps.{tracked}
 use Rattle.hg_entry.specs.Table.{Table}
 use Rattle.hg_mixed.specs.Clash.{is_tracked_entry}
-use Rattle.hg_mixed.specs.Edits.{ArePlacedAsBefore, EndsAbove, IsOfSameImage, IsSame, IsUnchanged, Lends, Marks, PlacesCopy, after_copy}
+use Rattle.hg_mixed.specs.Edits.{ArePlacedAsBefore, EndsAbove, IsFormed, IsOfSameImage, IsSame, IsUnchanged, Lends, Marks, PlacesCopy, after_copy}
 use Rattle.hg_mixed.specs.Held.{Held, is_lent, source_at, table, text_at}
+use Rattle.hg_mixed.specs.Shown.{shown_in}
 use Rattle.hg_mixed.proofs.Edited.{same_trans}
 use Rattle.hg_mixed.proofs.Lifted.{same_back}
 use Rattle.hg_ops.specs.Copy.{LeavesOrAdds, PlacesCopied, copied, copy_source, origin, unless_at}
-use Rattle.hg_ops.specs.Copying.{LeavesTable, Tables}
+use Rattle.hg_ops.specs.Copying.{LeavesTable, Tables, origin_shown}
 use Rattle.hg_ops.specs.Step.{added, after_add, entry_added, is_tracked}
 use Rattle.hg_ops.specs.declared.copy_refusal.CopyRefusal.{CopyRefusal}
 use Rattle.hg_ops.specs.declared.refusal.OpFault.{OpFault}
@@ -112,7 +113,26 @@ module _ (from to : List ℕ) (old mid new : Held) (untracked : is_tracked (tabl
   pub tracked_only : IsUnchanged mid new → LeavesOrAdds to (table old) (table new)
   tracked_only kept = inr (same_trans (table new) (table mid) (after_add to (table old)) kept.table set_is)
 
+-- ---- the copy source
+
+origin_by : (from : List ℕ) (entry : Option EntryData) (source : Option (List ℕ)) → (entry ≡ None → source ≡ None) → origin_shown from (option_map (λ e. (e, source)) entry) ≡ origin from entry source
+origin_by from None source none = sym (ap (origin from None) (none refl))
+origin_by from (Some entry) source none = refl
+
+pub source_copied : (from to : List ℕ) (t : Table) (source : List ℕ) (shown : Option (EntryData × Option (List ℕ))) → Some source ≡ origin_shown from shown → shown ≡ shown_in t from → IsFormed t
+    → bytes_eq source to ≡ false → Some source ≡ copy_source from to t
+source_copied from to t source shown is item formed apart =
+    sym (
+    ap (unless_at to) (sym (is ∙ ap (origin_shown from) item ∙ origin_by from (t.entries from) (t.sources from) (formed.sources from)))
+    ∙ cond-false (bytes_eq source to) None (Some source) apart
+    )
+
 -- ---- over a table that says the same
+
+pub source_on : (from to : List ℕ) (a b : Table) → IsSame a b → copy_source from to a ≡ copy_source from to b
+source_on from to a b same =
+    ap (λ (e : Option EntryData). unless_at to (origin from e (a.sources from))) (same.entries from)
+    ∙ ap (λ (s : Option (List ℕ)). unless_at to (origin from (b.entries from) s)) (same.sources from)
 
 same_copied : (from to : List ℕ) (a b : Table) (refused : Option CopyRefusal) → IsSame a b → IsSame (copied from to refused a) (copied from to refused b)
 same_copied from to a b (Some refusal) same = same
@@ -121,15 +141,10 @@ same_copied from to a b None same = record {
   p2 = same.p2;
   hash = same.hash;
   entries = λ at. ap (λ (o : Option EntryData). cond (bytes_eq to at) (Some (entry_added o)) (a.entries at)) (same.entries to) ∙ ap (cond (bytes_eq to at) (Some (entry_added (b.entries to)))) (same.entries at);
-  sources = λ at. ap (λ (s : Option (List ℕ)). cond (bytes_eq to at) s (a.sources at)) (same_source from to a b same) ∙ ap (cond (bytes_eq to at) (copy_source from to b)) (same.sources at);
+  sources = λ at. ap (λ (s : Option (List ℕ)). cond (bytes_eq to at) s (a.sources at)) (source_on from to a b same) ∙ ap (cond (bytes_eq to at) (copy_source from to b)) (same.sources at);
   nodes = λ at. ap (λ (n : Bool). n || is_within at to) (same.nodes at);
   caches = λ at. ap (cond (bytes_eq to at) None) (same.caches at);
 }
-
-pub same_source : (from to : List ℕ) (a b : Table) → IsSame a b → copy_source from to a ≡ copy_source from to b
-same_source from to a b same =
-    ap (λ (e : Option EntryData). unless_at to (origin from e (a.sources from))) (same.entries from)
-    ∙ ap (λ (s : Option (List ℕ)). unless_at to (origin from (b.entries from) s)) (same.sources from)
 
 same_added : (to : List ℕ) (a b : Table) → IsSame a b → IsSame (after_add to a) (after_add to b)
 same_added to a b same = record {
@@ -162,9 +177,9 @@ module _ (from to : List ℕ) (old mid new : Held) (kept : IsUnchanged old mid) 
   places_on (Some refusal) places = record { texts = λ at. places.texts at ∙ kept.places.texts at; sources = λ at. places.sources at ∙ kept.places.sources at }
   places_on None places = record {
     texts = λ at. places.texts at ∙ kept.places.texts at;
-    kept = λ had at. places.kept (kept.table.sources to ∙ had ∙ sym (same_source from to (table mid) (table old) kept.table)) at ∙ kept.places.sources at;
+    kept = λ had at. places.kept (kept.table.sources to ∙ had ∙ sym (source_on from to (table mid) (table old) kept.table)) at ∙ kept.places.sources at;
     changed = λ other at.
-        places.changed (λ had. other (sym (kept.table.sources to) ∙ had ∙ same_source from to (table mid) (table old) kept.table)) at ∙ ap (cond (bytes_eq to at) None) (kept.places.sources at);
+        places.changed (λ had. other (sym (kept.table.sources to) ∙ had ∙ source_on from to (table mid) (table old) kept.table)) at ∙ ap (cond (bytes_eq to at) None) (kept.places.sources at);
   }
 
   unchanged_on : (refused : Option CopyRefusal) → IfSome refused (λ refusal. IsUnchanged mid new) → IfSome refused (λ refusal. IsUnchanged old new)

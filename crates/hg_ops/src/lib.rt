@@ -7,6 +7,7 @@
 //! |---|---|---|
 //! | `add` | no path; nothing there; neither a file nor a link; a tracked path above or below | the path is tracked, in its old entry or in a new one |
 //! | `forget` | no path; not tracked | the path isn't tracked; its entry goes where no parent has it, and its copy source in any case |
+//! | `copy` | no path; source not tracked, not there, neither file nor link; target tracked, taken, or beside a tracked path | it is there too, as a copy |
 //!
 //! A path that is tracked already is added without a look at the working copy, and stays as it is.
 //!
@@ -20,8 +21,8 @@
 //! forget(&mut table, "src/main.c")?;           // Some(Refusal::NotTracked)
 //! ```
 //!
-//! `specs/Step.antt` says what a word makes of a table, `specs/Look.antt` what was looked at and when, `specs/Cause.antt` why a command stops, and
-//! `specs/Parents.antt` what other parents make of a table.
+//! `specs/Step.antt` and `specs/Copy.antt` say what a word makes of a table, `specs/Look.antt` what was looked at and when, `specs/Cause.antt` why a
+//! command stops, and `specs/Parents.antt` what other parents make of a table.
 #![tactic(auto)]
 
 mod adding;
