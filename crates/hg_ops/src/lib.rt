@@ -1,4 +1,4 @@
-//! What commands do to a table, one word at a time (`hg help add`, `hg help forget`, `hg help remove`).
+//! What commands do to a table, one word at a time (`hg help add`, `hg help forget`, `hg help remove`, `hg help copy`).
 //!
 //! A call takes the table of a dirstate (`hg_mixed`), the working copy where it has to be looked at, and a word that a user gave. It changes the
 //! table as the command says, or refuses the word and leaves all as it was. Each refusal comes exactly where it fits and none before it does.
@@ -9,6 +9,7 @@
 //! | `forget` | no path; not tracked | the path isn't tracked; its entry goes where no parent has it, and its copy source in any case |
 //! | `remove` | no path; not tracked; added; changed | the file or link is taken away, then as `forget` |
 //! | `remove -A` | no path; not tracked; a file or link is still there | as `forget` |
+//! | `copy` | no path; source not tracked, not there, neither file nor link; target tracked, taken, or beside a tracked path | it is there too, as a copy |
 //!
 //! A path that is tracked already is added without a look at the working copy, and stays as it is.
 //!
@@ -28,7 +29,7 @@
 //! remove(alloc, &mut table, &mut tree, &mut shelf, &mut parent, "README", false)?;  // None: gone
 //! ```
 //!
-//! `specs/Step.antt` says what a word makes of a table, `specs/Remove.antt` what `remove` saw and did, `specs/Parent.antt` what it read below `.hg`,
+//! `specs/Step.antt` and `specs/Copy.antt` say what a word makes of a table, `specs/Remove.antt` what `remove` saw and did, `specs/Parent.antt` what it read below `.hg`,
 //! `specs/Look.antt` what was looked at and when, `specs/Cause.antt` why a command stops, and `specs/Parents.antt` what other parents make of a table.
 #![tactic(auto)]
 
@@ -42,9 +43,11 @@ mod laws;
 mod parent;
 mod parents;
 mod paths;
+mod putting;
 mod refusal;
 mod remove_laws;
 mod removing;
+mod vacant;
 mod wanted;
 
 pub use adding::add;
