@@ -1,27 +1,25 @@
 -- Edits that bring no time leave a trusted record trusted.
-use Rattle.std.proofs.Common.{ℕ, ◌≡◌, ◌⊎◌, inl, inr, Bool, true, false, not, ◌&&◌, ◌||◌, cond, List, Option, Some, None, refl, sym, ap, ◌∙◌, subst, true≢false}
+use Rattle.std.proofs.Common.{ℕ, ◌≡◌, inl, inr, Bool, true, false, not, ◌&&◌, ◌||◌, cond, List, Option, Some, None, refl, sym, ap, ◌∙◌, subst, true≢false}
 use Rattle.std.specs.Prelude.{IsTrue, is_some}
 use Rattle.std.specs.Map.{update}
 use Rattle.std.specs.Str.{bytes_eq}
 use Rattle.std.proofs.lemmas.Bool.{and_from, and_parts, cases_Bool}
 use Rattle.std.proofs.lemmas.Map.{update_other, update_same}
 use Rattle.std.proofs.lemmas.Slice.Eq.{bytes_eq-Decides}
-use Rattle.hg_base.specs.PathText.{has_slash, is_component, joined, parent_of}
+use Rattle.hg_base.specs.PathText.{is_component, joined}
 use Rattle.hg_base.specs.Within.{is_within}
 use Rattle.hg_base.proofs.Components.{parent_joined}
-use Rattle.hg_compare.specs.Tracked.{ParentRow}
+use Rattle.hg_base.proofs.Paths.{component_plain}
 use Rattle.hg_entry.specs.Entry.{EntryData, StampData}
 use Rattle.hg_entry.specs.Table.{Table}
-use Rattle.hg_mixed.specs.Drop.{IsPruned, after_clear}
-use Rattle.hg_mixed.specs.Edits.{IsSame, after_cache, after_copy, after_no_caches, after_set}
 use Rattle.hg_tree.specs.History.{History}
-use Rattle.hg_tree.specs.Honest.{Face, face, has_name}
+use Rattle.hg_tree.specs.Honest.{has_name}
 use Rattle.hg_tree.specs.Moment.{is_dir}
 use Rattle.hg_tree.proofs.Telling.{face_names}
-use Rattle.hg_walk.specs.Keeping.{IsEditAt, KeepsCaches, KeepsTimes}
+use Rattle.hg_walk.specs.Keeping.{KeepsCaches}
 use Rattle.hg_walk.specs.EditLaws.{CopyIsEdit, DropKeepsTimes, EditKeepsTimes, ForgetKeepsTimes, KeepsThrough, KeptIsTrusted, OthersAreTrusted, SameKeepsTimes, SetIsEdit, UncachedKeepsTimes}
-use Rattle.hg_walk.specs.Seeing.{IsAccounted, IsAccountedDir, SeenDir}
-use Rattle.hg_walk.specs.Trust.{CouldVouch, IsEarned, IsTrusted}
+use Rattle.hg_walk.specs.Seeing.{IsAccounted, SeenDir}
+use Rattle.hg_walk.specs.Trust.{CouldVouch}
 
 -- ---- trust
 
@@ -152,9 +150,6 @@ copy_is_edit path source t none = record {
 
 -- ---- a drop
 
-component_slash : (name : List ℕ) → is_component name ≡ true → has_slash name ≡ false
-component_slash name is = cc is
-
 kept_cache : (gone stale : Bool) (cache : Option StampData) (stamp : StampData) → cond (gone || stale) None cache ≡ Some stamp → (stale ≡ false) × (cache ≡ Some stamp)
 kept_cache true stale cache stamp is = absurd (cc is)
 kept_cache false true cache stamp is = absurd (cc is)
@@ -185,7 +180,7 @@ drop_keeps_times path t left pruned = record {
     by_cache dir name component node None is some = absurd (cc some)
     by_cache dir name component node (Some stamp) is some =
         let fresh = (kept_cache (pruned.gone dir) (pruned.stale dir) (t.caches dir) stamp (sym (pruned.caches dir) ∙ is)).0 in
-        let above = parent_joined (Some dir) name (component_slash name component) in
+        let above = parent_joined (Some dir) name (component_plain name component) in
         pruned.nodes (joined (Some dir) name)
         ∙ and_from (t.nodes (joined (Some dir) name)) (not (pruned.gone (joined (Some dir) name))) node
         (stays (pruned.gone (joined (Some dir) name)) (λ gone. true≢false (sym (pruned.all_stale dir (joined (Some dir) name) gone above) ∙ fresh)))
