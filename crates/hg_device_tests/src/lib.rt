@@ -16,6 +16,8 @@ mod folders;
 #[cfg(test)]
 mod paths;
 #[cfg(test)]
+mod puts;
+#[cfg(test)]
 mod shelves;
 #[cfg(test)]
 mod stamps;

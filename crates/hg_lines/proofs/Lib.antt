@@ -1,0 +1,4 @@
+pub mod Cuts
+pub mod Pieces
+pub mod Scripts
+pub mod Answering
