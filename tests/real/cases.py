@@ -15,7 +15,7 @@ LAID = {"file", "files", "exec", "link", "dir", "other"}
 
 def is_changing(words):
     """Whether words may change the record, so that it is unknown where they were left out."""
-    return words[:1] in ([b"add"], [b"forget"])
+    return words[:1] in ([b"add"], [b"forget"], [b"remove"], [b"copy"], [b"debugsetparents"])
 
 
 class World:

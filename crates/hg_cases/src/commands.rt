@@ -1,11 +1,11 @@
 //! The lines that lay out what stands before a run.
 
 use crate::bytes::Docket;
-use crate::tokens::{joined, number, number_at, number_of_32, word_at, words_from};
+use crate::due::lay_due;
+use crate::tokens::{joined, number_at, number_of_32, word_at, words_from};
 use crate::world::{NOON, World, file};
 use crate::wrong::Wrong;
-use hg_base::{Blob, PathRef, Text};
-use hg_shelf::Outside;
+use hg_base::{Blob, PathRef};
 use hg_tree::Thing;
 use std::alloc::Global;
 
@@ -82,8 +82,8 @@ fn lay_files(world: &mut World, tokens: &[Vec<u8>]) -> Result<(), Wrong> {
     Ok(())
 }
 
-// The text of a thing: the byte `b` where none is named.
-fn content(alloc: Global, tokens: &[Vec<u8>]) -> Result<Blob, Wrong> {
+/// The text of a thing: the byte `b` where none is named.
+pub(crate) fn content(alloc: Global, tokens: &[Vec<u8>]) -> Result<Blob, Wrong> {
     if tokens.len() < 3 {
         return Ok(Blob::of(alloc, b"b")?);
     }
@@ -241,22 +241,4 @@ pub(crate) fn fail(world: &mut World, device: &str, call: u64) -> Result<(), Wro
         _ => return Err("no such device".into()),
     }
     Ok(())
-}
-
-// Others put a file, or take it away, just before that call of the next run.
-fn lay_due(world: &mut World, tokens: &[Vec<u8>]) -> Result<(), Wrong> {
-    let call = number(word_at(tokens, 1)?)?;
-    let call = world.shelf.device.calls().saturating_add(call);
-    let change = change_of(world.alloc, tokens)?;
-    Ok(world.shelf.device.due(call, change)?)
-}
-
-fn change_of(alloc: Global, tokens: &[Vec<u8>]) -> Result<Outside, Wrong> {
-    let name = Text::of(alloc, word_at(tokens, 2)?)?;
-    if tokens.len() < 4 {
-        return Ok(Outside::Remove { name });
-    }
-    let bytes = joined(alloc, tokens, 3)?;
-    let bytes = Blob::of(alloc, bytes.as_slice())?;
-    Ok(Outside::Place { name, bytes })
 }

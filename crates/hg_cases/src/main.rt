@@ -17,6 +17,7 @@
 mod answers;
 mod bytes;
 mod commands;
+mod due;
 mod noted;
 mod once;
 mod play;

@@ -16,7 +16,11 @@ mod folders;
 #[cfg(test)]
 mod paths;
 #[cfg(test)]
+mod puts;
+#[cfg(test)]
 mod shelves;
+#[cfg(test)]
+mod stamps;
 #[cfg(test)]
 mod streams;
 #[cfg(test)]

@@ -6,12 +6,14 @@ use std::alloc::Global;
 use std::string::String;
 use std::test::Fail;
 
-const NOON: Time = Time {
+/// What the clock of each tree shows.
+pub(crate) const NOON: Time = Time {
     seconds: 43_200,
     nanos: 0,
 };
 
-fn at(seconds: u64) -> Time {
+/// A time in that second.
+pub(crate) fn at(seconds: u64) -> Time {
     Time {
         seconds: i64::try_from(seconds).unwrap_or(0),
         nanos: 999_999_999,
@@ -166,7 +168,13 @@ fn laid(alloc: Global, tree: &mut MemTree, step: &str) -> Result<(), Fail> {
     }
 }
 
-fn done(alloc: Global, tree: &mut MemTree, step: &str, answer: &mut String) -> Result<(), Fail> {
+/// A step by another or a look, and what it answers.
+pub(crate) fn done(
+    alloc: Global,
+    tree: &mut MemTree,
+    step: &str,
+    answer: &mut String,
+) -> Result<(), Fail> {
     match word(step, 0) {
         "stat" => looked(tree, word(step, 1), answer),
         "list" => listed(alloc, tree, word(step, 1), answer),
@@ -188,8 +196,8 @@ impl Play for Trees {
     }
 }
 
-// A program, a link below two directories, and a fifo beside them.
-const SAMPLE: &str = "program a hello 1; link d/e/f ../a 2; other d/g 3; ";
+/// A program, a link below two directories, and a fifo beside them.
+pub(crate) const SAMPLE: &str = "program a hello 1; link d/e/f ../a 2; other d/g 3; ";
 
 const SHOWS: &str = r"
 stat a => File true 5 1

@@ -1,6 +1,6 @@
 -- What clashes in memory clashes in the table, where all that stands above a path or below it is in memory.
 use Rattle.std.proofs.Common.{ℕ, ◌≡◌, Bool, true, false, not, ◌&&◌, ◌||◌, inl, inr, List, Option, Some, None, refl, sym, ap, ◌∙◌, subst, true≢false}
-use Rattle.std.specs.Prelude.{is_some, Result, Ok, Err, MatchBool}
+use Rattle.std.specs.Prelude.{is_some, Result, Ok, Err, IfOk, MatchBool}
 use Rattle.std.proofs.lemmas.Bool.{cases_Bool, and_right, cond-true, both_ways, false_from_ne_true}
 use Rattle.hg_base.specs.PathText.{is_below, joined, parent_of}
 use Rattle.hg_base.proofs.Children.{below_through}
@@ -36,13 +36,19 @@ tracked_step : (near : Bool) (a b : Option EntryData) → (near ≡ true → a �
 tracked_step true a b same = ap (λ (o : Option EntryData). is_tracked_entry o && true) (sym (same refl))
 tracked_step false a b same = and_right (is_tracked_entry b) false refl ∙ sym (and_right (is_tracked_entry a) false refl)
 
+module _ (path : List ℕ) (a b : Table)
+    (near : (other : List ℕ) → (is_below other path || is_below path other) ≡ true → a.entries other ≡ b.entries other) where
+  least_on : (found : Option (List ℕ)) → IsLeast (clashes path a.entries) found → IsLeast (clashes path b.entries) found
+  least_on found = least_same (clashes path a.entries) (clashes path b.entries) found
+      (λ other. tracked_step (is_below other path || is_below path other) (a.entries other) (b.entries other) (near other))
+
 module _ (path : List ℕ) (entry : EntryData) (a b : Table) (here : a.entries path ≡ b.entries path)
     (near : (other : List ℕ) → (is_below other path || is_below path other) ≡ true → a.entries other ≡ b.entries other) where
   clash_on : (found : Option (List ℕ)) → IsClash path entry a found → IsClash path entry b found
   clash_on found = match_on (entry.w && not (is_tracked_entry (a.entries path))) (entry.w && not (is_tracked_entry (b.entries path)))
       (IsLeast (clashes path a.entries) found) (IsLeast (clashes path b.entries) found) (found ≡ None)
       (ap (λ (o : Option EntryData). entry.w && not (is_tracked_entry o)) here)
-      (least_same (clashes path a.entries) (clashes path b.entries) found (λ other. tracked_step (is_below other path || is_below path other) (a.entries other) (b.entries other) (near other)))
+      (least_on path a b near found)
 
   pub sets_on : (result : Result (Unit {0}) SetFault) → Sets path entry a result → Sets path entry b result
   sets_on (Ok done) = clash_on None
@@ -101,3 +107,8 @@ module _ (old was : Held) (same : was ≡ old) (docket : Contents) (rows : List 
       (sets_on path entry (memory_table own) (table was)
       (moved_entry path (sym (own_entry docket rows left (memory_table own) path near.free)))
       (λ other h. moved_entry other (sym (near.near other h))) result sets)
+
+  pub least_result : {E : Type 0} (result : Result (Option (List ℕ)) E) → IfOk result (IsLeast (clashes path (memory_table own).entries)) → IfOk result (IsLeast (clashes path (table old).entries))
+  least_result (Ok found) least = subst (λ (h : Held). IsLeast (clashes path (table h).entries) found) same
+      (least_on path (memory_table own) (table was) (λ other h. moved_entry other (sym (near.near other h))) found least)
+  least_result (Err fault) least = tt

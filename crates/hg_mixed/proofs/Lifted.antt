@@ -356,6 +356,10 @@ own_entry docket rows left own at free = cond-false (covers left at) ((reading.t
 pub own_node : (docket : Contents) (rows : List Row) (left : List (List ℕ × List Row)) (own : Table) (at : List ℕ) → covers left at ≡ false → (whole docket rows left own).nodes at ≡ own.nodes at
 own_node docket rows left own at free = cond-false (covers left at) ((reading.table_of docket rows).nodes at) (own.nodes at) free
 
+-- nothing is taken
+pub moved_itself : (docket : Contents) (rows : List Row) (left : List (List ℕ × List Row)) (own : InMemory) → IsParted docket rows left (memory_table own) → IsMoved docket rows left own left own
+moved_itself docket rows left own parted = record { parted = parted; same = same_itself (whole docket rows left (memory_table own)); changed = refl }
+
 -- lists are taken, and more of them
 pub moved_on : (docket : Contents) (rows : List Row) (first mid left : List (List ℕ × List Row)) (was own new : InMemory)
     → IsMoved docket rows first was mid own → IsMoved docket rows mid own left new → IsMoved docket rows first was left new

@@ -115,6 +115,17 @@ fn makes_tracked(nodes: &Nodes, path: PathRef<'_>, entry: Entry) -> bool
     !is_tracked(nodes, path)
 }
 
+/// The least tracked path above or below a path.
+pub fn near_clash<'t>(nodes: &'t Nodes, path: PathRef<'t>) -> Option<PathRef<'t>>
+    requires { AreRooted (node_at nodes.now) }
+    ensures { IsLeast (clashes path.entry.text.now (λ at. entry_in (node_at nodes.now at))) (option_map (λ p. p.text.now) result) }
+{
+    match tracked_above(nodes, path) {
+        Some(found) => Some(found),
+        None => tracked_below(nodes, path),
+    }
+}
+
 /// The least tracked path above or below a path, where the entry would make an untracked path tracked.
 pub fn clash<'t>(nodes: &'t Nodes, path: PathRef<'t>, entry: Entry) -> Option<PathRef<'t>>
     requires { AreRooted (node_at nodes.now) }
@@ -126,8 +137,5 @@ pub fn clash<'t>(nodes: &'t Nodes, path: PathRef<'t>, entry: Entry) -> Option<Pa
     if !makes_tracked(nodes, path, entry) {
         return None;
     }
-    match tracked_above(nodes, path) {
-        Some(found) => Some(found),
-        None => tracked_below(nodes, path),
-    }
+    near_clash(nodes, path)
 }

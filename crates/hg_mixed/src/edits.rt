@@ -1,8 +1,8 @@
 //! The edits of a table.
 
-ghost use Rattle.std.specs.Prelude.{◌≡◌, true, Some, None, OnOk, OnErr, is_some, option_map};
+ghost use Rattle.std.specs.Prelude.{◌≡◌, true, Some, None, IfOk, OnOk, OnErr, is_some, option_map};
 ghost use Rattle.hg_entry.specs.Entry.{stamp_view, view};
-ghost use Rattle.hg_mixed.specs.Clash.{Sets};
+ghost use Rattle.hg_mixed.specs.Clash.{IsLeast, Sets, clashes};
 ghost use Rattle.hg_mixed.specs.Drop.{IsPruned, PlacesDrop, after_clear};
 ghost use Rattle.hg_mixed.specs.Edits.{AreLentAsBefore, ArePlacedAsBefore, EndsAbove, IsOfSameImage, IsSame, IsUnchanged, Lends, LendsUncached, Marks, PlacesCopy, after_cache, after_copy, after_hash, after_ids, after_no_caches, after_set};
 ghost use Rattle.hg_mixed.specs.Held.{table};
@@ -11,10 +11,19 @@ use crate::fault::SetFault;
 use crate::mixed::Mixed;
 use crate::near::take_near;
 use crate::taking::{take_all, take_for};
-use hg_base::{Id20, OutOfMemory, PathRef, Stamp};
+use hg_base::{Id20, OutOfMemory, Path, PathRef, Stamp};
 use hg_entry::Entry;
 
 impl Mixed<'_> {
+    /// The least tracked path above or below a path, which keeps the path from being tracked.
+    pub fn clash(&mut self, path: PathRef<'_>) -> Result<Option<Path>, OutOfMemory>
+        ensures clash { IfOk result (IsLeast (clashes path.entry.text.now (table self.old).entries)) }
+        ensures kept { IsUnchanged self.old self.new }
+    {
+        take_near(&mut self.memory, &mut self.left, self.image, path)?;
+        self.memory.clash(path)
+    }
+
     /// Sets the entry of a path. A copy source that is there stays.
     pub fn set(&mut self, path: PathRef<'_>, entry: Entry) -> Result<(), SetFault>
         ensures clash { Sets path.entry.text.now (view entry) (table self.old) result }

@@ -1,13 +1,13 @@
 //! The edits of what is in memory.
 
-ghost use Rattle.std.specs.Prelude.{◌≡◌, true, Some, None, OnOk, OnErr, is_some, option_map};
+ghost use Rattle.std.specs.Prelude.{◌≡◌, true, Some, None, IfOk, OnOk, OnErr, is_some, option_map};
 ghost use Rattle.hg_entry.specs.Entry.{stamp_view, view};
-ghost use Rattle.hg_mixed.specs.Clash.{Sets};
+ghost use Rattle.hg_mixed.specs.Clash.{IsLeast, Sets, clashes};
 ghost use Rattle.hg_mixed.specs.Drop.{IsPruned, after_clear};
 ghost use Rattle.hg_mixed.specs.Edits.{IsSame, Marks, after_cache, after_copy, after_hash, after_ids, after_no_caches, after_set};
 ghost use Rattle.hg_mixed.specs.Memory.{IsKept, memory_table};
 
-use crate::clash::clash;
+use crate::clash::{clash, near_clash};
 use crate::fault::SetFault;
 use crate::memory::Memory;
 use crate::planting::{clear, write_source};
@@ -18,6 +18,19 @@ use hg_base::{Id20, OutOfMemory, Path, PathRef, Stamp};
 use hg_entry::Entry;
 
 impl Memory {
+    /// The least tracked path above or below a path.
+    pub fn clash(&self, path: PathRef<'_>) -> Result<Option<Path>, OutOfMemory>
+        ensures { IfOk result (IsLeast (clashes path.entry.text.now (memory_table self.now).entries)) }
+    {
+        match near_clash(&self.nodes, path) {
+            None => Ok(None),
+            Some(other) => {
+                let other = Path::of(self.alloc, other)?;
+                Ok(Some(other))
+            }
+        }
+    }
+
     /// Sets the entry of a path. A copy source that is there stays.
     pub fn set(&mut self, path: PathRef<'_>, entry: Entry) -> Result<(), SetFault>
         ensures clash { Sets path.entry.text.now (view entry) (memory_table self.old) result }

@@ -1,8 +1,12 @@
 pub mod Cause
 pub mod Collected
+pub mod Copy
 pub mod Dropping
+pub mod Finding
 pub mod Look
+pub mod Parent
 pub mod Parents
+pub mod Remove
 pub mod Setting
 pub mod Step
 pub mod Untracked

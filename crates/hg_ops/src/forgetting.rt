@@ -60,7 +60,7 @@ fn forget_path(mixed: &mut Mixed<'_>, path: PathRef<'_>) -> Result<Option<Refusa
 }
 
 // A tracked path isn't tracked any more.
-fn untrack(mixed: &mut Mixed<'_>, path: PathRef<'_>, entry: Entry) -> Result<(), OpFault>
+pub(crate) fn untrack(mixed: &mut Mixed<'_>, path: PathRef<'_>, entry: Entry) -> Result<(), OpFault>
     requires entry { (table mixed.old).entries path.text.now ≡ Some (view entry) }
     requires tracked { entry.w ≡ true }
     ensures untracked { OnOk result (IsUntracked path.entry.text.now (Some (view entry)) (table mixed.old) (table mixed.new)) }

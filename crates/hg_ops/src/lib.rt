@@ -25,16 +25,25 @@
 #![tactic(auto)]
 
 mod adding;
+mod copy_refusal;
+mod copying;
 mod entries;
+mod finding;
 mod forgetting;
 mod laws;
+mod parent;
 mod parents;
 mod paths;
 mod refusal;
+mod removing;
 mod wanted;
 
 pub use adding::add;
+pub use copy_refusal::CopyRefusal;
+pub use copying::copy;
 pub use forgetting::forget;
 pub use laws::{one_add, one_forget, one_set_parents};
+pub use parent::Parent;
 pub use parents::set_parents;
 pub use refusal::{OpFault, Refusal};
+pub use removing::remove;

@@ -1,40 +1,45 @@
 -- The cause of a fault in the table of all commands, from the stage at which a command met it; and the whole answer of a call.
-use Rattle.std.proofs.Common.{ℕ, ◌≡◌, false, List, Option, Some, None, Result, Ok, Err, IfSome, OnOk, refl, sym, ap, ◌∙◌, subst, inl, inr}
+use Rattle.std.proofs.Common.{ℕ, ◌≡◌, true, false, Option, Some, None, Result, Ok, Err, IfSome, IsTrue, refl, sym, subst, inl, inr, true≢false}
 use Rattle.std.specs.Option.{MatchOption}
 use Rattle.std.specs.Prelude.{◌⊎◌}
+use Rattle.hg_append.specs.declared.fault.EncodeFault.TheVariants as an_encode_fault
 use Rattle.hg_base.specs.Fault.{Rose}
 use Rattle.hg_listing.specs.declared.fault.StatusFault.TheVariants as a_status
+use Rattle.hg_ops.specs.declared.refusal.OpFault.{OpFault}
+use Rattle.hg_ops.specs.declared.refusal.OpFault.TheVariants as an_op_fault
+use Rattle.hg_report.specs.Cause.{of_op}
 use Rattle.hg_report.specs.declared.fault.Fault.{Fault}
 use Rattle.hg_report.specs.declared.fault.Fault.TheVariants as a_fault
-use Rattle.hg_session.specs.Answered.{IsAnswered, IsUnbuilt, Ran}
-use Rattle.hg_session.specs.Call.{Call, Count, Fails, IsLeftAlone, Looked, Saved, Sink, Watched}
+use Rattle.hg_session.specs.Answered.{IsAnswered, IsIdle, IsUnbuilt, Ran}
+use Rattle.hg_session.specs.Call.{Call, Count, Fails, IsLeftAlone, Looked, Saved, Sink}
 use Rattle.hg_session.specs.Cause.{CommandCause}
-use Rattle.hg_session.specs.Change.{IsUnwritten, MetChanging, makes_in}
+use Rattle.hg_session.specs.Change.{IsUnwritten, MetChanging, MetDoing, MetLocking, makes_in, of_change}
 use Rattle.hg_session.specs.Changed.{RanChange, change_look}
-use Rattle.hg_session.specs.Commands.{changing_of}
+use Rattle.hg_session.specs.Commands.{is_change}
 use Rattle.hg_session.specs.Crash.{published_in}
-use Rattle.hg_session.specs.Debug.{DoesRecord, record_look}
+use Rattle.hg_session.specs.Debug.{AnswersPrinting, Prints, ShowsRecord}
 use Rattle.hg_session.specs.Flags.{wanted_of}
 use Rattle.hg_session.specs.Listed.{AsksOwn, ListingCause}
-use Rattle.hg_session.specs.Load.{of_list, of_read}
-use Rattle.hg_session.specs.Loaded.{MetReading}
+use Rattle.hg_session.specs.Load.{of_list, of_print, of_read}
+use Rattle.hg_session.specs.Loaded.{AsksRecord, MetReading}
 use Rattle.hg_session.specs.Look.{EndsAs, IsCalm, IsLook, IsOutFault, LeavesAt, Concludes, OnlyReads, Stage, at_first, at_printing, at_saving, at_telling}
 use Rattle.hg_session.specs.Put.{IsFaultOrMemory, IsSilent, Tells}
 use Rattle.hg_session.specs.Status.{DoesStatus, RanStatus, status_look}
-use Rattle.hg_session.specs.declared.acting.Changing.{Changing}
-use Rattle.hg_session.specs.declared.acting.Changing.TheVariants as a_change
+use Rattle.hg_session.specs.declared.change_fault.ChangeFault.{ChangeFault}
+use Rattle.hg_session.specs.declared.change_fault.ChangeFault.TheVariants as a_change_fault
 use Rattle.hg_session.specs.declared.list_fault.ListFault.{ListFault}
 use Rattle.hg_session.specs.declared.list_fault.ListFault.TheVariants as a_list
+use Rattle.hg_session.specs.declared.print_fault.PrintFault.{PrintFault}
+use Rattle.hg_session.specs.declared.print_fault.PrintFault.TheVariants as a_print
 use Rattle.hg_session.specs.declared.read_fault.ReadFault.{ReadFault}
 use Rattle.hg_session.specs.declared.read_fault.ReadFault.TheVariants as a_read
 use Rattle.hg_session.proofs.Crashes.{crash_unwritten}
 use Rattle.hg_session.proofs.Expectations.{status_by}
-use Rattle.hg_session.proofs.Looks.{calm_by, from_well, joined, looks_by, not_without}
+use Rattle.hg_session.proofs.Looks.{calm_by, from_well, joined, looks_by, not_without, status_failed}
 use Rattle.hg_session.proofs.Readings.{was_loaded}
 use Rattle.hg_session.proofs.Records.{record_by}
 use Rattle.hg_shelf.specs.History as shelf
-use Rattle.hg_tree.specs.History as tree
-use Rattle.hg_words.specs.Given.{files_of, is_built}
+use Rattle.hg_words.specs.Given.{is_built}
 use Rattle.hg_words.specs.declared.flags.StatusFlags.{StatusFlags}
 use Rattle.hg_words.specs.declared.given.Command.{Command}
 use Rattle.hg_words.specs.declared.given.Command.TheVariants as a_command
@@ -58,55 +63,70 @@ module _ (call : Call) (flags : StatusFlags) (is : call.command ≡ a_command.St
   by_listing (a_list.Status a_status.OutOfMemory) cause = tt
   by_listing (a_list.Status a_status.TreeFailed) cause = cause
   by_listing (a_list.Status a_status.ShelfFailed) cause = cause
+  by_listing (a_list.Status (a_status.NoManifest id)) cause = inl (flags, is, cause)
+  by_listing (a_list.Status (a_status.ManifestTooLarge size)) cause = inl (flags, is, cause)
+  by_listing (a_list.Status (a_status.ManifestLine line)) cause = inl (flags, is, cause)
+  by_listing (a_list.Status (a_status.ManifestOrder line)) cause = inl (flags, is, cause)
+  by_listing (a_list.Status (a_status.NoContents id)) cause = inl (flags, is, cause)
   by_listing (a_list.Status (a_status.RegexpTooBig line)) cause = ((flags, is, cause.0), cause.1)
   by_listing (a_list.Status fault) cause = (flags, is, cause)
 
-  left_cause : (fault : Fault) → (stage : Stage) × LeavesAt (status_look flags call.looked) call.out call.err (Tells call.err) stage fault → CommandCause call fault
+  left_cause : (fault : Fault) → (stage : Stage) × LeavesAt (status_look flags call.looked) call.out call.err Tells stage fault → CommandCause call fault
   left_cause fault (at_first, ((f, same, cause), silent, line)) = subst (CommandCause call) (sym same) (by_listing f cause)
   left_cause fault (at_printing, (printing, ready, front, kind, line)) = by_printing call fault kind front.failed
   left_cause fault (at_telling, (telling, ready, puts, front, same)) = subst (CommandCause call) (sym same) front.failed
-  left_cause fault (at_saving, (never, silent, line)) = absurd never
+  left_cause fault (at_saving, (never, left)) = absurd never
 
   pub status_cause : (fault : Option Fault) → Concludes (status_look flags call.looked) call.out call.err fault → IfSome fault (CommandCause call)
   status_cause None looks = tt
   status_cause (Some fault) looks = left_cause fault looks.left
 
-record_left : (call : Call) (fault : Fault) → (stage : Stage) × LeavesAt (record_look call.looked.shelf) call.out call.err (Tells call.err) stage fault → CommandCause call fault
-record_left call fault (at_first, ((f, same, met), silent, line)) = subst (CommandCause call) (sym same) (by_reading call f met)
-record_left call fault (at_printing, (printing, ready, front, kind, line)) = by_printing call fault kind front.failed
-record_left call fault (at_telling, (never, ready, puts, front, same)) = absurd never
-record_left call fault (at_saving, (never, silent, line)) = absurd never
+printed_cause : (call : Call) (fault : PrintFault) → Prints call.looked.shelf call.out (Err fault) → CommandCause call (of_print fault)
+printed_cause call (a_print.Read fault) prints = by_reading call fault prints.0
+printed_cause call a_print.OutFailed prints = prints.failed
 
-pub record_cause : (call : Call) (fault : Option Fault) → Concludes (record_look call.looked.shelf) call.out call.err fault → IfSome fault (CommandCause call)
-record_cause call None looks = tt
-record_cause call (Some fault) looks = record_left call fault looks.left
+record_cause : (call : Call) (fault : Option Fault) (came : Result Unit PrintFault) → Prints call.looked.shelf call.out came → AnswersPrinting call.err came fault → IfSome fault (CommandCause call)
+record_cause call fault (Ok done) prints (none, silent) = subst (λ (f : Option Fault). IfSome f (CommandCause call)) (sym none) tt
+record_cause call fault (Err met) prints (inl same, told) = subst (λ (f : Option Fault). IfSome f (CommandCause call)) (sym same) (printed_cause call met prints)
+record_cause call fault (Err met) prints (inr memory, told) = subst (λ (f : Option Fault). IfSome f (CommandCause call)) (sym memory) tt
 
 -- ---- a command that changes the record
 
-module _ (call : Call) (command : Changing) (is : changing_of call.command ≡ Some command) where
-  by_changing : (fault : Fault) → MetChanging (makes_in command (files_of call.command) call) call.looked.tree call.looked.shelf fault → CommandCause call fault
-  by_changing a_fault.OutOfMemory met = tt
-  by_changing (a_fault.Docket fault) met = met
-  by_changing (a_fault.Node fault) met = met
-  by_changing (a_fault.DataGone ids) met = met
-  by_changing (a_fault.TooLarge size) met = (command, is, met)
-  by_changing a_fault.IdsSpent met = (command, is, met)
-  by_changing a_fault.TreeFailed met = (met.0, was_loaded call.looked.shelf met.1)
-  by_changing a_fault.ShelfFailed met = met
-  by_changing fault met = absurd met
+module _ (call : Call) (is : is_change call.command ≡ true) where
+  by_doing : (fault : OpFault) → MetDoing (makes_in call) call.looked.tree call.looked.shelf fault → CommandCause call (of_op fault)
+  by_doing an_op_fault.OutOfMemory met = tt
+  by_doing an_op_fault.TreeFailed met = (met.0, was_loaded call.looked.shelf met.1)
+  by_doing an_op_fault.ShelfFailed met = met
+  by_doing (an_op_fault.NoManifest id) met = inr (is, met)
+  by_doing (an_op_fault.ManifestTooLarge size) met = inr (is, met)
+  by_doing (an_op_fault.ManifestLine line) met = inr (is, met)
+  by_doing (an_op_fault.ManifestOrder line) met = inr (is, met)
+  by_doing (an_op_fault.NoContents id) met = inr (is, met)
+
+  by_changing : (fault : ChangeFault) → MetChanging (makes_in call) call.looked.tree call.looked.shelf fault → CommandCause call (of_change fault)
+  by_changing (a_change_fault.Read fault) met = by_reading call fault met
+  by_changing (a_change_fault.Op fault) met = by_doing fault met
+  by_changing (a_change_fault.Encode an_encode_fault.OutOfMemory) met = tt
+  by_changing (a_change_fault.Encode (an_encode_fault.TooLarge size)) met = (is, met)
+  by_changing (a_change_fault.Encode an_encode_fault.IdsSpent) met = (is, met)
+  by_changing a_change_fault.Held met = absurd met
+  by_changing a_change_fault.ShelfFailed met = met
+
+  by_locking : (fault : ChangeFault) → MetLocking (makes_in call) call.looked.tree call.looked.shelf call.locks fault → CommandCause call (of_change fault)
+  by_locking fault (inl met) = by_changing fault met
+  by_locking fault (inr (held, rose)) = subst (λ (f : ChangeFault). CommandCause call (of_change f)) (sym held) (is, rose)
 
   by_saving : (fault : Fault) → Fails call.looked.shelf → (fault ≡ a_fault.ShelfFailed) ⊎ (fault ≡ a_fault.OutOfMemory) → CommandCause call fault
   by_saving fault failed (inl same) = subst (CommandCause call) (sym same) failed
   by_saving fault failed (inr same) = subst (CommandCause call) (sym same) tt
 
-  change_left : (fault : Fault) → (stage : Stage) × LeavesAt (change_look (makes_in command (files_of call.command) call) call) call.out call.err (Tells call.err) stage fault → CommandCause call fault
-  change_left fault (at_first, ((none, inl met), silent, line)) = by_changing fault met
-  change_left fault (at_first, ((none, inr (held, rose)), silent, line)) = subst (CommandCause call) (sym held) (command, is, rose)
+  change_left : (fault : Fault) → (stage : Stage) × LeavesAt (change_look (makes_in call) call) call.out call.err Tells stage fault → CommandCause call fault
+  change_left fault (at_first, ((none, f, same, met), silent, line)) = subst (CommandCause call) (sym same) (by_locking f met)
   change_left fault (at_printing, (never, ready, front, kind, line)) = absurd never
   change_left fault (at_telling, (telling, ready, puts, front, same)) = subst (CommandCause call) (sym same) front.failed
-  change_left fault (at_saving, ((failed, kind), silent, line)) = by_saving fault failed kind
+  change_left fault (at_saving, ((failed, kind), left)) = by_saving fault failed kind
 
-  changed_cause : (fault : Option Fault) → Concludes (change_look (makes_in command (files_of call.command) call) call) call.out call.err fault → IfSome fault (CommandCause call)
+  changed_cause : (fault : Option Fault) → Concludes (change_look (makes_in call) call) call.out call.err fault → IfSome fault (CommandCause call)
   changed_cause None looks = tt
   changed_cause (Some fault) looks = change_left fault looks.left
 
@@ -119,7 +139,6 @@ looked_status code (Some fault) is = is
 pub answered_looked : (call : Call) (code : ℕ) (fault : Option Fault) → Ran call.command call code fault → IsLook call code fault → IfSome fault (CommandCause call) → IsAnswered call code fault
 answered_looked call code fault ran look cause = record {
   ran = ran;
-  look = λ _. look;
   cause = cause;
   calm = look.calm;
   kept = look.only.kept;
@@ -127,32 +146,39 @@ answered_looked call code fault ran look cause = record {
   status = looked_status code fault look.status;
 }
 
-pub answered_changed : (call : Call) (code : ℕ) (fault : Option Fault) (command : Changing) → changing_of call.command ≡ Some command → RanChange command (files_of call.command) call code fault
-    → Ran call.command call code fault → MatchOption fault ((code ≡ 0) ⊎ (code ≡ 1)) (λ f. code ≡ 255) → IsAnswered call code fault
-answered_changed call code fault command is changed ran status = record {
-  ran = ran;
-  look = λ other. absurd (cc (is, other));
-  cause = changed_cause call command is fault changed.shows;
-  calm = λ none.
-      record { tree = changed.calm_tree none; shelf = changed.calm_shelf (inl none); regexps = changed.uncounted; out = changed.silent.count; err = changed.calm_err none };
-  kept = changed.kept;
-  crash = λ calm keep first. (published_in (makes_in command (files_of call.command) call) call.saved fault (changed.safe calm), changed.crash calm keep first);
+-- a call that only looked
+look_by : (call : Call) (code : ℕ) (fault : Option Fault) → OnlyReads call.looked.shelf call.saved call.locks → IsUnwritten call.saved.old.history call.saved.new.history
+    → (fault ≡ None → IsCalm call.looked call.out call.err) → MatchOption fault (code ≡ 0) (λ f. code ≡ 255) → IsLook call code fault
+look_by call code fault only none calm status = record {
+  only = only;
+  crash = λ kept keep first. crash_unwritten call.saved.old call.saved.new only.kept kept keep none first;
+  calm = calm;
   status = status;
 }
 
-pub answered_add : (command : Command) (files : List (List ℕ)) (call : Call) (code : ℕ) (fault : Option Fault) → command ≡ a_command.Add files → call.command ≡ command → RanChange a_change.Add files call code fault
-    → MatchOption fault ((code ≡ 0) ⊎ (code ≡ 1)) (λ f. code ≡ 255) → IsAnswered call code fault
-answered_add command files call code fault is same changed status =
-    let one : call.command ≡ a_command.Add files = same ∙ is in
-    answered_changed call code fault a_change.Add (ap changing_of one) (subst (λ (words : List (List ℕ)). RanChange a_change.Add words call code fault) (sym (ap files_of one)) changed)
-    (subst (λ (c : Command). Ran c call code fault) (sym one) changed) status
+-- a command that changes the record
+ran_changed : (call : Call) (code : ℕ) (fault : Option Fault) → RanChange call code fault → (command : Command) → is_change command ≡ true → Ran command call code fault
+ran_changed call code fault changed (a_command.Status flags) is = absurd (true≢false (sym is))
+ran_changed call code fault changed (a_command.Add files) is = changed
+ran_changed call code fault changed (a_command.Forget files) is = changed
+ran_changed call code fault changed (a_command.Remove after files) is = changed
+ran_changed call code fault changed (a_command.Copy source target) is = changed
+ran_changed call code fault changed (a_command.SetParents p1 p2) is = changed
+ran_changed call code fault changed a_command.DebugDirstate is = absurd (true≢false (sym is))
+ran_changed call code fault changed a_command.DebugScript is = absurd (true≢false (sym is))
+ran_changed call code fault changed (a_command.DebugLoad n) is = absurd (true≢false (sym is))
 
-pub answered_forget : (command : Command) (files : List (List ℕ)) (call : Call) (code : ℕ) (fault : Option Fault) → command ≡ a_command.Forget files → call.command ≡ command → RanChange a_change.Forget files call code fault
-    → MatchOption fault ((code ≡ 0) ⊎ (code ≡ 1)) (λ f. code ≡ 255) → IsAnswered call code fault
-answered_forget command files call code fault is same changed status =
-    let one : call.command ≡ a_command.Forget files = same ∙ is in
-    answered_changed call code fault a_change.Forget (ap changing_of one) (subst (λ (words : List (List ℕ)). RanChange a_change.Forget words call code fault) (sym (ap files_of one)) changed)
-    (subst (λ (c : Command). Ran c call code fault) (sym one) changed) status
+pub answered_changed : (call : Call) (code : ℕ) (fault : Option Fault) → is_change call.command ≡ true → RanChange call code fault → MatchOption fault ((code ≡ 0) ⊎ (code ≡ 1)) (λ f. code ≡ 255)
+    → IsAnswered call code fault
+answered_changed call code fault is changed status = record {
+  ran = ran_changed call code fault changed call.command is;
+  cause = changed_cause call is fault changed.shows;
+  calm = λ none.
+      record { tree = changed.calm_tree none; shelf = changed.calm_shelf (inl none); regexps = changed.uncounted; out = changed.silent.count; err = changed.calm_err none };
+  kept = changed.kept;
+  crash = λ calm keep first. (published_in (makes_in call) call.saved fault (changed.safe calm), changed.crash calm keep first);
+  status = status;
+}
 
 -- a status, from what it did and what was told behind it
 pub answered_status : (command : Command) (flags : StatusFlags) (looked : Looked) (saved : Saved) (locks : Count) (out mid tail : Sink) (bytes : tail.old ≡ mid.new) (count : tail.before ≡ mid.after)
@@ -162,59 +188,44 @@ answered_status command flags looked saved locks out mid tail bytes count done c
     let call : Call = record { command = command; looked = looked; saved = saved; locks = locks; out = out; err = joined mid tail bytes count } in
     let looks : Concludes (status_look flags looked) out (joined mid tail bytes count) fault =
     looks_by mid tail bytes count (status_look flags looked) out (a_list.Read a_read.OutOfMemory, refl, tt) (λ f never. absurd never) done code fault does.shows ends in
-    let ran : RanStatus flags call fault =
-    status_by flags call does.tree only.passes fault looks does.asked (λ none. from_well mid tail bytes count (AsksOwn looked (wanted_of flags)) done code fault ends does.asked_own none) does.below in
-    answered_looked call code fault (subst (λ (c : Command). Ran c call code fault) (sym is) ran)
-    (record { only = only; crash = λ calm keep first. crash_unwritten saved.old saved.new only.kept calm keep none first; calm = calm_by mid tail bytes count looked out done code fault ends does.calm; status = ends.status })
-    (status_cause call flags is fault looks)
+    let look : IsLook call code fault =
+    look_by call code fault only none (calm_by mid tail bytes count looked out done code fault ends does.calm) ends.status in
+    let ran : RanStatus flags call code fault =
+    status_by flags call does.tree only.passes fault looks does.asked (λ none. from_well mid tail bytes count (AsksOwn looked (wanted_of flags)) done code fault ends does.asked_own none) does.below code look in
+    answered_looked call code fault (subst (λ (c : Command). Ran c call code fault) (sym is) ran) look (status_cause call flags is fault looks)
 
 -- the command that prints the record
-pub answered_record : (command : Command) (copy : Watched tree.History) (files : Watched shelf.History) (oversize : Count) (saved : Saved) (locks : Count) (out mid tail : Sink) (bytes : tail.old ≡ mid.new)
-    (count : tail.before ≡ mid.after) (done : Result Unit Fault) (code : ℕ) (fault : Option Fault) → command ≡ a_command.DebugDirstate → IsLeftAlone copy → oversize.after ≡ oversize.before → IsSilent mid
-    → DoesRecord files out done → OnlyReads files saved locks → IsUnwritten saved.old.history saved.new.history → EndsAs tail done code fault
-    → IsAnswered (record { command = command; looked = record { tree = copy; shelf = files; oversize = oversize }; saved = saved; locks = locks; out = out; err = joined mid tail bytes count }) code fault
-answered_record command copy files oversize saved locks out mid tail bytes count done code fault is alone uncounted silent does only none ends =
-    let looked : Looked = record { tree = copy; shelf = files; oversize = oversize } in
-    let call : Call = record { command = command; looked = looked; saved = saved; locks = locks; out = out; err = joined mid tail bytes count } in
-    let looks : Concludes (record_look files) out (joined mid tail bytes count) fault =
-    looks_by mid tail bytes count (record_look files) out (a_read.OutOfMemory, refl, tt) (λ f never. absurd never) done code fault (does.shows mid silent) ends in
-    answered_looked call code fault (subst (λ (c : Command). Ran c call code fault) (sym is) (record_by call only.passes fault looks does.below alone uncounted))
-    (record { only = only; crash = λ calm keep first. crash_unwritten saved.old saved.new only.kept calm keep none first; calm = calm_by mid tail bytes count looked out done code fault ends (calm_all done does.calm_shelf does.calm_out); status = ends.status })
-    (record_cause call fault looks)
-  where
-    calm_all : (done : Result Unit Fault) → OnOk done (files.after ≡ files.before) → OnOk done (out.after ≡ out.before) → OnOk done (IsCalm (record { tree = copy; shelf = files; oversize = oversize }) out mid)
-    calm_all (Ok u) calm_shelf calm_out = record { tree = alone.count; shelf = calm_shelf; regexps = uncounted; out = calm_out; err = silent.count }
-    calm_all (Err fault) calm_shelf calm_out = tt
+pub answered_record : (call : Call) (code : ℕ) (fault : Option Fault) → call.command ≡ a_command.DebugDirstate → ShowsRecord call.looked.shelf call.out call.err fault
+    → (IsTrue call.looked.shelf.old.told → AsksRecord call.looked.shelf.old call.looked.shelf.new) → IsLeftAlone call.looked.tree → call.looked.oversize.after ≡ call.looked.oversize.before
+    → (fault ≡ None → IsCalm call.looked call.out call.err) → OnlyReads call.looked.shelf call.saved call.locks → IsUnwritten call.saved.old.history call.saved.new.history
+    → MatchOption fault (code ≡ 0) (λ f. code ≡ 255) → IsAnswered call code fault
+answered_record call code fault is shows below alone uncounted calm only none status =
+    let look : IsLook call code fault = look_by call code fault only none calm status in
+    answered_looked call code fault (subst (λ (c : Command). Ran c call code fault) (sym is) (record_by call only.passes fault shows below alone uncounted code look)) look
+    (record_cause call fault shows.came shows.prints shows.tells)
 
 -- ---- a command that isn't built
 
-module _ (call : Call) (code : ℕ) (fault : Option Fault) (unbuilt : IsUnbuilt call fault) where
-  ran_other : (command : Command) → ((flags : StatusFlags) → command ≡ a_command.Status flags → ⊥) → ((files : List (List ℕ)) → command ≡ a_command.Add files → ⊥)
-      → ((files : List (List ℕ)) → command ≡ a_command.Forget files → ⊥) → (command ≡ a_command.DebugDirstate → ⊥) → Ran command call code fault × (is_built command ≡ false)
-  ran_other (a_command.Status flags) status add forget debug = absurd (status flags refl)
-  ran_other (a_command.Add files) status add forget debug = absurd (add files refl)
-  ran_other (a_command.Forget files) status add forget debug = absurd (forget files refl)
-  ran_other a_command.DebugDirstate status add forget debug = absurd (debug refl)
-  ran_other command status add forget debug = (unbuilt, refl)
+ran_unbuilt : (call : Call) (code : ℕ) (fault : Option Fault) → IsUnbuilt call code fault → (command : Command) → is_built command ≡ false → Ran command call code fault
+ran_unbuilt call code fault unbuilt (a_command.Status flags) is = absurd (true≢false is)
+ran_unbuilt call code fault unbuilt (a_command.Add files) is = absurd (true≢false is)
+ran_unbuilt call code fault unbuilt (a_command.Forget files) is = absurd (true≢false is)
+ran_unbuilt call code fault unbuilt (a_command.Remove after files) is = absurd (true≢false is)
+ran_unbuilt call code fault unbuilt (a_command.Copy source target) is = absurd (true≢false is)
+ran_unbuilt call code fault unbuilt (a_command.SetParents p1 p2) is = absurd (true≢false is)
+ran_unbuilt call code fault unbuilt a_command.DebugDirstate is = absurd (true≢false is)
+ran_unbuilt call code fault unbuilt a_command.DebugScript is = unbuilt
+ran_unbuilt call code fault unbuilt (a_command.DebugLoad n) is = unbuilt
 
-  unbuilt_cause : (answered : Option Fault) → IsFaultOrMemory answered a_fault.NotBuilt → is_built call.command ≡ false → IfSome answered (CommandCause call)
-  unbuilt_cause answered (inl same) is = subst (λ (f : Option Fault). IfSome f (CommandCause call)) (sym same) is
-  unbuilt_cause answered (inr memory) is = subst (λ (f : Option Fault). IfSome f (CommandCause call)) (sym memory) tt
+unbuilt_cause : (call : Call) (answered : Option Fault) → IsFaultOrMemory answered a_fault.NotBuilt → is_built call.command ≡ false → IfSome answered (CommandCause call)
+unbuilt_cause call answered (inl same) is = subst (λ (f : Option Fault). IfSome f (CommandCause call)) (sym same) is
+unbuilt_cause call answered (inr memory) is = subst (λ (f : Option Fault). IfSome f (CommandCause call)) (sym memory) tt
 
-  status_failed : (answered : Option Fault) → IsFaultOrMemory answered a_fault.NotBuilt → code ≡ 255 → MatchOption answered (code ≡ 0) (λ f. code ≡ 255)
-  status_failed answered (inl same) is = subst (λ (f : Option Fault). MatchOption f (code ≡ 0) (λ f. code ≡ 255)) (sym same) is
-  status_failed answered (inr memory) is = subst (λ (f : Option Fault). MatchOption f (code ≡ 0) (λ f. code ≡ 255)) (sym memory) is
-
-  pub answered_unbuilt : ((flags : StatusFlags) → call.command ≡ a_command.Status flags → ⊥) → ((files : List (List ℕ)) → call.command ≡ a_command.Add files → ⊥)
-      → ((files : List (List ℕ)) → call.command ≡ a_command.Forget files → ⊥) → (call.command ≡ a_command.DebugDirstate → ⊥) → shelf.Passes call.looked.shelf.old call.looked.shelf.new → code ≡ 255
-      → IsAnswered call code fault
-  answered_unbuilt status add forget debug passes is =
-      let ran = ran_other call.command status add forget debug in
-      answered_looked call code fault ran.0
-      (record {
-        only = record { passes = passes; kept = unbuilt.idle.kept; held = unbuilt.idle.held };
-        crash = λ calm keep first. crash_unwritten call.saved.old call.saved.new unbuilt.idle.kept calm keep unbuilt.idle.unwritten first;
-        calm = λ none. not_without fault a_fault.NotBuilt unbuilt.answered none;
-        status = status_failed fault unbuilt.answered is;
-      })
-      (unbuilt_cause fault unbuilt.answered ran.1)
+pub answered_unbuilt : (call : Call) (code : ℕ) (fault : Option Fault) → is_built call.command ≡ false → IsFaultOrMemory fault a_fault.NotBuilt → IfSome fault (Tells call.err)
+    → IsIdle call.looked call.saved call.locks call.out → shelf.Passes call.looked.shelf.old call.looked.shelf.new → code ≡ 255 → IsAnswered call code fault
+answered_unbuilt call code fault is answered told idle passes status =
+    let look : IsLook call code fault =
+    look_by call code fault (record { passes = passes; kept = idle.kept; held = idle.held }) idle.unwritten (λ none. not_without fault a_fault.NotBuilt answered none)
+    (status_failed code a_fault.NotBuilt fault answered status) in
+    answered_looked call code fault (ran_unbuilt call code fault (record { answered = answered; told = told; idle = idle; look = look }) call.command is) look
+    (unbuilt_cause call fault answered is)

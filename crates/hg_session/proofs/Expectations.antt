@@ -37,7 +37,7 @@ use Rattle.hg_session.specs.Flags.{wanted_of}
 use Rattle.hg_session.specs.Listed.{AsksLittle, AsksOwn, IsAskedAt, IsListable, IsListed, IsListedFor, IsOwn, IsUntouched, ListingCause, first_parent, status_over}
 use Rattle.hg_session.specs.Load.{of_list, of_read}
 use Rattle.hg_session.specs.Loaded.{IsLoaded, IsUnreadable}
-use Rattle.hg_session.specs.Look.{LeavesAt, Look, Concludes, Stage, at_first, at_printing, at_saving, at_telling}
+use Rattle.hg_session.specs.Look.{IsLook, LeavesAt, LeftBySaving, Look, Concludes, Order, Stage, at_first, at_printing, at_saving, at_telling, saves_first, saves_last}
 use Rattle.hg_session.specs.Put.{LeavesFront, Tells}
 use Rattle.hg_session.specs.Status.{HasBadManifest, HasBadPatterns, IsExpected, IsFullText, IsReady, IsRowsText, LacksContents, RanStatus, status_look}
 use Rattle.hg_session.specs.declared.list_fault.ListFault.{ListFault}
@@ -58,12 +58,16 @@ grown_whole old new text grown = ([], record { front = text; parts = sym (append
 
 -- what stands in a sink after a fault, as a front of a text
 pub front_by : (IsText Own : List ℕ → Type 0) → ((text : List ℕ) → IsText text → Own text) → (look : Look) → ((text : List ℕ) → look.Text text → IsText text) → (call : Call) (fault : Fault)
-    → (stage : Stage) × LeavesAt look call.out call.err (Tells call.err) stage fault → LeavesFront Own call.out
+    → (stage : Stage) × LeavesAt look call.out call.err Tells stage fault → LeavesFront Own call.out
 front_by IsText Own own look is call fault (at_first, (before, silent, line)) = inl silent.bytes
 front_by IsText Own own look is call fault (at_printing, (printing, ready, front, kind, line)) = inr (front.text, own front.text (is front.text front.is), front.put)
 front_by IsText Own own look is call fault (at_telling, (telling, ready, puts, front, kind)) =
     inr (puts.text, own puts.text (is puts.text puts.is), grown_whole call.out.old call.out.new puts.text puts.put)
-front_by IsText Own own look is call fault (at_saving, (saving, silent, line)) = inl silent.bytes
+front_by IsText Own own look is call fault (at_saving, (saving, left)) = by_order look.order left
+  where
+    by_order : (order : Order) → LeftBySaving order look call.out call.err Tells fault → LeavesFront Own call.out
+    by_order saves_first (silent, line) = inl silent.bytes
+    by_order saves_last (ready, puts, behind) = inr (puts.text, own puts.text (is puts.text puts.is), grown_whole call.out.old call.out.new puts.text puts.put)
 
 -- ---- where nobody else steps
 
@@ -206,13 +210,13 @@ module _ (flags : StatusFlags) (call : Call) (copy : tree.Passes call.looked.tre
   abbrev Expected : Option Fault → Type 0
   Expected fault = IsExpected (wanted_of flags) (shelf.now call.looked.shelf.old).files (tree.now call.looked.tree.old) fault
 
-  left_expected : IsOwn call.looked → (fault : Fault) → (stage : Stage) × LeavesAt (status_look flags call.looked) call.out call.err (Tells call.err) stage fault
+  left_expected : IsOwn call.looked → (fault : Fault) → (stage : Stage) × LeavesAt (status_look flags call.looked) call.out call.err Tells stage fault
       → Serves call.looked.tree → Serves call.looked.shelf → Serves call.out → Serves call.err → Expected (Some fault)
   left_expected own fault (at_first, ((f, is, cause), silent, line)) p q r w =
       subst (λ (f : Fault). Expected (Some f)) (sym is) (listing_expected call.looked copy files own (wanted_of flags) f cause p q)
   left_expected own fault (at_printing, (printing, ready, front, kind, line)) p q r w = absurd (steady_not_rose call.out.before call.out.after r front.failed)
   left_expected own fault (at_telling, (telling, ready, puts, front, is)) p q r w = absurd (steady_not_rose call.err.before call.err.after w front.failed)
-  left_expected own fault (at_saving, (never, silent, line)) p q r w = absurd never
+  left_expected own fault (at_saving, (never, left)) p q r w = absurd never
 
   expected_by : (fault : Option Fault) → Concludes (status_look flags call.looked) call.out call.err fault
       → IsOwn call.looked → Serves call.looked.tree → Serves call.looked.shelf → Serves call.out → Serves call.err → Expected fault
@@ -227,8 +231,8 @@ module _ (flags : StatusFlags) (call : Call) (copy : tree.Passes call.looked.tre
       (status_look flags call.looked) (λ text is. is) call fault looks.left
 
   pub status_by : (fault : Option Fault) → Concludes (status_look flags call.looked) call.out call.err fault → AsksLittle call.looked (wanted_of flags) → (fault ≡ None → AsksOwn call.looked (wanted_of flags))
-      → (IsTrue call.looked.shelf.old.told → AsksBelow call.looked (wanted_of flags)) → RanStatus flags call fault
-  status_by fault looks asked asked_own below = record {
+      → (IsTrue call.looked.shelf.old.told → AsksBelow call.looked (wanted_of flags)) → (code : ℕ) → IsLook call code fault → RanStatus flags call code fault
+  status_by fault looks asked asked_own below code look = record {
     looks = looks;
     whole = λ none own.
         let printed = (looks.done none).printed in
@@ -239,4 +243,5 @@ module _ (flags : StatusFlags) (call : Call) (copy : tree.Passes call.looked.tre
     asked = asked;
     asked_own = asked_own;
     below = below;
+    look = look;
   }

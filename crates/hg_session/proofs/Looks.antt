@@ -1,17 +1,23 @@
 -- How a command ends that only looks, from what it did and what is told behind it.
 use Rattle.std.proofs.Common.{ℕ, ◌≡◌, true, false, List, Option, Some, None, Result, Ok, Err, IfSome, OnOk, refl, sym, ap, ◌∙◌, subst, inl, inr, true≢false}
+use Rattle.std.specs.Option.{MatchOption}
 use Rattle.hg_report.specs.Fault.{has_line}
 use Rattle.hg_report.specs.declared.fault.Fault.{Fault}
 use Rattle.hg_report.specs.declared.fault.Fault.TheVariants as a_fault
 use Rattle.hg_base.specs.Fault.{Rose}
 use Rattle.hg_stream.specs.Stream.{GrownByFront}
 use Rattle.hg_session.specs.Call.{Looked, Sink}
-use Rattle.hg_session.specs.Look.{EndsAs, IsCalm, IsUntold, LeavesAt, Look, Concludes, Shows, Stage, at_first, at_printing, at_saving, at_telling}
-use Rattle.hg_session.specs.Put.{IsFaultOrMemory, IsSilent, Puts, PutsFront, Tells, TellsLine}
+use Rattle.hg_session.specs.Look.{EndsAs, IsCalm, IsUntold, LeavesAt, LeftBySaving, Look, Concludes, Order, Shows, Stage, at_first, at_printing, at_saving, at_telling, saves_first, saves_last}
+use Rattle.hg_session.specs.Put.{IsFaultOrMemory, IsSilent, Puts, PutsFront, PutsThen, Tells, TellsLine}
 
 pub not_without : {Q : Type 0} (answered : Option Fault) (fault : Fault) → IsFaultOrMemory answered fault → answered ≡ None → Q
 not_without answered fault (inl same) none = absurd (cc (same, none))
 not_without answered fault (inr memory) none = absurd (cc (memory, none))
+
+-- the status of a fault that was told
+pub status_failed : (code : ℕ) (fault : Fault) (answered : Option Fault) → IsFaultOrMemory answered fault → code ≡ 255 → MatchOption answered (code ≡ 0) (λ f. code ≡ 255)
+status_failed code fault answered (inl same) is = subst (λ (f : Option Fault). MatchOption f (code ≡ 0) (λ f. code ≡ 255)) (sym same) is
+status_failed code fault answered (inr memory) is = subst (λ (f : Option Fault). MatchOption f (code ≡ 0) (λ f. code ≡ 255)) (sym memory) is
 
 -- a fault with a line isn't that of the error stream
 told_apart : {Q : Type 0} (fault : Fault) → has_line fault ≡ true → fault ≡ a_fault.ErrFailed → Q
@@ -33,6 +39,20 @@ module _ (mid tail : Sink) (bytes : tail.old ≡ mid.new) (count : tail.before �
     failed = subst (λ (n : ℕ). Rose mid.before n) (sym (silent.count ∙ count)) puts.failed;
   }
 
+  told_joined : (IsText : List ℕ → Type 0) (fault told : Fault) → Tells tail told → PutsThen IsText (λ rest. IsUntold rest fault) mid → PutsThen IsText (λ rest. Tells rest told) joined
+  told_joined IsText fault told line behind = record {
+    text = behind.text;
+    is = behind.is;
+    mid = behind.mid;
+    put = behind.put;
+    rest = rest_joined behind.mid behind.rest.silent;
+  }
+    where
+      rest_joined : (from : Option (List ℕ)) → IsSilent (record mid { old = from }) → Tells (record joined { old = from }) told
+      rest_joined from silent =
+          subst (λ (old : Option (List ℕ)). TellsLine old tail.new mid.before tail.after told) (bytes ∙ silent.bytes)
+          (subst (λ (n : ℕ). TellsLine tail.old tail.new n tail.after told) (count ∙ silent.count) line)
+
   line_joined : (fault : Fault) → IsSilent mid → Tells tail fault → Tells joined fault
   line_joined fault silent told =
       subst (λ (old : Option (List ℕ)). TellsLine old tail.new mid.before tail.after fault) (bytes ∙ silent.bytes)
@@ -40,33 +60,42 @@ module _ (mid tail : Sink) (bytes : tail.old ≡ mid.new) (count : tail.before �
 
   module _ (look : Look) (out : Sink) (memory : look.Before a_fault.OutOfMemory) (saving : (fault : Fault) → look.Saving fault → look.Saving a_fault.OutOfMemory) where
     abbrev Left : Fault → Type 0
-    Left fault = (stage : Stage) × LeavesAt look out joined (Tells joined) stage fault
+    Left fault = (stage : Stage) × LeavesAt look out joined Tells stage fault
+
+    -- behind a saving that failed
+    saving_told : (order : Order) (fault told : Fault) → Tells tail told → LeftBySaving order look out mid IsUntold fault → LeftBySaving order look out joined Tells told
+    saving_told saves_first fault told line (silent, untold) = (silent, line_joined told untold.silent line)
+    saving_told saves_last fault told line (ready, printed, behind) = (ready, printed, told_joined look.Told fault told line behind)
+
+    saving_untold : {Q : Type 0} (order : Order) (fault : Fault) → has_line fault ≡ false → LeftBySaving order look out mid IsUntold fault → Q
+    saving_untold saves_first fault none (silent, untold) = absurd (true≢false (sym untold.told ∙ none))
+    saving_untold saves_last fault none (ready, printed, behind) = absurd (true≢false (sym behind.rest.told ∙ none))
 
     -- the fault that was met, with its line or without one
-    left_told : (fault : Fault) → has_line fault ≡ true → Tells tail fault → (stage : Stage) × LeavesAt look out mid (IsUntold mid) stage fault → Left fault
+    left_told : (fault : Fault) → has_line fault ≡ true → Tells tail fault → (stage : Stage) × LeavesAt look out mid IsUntold stage fault → Left fault
     left_told fault has line (at_first, (is, silent, untold)) = (at_first, (is, silent, line_joined fault untold.silent line))
     left_told fault has line (at_printing, (printing, ready, front, kind, untold)) = (at_printing, (printing, ready, front, kind, line_joined fault untold.silent line))
     left_told fault has line (at_telling, (telling, ready, puts, front, is)) = told_apart fault has is
-    left_told fault has line (at_saving, (is, silent, untold)) = (at_saving, (is, silent, line_joined fault untold.silent line))
+    left_told fault has line (at_saving, (is, left)) = (at_saving, (is, saving_told look.order fault fault line left))
 
     -- or want of memory for its line
-    left_memory : (fault : Fault) → has_line fault ≡ true → Tells tail a_fault.OutOfMemory → (stage : Stage) × LeavesAt look out mid (IsUntold mid) stage fault → Left a_fault.OutOfMemory
+    left_memory : (fault : Fault) → has_line fault ≡ true → Tells tail a_fault.OutOfMemory → (stage : Stage) × LeavesAt look out mid IsUntold stage fault → Left a_fault.OutOfMemory
     left_memory fault has line (at_first, (is, silent, untold)) = (at_first, (memory, silent, line_joined a_fault.OutOfMemory untold.silent line))
     left_memory fault has line (at_printing, (printing, ready, front, kind, untold)) = (at_printing, (printing, ready, front, inr refl, line_joined a_fault.OutOfMemory untold.silent line))
     left_memory fault has line (at_telling, (telling, ready, puts, front, is)) = told_apart fault has is
-    left_memory fault has line (at_saving, (is, silent, untold)) = (at_saving, (saving fault is, silent, line_joined a_fault.OutOfMemory untold.silent line))
+    left_memory fault has line (at_saving, (is, left)) = (at_saving, (saving fault is, saving_told look.order fault a_fault.OutOfMemory line left))
 
-    left_untold : (fault : Fault) → has_line fault ≡ false → IsSilent tail → (stage : Stage) × LeavesAt look out mid (IsUntold mid) stage fault → Left fault
+    left_untold : (fault : Fault) → has_line fault ≡ false → IsSilent tail → (stage : Stage) × LeavesAt look out mid IsUntold stage fault → Left fault
     left_untold fault none silent (at_first, (is, quiet, untold)) = absurd (true≢false (sym untold.told ∙ none))
     left_untold fault none silent (at_printing, (printing, ready, front, kind, untold)) = absurd (true≢false (sym untold.told ∙ none))
     left_untold fault none silent (at_telling, (telling, ready, puts, front, is)) = (at_telling, (telling, ready, puts, front_joined look.Told silent front, is))
-    left_untold fault none silent (at_saving, (is, quiet, untold)) = absurd (true≢false (sym untold.told ∙ none))
+    left_untold fault none silent (at_saving, (is, left)) = saving_untold look.order fault none left
 
     looks_err : (fault answered : Fault) → Left answered → Concludes look out joined (Some answered)
     looks_err fault answered left = record { done = λ none. absurd (cc none); left = left }
 
     answered_as : (fault : Fault) (answered : Option Fault) → has_line fault ≡ true → IsFaultOrMemory answered fault → IfSome answered (Tells tail)
-        → (stage : Stage) × LeavesAt look out mid (IsUntold mid) stage fault → Concludes look out joined answered
+        → (stage : Stage) × LeavesAt look out mid IsUntold stage fault → Concludes look out joined answered
     answered_as fault None has is line left = not_without None fault is refl
     answered_as fault (Some answered) has (inl same) line left =
         let is : answered ≡ fault = cc same in

@@ -276,12 +276,12 @@ module _ (command : Changing) (words : List (List ℕ)) (copy : Watched tree.His
 
   -- where it was met, whether it is told, or want of memory for its line
   stage_same : (fault : Fault) → MetLocking Does copy call.looked.shelf locks fault → FailsOrUnwritten a.history b.history fault → Tells err fault
-      → (stage : Stage) × LeavesAt (change_look Does call) out err (Tells err) stage fault
+      → (stage : Stage) × LeavesAt (change_look Does call) out err Tells stage fault
   stage_same fault met (inl is) line = (at_saving, ((shelf_fails fault is met, inl is), silent, line))
   stage_same fault met (inr none) line = (at_first, ((none, met), silent, line))
 
   stage_memory : (fault : Fault) → MetLocking Does copy call.looked.shelf locks fault → FailsOrUnwritten a.history b.history fault → Tells err a_fault.OutOfMemory
-      → (stage : Stage) × LeavesAt (change_look Does call) out err (Tells err) stage a_fault.OutOfMemory
+      → (stage : Stage) × LeavesAt (change_look Does call) out err Tells stage a_fault.OutOfMemory
   stage_memory fault met (inl is) line = (at_saving, ((shelf_fails fault is met, inr refl), silent, line))
   stage_memory fault met (inr none) line = (at_first, ((none, inl tt), silent, line))
 

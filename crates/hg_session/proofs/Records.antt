@@ -1,21 +1,20 @@
 -- What the command that prints the record did, from how it ended.
-use Rattle.std.proofs.Common.{ℕ, ◌≡◌, true, List, [], Option, Some, None, IfSome, IsTrue, refl, sym, ap, ◌∙◌, subst}
+use Rattle.std.proofs.Common.{ℕ, ◌≡◌, List, [], Option, Some, None, Result, Ok, Err, IfSome, IsTrue, refl, sym, ap, ◌∙◌, subst, inl, inr}
 use Rattle.std.proofs.lemmas.List.{append-nil}
 use Rattle.hg_base.proofs.Faults.{steady_not_rose}
-use Rattle.hg_report.specs.Fault.{has_line}
 use Rattle.hg_report.specs.declared.fault.Fault.{Fault}
 use Rattle.hg_stream.specs.Stream.{Grown}
 use Rattle.hg_shelf.specs.History as shelf
 use Rattle.hg_shelf.proofs.Histories as shelves
 use Rattle.hg_session.specs.Loaded.{AsksRecord}
 use Rattle.hg_session.specs.Call.{Call, IsLeftAlone, Serves, Sink}
-use Rattle.hg_session.specs.Debug.{HasText, IsExpectedOf, IsTextIn, RanRecord, record_look}
-use Rattle.hg_session.specs.Load.{of_read}
-use Rattle.hg_session.specs.Look.{LeavesAt, Concludes, Stage, at_first, at_printing, at_saving, at_telling}
-use Rattle.hg_session.specs.Put.{IsEmpty, IsSilent, LeavesFront, Puts, Tells}
-use Rattle.hg_session.specs.declared.read_fault.ReadFault.{ReadFault}
-use Rattle.hg_session.specs.declared.read_fault.ReadFault.TheVariants as a_read
-use Rattle.hg_session.proofs.Expectations.{front_by}
+use Rattle.hg_session.specs.Debug.{AnswersPrinting, HasText, IsExpectedOf, IsTextIn, Prints, RanRecord, ShowsRecord}
+use Rattle.hg_session.specs.Load.{of_print}
+use Rattle.hg_session.specs.Look.{IsLook}
+use Rattle.hg_session.specs.Put.{IsEmpty, IsSilent, LeavesFront, Puts}
+use Rattle.hg_session.specs.declared.print_fault.PrintFault.{PrintFault}
+use Rattle.hg_session.specs.declared.print_fault.PrintFault.TheVariants as a_print
+use Rattle.hg_session.proofs.Looks.{not_without}
 use Rattle.hg_session.proofs.Readings.{read_now, unreadable_now}
 
 -- nothing was told, so an empty text was
@@ -25,14 +24,6 @@ grown_none (Some bytes) = ap Some (sym (append-nil bytes))
 
 pub puts_none : (err : Sink) → IsSilent err → Puts IsEmpty err
 puts_none err silent = record { text = []; is = refl; put = silent.bytes ∙ grown_none err.old }
-
--- each fault of the record has a line
-pub read_told : (fault : ReadFault) → has_line (of_read fault) ≡ true
-read_told a_read.OutOfMemory = refl
-read_told (a_read.Docket fault) = refl
-read_told (a_read.Node fault) = refl
-read_told (a_read.DataGone ids) = refl
-read_told a_read.Failed = refl
 
 module _ (call : Call) (files : shelf.Passes call.looked.shelf.old call.looked.shelf.new) where
   abbrev there : shelf.Files
@@ -45,34 +36,41 @@ module _ (call : Call) (files : shelf.Passes call.looked.shelf.old call.looked.s
     text_own : (text : List ℕ) → HasText call.looked.shelf text → IsTextIn there text
     text_own text has = record { table = has.table; recorded = read_now call.looked.shelf files.past still own.told has.table (has.read own.told); is = has.is }
 
-    left_expected : (fault : Fault) → (stage : Stage) × LeavesAt (record_look call.looked.shelf) call.out call.err (Tells call.err) stage fault → Serves call.looked.shelf → Serves call.out
-        → IsExpectedOf there (Some fault)
-    left_expected fault (at_first, ((f, is, met), silent, line)) p q =
-        subst (λ (g : Fault). IsExpectedOf there (Some g)) (sym is) (unreadable_now call.looked.shelf files.past still own.told f met p)
-    left_expected fault (at_printing, (printing, ready, front, kind, line)) p q = absurd (steady_not_rose call.out.before call.out.after q front.failed)
-    left_expected fault (at_telling, (never, ready, puts, front, is)) p q = absurd never
-    left_expected fault (at_saving, (never, silent, line)) p q = absurd never
+    met_expected : (met : PrintFault) → Prints call.looked.shelf call.out (Err met) → Serves call.looked.shelf → Serves call.out → IsExpectedOf there (Some (of_print met))
+    met_expected (a_print.Read fault) (met, silent) p q = unreadable_now call.looked.shelf files.past still own.told fault met p
+    met_expected a_print.OutFailed front p q = absurd (steady_not_rose call.out.before call.out.after q front.failed)
 
-  expected_by : (fault : Option Fault) → Concludes (record_look call.looked.shelf) call.out call.err fault → shelf.IsOurs call.looked.shelf.old call.looked.shelf.new → Serves call.looked.shelf → Serves call.out
-      → IsExpectedOf there fault
-  expected_by None looks own p q = let ready = (looks.done refl).ready own.told in (ready.0, read_now call.looked.shelf files.past (still own) own.told ready.0 ready.1)
-  expected_by (Some fault) looks own p q = left_expected own fault looks.left p q
+  expected_by : (fault : Option Fault) (came : Result Unit PrintFault) → Prints call.looked.shelf call.out came → AnswersPrinting call.err came fault → shelf.IsOurs call.looked.shelf.old call.looked.shelf.new
+      → Serves call.looked.shelf → Serves call.out → IsExpectedOf there fault
+  expected_by fault (Ok done) prints (none, silent) own p q =
+      subst (IsExpectedOf there) (sym none) (prints.is.table, read_now call.looked.shelf files.past (still own) own.told prints.is.table (prints.is.read own.told))
+  expected_by fault (Err met) prints (inl same, told) own p q = subst (IsExpectedOf there) (sym same) (met_expected own met prints p q)
+  expected_by fault (Err met) prints (inr memory, told) own p q = subst (IsExpectedOf there) (sym memory) tt
 
-  front_own : (fault : Option Fault) → Concludes (record_look call.looked.shelf) call.out call.err fault → shelf.IsOurs call.looked.shelf.old call.looked.shelf.new
+  whole_own : (fault : Option Fault) (came : Result Unit PrintFault) → Prints call.looked.shelf call.out came → AnswersPrinting call.err came fault → fault ≡ None
+      → shelf.IsOurs call.looked.shelf.old call.looked.shelf.new → Puts (IsTextIn there) call.out
+  whole_own fault (Ok done) prints answers none own = record { text = prints.text; is = text_own own prints.text prints.is; put = prints.put }
+  whole_own fault (Err met) prints (is, told) none own = not_without fault (of_print met) is none
+
+  front_met : (met : PrintFault) → Prints call.looked.shelf call.out (Err met) → shelf.IsOurs call.looked.shelf.old call.looked.shelf.new → LeavesFront (IsTextIn there) call.out
+  front_met (a_print.Read fault) (met, silent) own = inl silent.bytes
+  front_met a_print.OutFailed front own = inr (front.text, text_own own front.text front.is, front.put)
+
+  front_own : (fault : Option Fault) (came : Result Unit PrintFault) → Prints call.looked.shelf call.out came → AnswersPrinting call.err came fault → shelf.IsOurs call.looked.shelf.old call.looked.shelf.new
       → IfSome fault (λ _. LeavesFront (IsTextIn there) call.out)
-  front_own None looks own = tt
-  front_own (Some fault) looks own =
-      front_by (HasText call.looked.shelf) (IsTextIn there) (text_own own) (record_look call.looked.shelf) (λ text is. is) call fault looks.left
+  front_own None came prints answers own = tt
+  front_own (Some fault) (Ok done) prints (none, silent) own = absurd (cc none)
+  front_own (Some fault) (Err met) prints answers own = front_met met prints own
 
-  pub record_by : (fault : Option Fault) → Concludes (record_look call.looked.shelf) call.out call.err fault → (IsTrue call.looked.shelf.old.told → AsksRecord call.looked.shelf.old call.looked.shelf.new) → IsLeftAlone call.looked.tree → call.looked.oversize.after ≡ call.looked.oversize.before
-      → RanRecord call fault
-  record_by fault looks below alone uncounted = record {
-    looks = looks;
-    whole = λ none own.
-        let printed = (looks.done none).printed in record { text = printed.text; is = text_own own printed.text printed.is; put = printed.put };
-    front = front_own fault looks;
-    complete = expected_by fault looks;
+  pub record_by : (fault : Option Fault) → ShowsRecord call.looked.shelf call.out call.err fault → (IsTrue call.looked.shelf.old.told → AsksRecord call.looked.shelf.old call.looked.shelf.new) → IsLeftAlone call.looked.tree → call.looked.oversize.after ≡ call.looked.oversize.before
+      → (code : ℕ) → IsLook call code fault → RanRecord call code fault
+  record_by fault shows below alone uncounted code look = record {
+    shows = shows;
+    whole = whole_own fault shows.came shows.prints shows.tells;
+    front = front_own fault shows.came shows.prints shows.tells;
+    complete = expected_by fault shows.came shows.prints shows.tells;
     below = below;
     alone = alone;
     uncounted = uncounted;
+    look = look;
   }

@@ -10,9 +10,7 @@ use Rattle.hg_docket.specs.Number.{next_name}
 use Rattle.hg_entry.specs.Table.{Table}
 use Rattle.hg_mixed.specs.Edits.{IsSame}
 use Rattle.hg_mixed.specs.Held.{Held, table}
-use Rattle.hg_report.specs.Cause.{of_encode}
 use Rattle.hg_report.specs.declared.fault.Fault.{Fault}
-use Rattle.hg_report.specs.declared.fault.Fault.TheVariants as a_fault
 use Rattle.hg_save.specs.Leads.{Leads}
 use Rattle.hg_save.specs.Loads.{Loads, Try}
 use Rattle.hg_save.specs.Others.{KeepsFiles, KeepsRecords}
@@ -21,6 +19,8 @@ use Rattle.hg_save.specs.Saved.{IsLatest, KeepsOthers, LeavesOnly, Records, Show
 use Rattle.hg_save.specs.declared.loaded.Loaded.{Loaded}
 use Rattle.hg_session.specs.Change.{IsUnwritten, IsWritten, MayFollowWriting}
 use Rattle.hg_session.specs.Loaded.{Refuses}
+use Rattle.hg_session.specs.declared.change_fault.ChangeFault.{ChangeFault}
+use Rattle.hg_session.specs.declared.change_fault.ChangeFault.TheVariants as a_fault
 use Rattle.hg_session.specs.declared.read_fault.ReadFault.{ReadFault}
 use Rattle.hg_shelf.specs.History.{History, us}
 use Rattle.hg_shelf.specs.Images.{Course, last_scene}
@@ -76,5 +76,5 @@ pub record IsRecorded (held : Held) (old new : Course) : Type 0 where
   pub gone : (held.docket.id ≡ [] → ⊥) → (last_scene new).files (data_name held.docket.id) ≡ None
 
 -- why a table wasn't written: something was changed in it and it can't be, or the shelf failed
-abbrev pub MetWriting : Held → ℕ → ℕ → Fault → Type 0
-MetWriting held before after fault = ((e : EncodeFault) × (fault ≡ of_encode e) × HasCause held e × (held.changed ≡ true)) ⊎ ((fault ≡ a_fault.ShelfFailed) × Rose before after)
+abbrev pub MetWriting : Held → ℕ → ℕ → ChangeFault → Type 0
+MetWriting held before after fault = ((e : EncodeFault) × (fault ≡ a_fault.Encode e) × HasCause held e × (held.changed ≡ true)) ⊎ ((fault ≡ a_fault.ShelfFailed) × Rose before after)

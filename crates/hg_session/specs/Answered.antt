@@ -6,13 +6,11 @@ use Rattle.hg_session.specs.Call.{Call, Count, IsLeftAlone, Looked, Saved, Sink}
 use Rattle.hg_session.specs.Cause.{CommandCause}
 use Rattle.hg_session.specs.Change.{IsUnwritten}
 use Rattle.hg_session.specs.Changed.{RanChange}
-use Rattle.hg_session.specs.Commands.{changing_of}
 use Rattle.hg_session.specs.Crash.{IsSafeFromCrashes}
 use Rattle.hg_session.specs.Debug.{RanRecord}
 use Rattle.hg_session.specs.Look.{IsCalm, IsLook}
 use Rattle.hg_session.specs.Put.{IsFaultOrMemory, IsSilent, Tells}
 use Rattle.hg_session.specs.Status.{RanStatus}
-use Rattle.hg_session.specs.declared.acting.Changing.TheVariants as a_change
 use Rattle.hg_shelf.specs.Images.{Goes}
 use Rattle.hg_words.specs.declared.given.Command.{Command}
 use Rattle.hg_words.specs.declared.given.Command.TheVariants as a_command
@@ -29,25 +27,28 @@ pub record IsIdle (looked : Looked) (saved : Saved) (locks : Count) (out : Sink)
   pub silent : IsSilent out
 
 -- what is done for a command that isn't built: it is answered as such, whatever else holds, and its line is told
-pub record IsUnbuilt (call : Call) (fault : Option Fault) : Type 0 where
+pub record IsUnbuilt (call : Call) (code : ℕ) (fault : Option Fault) : Type 0 where
   pub answered : IsFaultOrMemory fault a_fault.NotBuilt
   pub told : IfSome fault (Tells call.err)
   pub idle : IsIdle call.looked call.saved call.locks call.out
+  pub look : IsLook call code fault
 
 -- what a command did that ended with this status and this fault, or with none
 abbrev pub Ran : Command → Call → ℕ → Option Fault → Type 0
-Ran (a_command.Status flags) call code fault = RanStatus flags call fault
-Ran (a_command.Add files) call code fault = RanChange a_change.Add files call code fault
-Ran (a_command.Forget files) call code fault = RanChange a_change.Forget files call code fault
-Ran a_command.DebugDirstate call code fault = RanRecord call fault
-Ran command call code fault = IsUnbuilt call fault
+Ran (a_command.Status flags) call code fault = RanStatus flags call code fault
+Ran (a_command.Add files) call code fault = RanChange call code fault
+Ran (a_command.Forget files) call code fault = RanChange call code fault
+Ran (a_command.Remove after files) call code fault = RanChange call code fault
+Ran (a_command.Copy source target) call code fault = RanChange call code fault
+Ran (a_command.SetParents p1 p2) call code fault = RanChange call code fault
+Ran a_command.DebugDirstate call code fault = RanRecord call code fault
+Ran a_command.DebugScript call code fault = IsUnbuilt call code fault
+Ran (a_command.DebugLoad n) call code fault = IsUnbuilt call code fault
 
 -- a call ended with this status and this fault, or with none
 pub record IsAnswered (call : Call) (code : ℕ) (fault : Option Fault) : Type 0 where
   -- what its command did
   pub ran : Ran call.command call code fault
-  -- where that doesn't change the record, nothing below `.hg` is changed, and no lock asked for
-  pub look : changing_of call.command ≡ None → IsLook call code fault
   -- each fault comes only for its cause
   pub cause : IfSome fault (CommandCause call)
   -- where a device failed there is a fault

@@ -2,7 +2,7 @@
 use Rattle.std.specs.Prelude.{ℕ, ◌≡◌, ◌+◌, ◌≤◌, ◌-◌, ◌^◌, min, List, Option}
 use Rattle.hg_base.specs.Fault.{IsSteady, Rose}
 use Rattle.hg_shelf.specs.History as shelf
-use Rattle.hg_shelf.specs.Images.{Course}
+use Rattle.hg_shelf.specs.Images.{Course, Images, course}
 use Rattle.hg_tree.specs.History as tree
 use Rattle.hg_words.specs.declared.given.Command.{Command}
 
@@ -12,6 +12,10 @@ pub record Watched {ℓ} (Told : Type ℓ) : Type ℓ where
   pub new : Told
   pub before : ℕ
   pub after : ℕ
+
+-- it is so by what it tells and how often it failed
+abbrev pub watched {ℓ} : {Device : Type 0} {Told : Type ℓ} → (Device → Told) → (Device → ℕ) → Device → Device → Watched Told
+watched told faults old new = record { old = told old; new = told new; before = faults old; after = faults new }
 
 -- its count of failures rose
 abbrev pub Fails {ℓ} : {Told : Type ℓ} → Watched Told → Type 0
@@ -35,6 +39,10 @@ pub record Count : Type 0 where
   pub before : ℕ
   pub after : ℕ
 
+-- it is so by how often something happened
+abbrev pub counted : {Device : Type 0} → (Device → ℕ) → Device → Device → Count
+counted count old new = record { before = count old; after = count new }
+
 -- what is looked at: the working copy, and the files below `.hg`; and how many regexps were too big
 pub record Looked : Type 0 where
   pub tree : Watched tree.History
@@ -45,6 +53,10 @@ pub record Looked : Type 0 where
 pub record Saved : Type 1 where
   pub old : Course
   pub new : Course
+
+-- they are so by what a shelf tells and what a crash may leave of it
+abbrev pub saved_by : {Device : Type 0} → (Device → shelf.History) → (Device → ℕ → Images) → Device → Device → Saved
+saved_by history images old new = record { old = course (history old) (images old); new = course (history new) (images new) }
 
 -- a sink: the bytes that were put into it, where it tells them
 abbrev pub Sink : Type 0

@@ -1,19 +1,20 @@
 -- Why a command met a fault: one table, a line a fault, for every command.
-use Rattle.std.specs.Prelude.{◌≡◌, false, Some}
+use Rattle.std.specs.Prelude.{◌≡◌, ◌⊎◌, false, true}
 use Rattle.hg_base.specs.Fault.{Rose}
 use Rattle.hg_listing.specs.declared.fault.StatusFault.{StatusFault}
 use Rattle.hg_listing.specs.declared.fault.StatusFault.TheVariants as a_status
+use Rattle.hg_ops.specs.declared.refusal.OpFault.{OpFault}
+use Rattle.hg_ops.specs.declared.refusal.OpFault.TheVariants as an_op_fault
 use Rattle.hg_report.specs.declared.fault.Fault.{Fault}
 use Rattle.hg_report.specs.declared.fault.Fault.TheVariants as a_fault
 use Rattle.hg_session.specs.Call.{Call, Fails}
-use Rattle.hg_session.specs.Change.{MetLarge, MetSpent, makes_in}
-use Rattle.hg_session.specs.Commands.{changing_of}
+use Rattle.hg_session.specs.Change.{MetLarge, MetSpent, MetStop, makes_in}
+use Rattle.hg_session.specs.Commands.{is_change}
 use Rattle.hg_session.specs.Flags.{wanted_of}
 use Rattle.hg_session.specs.Listed.{StatusMet}
 use Rattle.hg_session.specs.Loaded.{LoadMet, WasLoaded}
-use Rattle.hg_session.specs.declared.acting.Changing.{Changing}
 use Rattle.hg_session.specs.declared.read_fault.ReadFault.TheVariants as a_read
-use Rattle.hg_words.specs.Given.{files_of, is_built}
+use Rattle.hg_words.specs.Given.{is_built}
 use Rattle.hg_words.specs.declared.flags.StatusFlags.{StatusFlags}
 use Rattle.hg_words.specs.declared.given.Command.TheVariants as a_command
 
@@ -22,8 +23,12 @@ abbrev pub MetByStatus : Call → StatusFault → Type 0
 MetByStatus call fault = (flags : StatusFlags) × (call.command ≡ a_command.Status flags) × StatusMet call.looked (wanted_of flags) fault
 
 -- the command changes the record, and met its fault so
-abbrev pub MetByChange : Call → (Changing → Type 0) → Type 0
-MetByChange call IsMet = (command : Changing) × (changing_of call.command ≡ Some command) × IsMet command
+abbrev pub MetByChange : Call → Type 0 → Type 0
+MetByChange call Met = (is_change call.command ≡ true) × Met
+
+-- a fault of the plain store was met by a status, or by a command that changes the record
+abbrev pub MetInStore : Call → StatusFault → OpFault → Type 0
+MetInStore call listed done = MetByStatus call listed ⊎ MetByChange call (MetStop (makes_in call) call.looked.shelf done)
 
 -- each fault comes only for its cause; want of memory needs none, and no fault of the words comes once they are a command
 abbrev pub CommandCause : Call → Fault → Type 0
@@ -32,20 +37,20 @@ CommandCause call a_fault.NotBuilt = is_built call.command ≡ false
 CommandCause call (a_fault.Docket fault) = LoadMet (a_read.Docket fault) call.looked.shelf
 CommandCause call (a_fault.Node fault) = LoadMet (a_read.Node fault) call.looked.shelf
 CommandCause call (a_fault.DataGone ids) = LoadMet (a_read.DataGone ids) call.looked.shelf
-CommandCause call (a_fault.NoManifest id) = MetByStatus call (a_status.NoManifest id)
-CommandCause call (a_fault.ManifestTooLarge size) = MetByStatus call (a_status.ManifestTooLarge size)
-CommandCause call (a_fault.ManifestLine line) = MetByStatus call (a_status.ManifestLine line)
-CommandCause call (a_fault.ManifestOrder line) = MetByStatus call (a_status.ManifestOrder line)
-CommandCause call (a_fault.NoContents id) = MetByStatus call (a_status.NoContents id)
+CommandCause call (a_fault.NoManifest id) = MetInStore call (a_status.NoManifest id) (an_op_fault.NoManifest id)
+CommandCause call (a_fault.ManifestTooLarge size) = MetInStore call (a_status.ManifestTooLarge size) (an_op_fault.ManifestTooLarge size)
+CommandCause call (a_fault.ManifestLine line) = MetInStore call (a_status.ManifestLine line) (an_op_fault.ManifestLine line)
+CommandCause call (a_fault.ManifestOrder line) = MetInStore call (a_status.ManifestOrder line) (an_op_fault.ManifestOrder line)
+CommandCause call (a_fault.NoContents id) = MetInStore call (a_status.NoContents id) (an_op_fault.NoContents id)
 CommandCause call (a_fault.IgnoreTooLarge size) = MetByStatus call (a_status.IgnoreTooLarge size)
 CommandCause call (a_fault.IgnoreText at) = MetByStatus call (a_status.IgnoreText at)
 CommandCause call (a_fault.BadGlob line) = MetByStatus call (a_status.BadGlob line)
 CommandCause call (a_fault.BadRegexp line) = MetByStatus call (a_status.BadRegexp line)
 CommandCause call (a_fault.RegexpTooBig line) = MetByStatus call (a_status.RegexpTooBig line) × Rose call.looked.oversize.before call.looked.oversize.after
 CommandCause call (a_fault.BadInclude line) = MetByStatus call (a_status.BadInclude line)
-CommandCause call a_fault.Held = MetByChange call (λ command. Rose call.locks.before call.locks.after)
-CommandCause call (a_fault.TooLarge size) = MetByChange call (λ command. MetLarge (makes_in command (files_of call.command) call) call.looked.shelf size)
-CommandCause call a_fault.IdsSpent = MetByChange call (λ command. MetSpent (makes_in command (files_of call.command) call) call.looked.shelf)
+CommandCause call a_fault.Held = MetByChange call (Rose call.locks.before call.locks.after)
+CommandCause call (a_fault.TooLarge size) = MetByChange call (MetLarge (makes_in call) call.looked.shelf size)
+CommandCause call a_fault.IdsSpent = MetByChange call (MetSpent (makes_in call) call.looked.shelf)
 CommandCause call a_fault.TreeFailed = Fails call.looked.tree × WasLoaded call.looked.shelf
 CommandCause call a_fault.ShelfFailed = Fails call.looked.shelf
 CommandCause call a_fault.OutFailed = Fails call.out

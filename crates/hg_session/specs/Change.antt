@@ -11,19 +11,24 @@ use Rattle.hg_entry.specs.Table.{Table}
 use Rattle.hg_image.specs.Reading.{reading_of}
 use Rattle.hg_mixed.specs.Edits.{IsSame}
 use Rattle.hg_mixed.specs.Held.{Held, table}
+use Rattle.hg_ops.specs.declared.refusal.OpFault.{OpFault}
+use Rattle.hg_ops.specs.declared.refusal.OpFault.TheVariants as an_op_fault
+use Rattle.hg_append.specs.declared.fault.EncodeFault.TheVariants as an_encode_fault
+use Rattle.hg_report.specs.Cause.{of_encode, of_op}
 use Rattle.hg_report.specs.declared.fault.Fault.{Fault}
 use Rattle.hg_report.specs.declared.fault.Fault.TheVariants as a_fault
 use Rattle.hg_save.specs.Loads.{files_at}
 use Rattle.hg_save.specs.Others.{KeepsFiles, KeepsRecords}
 use Rattle.hg_save.specs.Record.{data_name, docket_in, id_in, reading}
 use Rattle.hg_save.specs.Saved.{IsExact, IsLatest, IsOver, KeepsOthers, ReadsAsBeforeOr}
-use Rattle.hg_session.specs.Acts.{IsActed, Makes}
+use Rattle.hg_session.specs.Acts.{Makes, makes_of}
 use Rattle.hg_session.specs.Call.{Call, Count, Fails, FailsTwice, IsLeftAlone, Saved, Watched}
-use Rattle.hg_session.specs.Loaded.{IsRead, LoadMet}
+use Rattle.hg_session.specs.Load.{of_read}
+use Rattle.hg_session.specs.Loaded.{IsRead, MetReading}
 use Rattle.hg_session.specs.Locks.{NotReturned, NotTaken, Refused, Returned, TakenAt}
 use Rattle.hg_session.specs.Put.{IsFaultOrMemory}
-use Rattle.hg_session.specs.declared.acting.Changing.{Changing}
-use Rattle.hg_session.specs.declared.read_fault.ReadFault.TheVariants as a_read
+use Rattle.hg_session.specs.declared.change_fault.ChangeFault.{ChangeFault}
+use Rattle.hg_session.specs.declared.change_fault.ChangeFault.TheVariants as a_change_fault
 use Rattle.hg_shelf.specs.History as shelf
 use Rattle.hg_shelf.specs.Images.{Course, Scene, scene}
 use Rattle.hg_shelf.specs.Polite.{Undisturbed}
@@ -55,7 +60,7 @@ id_read {new = new} is = id_in (files_at new is.read.tried.last.docket)
 pub record IsMade (Does : Makes) (files : Watched shelf.History) (made : Table) (lines : List ℕ) (changed : Bool) : Type 0 where
   pub loaded : Table
   pub read : IsTrue files.old.told → IsReadFirst files.old files.new loaded
-  pub does : Does loaded made lines changed
+  pub does : Does.does loaded made lines changed
 
 -- a stretch of a call from where the caller took the lock to where it gave it back; outside it the caller makes no step
 pub record Stretch (old new : shelf.History) : Type 0 where
@@ -74,9 +79,9 @@ pub record Stretch (old new : shelf.History) : Type 0 where
 pub record IsUnwritten (old new : shelf.History) : Type 0 where
   pub none : NoneOurs new old.last new.last
 
--- the caller wrote nothing, unless the fault is that the shelf failed
-abbrev pub FailsOrUnwritten : shelf.History → shelf.History → Fault → Type 0
-FailsOrUnwritten old new fault = (fault ≡ a_fault.ShelfFailed) ⊎ IsUnwritten old new
+-- the caller wrote nothing, unless the shelf failed while the lock was called for or a record was published
+abbrev pub FailsOrUnwritten : shelf.History → shelf.History → ChangeFault → Type 0
+FailsOrUnwritten old new fault = (fault ≡ a_change_fault.ShelfFailed) ⊎ IsUnwritten old new
 
 -- between two moments a record was published over the one that stood at the first
 pub record IsPublished (Does : Makes) (c : Course) (from to : ℕ) : Type 0 where
@@ -84,7 +89,7 @@ pub record IsPublished (Does : Makes) (c : Course) (from to : ℕ) : Type 0 wher
   pub there : reading (scene c from).files ≡ Some (Ok loaded)
   pub made : Table
   pub lines : List ℕ
-  pub does : Does loaded made lines true
+  pub does : Does.does loaded made lines true
   -- what is recorded once it is published
   pub found : Table
   pub is : IsSame found made
@@ -164,6 +169,19 @@ pub record IsDone (Does : Makes) (files : Watched shelf.History) (saved : Saved)
 
 -- ---- why it met a fault
 
+-- a fault of a change, as a command tells it
+abbrev pub of_change : ChangeFault → Fault
+of_change (a_change_fault.Read fault) = of_read fault
+of_change (a_change_fault.Op fault) = of_op fault
+of_change (a_change_fault.Encode fault) = of_encode fault
+of_change a_change_fault.Held = a_fault.Held
+of_change a_change_fault.ShelfFailed = a_fault.ShelfFailed
+
+-- the one that a change answers, if it does
+abbrev pub fault_of : {A : Type 0} → Result A ChangeFault → Option Fault
+fault_of (Ok done) = None
+fault_of (Err fault) = Some (of_change fault)
+
 -- something was changed, an identifier is left, and the new record would take so many bytes, which are too many
 pub record MetLarge (Does : Makes) (files : Watched shelf.History) (size : ℕ) : Type 0 where
   pub made : Table
@@ -185,18 +203,33 @@ pub record MetSpent (Does : Makes) (files : Watched shelf.History) : Type 0 wher
 abbrev pub IsReadSome : Watched shelf.History → Type 0
 IsReadSome files = IsTrue files.old.told → (loaded : Table) × IsReadFirst files.old files.new loaded
 
--- before anything was published, or while it was: what stood in the files, or a device that failed, a working copy behind a record that was read.
--- Want of memory needs no reason
-abbrev pub MetChanging : Makes → Watched tree.History → Watched shelf.History → Fault → Type 0
-MetChanging Does copy files a_fault.OutOfMemory = Unit {0}
-MetChanging Does copy files (a_fault.Docket fault) = LoadMet (a_read.Docket fault) files
-MetChanging Does copy files (a_fault.Node fault) = LoadMet (a_read.Node fault) files
-MetChanging Does copy files (a_fault.DataGone ids) = LoadMet (a_read.DataGone ids) files
-MetChanging Does copy files (a_fault.TooLarge size) = MetLarge Does files size
-MetChanging Does copy files a_fault.IdsSpent = MetSpent Does files
-MetChanging Does copy files a_fault.TreeFailed = Fails copy × IsReadSome files
-MetChanging Does copy files a_fault.ShelfFailed = Fails files
-MetChanging Does copy files fault = ⊥
+-- the record was read in the call, and what is made of it stops for this fault of the plain store
+pub record MetStop (Does : Makes) (files : Watched shelf.History) (fault : OpFault) : Type 0 where
+  pub loaded : Table
+  pub read : IsTrue files.old.told → IsReadFirst files.old files.new loaded
+  pub stops : Does.stops loaded fault
+
+-- while the command did what it says: a device that failed, a working copy behind a record that was read, or what stood in the plain store. Want of
+-- memory needs no reason
+abbrev pub MetDoing : Makes → Watched tree.History → Watched shelf.History → OpFault → Type 0
+MetDoing Does copy files an_op_fault.OutOfMemory = Unit {0}
+MetDoing Does copy files an_op_fault.TreeFailed = Fails copy × IsReadSome files
+MetDoing Does copy files an_op_fault.ShelfFailed = Fails files
+MetDoing Does copy files (an_op_fault.NoManifest id) = MetStop Does files (an_op_fault.NoManifest id)
+MetDoing Does copy files (an_op_fault.ManifestTooLarge size) = MetStop Does files (an_op_fault.ManifestTooLarge size)
+MetDoing Does copy files (an_op_fault.ManifestLine line) = MetStop Does files (an_op_fault.ManifestLine line)
+MetDoing Does copy files (an_op_fault.ManifestOrder line) = MetStop Does files (an_op_fault.ManifestOrder line)
+MetDoing Does copy files (an_op_fault.NoContents id) = MetStop Does files (an_op_fault.NoContents id)
+
+-- before anything was published, or while it was: what stood in the files, what the command met, a table that can't be written, or a shelf that failed
+abbrev pub MetChanging : Makes → Watched tree.History → Watched shelf.History → ChangeFault → Type 0
+MetChanging Does copy files (a_change_fault.Read fault) = MetReading files fault
+MetChanging Does copy files (a_change_fault.Op fault) = MetDoing Does copy files fault
+MetChanging Does copy files (a_change_fault.Encode an_encode_fault.OutOfMemory) = Unit {0}
+MetChanging Does copy files (a_change_fault.Encode (an_encode_fault.TooLarge size)) = MetLarge Does files size
+MetChanging Does copy files (a_change_fault.Encode an_encode_fault.IdsSpent) = MetSpent Does files
+MetChanging Does copy files a_change_fault.Held = ⊥
+MetChanging Does copy files a_change_fault.ShelfFailed = Fails files
 
 -- a fault that is met before the working copy is looked at: what stood in the files, or a lock that was refused
 abbrev pub IsEarly : Fault → Type 0
@@ -207,12 +240,12 @@ IsEarly a_fault.Held = Unit {0}
 IsEarly fault = ⊥
 
 -- or a lock that was refused
-abbrev pub MetLocking : Makes → Watched tree.History → Watched shelf.History → Count → Fault → Type 0
-MetLocking Does copy files locks fault = MetChanging Does copy files fault ⊎ ((fault ≡ a_fault.Held) × Rose locks.before locks.after)
+abbrev pub MetLocking : Makes → Watched tree.History → Watched shelf.History → Count → ChangeFault → Type 0
+MetLocking Does copy files locks fault = MetChanging Does copy files fault ⊎ ((fault ≡ a_change_fault.Held) × Rose locks.before locks.after)
 
 -- what a call makes of the record
-abbrev pub makes_in : Changing → List (List ℕ) → Call → Makes
-makes_in command words call = IsActed command words call.looked.tree call.looked.shelf
+abbrev pub makes_in : Call → Makes
+makes_in call = makes_of call.command call.looked.tree call.looked.shelf
 
 -- a fault that may be met once something was written: a shelf or an error stream that failed; for the line of the one there may be no memory
 abbrev pub MayFollowWriting : Option Fault → Type 0
@@ -263,7 +296,7 @@ pub record WasNotReturned (Does : Makes) (copy : Watched tree.History) (files : 
   pub uncounted : locks.after ≡ locks.before
   pub failed : Fails files
   pub first : (IsFaultOrMemory fault a_fault.ShelfFailed × (stretch : Stretch saved.old.history saved.new.history) × (lines : List ℕ) × IsDone Does files saved stretch.from stretch.to lines)
-      ⊎ ((met : Fault) × IsFaultOrMemory fault met × MetChanging Does copy files met × (met ≡ a_fault.ShelfFailed → FailsTwice files))
+      ⊎ ((met : ChangeFault) × IsFaultOrMemory fault (of_change met) × MetChanging Does copy files met × (of_change met ≡ a_fault.ShelfFailed → FailsTwice files))
 
 -- the lock was called for once, and one of these came of it
 abbrev pub IsLocked : Makes → Watched tree.History → Watched shelf.History → Saved → Count → Option Fault → Type 0
@@ -271,7 +304,7 @@ IsLocked Does copy files saved locks fault =
     WasRefused copy files locks fault ⊎ (WasNotTaken copy files locks fault ⊎ (WasReturned files locks ⊎ WasNotReturned Does copy files saved locks fault))
 
 -- what is answered once the lock was given back, or couldn't be: the first fault
-abbrev pub once_freed : {A U E : Type 0} → Result A Fault → Result U E → Result A Fault
+abbrev pub once_freed : {A U E : Type 0} → Result A ChangeFault → Result U E → Result A ChangeFault
 once_freed (Err fault) freed = Err fault
-once_freed (Ok done) (Err failed) = Err a_fault.ShelfFailed
+once_freed (Ok done) (Err failed) = Err a_change_fault.ShelfFailed
 once_freed (Ok done) (Ok unit) = Ok done

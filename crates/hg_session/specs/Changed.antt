@@ -6,21 +6,22 @@ use Rattle.hg_docket.specs.Number.{next_name}
 use Rattle.hg_entry.specs.Table.{Table}
 use Rattle.hg_mixed.specs.Edits.{IsSame}
 use Rattle.hg_mixed.specs.Held.{Held, table}
+use Rattle.hg_ops.specs.declared.refusal.OpFault.{OpFault}
+use Rattle.hg_ops.specs.declared.refusal.OpFault.TheVariants as an_op_fault
 use Rattle.hg_report.specs.declared.fault.Fault.{Fault}
 use Rattle.hg_report.specs.declared.fault.Fault.TheVariants as a_fault
 use Rattle.hg_save.specs.Others.{KeepsRecords}
 use Rattle.hg_save.specs.Record.{id_in, reading}
 use Rattle.hg_save.specs.Saved.{IsLatest}
-use Rattle.hg_session.specs.Acts.{Makes}
+use Rattle.hg_session.specs.Acts.{AsksChange, ChangesTree, Makes}
 use Rattle.hg_session.specs.Call.{Call, Fails, IsLeftAlone, Serves, Watched}
-use Rattle.hg_session.specs.Change.{Fits, IsDone, IsEarly, IsLocked, IsReadSome, IsSafe, IsUnwritten, MetLocking, Stretch, makes_in}
-use Rattle.hg_session.specs.Loaded.{AsksRecord, IsUnreadable}
-use Rattle.hg_session.specs.Look.{Look, Concludes}
+use Rattle.hg_session.specs.Change.{Fits, IsDone, IsEarly, IsLocked, IsReadSome, IsSafe, IsUnwritten, MetLocking, Stretch, makes_in, of_change}
+use Rattle.hg_session.specs.Loaded.{IsUnreadable}
+use Rattle.hg_session.specs.Look.{Look, Concludes, saves_first}
 use Rattle.hg_session.specs.Put.{IsEmpty, IsFaultOrMemory, IsSilent}
 use Rattle.hg_session.specs.Crash.{IsCrashSafe, IsLasting, published_in}
 use Rattle.hg_session.specs.Listed.{IsOwn}
-use Rattle.hg_session.specs.declared.acting.Changing.{Changing}
-use Rattle.hg_session.specs.declared.acting.Changing.TheVariants as a_change
+use Rattle.hg_session.specs.declared.change_fault.ChangeFault.{ChangeFault}
 use Rattle.hg_shelf.specs.History as shelf
 use Rattle.hg_shelf.specs.Images.{Goes, last_scene}
 use Rattle.hg_shelf.specs.Polite.{Undisturbed}
@@ -43,19 +44,15 @@ pub record IsChangeText (Does : Makes) (call : Call) (lines : List ℕ) : Type 0
 -- unless the shelf failed while it saved, for whose line there may be no memory
 abbrev pub change_look : Makes → Call → Look
 change_look Does call = record {
-  Before = λ fault. IsUnwritten call.saved.old.history call.saved.new.history × MetLocking Does call.looked.tree call.looked.shelf call.locks fault;
+  Before = λ fault. IsUnwritten call.saved.old.history call.saved.new.history × (f : ChangeFault) × (fault ≡ of_change f) × MetLocking Does call.looked.tree call.looked.shelf call.locks f;
   Ready = Unit {0};
   Printing = ⊥;
   Text = IsEmpty;
   Telling = Unit {0};
   Told = IsChangeText Does call;
   Saving = λ fault. Fails call.looked.shelf × ((fault ≡ a_fault.ShelfFailed) ⊎ (fault ≡ a_fault.OutOfMemory));
+  order = saves_first;
 }
-
--- the tree is asked for no bytes and no names, and nothing of it is changed
-pub record OnlyLooks (copy : Watched tree.History) : Type 0 where
-  pub passes : tree.Passes copy.old copy.new
-  pub asked : IsTrue copy.old.told → copy.new.asked ≡ copy.old.asked
 
 -- ---- what has to be answered
 
@@ -63,7 +60,7 @@ pub record OnlyLooks (copy : Watched tree.History) : Type 0 where
 pub record IsMadeOf (Does : Makes) (files : shelf.Files) (made : Table) (lines : List ℕ) (changed : Bool) : Type 0 where
   pub loaded : Table
   pub recorded : reading files ≡ Some (Ok loaded)
-  pub does : Does loaded made lines changed
+  pub does : Does.does loaded made lines changed
 
 -- the record is left as it is, or one is made that can be written
 pub record CanBeDone (Does : Makes) (files : shelf.Files) : Type 0 where
@@ -90,35 +87,46 @@ pub record IsSpentFor (Does : Makes) (files : shelf.Files) : Type 0 where
   pub is : IsMadeOf Does files made lines true
   pub spent : next_name (id_in files) ≡ None
 
+-- of the record in these files nothing is made, for this fault of the plain store
+pub record IsStoppedFor (Does : Makes) (files : shelf.Files) (fault : OpFault) : Type 0 where
+  pub loaded : Table
+  pub recorded : reading files ≡ Some (Ok loaded)
+  pub stops : Does.stops loaded fault
+
 -- the answer where the files stand so, nobody else steps, no device fails and no lock is refused; want of memory may come at any time
 abbrev pub IsExpectedChange : Makes → shelf.Files → Option Fault → Type 0
 IsExpectedChange Does files None = CanBeDone Does files
 IsExpectedChange Does files (Some (a_fault.TooLarge size)) = IsTooLargeFor Does files size
 IsExpectedChange Does files (Some a_fault.IdsSpent) = IsSpentFor Does files
+IsExpectedChange Does files (Some (a_fault.NoManifest id)) = IsStoppedFor Does files (an_op_fault.NoManifest id)
+IsExpectedChange Does files (Some (a_fault.ManifestTooLarge size)) = IsStoppedFor Does files (an_op_fault.ManifestTooLarge size)
+IsExpectedChange Does files (Some (a_fault.ManifestLine line)) = IsStoppedFor Does files (an_op_fault.ManifestLine line)
+IsExpectedChange Does files (Some (a_fault.ManifestOrder line)) = IsStoppedFor Does files (an_op_fault.ManifestOrder line)
+IsExpectedChange Does files (Some (a_fault.NoContents id)) = IsStoppedFor Does files (an_op_fault.NoContents id)
 IsExpectedChange Does files (Some fault) = IsUnreadable files fault
 
 -- ---- the command
 
 -- what a command that changes the record did that ended with this status and this fault, or with none
-pub record RanChange (command : Changing) (words : List (List ℕ)) (call : Call) (status : ℕ) (fault : Option Fault) : Type 0 where
+pub record RanChange (call : Call) (status : ℕ) (fault : Option Fault) : Type 0 where
   -- without a fault each word did what it says to the record that was read, the refused ones were told, and the rest is recorded; and with one: where it
   -- was met, why, and what stands in both streams
-  pub shows : Concludes (change_look (makes_in command words call) call) call.out call.err fault
+  pub shows : Concludes (change_look (makes_in call) call) call.out call.err fault
   -- without a fault the status is 1 exactly where a line was told
   pub ends : (none : fault ≡ None) → status ≡ status_of (shows.done none).told.text
   -- whatever the answer, at each moment of the call a crash leaves the record as it was or as it is after, and so do reads
-  pub safe : Undisturbed call.saved.old call.saved.new → IsSafe (makes_in command words call) call.saved fault
+  pub safe : Undisturbed call.saved.old call.saved.new → IsSafe (makes_in call) call.saved fault
   -- and where others keep to how a record is published, also before the lock was got and behind it: at each moment since the call's start a crash
   -- leaves a record of what it might have left then, of what the call published, or of what others published since
   pub crash : (calm : Undisturbed call.saved.old call.saved.new) → KeepsRecords shelf.others call.saved.new call.saved.old.history.last → IsLatest (last_scene call.saved.old)
-      → IsCrashSafe (published_in (makes_in command words call) call.saved fault (safe calm)) call.saved
+      → IsCrashSafe (published_in (makes_in call) call.saved fault (safe calm)) call.saved
   -- a lock that was refused is told as such
   pub held : call.locks.before < call.locks.after → IsFaultOrMemory fault a_fault.Held
   -- and so is a tree that failed, whatever else failed behind it
   pub tree : call.looked.tree.before < call.looked.tree.after → IsFaultOrMemory fault a_fault.TreeFailed
   -- where nobody else steps, no count rises and no lock is refused, the answer is the expected one, or there was no memory
   pub complete : IsOwn call.looked → Serves call.looked.tree → Serves call.looked.shelf → Serves call.err → IsSteady call.locks.before call.locks.after
-      → IsExpectedChange (makes_in command words call) (shelf.now call.looked.shelf.old).files fault
+      → IsExpectedChange (makes_in call) (shelf.now call.looked.shelf.old).files fault
   -- where a device failed there is a fault, and another one than of the error stream where the shelf did
   pub calm_tree : fault ≡ None → call.looked.tree.after ≡ call.looked.tree.before
   pub calm_shelf : (fault ≡ None) ⊎ (fault ≡ Some a_fault.ErrFailed) → call.looked.shelf.after ≡ call.looked.shelf.before
@@ -126,15 +134,14 @@ pub record RanChange (command : Changing) (words : List (List ℕ)) (call : Call
   -- nothing is printed, and no regexp compiled
   pub silent : IsSilent call.out
   pub uncounted : call.looked.oversize.after ≡ call.looked.oversize.before
-  pub looks : OnlyLooks call.looked.tree
+  -- what becomes of the working copy, whatever was answered
+  pub copy : ChangesTree call.command call.looked.tree
   -- it is looked at only behind a record that was read
   pub behind : IsLeftAlone call.looked.tree ⊎ IsReadSome call.looked.shelf
   pub early : IsSomeAnd fault IsEarly → IsLeftAlone call.looked.tree
-  -- where files are forgotten the tree isn't asked
-  pub unlooked : command ≡ a_change.Forget → IsLeftAlone call.looked.tree
-  -- below `.hg` it asks for no more than a load does
-  pub asked : IsTrue call.looked.shelf.old.told → AsksRecord call.looked.shelf.old call.looked.shelf.new
+  -- below `.hg` it asks for the record, and behind it for what its command needs
+  pub asked : IsTrue call.looked.shelf.old.told → AsksChange call.command call.looked.shelf.old call.looked.shelf.new
   -- what was so far stays
   pub kept : Goes call.saved.old call.saved.new
   -- the lock was called for once, also where nothing was to be changed
-  pub locked : IsLocked (makes_in command words call) call.looked.tree call.looked.shelf call.saved call.locks fault
+  pub locked : IsLocked (makes_in call) call.looked.tree call.looked.shelf call.saved call.locks fault

@@ -1,15 +1,16 @@
 -- What the command that prints the record answers, and why.
-use Rattle.std.specs.Prelude.{ℕ, ◌≡◌, List, Option, Some, None, Result, Ok, IfSome, IsTrue, OnOk}
+use Rattle.std.specs.Prelude.{ℕ, ◌≡◌, List, Option, Some, None, Result, Ok, Err, IfSome, IsTrue}
 use Rattle.hg_entry.specs.Table.{Table}
 use Rattle.hg_report.specs.Debug.{IsDebugText}
 use Rattle.hg_report.specs.declared.fault.Fault.{Fault}
 use Rattle.hg_save.specs.Record.{record_in}
-use Rattle.hg_session.specs.Loaded.{AsksRecord, IsLoaded, IsUnreadable, MetReading, WasLoaded}
+use Rattle.hg_session.specs.Loaded.{AsksRecord, IsLoaded, IsUnreadable, MetReading}
 use Rattle.hg_session.specs.Call.{Call, IsLeftAlone, Serves, Sink, Watched}
-use Rattle.hg_session.specs.Load.{of_read}
-use Rattle.hg_session.specs.Look.{Look, Concludes, Shows}
-use Rattle.hg_session.specs.Put.{IsEmpty, IsSilent, LeavesFront, Puts}
-use Rattle.hg_session.specs.declared.read_fault.ReadFault.{ReadFault}
+use Rattle.hg_session.specs.Load.{of_print}
+use Rattle.hg_session.specs.Look.{IsLook}
+use Rattle.hg_session.specs.Put.{IsFaultOrMemory, IsSilent, LeavesFront, Puts, PutsFront, Tells}
+use Rattle.hg_session.specs.declared.print_fault.PrintFault.{PrintFault}
+use Rattle.hg_session.specs.declared.print_fault.PrintFault.TheVariants as a_print
 use Rattle.hg_shelf.specs.History as shelf
 
 -- ---- what is printed
@@ -30,17 +31,16 @@ pub record IsTextIn (files : shelf.Files) (text : List ℕ) : Type 0 where
 abbrev pub OneRecord : Type 0
 OneRecord = (files : shelf.Files) (a b : List ℕ) → IsTextIn files a → IsTextIn files b → a ≡ b
 
--- the record is read, and its text printed
-abbrev pub record_look : Watched shelf.History → Look
-record_look files = record {
-  Before = λ fault. (f : ReadFault) × (fault ≡ of_read f) × MetReading files f;
-  Ready = WasLoaded files;
-  Printing = Unit {0};
-  Text = HasText files;
-  Telling = ⊥;
-  Told = IsEmpty;
-  Saving = λ fault. ⊥;
-}
+-- what printing came to: the text of the record was printed, or a front of it, or why the record wasn't read
+abbrev pub Prints : Watched shelf.History → Sink → Result Unit PrintFault → Type 0
+Prints files out (Ok done) = Puts (HasText files) out
+Prints files out (Err (a_print.Read fault)) = MetReading files fault × IsSilent out
+Prints files out (Err a_print.OutFailed) = PutsFront (HasText files) out
+
+-- what is answered of it, and what stands on the error stream
+abbrev pub AnswersPrinting : Sink → Result Unit PrintFault → Option Fault → Type 0
+AnswersPrinting err (Ok done) answered = (answered ≡ None) × IsSilent err
+AnswersPrinting err (Err fault) answered = IsFaultOrMemory answered (of_print fault) × IfSome answered (Tells err)
 
 -- ---- what has to be answered
 
@@ -51,17 +51,16 @@ IsExpectedOf files (Some fault) = IsUnreadable files fault
 
 -- ---- the command
 
--- a text that was printed, or a fault, before its line is told
-pub record DoesRecord (files : Watched shelf.History) (out : Sink) (result : Result Unit Fault) : Type 0 where
-  pub shows : (err : Sink) → IsSilent err → Shows (record_look files) out err result
-  pub below : IsTrue files.old.told → AsksRecord files.old files.new
-  pub calm_shelf : OnOk result (files.after ≡ files.before)
-  pub calm_out : OnOk result (out.after ≡ out.before)
+-- the record was printed, or why not, and what was told of that
+pub record ShowsRecord (files : Watched shelf.History) (out err : Sink) (answered : Option Fault) : Type 0 where
+  pub came : Result Unit PrintFault
+  pub prints : Prints files out came
+  pub tells : AnswersPrinting err came answered
 
--- what the command did that ended with this fault, or with none
-pub record RanRecord (call : Call) (fault : Option Fault) : Type 0 where
+-- what the command did that ended with this status and this fault, or with none
+pub record RanRecord (call : Call) (code : ℕ) (fault : Option Fault) : Type 0 where
   -- without a fault, the text of the table that was read was printed, and nothing told; and with one, why, and what stands in both streams
-  pub looks : Concludes (record_look call.looked.shelf) call.out call.err fault
+  pub shows : ShowsRecord call.looked.shelf call.out call.err fault
   -- where nobody else made a step below `.hg`, it is that of the record that stands there, and with a fault a front of it stands there, or nothing
   pub whole : fault ≡ None → shelf.IsOurs call.looked.shelf.old call.looked.shelf.new → Puts (IsTextIn (shelf.now call.looked.shelf.old).files) call.out
   pub front : shelf.IsOurs call.looked.shelf.old call.looked.shelf.new
@@ -73,3 +72,5 @@ pub record RanRecord (call : Call) (fault : Option Fault) : Type 0 where
   pub below : IsTrue call.looked.shelf.old.told → AsksRecord call.looked.shelf.old call.looked.shelf.new
   pub alone : IsLeftAlone call.looked.tree
   pub uncounted : call.looked.oversize.after ≡ call.looked.oversize.before
+  -- nothing below `.hg` is changed, and no lock asked for
+  pub look : IsLook call code fault

@@ -15,5 +15,6 @@ pub mod Load
 pub mod Loaded
 pub mod Locks
 pub mod Look
+pub mod Manifests
 pub mod Put
 pub mod Status

@@ -7,21 +7,25 @@ use Rattle.hg_save.specs.Others.{KeepsRecords}
 use Rattle.hg_save.specs.Saved.{IsLatest}
 use Rattle.hg_session.specs.Call.{Call, Count, Looked, Saved, Sink, Watched}
 use Rattle.hg_session.specs.Crash.{IsCrashSafe}
-use Rattle.hg_session.specs.Put.{IsFaultOrMemory, IsSilent, Puts, PutsFront, Tells}
+use Rattle.hg_session.specs.Put.{IsFaultOrMemory, IsSilent, Puts, PutsFront, PutsThen, Tells}
 use Rattle.hg_shelf.specs.History as shelf
 use Rattle.hg_shelf.specs.Images.{Goes, last_scene}
 use Rattle.hg_shelf.specs.Polite.{Undisturbed}
 
--- where a command meets a fault: before it prints or saves, while it prints, while it tells its lines behind that, while it saves; one that changes the
--- record saves before it tells its lines
+-- where a command meets a fault: before it prints or saves, while it prints, while it tells its lines behind that, while it saves
 pub data Stage : Type 0 where
   at_first : Stage
   at_printing : Stage
   at_telling : Stage
   at_saving : Stage
 
+-- when a command saves what it saves: before the text that it prints, or behind that and its lines
+pub data Order : Type 0 where
+  saves_first : Order
+  saves_last : Order
+
 -- what a command is about: why it meets a fault before it prints or saves, what is so where it met none, the text that it prints, where it prints one,
--- the lines behind it, where it tells some, and why it meets a fault while it saves
+-- the lines behind it, where it tells some, why it meets a fault while it saves, and when it does that
 pub record Look : Type 1 where
   pub Before : Fault → Type 0
   pub Ready : Type 0
@@ -30,18 +34,24 @@ pub record Look : Type 1 where
   pub Telling : Type 0
   pub Told : List ℕ → Type 0
   pub Saving : Fault → Type 0
+  pub order : Order
 
 -- a fault that printing may meet; for the line of the one there may be no memory
 abbrev pub IsOutFault : Fault → Type 0
 IsOutFault fault = (fault ≡ a_fault.OutFailed) ⊎ (fault ≡ a_fault.OutOfMemory)
 
+-- what stands in both streams where saving failed: nothing but the line of the fault, or the whole text, and that line behind the others
+abbrev pub LeftBySaving : Order → Look → Sink → Sink → (Sink → Fault → Type 0) → Fault → Type 0
+LeftBySaving saves_first look out err Line fault = IsSilent out × Line err fault
+LeftBySaving saves_last look out err Line fault = look.Ready × Puts look.Text out × PutsThen look.Told (λ rest. Line rest fault) err
+
 -- the table of stages: what a fault means, and what stands in standard output and on the error stream, by the stage at which it was met; Line is
--- what stands on the error stream where nothing but the line of the fault is told
-abbrev pub LeavesAt : Look → Sink → Sink → (Fault → Type 0) → Stage → Fault → Type 0
-LeavesAt look out err Line at_first fault = look.Before fault × IsSilent out × Line fault
-LeavesAt look out err Line at_printing fault = look.Printing × look.Ready × PutsFront look.Text out × IsOutFault fault × Line fault
+-- what stands of the line of a fault on an error stream that nothing else is told to
+abbrev pub LeavesAt : Look → Sink → Sink → (Sink → Fault → Type 0) → Stage → Fault → Type 0
+LeavesAt look out err Line at_first fault = look.Before fault × IsSilent out × Line err fault
+LeavesAt look out err Line at_printing fault = look.Printing × look.Ready × PutsFront look.Text out × IsOutFault fault × Line err fault
 LeavesAt look out err Line at_telling fault = look.Telling × look.Ready × Puts look.Text out × PutsFront look.Told err × (fault ≡ a_fault.ErrFailed)
-LeavesAt look out err Line at_saving fault = look.Saving fault × IsSilent out × Line fault
+LeavesAt look out err Line at_saving fault = look.Saving fault × LeftBySaving look.order look out err Line fault
 
 -- no fault was met: the text was printed, and the lines behind it were told
 pub record IsShown (look : Look) (out err : Sink) : Type 0 where
@@ -57,7 +67,7 @@ pub record IsUntold (err : Sink) (fault : Fault) : Type 0 where
 -- what was done before the line of a fault is told
 pub record Shows (look : Look) (out err : Sink) (result : Result Unit Fault) : Type 0 where
   pub done : OnOk result (IsShown look out err)
-  pub left : IfErr result (λ fault. (stage : Stage) × LeavesAt look out err (IsUntold err) stage fault)
+  pub left : IfErr result (λ fault. (stage : Stage) × LeavesAt look out err IsUntold stage fault)
 
 -- how a command ends that only looks, by what it did: the line of a fault is told, where it has one
 pub record EndsAs (err : Sink) (done : Result Unit Fault) (code : ℕ) (fault : Option Fault) : Type 0 where
@@ -70,9 +80,9 @@ pub record Concludes (look : Look) (out err : Sink) (fault : Option Fault) : Typ
   -- without a fault the text was printed, and the lines behind it were told
   pub done : fault ≡ None → IsShown look out err
   -- and with one: where it was met, why, and what stands in both streams
-  pub left : IfSome fault (λ f. (stage : Stage) × LeavesAt look out err (Tells err) stage f)
+  pub left : IfSome fault (λ f. (stage : Stage) × LeavesAt look out err Tells stage f)
 
--- ---- what every such command leaves as it was
+-- ---- what a command leaves as it was that only looks
 
 -- the files below `.hg` are only asked: the caller makes no step, its lock stays, the moments so far stay with what a crash may leave, and no lock
 -- was refused
@@ -89,7 +99,7 @@ pub record IsCalm (looked : Looked) (output errors : Sink) : Type 0 where
   pub out : output.after ≡ output.before
   pub err : errors.after ≡ errors.before
 
--- what a call did whose command doesn't change the record
+-- what every such call did
 pub record IsLook (call : Call) (code : ℕ) (fault : Option Fault) : Type 0 where
   pub only : OnlyReads call.looked.shelf call.saved call.locks
   -- and a crash leaves nothing that the call published

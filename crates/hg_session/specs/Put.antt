@@ -24,6 +24,14 @@ pub record PutsFront (IsText : List ℕ → Type 0) (sink : Sink) : Type 0 where
   pub put : GrownByFront sink.old sink.new text
   pub failed : Fails sink
 
+-- a text was, and this is so of what was put behind it
+pub record PutsThen (IsText : List ℕ → Type 0) (Rest : Sink → Type 0) (sink : Sink) : Type 0 where
+  pub text : List ℕ
+  pub is : IsText text
+  pub mid : Option (List ℕ)
+  pub put : Grown sink.old mid text
+  pub rest : Rest (record sink { old = mid })
+
 -- nothing was, or some front of one
 abbrev pub LeavesFront : (List ℕ → Type 0) → Sink → Type 0
 LeavesFront IsText sink = (sink.new ≡ sink.old) ⊎ ((text : List ℕ) × IsText text × GrownByFront sink.old sink.new text)

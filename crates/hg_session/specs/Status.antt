@@ -28,7 +28,7 @@ use Rattle.hg_session.specs.Flags.{style_of, wanted_of}
 use Rattle.hg_session.specs.Listed.{AsksLittle, AsksOwn, IsAskedAt, IsListable, IsListed, IsListedFor, IsOwn, ListingCause, first_parent}
 use Rattle.hg_session.specs.Load.{of_list}
 use Rattle.hg_session.specs.Loaded.{IsUnreadable}
-use Rattle.hg_session.specs.Look.{IsCalm, Look, Concludes, Shows}
+use Rattle.hg_session.specs.Look.{IsCalm, IsLook, Look, Concludes, Shows, saves_last}
 use Rattle.hg_session.specs.Put.{LeavesFront, Puts}
 use Rattle.hg_session.specs.declared.list_fault.ListFault.{ListFault}
 use Rattle.hg_shelf.specs.History as shelf
@@ -70,6 +70,7 @@ status_look flags looked = record {
   Telling = Unit {0};
   Told = IsWarningText (wanted_of flags) looked.tree;
   Saving = λ fault. ⊥;
+  order = saves_last;
 }
 
 -- ---- what has to be answered
@@ -141,8 +142,8 @@ pub record DoesStatus (flags : StatusFlags) (looked : Looked) (out err : Sink) (
   pub below : IsTrue looked.shelf.old.told → AsksBelow looked (wanted_of flags)
   pub calm : OnOk result (IsCalm looked out err)
 
--- what a status did that ended with this fault, or with none
-pub record RanStatus (flags : StatusFlags) (call : Call) (fault : Option Fault) : Type 0 where
+-- what a status did that ended with this status and this fault, or with none
+pub record RanStatus (flags : StatusFlags) (call : Call) (code : ℕ) (fault : Option Fault) : Type 0 where
   -- without a fault, the rows printed have each path that is left alone meanwhile exactly under its letter, and no two are of one path, and the
   -- warnings were told behind them; and with one, why, and what stands in both streams
   pub looks : Concludes (status_look flags call.looked) call.out call.err fault
@@ -162,3 +163,5 @@ pub record RanStatus (flags : StatusFlags) (call : Call) (fault : Option Fault) 
   pub asked_own : fault ≡ None → AsksOwn call.looked (wanted_of flags)
   -- below `.hg` it asks for the record, and then for what its comparisons need, the manifest once at most
   pub below : IsTrue call.looked.shelf.old.told → AsksBelow call.looked (wanted_of flags)
+  -- nothing below `.hg` is changed, and no lock asked for
+  pub look : IsLook call code fault

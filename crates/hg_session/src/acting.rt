@@ -1,4 +1,4 @@
-//! The words of a command that changes the record, one after another.
+//! What a command that changes the record makes of it, in memory.
 
 ghost use Rattle.std.specs.Prelude.{◌≡◌, ◌<◌, ◌++◌, ◌⊎◌, Err, IfErr, IfOk, IsTrue, OnOk, false, true};
 ghost use Rattle.hg_base.specs.Fault.{HasCause};
@@ -7,21 +7,22 @@ ghost use Rattle.hg_mixed.specs.Held.{table};
 ghost use Rattle.hg_ops.specs.Cause.{HasOpCause};
 ghost use Rattle.hg_ops.specs.Look.{Looks};
 ghost use Rattle.hg_ops.specs.declared.refusal.OpFault.TheVariants as an_op_fault;
-ghost use Rattle.hg_report.specs.declared.fault.Fault.TheVariants as a_fault;
-ghost use Rattle.hg_session.specs.Acts.{IsActed, Steps, name, refused_line};
-ghost use Rattle.hg_session.specs.Call.{Watched};
-ghost use Rattle.hg_session.specs.declared.acting.Changing.TheVariants as a_command;
-ghost use Rattle.hg_shelf.specs.History as shelf;
+ghost use Rattle.hg_session.specs.Acts.{ActsOn, IsActed, Steps, name, refused_line};
+ghost use Rattle.hg_session.specs.declared.acting.Changing.TheVariants as a_change;
+ghost use Rattle.hg_shelf.specs.Images.{Goes, course};
 ghost use Rattle.hg_tree.specs.History.{Passes};
 
+use crate::reparenting::reparent;
 use hg_base::{OutOfMemory, Words};
 use hg_mixed::Mixed;
 use hg_ops::{OpFault, Refusal, add, forget};
-use hg_report::{Fault, refusal_text};
+use hg_report::refusal_text;
+use hg_shelf::Shelf;
 use hg_tree::Tree;
+use hg_words::Command;
 use std::alloc::Global;
 
-/// A command that changes the record, by each of its words.
+/// A command that changes the record by each of its words.
 #[derive(Clone, Copy, Debug)]
 pub(crate) enum Changing {
     Add,
@@ -45,15 +46,16 @@ fn step<T: Tree>(
     mixed: &mut Mixed<'_>,
     tree: &mut T,
 ) -> Result<Option<Refusal>, OpFault>
-    ensures stepped { (files : Watched shelf.History) → IfOk result (λ refused. Steps command files (T.history tree.old) (T.history tree.new) word.now (table mixed.old) refused (table mixed.new)) }
+    ensures stepped { IfOk result (λ refused. Steps command (T.history tree.old) (T.history tree.new) word.now (table mixed.old) refused (table mixed.new)) }
     ensures looks { Looks word.now (table mixed.old) (T.history tree.old) (T.history tree.new) }
     ensures changed { OnOk result (Marks (IsSame (table mixed.new) (table mixed.old)) mixed.old.changed mixed.new.changed) }
     ensures image { IsOfSameImage mixed.old mixed.new }
     ensures passes { Passes (T.history tree.old) (T.history tree.new) }
     ensures asked { IsTrue (T.history tree.old).told → (T.history tree.new).asked ≡ (T.history tree.old).asked }
-    ensures unlooked { command ≡ a_command.Forget → tree.new ≡ tree.old }
+    ensures unlooked { command ≡ a_change.Forget → tree.new ≡ tree.old }
     ensures cause { HasOpCause (T.faults tree.old) (T.faults tree.new) result }
-    ensures memory { command ≡ a_command.Forget → IfErr result (λ fault. fault ≡ an_op_fault.OutOfMemory) }
+    ensures kind { IfErr result (λ e. (e ≡ an_op_fault.OutOfMemory) ⊎ (e ≡ an_op_fault.TreeFailed)) }
+    ensures memory { command ≡ a_change.Forget → IfErr result (λ fault. fault ≡ an_op_fault.OutOfMemory) }
 {
     match command {
         Changing::Add => add(mixed, tree, word),
@@ -81,45 +83,74 @@ fn put_refused(
     }
 }
 
-/// Does what a command says for each word, in order, and answers the lines of those that were refused.
-pub(crate) fn act<T: Tree>(
+// Does what a command says for each word, in order, and answers the lines of those that were refused.
+fn act_words<T: Tree>(
     alloc: Global,
     command: Changing,
     words: &Words,
     mixed: &mut Mixed<'_>,
     tree: &mut T,
-) -> Result<Vec<u8>, Fault>
-    // `IsActed` in specs/Acts.antt, whatever stands below `.hg`; of a table in which nothing was changed before.
-    ensures acts { (files : Watched shelf.History) → mixed.old.changed ≡ false
+) -> Result<Vec<u8>, OpFault>
+    // `IsActed` in specs/Acts.antt; of a table in which nothing was changed before.
+    ensures acts { mixed.old.changed ≡ false
         → IfOk
         result
         (λ lines. IsActed
         command
         words.now
         (record { old = T.history tree.old; new = T.history tree.new; before = T.faults tree.old; after = T.faults tree.new })
-        files
         (table mixed.old)
         (table mixed.new)
         lines.items
         mixed.new.changed) }
-    // The mark that something was changed stays where it was set.
-    ensures marked { OnOk result (mixed.old.changed ≡ true → mixed.new.changed ≡ true) }
     ensures image { IsOfSameImage mixed.old mixed.new }
     ensures passes { Passes (T.history tree.old) (T.history tree.new) }
     ensures asked { IsTrue (T.history tree.old).told → (T.history tree.new).asked ≡ (T.history tree.old).asked }
     // Where files are forgotten the working copy isn't looked at.
-    ensures unlooked { command ≡ a_command.Forget → tree.new ≡ tree.old }
-    ensures cause { HasCause (T.faults tree.old) (T.faults tree.new) result (λ e. e ≡ a_fault.TreeFailed) }
-    ensures kind { IfErr result (λ e. (e ≡ a_fault.OutOfMemory) ⊎ (e ≡ a_fault.TreeFailed)) }
-    ensures memory { command ≡ a_command.Forget → IfErr result (λ e. e ≡ a_fault.OutOfMemory) }
+    ensures unlooked { command ≡ a_change.Forget → tree.new ≡ tree.old }
+    ensures cause { HasCause (T.faults tree.old) (T.faults tree.new) result (λ e. e ≡ an_op_fault.TreeFailed) }
+    ensures kind { IfErr result (λ e. (e ≡ an_op_fault.OutOfMemory) ⊎ (e ≡ an_op_fault.TreeFailed)) }
     // A failing working copy is told as such.
-    ensures failed { T.faults tree.old < T.faults tree.new → result ≡ Err a_fault.TreeFailed }
+    ensures failed { T.faults tree.old < T.faults tree.new → result ≡ Err an_op_fault.TreeFailed }
 {
     let mut lines = Vec::new(alloc);
     for i in 0..words.len() {
         let word = words.at(i).as_str();
         let refused = step(command, word, mixed, tree)?;
-        put_refused(alloc, command, word, &refused, &mut lines)?;
+        match put_refused(alloc, command, word, &refused, &mut lines) {
+            Err(_) => return Err(OpFault::OutOfMemory),
+            Ok(()) => {}
+        }
     }
     Ok(lines)
+}
+
+/// Does what a command says over a table in memory, and answers the lines of the words that were refused.
+pub(crate) fn act<T: Tree, S: Shelf>(
+    alloc: Global,
+    command: &Command,
+    mixed: &mut Mixed<'_>,
+    tree: &mut T,
+    shelf: &mut S,
+) -> Result<Vec<u8>, OpFault>
+    // `ActsOn` in specs/Acts.antt.
+    ensures acts { ActsOn
+        command.now
+        (record { old = T.history tree.old; new = T.history tree.new; before = T.faults tree.old; after = T.faults tree.new })
+        (record { old = S.history shelf.old; new = S.history shelf.new; before = S.faults shelf.old; after = S.faults shelf.new })
+        mixed.old
+        mixed.new
+        result }
+    ensures kept { Goes (course (S.history shelf.old) (S.images shelf.old)) (course (S.history shelf.new) (S.images shelf.new)) }
+    ensures held { S.held shelf.new ≡ S.held shelf.old }
+{
+    match command {
+        Command::Add { files } => act_words(alloc, Changing::Add, files, mixed, tree),
+        Command::Forget { files } => act_words(alloc, Changing::Forget, files, mixed, tree),
+        Command::SetParents { p1, p2 } => match reparent(alloc, *p1, *p2, mixed, shelf) {
+            Err(fault) => Err(fault),
+            Ok(()) => Ok(Vec::new(alloc)),
+        },
+        _ => Ok(Vec::new(alloc)),
+    }
 }

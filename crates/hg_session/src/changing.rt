@@ -1,35 +1,33 @@
-//! A command that changes the record: the lock, the record, what its words make of it, a publication.
+//! A command that changes the record: the record, what its words make of it, a publication.
 
 ghost use Rattle.std.specs.Prelude.{◌≡◌, ◌⊎◌, ◌<◌, ◌≤◌, ◌∷◌, [], Err, IfErr, IfOk, IsTrue, None, OnOk, false, length, true};
-ghost use Rattle.std.specs.Result.{result_err};
 ghost use Rattle.hg_base.specs.Fault.{HasCause};
 ghost use Rattle.hg_docket.specs.Docket.{docket_of, docket_refusal};
 ghost use Rattle.hg_image.specs.Reading.{data_reading};
-ghost use Rattle.hg_report.specs.declared.fault.Fault.TheVariants as a_fault;
 ghost use Rattle.hg_save.specs.Leads.{IsHeld};
 ghost use Rattle.hg_save.specs.Loads.{Try};
 ghost use Rattle.hg_save.specs.Saved.{Stands};
-ghost use Rattle.hg_session.specs.Acts.{IsActed};
+ghost use Rattle.hg_session.specs.Acts.{AsksChange, ChangesTree, makes_of};
 ghost use Rattle.hg_session.specs.Anew.{CanWrite, IsOpened, IsRecorded, LoadsOrRefuses, MetWriting, WritesOnly};
-ghost use Rattle.hg_session.specs.Change.{FailsOrUnwritten, IsDone, IsEarly, IsReadSome, IsSafeHeld, MetChanging};
-ghost use Rattle.hg_session.specs.Changed.{OnlyLooks};
+ghost use Rattle.hg_session.specs.Change.{FailsOrUnwritten, IsDone, IsEarly, IsReadSome, IsSafeHeld, MetChanging, fault_of, of_change};
 ghost use Rattle.hg_session.specs.Loaded.{AsksRecord, NodesFind};
-ghost use Rattle.hg_session.specs.declared.acting.Changing.TheVariants as a_command;
+ghost use Rattle.hg_ops.specs.declared.refusal.OpFault.TheVariants as an_op_fault;
+ghost use Rattle.hg_session.specs.declared.change_fault.ChangeFault.TheVariants as a_fault;
 ghost use Rattle.hg_session.specs.declared.read_fault.ReadFault.TheVariants as a_read;
 ghost use Rattle.hg_shelf.specs.Asks.{AsksNothing};
 ghost use Rattle.hg_shelf.specs.History.{Passes};
 ghost use Rattle.hg_shelf.specs.Images.{Goes, course, last_scene};
 ghost use Rattle.hg_shelf.specs.Polite.{Undisturbed};
 
-use crate::acting::{Changing, act};
+use crate::acting::act;
+use crate::change_fault::ChangeFault;
 use crate::read_fault::ReadFault;
 use hg_append::{encode, plan};
-use hg_base::Words;
 use hg_mixed::Mixed;
-use hg_report::Fault;
 use hg_save::{Loaded, load, publish};
 use hg_shelf::Shelf;
 use hg_tree::Tree;
+use hg_words::Command;
 use std::alloc::Global;
 
 // Loads the record.
@@ -68,7 +66,7 @@ fn save<S: Shelf>(
     shelf: &mut S,
     loaded: &Loaded,
     table: &Mixed<'_>,
-) -> Result<(), Fault>
+) -> Result<(), ChangeFault>
     requires held { (S.history shelf.old).ours ≡ true }
     requires few { length loaded.now.docket.items ≤ 512 }
     requires whole { docket_refusal loaded.now.docket.items ≡ None }
@@ -87,7 +85,7 @@ fn save<S: Shelf>(
         table.now
         (course (S.history shelf.old) (S.images shelf.old))
         (course (S.history shelf.new) (S.images shelf.new))
-        (result_err result) }
+        (fault_of result) }
     ensures met { IfErr result (MetWriting table.now (S.faults shelf.old) (S.faults shelf.new)) }
     ensures unwritten { IfErr result (FailsOrUnwritten (S.history shelf.old) (S.history shelf.new)) }
     ensures calm { OnOk result (S.faults shelf.new ≡ S.faults shelf.old) }
@@ -103,7 +101,7 @@ fn save<S: Shelf>(
     }
     let new = encode(alloc, table, plan(table))?;
     match publish(shelf, loaded, &new) {
-        Err(_) => Err(Fault::ShelfFailed),
+        Err(_) => Err(ChangeFault::ShelfFailed),
         Ok(()) => Ok(()),
     }
 }
@@ -111,18 +109,16 @@ fn save<S: Shelf>(
 // Changes the record, and answers the lines of the words that were refused. The caller holds the lock.
 pub(crate) fn change_locked<T: Tree, S: Shelf>(
     alloc: Global,
-    command: Changing,
-    words: &Words,
+    command: &Command,
     tree: &mut T,
     shelf: &mut S,
-) -> Result<Vec<u8>, Fault>
+) -> Result<Vec<u8>, ChangeFault>
     requires { (S.history shelf.old).ours ≡ true }
     ensures done { IfOk
         result
         (λ lines. IsDone
-        (IsActed
-        command
-        words.now
+        (makes_of
+        command.now
         (record { old = T.history tree.old; new = T.history tree.new; before = T.faults tree.old; after = T.faults tree.new })
         (record { old = S.history shelf.old; new = S.history shelf.new; before = S.faults shelf.old; after = S.faults shelf.new }))
         (record { old = S.history shelf.old; new = S.history shelf.new; before = S.faults shelf.old; after = S.faults shelf.new })
@@ -133,42 +129,39 @@ pub(crate) fn change_locked<T: Tree, S: Shelf>(
     ensures met { IfErr
         result
         (MetChanging
-        (IsActed
-        command
-        words.now
+        (makes_of
+        command.now
         (record { old = T.history tree.old; new = T.history tree.new; before = T.faults tree.old; after = T.faults tree.new })
         (record { old = S.history shelf.old; new = S.history shelf.new; before = S.faults shelf.old; after = S.faults shelf.new }))
         (record { old = T.history tree.old; new = T.history tree.new; before = T.faults tree.old; after = T.faults tree.new })
         (record { old = S.history shelf.old; new = S.history shelf.new; before = S.faults shelf.old; after = S.faults shelf.new })) }
     ensures safe { Undisturbed (course (S.history shelf.old) (S.images shelf.old)) (course (S.history shelf.new) (S.images shelf.new))
         → IsSafeHeld
-        (IsActed
-        command
-        words.now
+        (makes_of
+        command.now
         (record { old = T.history tree.old; new = T.history tree.new; before = T.faults tree.old; after = T.faults tree.new })
         (record { old = S.history shelf.old; new = S.history shelf.new; before = S.faults shelf.old; after = S.faults shelf.new }))
         (record { old = course (S.history shelf.old) (S.images shelf.old); new = course (S.history shelf.new) (S.images shelf.new) })
-        (result_err result) }
+        (fault_of result) }
     ensures unwritten { IfErr result (FailsOrUnwritten (S.history shelf.old) (S.history shelf.new)) }
-    ensures looks { OnlyLooks (record { old = T.history tree.old; new = T.history tree.new; before = T.faults tree.old; after = T.faults tree.new }) }
-    ensures failed { T.faults tree.old < T.faults tree.new → result ≡ Err a_fault.TreeFailed }
-    ensures unlooked { command ≡ a_command.Forget → tree.new ≡ tree.old }
+    ensures copy { ChangesTree command.now (record { old = T.history tree.old; new = T.history tree.new; before = T.faults tree.old; after = T.faults tree.new }) }
+    ensures failed { T.faults tree.old < T.faults tree.new → result ≡ Err (a_fault.Op an_op_fault.TreeFailed) }
     ensures behind { (tree.new ≡ tree.old)
         ⊎ IsReadSome (record { old = S.history shelf.old; new = S.history shelf.new; before = S.faults shelf.old; after = S.faults shelf.new }) }
-    ensures early { IfErr result (λ fault. IsEarly fault → tree.new ≡ tree.old) }
+    ensures early { IfErr result (λ fault. IsEarly (of_change fault) → tree.new ≡ tree.old) }
     ensures calm_tree { OnOk result (T.faults tree.new ≡ T.faults tree.old) }
     ensures calm_shelf { OnOk result (S.faults shelf.new ≡ S.faults shelf.old) }
     ensures later { S.faults shelf.old ≤ S.faults shelf.new }
     ensures kept { Goes (course (S.history shelf.old) (S.images shelf.old)) (course (S.history shelf.new) (S.images shelf.new)) }
     ensures ours { (S.history shelf.new).ours ≡ (S.history shelf.old).ours }
-    ensures asked { IsTrue (S.history shelf.old).told → AsksRecord (S.history shelf.old) (S.history shelf.new) }
+    ensures asked { IsTrue (S.history shelf.old).told → AsksChange command.now (S.history shelf.old) (S.history shelf.new) }
     ensures lock { IsTrue (S.history shelf.old).told → IsHeld (S.history shelf.old) (S.history shelf.new) }
     ensures uncalled { (S.history shelf.new).locks ≡ (S.history shelf.old).locks }
     ensures locks { S.held shelf.new ≡ S.held shelf.old }
 {
     let loaded = read(alloc, shelf)?;
     let mut table = opened(alloc, &loaded)?;
-    let lines = act(alloc, command, words, &mut table, tree)?;
+    let lines = act(alloc, command, &mut table, tree, shelf)?;
     save(alloc, shelf, &loaded, &table)?;
     Ok(lines)
 }

@@ -1,10 +1,9 @@
 //! One command over a working copy, the files below `.hg`, and the standard streams.
 
 ghost use Rattle.hg_session.specs.Answered.{IsAnswered};
-ghost use Rattle.hg_shelf.specs.Images.{course};
+ghost use Rattle.hg_session.specs.Call.{counted, saved_by, watched};
 
-use crate::acting::Changing;
-use crate::debug::print_record;
+use crate::debug::show_record;
 use crate::ending::{Outcome, failed};
 use crate::locking::change_record;
 use crate::looking::{ended, status};
@@ -36,14 +35,14 @@ pub fn command<T: Tree, S: Shelf, G: Regexps, O: Sink, E: Sink>(
           command = command.now;
           looked =
               record {
-                tree = record { old = T.history tree.old; new = T.history tree.new; before = T.faults tree.old; after = T.faults tree.new };
-                shelf = record { old = S.history shelf.old; new = S.history shelf.new; before = S.faults shelf.old; after = S.faults shelf.new };
-                oversize = record { before = G.oversize regexps.old; after = G.oversize regexps.new };
+                tree = watched T.history T.faults tree.old tree.new;
+                shelf = watched S.history S.faults shelf.old shelf.new;
+                oversize = counted G.oversize regexps.old regexps.new;
               };
-          saved = record { old = course (S.history shelf.old) (S.images shelf.old); new = course (S.history shelf.new) (S.images shelf.new) };
-          locks = record { before = S.held shelf.old; after = S.held shelf.new };
-          out = record { old = O.bytes out.old; new = O.bytes out.new; before = O.faults out.old; after = O.faults out.new };
-          err = record { old = E.bytes err.old; new = E.bytes err.new; before = E.faults err.old; after = E.faults err.new };
+          saved = saved_by S.history S.images shelf.old shelf.new;
+          locks = counted S.held shelf.old shelf.new;
+          out = watched O.bytes O.faults out.old out.new;
+          err = watched E.bytes E.faults err.old err.new;
         })
         result.status
         result.fault }
@@ -53,19 +52,12 @@ pub fn command<T: Tree, S: Shelf, G: Regexps, O: Sink, E: Sink>(
             let done = status(alloc, *flags, tree, shelf, regexps, out, err);
             ended(alloc, done, err)
         }
-        Command::DebugDirstate => {
-            let done = print_record(alloc, shelf, out);
-            ended(alloc, done, err)
-        }
-        Command::Add { files } => change_record(alloc, Changing::Add, files, tree, shelf, err),
-        Command::Forget { files } => change_record(
-            alloc,
-            Changing::Forget,
-            files,
-            tree,
-            shelf,
-            err,
-        ),
-        _ => failed(alloc, Fault::NotBuilt, err),
+        Command::DebugDirstate => show_record(alloc, shelf, out, err),
+        Command::Add { .. }
+        | Command::Forget { .. }
+        | Command::Remove { .. }
+        | Command::Copy { .. }
+        | Command::SetParents { .. } => change_record(alloc, command, tree, shelf, err),
+        Command::DebugScript | Command::DebugLoad { .. } => failed(alloc, Fault::NotBuilt, err),
     }
 }

@@ -1,8 +1,8 @@
 //! One command: what it does in which order, and what of it is told.
 //!
-//! `status` loads the record, lists the working copy and prints. `debugdirstate` loads and prints. A command that changes the record, `add` or
-//! `forget`, takes the lock, loads, does what its words say, publishes what they changed, gives the lock back, and tells the refused words
-//! last. The first fault is the one that is answered, and after a fault the lock is given back too.
+//! `status` loads the record, lists the working copy and prints. `debugdirstate` loads and prints. A command that changes the record, `add`,
+//! `forget`, `remove`, `copy` or `debugsetparents`, takes the lock, loads, does what its words say, publishes what they changed, gives the lock
+//! back, and tells the refused words last. The first fault is the one that is answered, and after a fault the lock is given back too.
 //!
 //! ```text
 //! let outcome = command(alloc, &command, &mut tree, &mut shelf, &mut regexps, &mut out, &mut err);
@@ -13,6 +13,7 @@
 #![tactic(auto)]
 
 mod acting;
+mod change_fault;
 mod changing;
 mod choosing;
 mod debug;
@@ -22,9 +23,11 @@ mod list_fault;
 mod listing;
 mod locking;
 mod looking;
+mod print_fault;
 mod printed;
 mod read_fault;
 mod reading;
+mod reparenting;
 
 pub use choosing::command;
 pub use ending::{Outcome, failed};

@@ -2,9 +2,9 @@
 
 ghost use Rattle.std.specs.Prelude.{IsTrue};
 ghost use Rattle.hg_session.specs.Below.{AsksBelow};
+ghost use Rattle.hg_session.specs.Call.{counted, saved_by, watched};
 ghost use Rattle.hg_session.specs.Listed.{ListsCopy};
 ghost use Rattle.hg_session.specs.Look.{OnlyReads};
-ghost use Rattle.hg_shelf.specs.Images.{course};
 
 use crate::list_fault::ListFault;
 use crate::reading::read_flat;
@@ -25,24 +25,24 @@ pub(crate) fn list<T: Tree, S: Shelf, G: Regexps>(
 ) -> Result<Listed, ListFault>
     ensures lists { ListsCopy
         (record {
-          tree = record { old = T.history tree.old; new = T.history tree.new; before = T.faults tree.old; after = T.faults tree.new };
-          shelf = record { old = S.history shelf.old; new = S.history shelf.new; before = S.faults shelf.old; after = S.faults shelf.new };
-          oversize = record { before = G.oversize regexps.old; after = G.oversize regexps.new };
+          tree = watched T.history T.faults tree.old tree.new;
+          shelf = watched S.history S.faults shelf.old shelf.new;
+          oversize = counted G.oversize regexps.old regexps.new;
         })
         wanted
         result }
     ensures below { IsTrue (S.history shelf.old).told
         → AsksBelow
         (record {
-          tree = record { old = T.history tree.old; new = T.history tree.new; before = T.faults tree.old; after = T.faults tree.new };
-          shelf = record { old = S.history shelf.old; new = S.history shelf.new; before = S.faults shelf.old; after = S.faults shelf.new };
-          oversize = record { before = G.oversize regexps.old; after = G.oversize regexps.new };
+          tree = watched T.history T.faults tree.old tree.new;
+          shelf = watched S.history S.faults shelf.old shelf.new;
+          oversize = counted G.oversize regexps.old regexps.new;
         })
         wanted }
     ensures only { OnlyReads
-        (record { old = S.history shelf.old; new = S.history shelf.new; before = S.faults shelf.old; after = S.faults shelf.new })
-        (record { old = course (S.history shelf.old) (S.images shelf.old); new = course (S.history shelf.new) (S.images shelf.new) })
-        (record { before = S.held shelf.old; after = S.held shelf.new }) }
+        (watched S.history S.faults shelf.old shelf.new)
+        (saved_by S.history S.images shelf.old shelf.new)
+        (counted S.held shelf.old shelf.new) }
 {
     let flat = read_flat(alloc, shelf)?;
     let parent = flat.first_parent();

@@ -1,38 +1,40 @@
 //! The lock round a change of the record, and what is told of it.
 
 ghost use Rattle.std.specs.Prelude.{◌≡◌, ◌⊎◌, ◌<◌, List, Option, ℕ, IfErr, IfOk, IsTrue, MatchOption, None, OnOk, Err};
-ghost use Rattle.std.specs.Result.{result_err};
-ghost use Rattle.hg_report.specs.declared.fault.Fault.TheVariants as a_fault;
-ghost use Rattle.hg_session.specs.Acts.{IsActed};
+ghost use Rattle.hg_session.specs.Acts.{AsksChange, ChangesTree, makes_of};
 ghost use Rattle.hg_session.specs.Call.{Count, Sink};
-ghost use Rattle.hg_session.specs.Change.{FailsOrUnwritten, IsDone, IsEarly, IsLocked, IsReadSome, IsSafe, MetLocking, Stretch, once_freed};
+ghost use Rattle.hg_session.specs.Change.{FailsOrUnwritten, IsDone, IsEarly, IsLocked, IsReadSome, IsSafe, MetLocking, Stretch, fault_of, of_change, once_freed};
 ghost use Rattle.hg_session.specs.Changed as changed_is;
-ghost use Rattle.hg_session.specs.Changed.{OnlyLooks, RanChange};
+ghost use Rattle.hg_session.specs.Changed.{RanChange};
 ghost use Rattle.hg_session.specs.Loaded.{AsksRecord};
 ghost use Rattle.hg_session.specs.Put.{IsSilent};
-ghost use Rattle.hg_session.specs.declared.acting.Changing.TheVariants as a_command;
+ghost use Rattle.hg_ops.specs.declared.refusal.OpFault.TheVariants as an_op_fault;
+ghost use Rattle.hg_session.specs.declared.change_fault.ChangeFault.TheVariants as a_fault;
 ghost use Rattle.hg_shelf.specs.Images.{Goes, course};
 ghost use Rattle.hg_shelf.specs.Polite.{Undisturbed};
-ghost use Rattle.hg_words.specs.declared.given.Command.{Command};
 
-use crate::acting::Changing;
+use crate::change_fault::ChangeFault;
 use crate::changing::change_locked;
 use crate::ending::{Outcome, failed};
-use hg_base::{Failed, Words};
+use hg_base::Failed;
 use hg_report::Fault;
 use hg_shelf::Shelf;
 use hg_stream::{Sink, put_all};
 use hg_tree::Tree;
+use hg_words::Command;
 use std::alloc::Global;
 
 // The first fault of a change and of giving the lock back.
-fn first_fault(done: Result<Vec<u8>, Fault>, freed: Result<(), Failed>) -> Result<Vec<u8>, Fault>
+fn first_fault(
+    done: Result<Vec<u8>, ChangeFault>,
+    freed: Result<(), Failed>,
+) -> Result<Vec<u8>, ChangeFault>
     ensures { result ≡ once_freed done freed }
 {
     match done {
         Err(fault) => Err(fault),
         Ok(lines) => match freed {
-            Err(_) => Err(Fault::ShelfFailed),
+            Err(_) => Err(ChangeFault::ShelfFailed),
             Ok(()) => Ok(lines),
         },
     }
@@ -41,17 +43,15 @@ fn first_fault(done: Result<Vec<u8>, Fault>, freed: Result<(), Failed>) -> Resul
 // Takes the lock, changes the record, and gives the lock back, after a fault too; the lines of the words that were refused.
 fn change<T: Tree, S: Shelf>(
     alloc: Global,
-    command: Changing,
-    words: &Words,
+    command: &Command,
     tree: &mut T,
     shelf: &mut S,
-) -> Result<Vec<u8>, Fault>
+) -> Result<Vec<u8>, ChangeFault>
     ensures done { IfOk
         result
         (λ lines. (stretch : Stretch (S.history shelf.old) (S.history shelf.new)) × IsDone
-        (IsActed
-        command
-        words.now
+        (makes_of
+        command.now
         (record { old = T.history tree.old; new = T.history tree.new; before = T.faults tree.old; after = T.faults tree.new })
         (record { old = S.history shelf.old; new = S.history shelf.new; before = S.faults shelf.old; after = S.faults shelf.new }))
         (record { old = S.history shelf.old; new = S.history shelf.new; before = S.faults shelf.old; after = S.faults shelf.new })
@@ -62,9 +62,8 @@ fn change<T: Tree, S: Shelf>(
     ensures met { IfErr
         result
         (MetLocking
-        (IsActed
-        command
-        words.now
+        (makes_of
+        command.now
         (record { old = T.history tree.old; new = T.history tree.new; before = T.faults tree.old; after = T.faults tree.new })
         (record { old = S.history shelf.old; new = S.history shelf.new; before = S.faults shelf.old; after = S.faults shelf.new }))
         (record { old = T.history tree.old; new = T.history tree.new; before = T.faults tree.old; after = T.faults tree.new })
@@ -72,42 +71,39 @@ fn change<T: Tree, S: Shelf>(
         (record { before = S.held shelf.old; after = S.held shelf.new })) }
     ensures safe { Undisturbed (course (S.history shelf.old) (S.images shelf.old)) (course (S.history shelf.new) (S.images shelf.new))
         → IsSafe
-        (IsActed
-        command
-        words.now
+        (makes_of
+        command.now
         (record { old = T.history tree.old; new = T.history tree.new; before = T.faults tree.old; after = T.faults tree.new })
         (record { old = S.history shelf.old; new = S.history shelf.new; before = S.faults shelf.old; after = S.faults shelf.new }))
         (record { old = course (S.history shelf.old) (S.images shelf.old); new = course (S.history shelf.new) (S.images shelf.new) })
-        (result_err result) }
+        (fault_of result) }
     ensures unwritten { IfErr result (FailsOrUnwritten (S.history shelf.old) (S.history shelf.new)) }
     ensures held { S.held shelf.old < S.held shelf.new → result ≡ Err a_fault.Held }
-    ensures failed { T.faults tree.old < T.faults tree.new → result ≡ Err a_fault.TreeFailed }
-    ensures unlooked { command ≡ a_command.Forget → tree.new ≡ tree.old }
+    ensures failed { T.faults tree.old < T.faults tree.new → result ≡ Err (a_fault.Op an_op_fault.TreeFailed) }
     ensures behind { (tree.new ≡ tree.old)
         ⊎ IsReadSome (record { old = S.history shelf.old; new = S.history shelf.new; before = S.faults shelf.old; after = S.faults shelf.new }) }
-    ensures early { IfErr result (λ fault. IsEarly fault → tree.new ≡ tree.old) }
-    ensures looks { OnlyLooks (record { old = T.history tree.old; new = T.history tree.new; before = T.faults tree.old; after = T.faults tree.new }) }
+    ensures early { IfErr result (λ fault. IsEarly (of_change fault) → tree.new ≡ tree.old) }
+    ensures copy { ChangesTree command.now (record { old = T.history tree.old; new = T.history tree.new; before = T.faults tree.old; after = T.faults tree.new }) }
     ensures calm_tree { OnOk result (T.faults tree.new ≡ T.faults tree.old) }
     ensures calm_shelf { OnOk result (S.faults shelf.new ≡ S.faults shelf.old) }
     ensures kept { Goes (course (S.history shelf.old) (S.images shelf.old)) (course (S.history shelf.new) (S.images shelf.new)) }
-    ensures asked { IsTrue (S.history shelf.old).told → AsksRecord (S.history shelf.old) (S.history shelf.new) }
+    ensures asked { IsTrue (S.history shelf.old).told → AsksChange command.now (S.history shelf.old) (S.history shelf.new) }
     ensures locked { IsLocked
-        (IsActed
-        command
-        words.now
+        (makes_of
+        command.now
         (record { old = T.history tree.old; new = T.history tree.new; before = T.faults tree.old; after = T.faults tree.new })
         (record { old = S.history shelf.old; new = S.history shelf.new; before = S.faults shelf.old; after = S.faults shelf.new }))
         (record { old = T.history tree.old; new = T.history tree.new; before = T.faults tree.old; after = T.faults tree.new })
         (record { old = S.history shelf.old; new = S.history shelf.new; before = S.faults shelf.old; after = S.faults shelf.new })
         (record { old = course (S.history shelf.old) (S.images shelf.old); new = course (S.history shelf.new) (S.images shelf.new) })
         (record { before = S.held shelf.old; after = S.held shelf.new })
-        (result_err result) }
+        (fault_of result) }
 {
     match shelf.lock() {
-        Err(_) => Err(Fault::ShelfFailed),
-        Ok(false) => Err(Fault::Held),
+        Err(_) => Err(ChangeFault::ShelfFailed),
+        Ok(false) => Err(ChangeFault::Held),
         Ok(true) => {
-            let done = change_locked(alloc, command, words, tree, shelf);
+            let done = change_locked(alloc, command, tree, shelf);
             let freed = shelf.unlock();
             first_fault(done, freed)
         }
@@ -124,19 +120,16 @@ fn status_of(lines: &[u8]) -> u8
 /// Runs a command that changes the record, and tells the refused words, or the fault.
 pub(crate) fn change_record<T: Tree, S: Shelf, E: Sink>(
     alloc: Global,
-    command: Changing,
-    words: &Words,
+    command: &Command,
     tree: &mut T,
     shelf: &mut S,
     err: &mut E,
 ) -> Outcome
     // `RanChange` in specs/Changed.antt, whatever else a call has that isn't touched.
-    ensures ran { (called : Command) (out : Sink) (oversize : Count) → IsSilent out → oversize.after ≡ oversize.before
+    ensures ran { (out : Sink) (oversize : Count) → IsSilent out → oversize.after ≡ oversize.before
         → RanChange
-        command
-        words.now
         (record {
-          command = called;
+          command = command.now;
           looked =
               record {
                 tree = record { old = T.history tree.old; new = T.history tree.new; before = T.faults tree.old; after = T.faults tree.new };
@@ -153,8 +146,8 @@ pub(crate) fn change_record<T: Tree, S: Shelf, E: Sink>(
     ensures steady_err { result.fault ≡ None → E.faults err.new ≡ E.faults err.old }
     ensures status { MatchOption result.fault ((result.status ≡ 0) ⊎ (result.status ≡ 1)) (λ fault. result.status ≡ 255) }
 {
-    match change(alloc, command, words, tree, shelf) {
-        Err(fault) => failed(alloc, fault, err),
+    match change(alloc, command, tree, shelf) {
+        Err(fault) => failed(alloc, Fault::from(fault), err),
         Ok(lines) => match put_all(err, lines.as_slice()) {
             Err(_) => Outcome {
                 status: 255,

@@ -1,8 +1,8 @@
 //! A command that only looks: `status`, and how each such command ends.
 
+ghost use Rattle.hg_session.specs.Call.{counted, saved_by, watched};
 ghost use Rattle.hg_session.specs.Look.{EndsAs, OnlyReads};
 ghost use Rattle.hg_session.specs.Status.{DoesStatus};
-ghost use Rattle.hg_shelf.specs.Images.{course};
 
 use crate::ending::{Outcome, failed, has_line};
 use crate::flags::{style, wanted};
@@ -28,17 +28,17 @@ pub(crate) fn status<T: Tree, S: Shelf, G: Regexps, O: Sink, E: Sink>(
     ensures does { DoesStatus
         flags
         (record {
-          tree = record { old = T.history tree.old; new = T.history tree.new; before = T.faults tree.old; after = T.faults tree.new };
-          shelf = record { old = S.history shelf.old; new = S.history shelf.new; before = S.faults shelf.old; after = S.faults shelf.new };
-          oversize = record { before = G.oversize regexps.old; after = G.oversize regexps.new };
+          tree = watched T.history T.faults tree.old tree.new;
+          shelf = watched S.history S.faults shelf.old shelf.new;
+          oversize = counted G.oversize regexps.old regexps.new;
         })
-        (record { old = O.bytes out.old; new = O.bytes out.new; before = O.faults out.old; after = O.faults out.new })
-        (record { old = E.bytes err.old; new = E.bytes err.new; before = E.faults err.old; after = E.faults err.new })
+        (watched O.bytes O.faults out.old out.new)
+        (watched E.bytes E.faults err.old err.new)
         result }
     ensures only { OnlyReads
-        (record { old = S.history shelf.old; new = S.history shelf.new; before = S.faults shelf.old; after = S.faults shelf.new })
-        (record { old = course (S.history shelf.old) (S.images shelf.old); new = course (S.history shelf.new) (S.images shelf.new) })
-        (record { before = S.held shelf.old; after = S.held shelf.new }) }
+        (watched S.history S.faults shelf.old shelf.new)
+        (saved_by S.history S.images shelf.old shelf.new)
+        (counted S.held shelf.old shelf.new) }
 {
     let listed = list(alloc, tree, shelf, regexps, wanted(flags))?;
     let text = status_text(alloc, &listed.rows, style(flags))?;
@@ -55,7 +55,7 @@ pub(crate) fn status<T: Tree, S: Shelf, G: Regexps, O: Sink, E: Sink>(
 /// How such a command ends by what it did: the line of a fault is told, where it has one.
 pub(crate) fn ended<E: Sink>(alloc: Global, done: Result<(), Fault>, err: &mut E) -> Outcome
     ensures { EndsAs
-        (record { old = E.bytes err.old; new = E.bytes err.new; before = E.faults err.old; after = E.faults err.new })
+        (watched E.bytes E.faults err.old err.new)
         done
         result.status
         result.fault }

@@ -6,7 +6,7 @@ ghost use Rattle.hg_docket.specs.Docket.{docket_of, docket_refusal};
 ghost use Rattle.hg_entry.specs.Table.{Table};
 ghost use Rattle.hg_image.specs.Reading.{data_reading};
 ghost use Rattle.hg_save.specs.Loads.{Try};
-ghost use Rattle.hg_shelf.specs.Images.{course};
+ghost use Rattle.hg_session.specs.Call.{counted, saved_by, watched};
 ghost use Rattle.hg_session.specs.Loaded.{AsksRecord, IsFlatOf, NodesFind, Reads};
 ghost use Rattle.hg_session.specs.Look.{OnlyReads};
 ghost use Rattle.hg_session.specs.declared.read_fault.ReadFault.TheVariants as a_fault;
@@ -33,9 +33,9 @@ fn flat_in(alloc: Global, loaded: &Loaded) -> Result<Flat, ReadFault>
 /// The faults are looked for in this order: the docket's own, a data file that is gone, the data's own.
 pub(crate) fn read_flat<S: Shelf>(alloc: Global, shelf: &mut S) -> Result<Flat, ReadFault>
     ensures only { OnlyReads
-        (record { old = S.history shelf.old; new = S.history shelf.new; before = S.faults shelf.old; after = S.faults shelf.new })
-        (record { old = course (S.history shelf.old) (S.images shelf.old); new = course (S.history shelf.new) (S.images shelf.new) })
-        (record { before = S.held shelf.old; after = S.held shelf.new }) }
+        (watched S.history S.faults shelf.old shelf.new)
+        (saved_by S.history S.images shelf.old shelf.new)
+        (counted S.held shelf.old shelf.new) }
     ensures some { IfOk result (λ flat. (table : Table) × IsFlatOf table flat) }
     ensures found { IsTrue (S.history shelf.old).told → ((tried : Try) × Reads IsFlatOf (S.history shelf.old) (S.history shelf.new) (tried ∷ []) result) }
     ensures asked { IsTrue (S.history shelf.old).told → AsksRecord (S.history shelf.old) (S.history shelf.new) }

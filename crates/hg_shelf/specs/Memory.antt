@@ -1,11 +1,12 @@
 -- A shelf in memory: its history is the replay of what was changed.
-use Rattle.std.specs.Prelude.{ℕ, zero, suc, ◌≡◌, ◌==◌, ◌<◌, ◌⊎◌, Bool, true, false, if◌then◌else◌, List, [], ◌∷◌, ◌++◌, length, take, Option, Some, None, bytes_eq}
+use Rattle.std.specs.Prelude.{ℕ, zero, suc, ◌≡◌, ◌==◌, ◌<◌, ◌⊎◌, ◌||◌, Bool, not, true, false, if◌then◌else◌, List, [], ◌∷◌, ◌++◌, length, take, Option, Some, None, Result, Ok, Err, bytes_eq}
 use Rattle.hg_base.specs.Calls.{Counted, answered, failed, is_due, unmade}
 use Rattle.hg_shelf.specs.History.{Files, History, Who, us, others, label}
 use Rattle.hg_shelf.specs.Images.{Images, Scene}
 use Rattle.hg_shelf.specs.Rules.{content, overwritten, TornAt, Surely, Perhaps, moved, without}
 use Rattle.hg_shelf.specs.declared.asked.Asked.{Asked}
 use Rattle.hg_shelf.specs.declared.asked.LockAnswer.{LockAnswer}
+use Rattle.hg_shelf.specs.declared.asked.LockAnswer.TheVariants as an_answer
 use Rattle.hg_shelf.specs.declared.asked.LockCall.{LockCall}
 use Rattle.hg_shelf.specs.declared.outside.Change.{Change}
 use Rattle.hg_shelf.specs.declared.outside.Due.{Due}
@@ -191,3 +192,30 @@ pub record FailsLocking (answer : LockAnswer) (old new : Memory) : Type 0 where
   pub behind : Memory
   pub failed : Fails old behind
   pub noted : (new ≡ locking answer behind) ⊎ (new ≡ behind)
+
+-- after a call before which nothing was due, by whether it failed: it is counted
+abbrev pub counted : Bool → Memory → Memory
+counted has_failed memory = record memory { calls = if has_failed then failed memory.calls else answered memory.calls }
+
+-- a call that asks, before which nothing was due: it fails exactly where it was told to or couldn't be noted, and does nothing else
+pub record AsksAlone (ask : Asked) (has_failed : Bool) (old new : Memory) : Type 0 where
+  pub noted : Bool
+  pub fails : has_failed ≡ (not noted || is_due old.calls)
+  pub state : new ≡ counted has_failed (if noted then asking ask old else old)
+
+-- what a call of the lock counts and notes, before which nothing was due: it fails exactly where it was told to or couldn't be noted
+pub record LocksAlone (answer : LockAnswer) (has_failed : Bool) (old new : Memory) : Type 0 where
+  pub noted : Bool
+  pub fails : has_failed ≡ (not noted || is_due old.calls)
+  pub calls : new.calls ≡ (counted has_failed old).calls
+  pub locks : new.locks ≡ (if noted then locking answer old else old).locks
+
+-- what taking the lock came to, and what giving it back did
+abbrev pub taking_answer : {E : Type 0} → Result Bool E → LockAnswer
+taking_answer (Ok true) = an_answer.Taken
+taking_answer (Ok false) = an_answer.Refused
+taking_answer (Err fault) = an_answer.NotTaken
+
+abbrev pub giving_answer : {T E : Type 0} → Result T E → LockAnswer
+giving_answer (Ok done) = an_answer.GivenBack
+giving_answer (Err fault) = an_answer.NotGivenBack

@@ -4,7 +4,7 @@ ghost use Rattle.hg_base.specs.Calls.{fails_at, failed, is_due};
 ghost use Rattle.hg_base.specs.Fault.{HasCause, Rose};
 ghost use Rattle.hg_base.specs.Reads.{ReadsBytes, IsWithin};
 ghost use Rattle.hg_shelf.specs.History.{now};
-ghost use Rattle.hg_shelf.specs.Memory.{Fails, FailsAsking, FailsLocking, after_call, after_due, after_own, asking, by_others, coming, fresh, history_of, images_of, locking};
+ghost use Rattle.hg_shelf.specs.Memory.{AsksAlone, Fails, FailsAsking, FailsLocking, LocksAlone, after_call, after_due, after_own, asking, by_others, coming, fresh, giving_answer, history_of, images_of, locking, taking_answer};
 ghost use Rattle.hg_shelf.specs.Reads.{size_of};
 ghost use Rattle.hg_shelf.specs.Sound.{named_leaves, shown_named};
 ghost use Rattle.hg_shelf.specs.declared.asked.Asked.TheVariants as an_ask;
@@ -166,6 +166,7 @@ impl MemShelf {
     fn begin_size(&mut self, name: &str) -> Result<(), Failed>
         ensures ok { OnOk result (self.new ≡ asking (an_ask.Size name.now) (after_call self.old)) }
         ensures failed { OnErr result (FailsAsking (an_ask.Size name.now) self.old self.new) }
+        ensures alone { coming self.old ≡ [] → AsksAlone (an_ask.Size name.now) (is_err result) self.old self.new }
         ensures due { IsTrue (is_due self.old.calls) → is_err result ≡ true }
         ensures cause { HasCause self.old.calls.faults self.new.calls.faults result (λ e. Unit {0}) }
     {
@@ -182,6 +183,7 @@ impl MemShelf {
     fn begin_read(&mut self, name: &str) -> Result<(), Failed>
         ensures ok { OnOk result (self.new ≡ asking (an_ask.Read name.now) (after_call self.old)) }
         ensures failed { OnErr result (FailsAsking (an_ask.Read name.now) self.old self.new) }
+        ensures alone { coming self.old ≡ [] → AsksAlone (an_ask.Read name.now) (is_err result) self.old self.new }
         ensures due { IsTrue (is_due self.old.calls) → is_err result ≡ true }
         ensures cause { HasCause self.old.calls.faults self.new.calls.faults result (λ e. Unit {0}) }
     {
@@ -198,6 +200,7 @@ impl MemShelf {
     fn begin_lock(&mut self, failing: LockAnswer) -> Result<(), Failed>
         ensures ok { OnOk result (self.new ≡ after_call self.old) }
         ensures failed { OnErr result (FailsLocking failing self.old self.new) }
+        ensures alone { coming self.old ≡ [] → is_err result ≡ is_due self.old.calls }
         ensures due { IsTrue (is_due self.old.calls) → is_err result ≡ true }
         ensures cause { HasCause self.old.calls.faults self.new.calls.faults result (λ e. Unit {0}) }
     {
@@ -214,6 +217,8 @@ impl MemShelf {
     fn do_lock(&mut self, answer: LockAnswer, failing: LockAnswer) -> Result<(), Failed>
         ensures ok { OnOk result (self.new ≡ locking answer (after_call self.old)) }
         ensures failed { OnErr result (FailsLocking failing self.old self.new) }
+        ensures alone { coming self.old ≡ []
+            → LocksAlone (if is_err result then failing else answer) (is_err result) self.old self.new }
         ensures due { IsTrue (is_due self.old.calls) → is_err result ≡ true }
         ensures cause { HasCause self.old.calls.faults self.new.calls.faults result (λ e. Unit {0}) }
     {
@@ -289,6 +294,7 @@ impl Shelf for MemShelf {
         ensures due { IsTrue (is_due self.old.calls) → is_err result ≡ true }
         ensures answered { OnOk result (self.new ≡ asking (an_ask.Size name.now) (after_call self.old)) }
         ensures failed { OnErr result (FailsAsking (an_ask.Size name.now) self.old self.new) }
+        ensures alone { coming self.old ≡ [] → AsksAlone (an_ask.Size name.now) (is_err result) self.old self.new }
     {
         self.begin_size(name)?;
         Ok(self.log.get(name).map(|bytes| bytes.len() as u64))
@@ -301,6 +307,7 @@ impl Shelf for MemShelf {
         ensures due { IsTrue (is_due self.old.calls) → is_err result ≡ true }
         ensures answered { OnOk result (self.new ≡ asking (an_ask.Read name.now) (after_call self.old)) }
         ensures failed { OnErr result (FailsAsking (an_ask.Read name.now) self.old self.new) }
+        ensures alone { coming self.old ≡ [] → AsksAlone (an_ask.Read name.now) (is_err result) self.old self.new }
     {
         self.begin_read(name)?;
         match self.log.get(name) {
@@ -368,6 +375,7 @@ impl Shelf for MemShelf {
             then record (locking an_answer.Taken (after_call self.old)) { ours = true }
             else record (locking an_answer.Refused (after_call self.old)) { refusals = min (self.old.refusals + 1) (2 ^ 64 - 1) })) }
         ensures failed { OnErr result (FailsLocking an_answer.NotTaken self.old self.new) }
+        ensures alone { coming self.old ≡ [] → LocksAlone (taking_answer result) (is_err result) self.old self.new }
         ensures cause { HasCause self.old.calls.faults self.new.calls.faults result (λ e. Unit {0}) }
     {
         if self.away {
@@ -384,6 +392,7 @@ impl Shelf for MemShelf {
         ensures due { IsTrue (is_due self.old.calls) → is_err result ≡ true }
         ensures answered { OnOk result (self.new ≡ record (locking an_answer.GivenBack (after_call self.old)) { ours = false }) }
         ensures failed { OnErr result (FailsLocking an_answer.NotGivenBack self.old self.new) }
+        ensures alone { coming self.old ≡ [] → LocksAlone (giving_answer result) (is_err result) self.old self.new }
         ensures cause { HasCause self.old.calls.faults self.new.calls.faults result (λ e. Unit {0}) }
     {
         self.do_lock(LockAnswer::GivenBack, LockAnswer::NotGivenBack)?;

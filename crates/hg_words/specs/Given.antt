@@ -28,8 +28,12 @@ abbrev pub is_built : Command → Bool
 is_built (a_command.Status flags) = true
 is_built (a_command.Add files) = true
 is_built (a_command.Forget files) = true
+is_built (a_command.Remove after files) = true
+is_built (a_command.Copy source target) = true
+is_built (a_command.SetParents p1 p2) = true
 is_built a_command.DebugDirstate = true
-is_built command = false
+is_built a_command.DebugScript = false
+is_built (a_command.DebugLoad n) = false
 
 abbrev pub name_of : Command → List ℕ
 name_of (a_command.Status flags) = codes "status"

@@ -23,9 +23,9 @@ help_table =
     }
     ∷ record { name = codes "add"; words = codes "FILE .."; line = codes "track files and links, from the next commit on"; is_built = true }
     ∷ record { name = codes "forget"; words = codes "FILE .."; line = codes "track them no longer; the files stay"; is_built = true }
-    ∷ record { name = codes "remove"; words = codes "[-A] FILE .."; line = codes "track them no longer, and take the files away"; is_built = false }
-    ∷ record { name = codes "copy"; words = codes "SOURCE TARGET"; line = codes "copy a file, and record its source"; is_built = false }
-    ∷ record { name = codes "debugsetparents"; words = codes "NODE [NODE]"; line = codes "set the parents"; is_built = false }
+    ∷ record { name = codes "remove"; words = codes "[-A] FILE .."; line = codes "track them no longer, and take the files away"; is_built = true }
+    ∷ record { name = codes "copy"; words = codes "SOURCE TARGET"; line = codes "copy a file, and record its source"; is_built = true }
+    ∷ record { name = codes "debugsetparents"; words = codes "NODE [NODE]"; line = codes "set the parents"; is_built = true }
     ∷ record { name = codes "debugdirstate"; words = []; line = codes "print what the dirstate records of each path"; is_built = true }
     ∷ record { name = codes "debugscript"; words = []; line = codes "run commands from standard input"; is_built = false }
     ∷ record { name = codes "debugload"; words = codes "N"; line = codes "time a status over a working copy of N folders in memory"; is_built = false }

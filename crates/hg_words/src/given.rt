@@ -97,12 +97,11 @@ impl Command {
             Command::Status(_)
             | Command::Add { .. }
             | Command::Forget { .. }
-            | Command::DebugDirstate => true,
-            Command::Remove { .. }
+            | Command::Remove { .. }
             | Command::Copy { .. }
             | Command::SetParents { .. }
-            | Command::DebugScript
-            | Command::DebugLoad { .. } => false,
+            | Command::DebugDirstate => true,
+            Command::DebugScript | Command::DebugLoad { .. } => false,
         }
     }
 

@@ -35,19 +35,19 @@ static ROWS: [HelpRow; 9] = [
         name: "remove",
         words: "[-A] FILE ..",
         line: "track them no longer, and take the files away",
-        is_built: false,
+        is_built: true,
     },
     HelpRow {
         name: "copy",
         words: "SOURCE TARGET",
         line: "copy a file, and record its source",
-        is_built: false,
+        is_built: true,
     },
     HelpRow {
         name: "debugsetparents",
         words: "NODE [NODE]",
         line: "set the parents",
-        is_built: false,
+        is_built: true,
     },
     HelpRow {
         name: "debugdirstate",

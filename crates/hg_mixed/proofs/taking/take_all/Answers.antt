@@ -1,8 +1,12 @@
 use Rattle.hg_docket.specs.Docket as docket
 use Rattle.hg_mixed.specs.Parted.{image_rows}
 use Rattle.hg_mixed.proofs.Freed.{image_bared, moved_end}
+use Rattle.hg_mixed.proofs.Lifted.{moved_itself}
 use Rattle.hg_mixed.proofs.Moving.{moved_trans}
 use Rattle.hg_mixed.proofs.taking.take_all.Goals as goal
+
+pub returns-then-is_empty-clause-moved : goal.returns-then-is_empty-clause-moved
+returns-then-is_empty-clause-moved c = moved_itself _ _ _ _ c.requires
 
 pub returns-clause-moved : goal.returns-clause-moved
 returns-clause-moved c =

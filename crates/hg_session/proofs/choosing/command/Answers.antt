@@ -1,6 +1,6 @@
 -- The answer of a call, by its command.
 use Rattle.std.proofs.Common.{refl}
-use Rattle.hg_session.proofs.Caused.{answered_add, answered_forget, answered_record, answered_status, answered_unbuilt}
+use Rattle.hg_session.proofs.Caused.{answered_changed, answered_record, answered_status, answered_unbuilt}
 use Rattle.hg_session.proofs.Locked.{unwritten, unwritten_here}
 use Rattle.hg_shelf.proofs.Histories.{passes_same}
 use Rattle.hg_shelf.proofs.Scenes.{goes_same}
@@ -13,35 +13,27 @@ returns-in-Status g c =
 
 pub returns-in-DebugDirstate : goal.returns-in-DebugDirstate
 returns-in-DebugDirstate g c =
-    answered_record c.args.command.now _ _ _ _ _ _ (record { old = g.E.Sink.bytes c.args.err.now; new = g.E.Sink.bytes c.args.err.now; before = g.E.Sink.faults c.args.err.now; after = g.E.Sink.faults c.args.err.now }) _ refl refl
-    c.print_record-done.result c.ended-in-DebugDirstate.result.status c.ended-in-DebugDirstate.result.fault c.in-DebugDirstate.is
-    (record { history = refl; count = refl }) refl (record { bytes = refl; count = refl }) c.print_record-done.ensures.does c.print_record-done.ensures.only (unwritten _ _ c.print_record-done.ensures.only.passes) c.ended-in-DebugDirstate.ensures
+    answered_record _ c.show_record.result.status c.show_record.result.fault c.in-DebugDirstate.is c.show_record.ensures.shows c.show_record.ensures.below
+    (record { history = refl; count = refl }) refl
+    (λ none. record { tree = refl; shelf = c.show_record.ensures.calm_shelf none; regexps = refl; out = c.show_record.ensures.calm_out none; err = c.show_record.ensures.calm_err none })
+    c.show_record.ensures.only (unwritten _ _ c.show_record.ensures.only.passes) c.show_record.ensures.status
 
 pub returns-in-Add : goal.returns-in-Add
 returns-in-Add g c =
-    answered_add c.args.command.now c.in-Add.files _ c.change_record.result.status c.change_record.result.fault c.in-Add.is refl
-    (c.change_record.ensures.ran c.args.command.now _ _ (record { bytes = refl; count = refl }) refl) c.change_record.ensures.status
+    answered_changed _ c.change_record.result.status c.change_record.result.fault (changed_by c.in-Add.is)
+    (c.change_record.ensures.ran _ _ (record { bytes = refl; count = refl }) refl) c.change_record.ensures.status
 
-pub returns-in-Forget : goal.returns-in-Forget
-returns-in-Forget g c =
-    answered_forget c.args.command.now c.in-Forget.files _ c.change_record-in-Forget.result.status c.change_record-in-Forget.result.fault c.in-Forget.is refl
-    (c.change_record-in-Forget.ensures.ran c.args.command.now _ _ (record { bytes = refl; count = refl }) refl) c.change_record-in-Forget.ensures.status
-
-pub returns-in_default : goal.returns-in_default
-returns-in_default g c =
-    answered_unbuilt _ c.failed.result.status c.failed.result.fault
+pub returns-in-DebugScript : goal.returns-in-DebugScript
+returns-in-DebugScript g c =
+    answered_unbuilt _ c.failed.result.status c.failed.result.fault (unbuilt_by c.in-DebugScript.is) c.failed.ensures.fault c.failed.ensures.told
     (record {
-      answered = c.failed.ensures.fault;
-      told = c.failed.ensures.told;
-      idle = record {
-        copy = record { history = refl; count = refl };
-        files = refl;
-        files_count = refl;
-        kept = goes_same (course (g.S.Shelf.history c.args.shelf.now) (g.S.Shelf.images c.args.shelf.now));
-        unwritten = unwritten_here (g.S.Shelf.history c.args.shelf.now);
-        held = refl;
-        regexps = refl;
-        silent = record { bytes = refl; count = refl };
-      };
+      copy = record { history = refl; count = refl };
+      files = refl;
+      files_count = refl;
+      kept = goes_same (course (g.S.Shelf.history c.args.shelf.now) (g.S.Shelf.images c.args.shelf.now));
+      unwritten = unwritten_here (g.S.Shelf.history c.args.shelf.now);
+      held = refl;
+      regexps = refl;
+      silent = record { bytes = refl; count = refl };
     })
-    c.in_default.not-Status c.in_default.not-Add c.in_default.not-Forget c.in_default.not-DebugDirstate (passes_same (g.S.Shelf.history c.args.shelf.now)) c.failed.ensures.status
+    (passes_same (g.S.Shelf.history c.args.shelf.now)) c.failed.ensures.status

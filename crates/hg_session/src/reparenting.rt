@@ -1,0 +1,78 @@
+//! New parents, by their manifests.
+
+ghost use Rattle.std.specs.Prelude.{◌≡◌, ◌++◌, [], false, IfErr, IfOk, IsTrue, OnOk};
+ghost use Rattle.hg_base.specs.Fault.{HasCause};
+ghost use Rattle.hg_manifest.specs.Load.{asks_of};
+ghost use Rattle.hg_manifest.specs.declared.fault.ManifestFault.TheVariants as a_manifest_fault;
+ghost use Rattle.hg_mixed.specs.Edits.{IsOfSameImage};
+ghost use Rattle.hg_mixed.specs.Held.{table};
+ghost use Rattle.hg_ops.specs.declared.refusal.OpFault.TheVariants as an_op_fault;
+ghost use Rattle.hg_session.specs.Acts.{StopsFor};
+ghost use Rattle.hg_session.specs.Manifests.{FindsRows, IsReparented, LacksParents};
+ghost use Rattle.hg_shelf.specs.Asks.{AsksFrontOf, AsksInOrder};
+ghost use Rattle.hg_shelf.specs.History.{Passes};
+ghost use Rattle.hg_shelf.specs.Images.{Goes, course};
+
+use hg_base::Id20;
+use hg_manifest::{Manifest, ManifestFault};
+use hg_mixed::Mixed;
+use hg_ops::{OpFault, set_parents};
+use hg_shelf::Shelf;
+use std::alloc::Global;
+
+// Loads the manifest of a parent.
+fn rows_of<S: Shelf>(alloc: Global, shelf: &mut S, id: &Id20) -> Result<Manifest, ManifestFault>
+    ensures found { FindsRows
+        (record { old = S.history shelf.old; new = S.history shelf.new; before = S.faults shelf.old; after = S.faults shelf.new })
+        id.now
+        result }
+    ensures passes { Passes (S.history shelf.old) (S.history shelf.new) }
+    ensures kept { Goes (course (S.history shelf.old) (S.images shelf.old)) (course (S.history shelf.new) (S.images shelf.new)) }
+    ensures held { S.held shelf.new ≡ S.held shelf.old }
+    ensures asked { IsTrue (S.history shelf.old).told → AsksInOrder (asks_of id.now) (S.history shelf.old) (S.history shelf.new) result }
+    ensures cause { HasCause (S.faults shelf.old) (S.faults shelf.new) result (λ e. e ≡ a_manifest_fault.Failed) }
+{
+    Manifest::load(alloc, shelf, id)
+}
+
+/// Sets the parents of a table, by the manifests of both: the first is loaded before the second.
+pub(crate) fn reparent<S: Shelf>(
+    alloc: Global,
+    p1: Id20,
+    p2: Id20,
+    mixed: &mut Mixed<'_>,
+    shelf: &mut S,
+) -> Result<(), OpFault>
+    ensures does { mixed.old.changed ≡ false
+        → OnOk
+        result
+        (IsReparented
+        p1
+        p2
+        (record { old = S.history shelf.old; new = S.history shelf.new; before = S.faults shelf.old; after = S.faults shelf.new })
+        (table mixed.old)
+        (table mixed.new)
+        []
+        mixed.new.changed) }
+    ensures stops { IfErr
+        result
+        (StopsFor
+        (LacksParents
+        p1
+        p2
+        (record { old = S.history shelf.old; new = S.history shelf.new; before = S.faults shelf.old; after = S.faults shelf.new }))) }
+    ensures image { IsOfSameImage mixed.old mixed.new }
+    ensures passes { Passes (S.history shelf.old) (S.history shelf.new) }
+    ensures kept { Goes (course (S.history shelf.old) (S.images shelf.old)) (course (S.history shelf.new) (S.images shelf.new)) }
+    ensures held { S.held shelf.new ≡ S.held shelf.old }
+    ensures asked { IsTrue (S.history shelf.old).told → AsksFrontOf (asks_of p1 ++ asks_of p2) (S.history shelf.old) (S.history shelf.new) }
+    ensures cause { HasCause (S.faults shelf.old) (S.faults shelf.new) result (λ e. e ≡ an_op_fault.ShelfFailed) }
+    ensures kind { IfErr result (λ e. e ≡ an_op_fault.TreeFailed → ⊥) }
+{
+    let m1 = rows_of(alloc, shelf, &p1)?;
+    let m2 = rows_of(alloc, shelf, &p2)?;
+    match set_parents(alloc, mixed, p1, p2, &m1, &m2) {
+        Err(_) => Err(OpFault::OutOfMemory),
+        Ok(()) => Ok(()),
+    }
+}
