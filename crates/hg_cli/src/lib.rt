@@ -2,10 +2,10 @@
 //!
 //! `run` takes the words of a command, the working copy, the files below `.hg`, what compiles regexps and the standard streams; it answers
 //! with the fault, where there was one, and the status that the program ends with. The words are read by `hg_words`, whole, and the command
-//! is carried out by `hg_session`. Four commands are built: `status` (help topic `status`), over any dirstate (help topic
+//! is carried out by `hg_session`. These are built: `status` (help topic `status`), over any dirstate (help topic
 //! `internals.dirstate-v2`), what the plain store has of its first parent and the ignore patterns of `.hgignore`; `debugdirstate`, which
-//! prints what a dirstate records; `add` and `forget`, which change it. All that is promised of the program stands in the contract of `run`;
-//! that it keeps what a crash may leave over every list of runs, in that of `each_run_is_safe`.
+//! prints what a dirstate records; `add`, `forget`, `remove`, `copy` and `debugsetparents`, which change it. All that is promised of the program
+//! stands in the contract of `run`; that it keeps what a crash may leave over every list of runs, in that of `each_run_is_safe`.
 //!
 //! ```text
 //! let outcome = run(alloc, &words, &mut tree, &mut shelf, &mut Builds::new(), &mut input, &mut out, &mut err);

@@ -15,7 +15,7 @@ abbrev pub help_head : List ℕ
 help_head = codes "hgtrack: the record of a Mercurial working copy (its dirstate-v2), and the status from it\n\nUsage:\n"
 
 abbrev pub help_tail : List ℕ
-help_tail = codes "  hgtrack --help  print this help\n  hgtrack --version  print the version\n\nFlags of status, in any order, joined or apart; they end at a word `--`:\n  -m --modified   M: changed              -A --all         all letters, and copies\n  -a --added      A: added                -n --no-status   names without letters\n  -r --removed    R: removed              -0 --print0      NUL at the end of each line\n  -d --deleted    !: missing              -C --copies      what was copied, and from where\n  -c --clean      C: unchanged\n  -u --unknown    ?: not tracked\n  -i --ignored    I: ignored\n\nWhere no letter is asked for, M A R ! ? are listed. Paths are told from the root of the working copy, which is the nearest folder\nwith a folder `.hg`; a FILE is told from the current folder, and stands behind `--` where its name begins with a dash. It ends with\n0, with 1 where a FILE was refused, each by a line of its own, or with 255 after a line `abort: ...`. A line `hgtrack: ...` behind\nthese says why, or what to do.\n"
+help_tail = codes "  hgtrack --help  print this help\n  hgtrack --version  print the version\n\nFlags of status, in any order, joined or apart; they end at a word `--`:\n  -m --modified   M: changed              -A --all         all letters, and copies\n  -a --added      A: added                -n --no-status   names without letters\n  -r --removed    R: removed              -0 --print0      NUL at the end of each line\n  -d --deleted    !: missing              -C --copies      what was copied, and from where\n  -c --clean      C: unchanged\n  -u --unknown    ?: not tracked\n  -i --ignored    I: ignored\n\nWhere no letter is asked for, M A R ! ? are listed. Paths are told from the root of the working copy, which is the nearest folder\nwith a folder `.hg`; a FILE, SOURCE or TARGET is told from the current folder, and stands behind `--` where its name begins with a\ndash. With `-A` remove takes no file away, and wants it gone. It ends with 0, with 1 where a word was refused, each by a line of its\nown, or with 255 after a line `abort: ...`. A line `hgtrack: ...` behind these says why, or what to do.\n"
 
 -- the help: the lines of the commands that are built, between what is said of the program
 abbrev pub help_text : List ℕ

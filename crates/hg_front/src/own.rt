@@ -35,9 +35,9 @@ Flags of status, in any order, joined or apart; they end at a word `--`:
   -i --ignored    I: ignored
 
 Where no letter is asked for, M A R ! ? are listed. Paths are told from the root of the working copy, which is the nearest folder
-with a folder `.hg`; a FILE is told from the current folder, and stands behind `--` where its name begins with a dash. It ends with
-0, with 1 where a FILE was refused, each by a line of its own, or with 255 after a line `abort: ...`. A line `hgtrack: ...` behind
-these says why, or what to do.
+with a folder `.hg`; a FILE, SOURCE or TARGET is told from the current folder, and stands behind `--` where its name begins with a
+dash. With `-A` remove takes no file away, and wants it gone. It ends with 0, with 1 where a word was refused, each by a line of its
+own, or with 255 after a line `abort: ...`. A line `hgtrack: ...` behind these says why, or what to do.
 ";
 
 const VERSION: &str = "hgtrack 0.1.0\n";

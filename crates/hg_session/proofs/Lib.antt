@@ -10,6 +10,7 @@ pub mod Listings
 pub mod Locked
 pub mod Locks
 pub mod Looks
+pub mod Makers
 pub mod Overs
 pub mod Parents
 pub mod Printing

@@ -21,10 +21,10 @@ use Rattle.hg_save.specs.Loads.{files_at}
 use Rattle.hg_save.specs.Others.{KeepsFiles, KeepsRecords}
 use Rattle.hg_save.specs.Record.{data_name, docket_in, id_in, reading}
 use Rattle.hg_save.specs.Saved.{IsExact, IsLatest, IsOver, KeepsOthers, ReadsAsBeforeOr}
-use Rattle.hg_session.specs.Acts.{Makes, makes_of}
+use Rattle.hg_session.specs.Acts.{AsksBehind, Makes, makes_of}
 use Rattle.hg_session.specs.Call.{Call, Count, Fails, FailsTwice, IsLeftAlone, Saved, Watched}
 use Rattle.hg_session.specs.Load.{of_read}
-use Rattle.hg_session.specs.Loaded.{IsRead, MetReading}
+use Rattle.hg_session.specs.Loaded.{AsksRecord, IsRead, MetReading}
 use Rattle.hg_session.specs.Locks.{NotReturned, NotTaken, Refused, Returned, TakenAt}
 use Rattle.hg_session.specs.Put.{IsFaultOrMemory}
 use Rattle.hg_session.specs.declared.change_fault.ChangeFault.{ChangeFault}
@@ -33,6 +33,7 @@ use Rattle.hg_shelf.specs.History as shelf
 use Rattle.hg_shelf.specs.Images.{Course, Scene, scene}
 use Rattle.hg_shelf.specs.Polite.{Undisturbed}
 use Rattle.hg_tree.specs.History as tree
+use Rattle.hg_words.specs.declared.given.Command.{Command}
 
 -- ---- what the words make of the record
 
@@ -127,6 +128,16 @@ pub record IsWritten (found : Table) (before : shelf.Files) (behind : Scene) : T
   pub encoded : anew.IsWritten held new
   pub shown : IsExact new before behind.files
   pub left : (f : shelf.Files) → behind.leaves f → IsExact new before f
+
+-- the record was asked for, and behind it, up to a place, what its command needs
+pub record AsksChange (command : Command) (old new : shelf.History) : Type 0 where
+  pub mid : shelf.History
+  pub end : shelf.History
+  pub past : shelf.Extends mid end
+  pub later : shelf.Extends end new
+  pub quiet : new.asked ≡ end.asked
+  pub load : AsksRecord old mid
+  pub behind : (end.asked ≡ mid.asked) ⊎ ((loaded : Table) × IsReadFirst old new loaded × AsksBehind command loaded mid end)
 
 -- at the second of two moments reads show a record of this table, and so does whatever a crash leaves, unless nothing was to be published
 pub record IsKept (loaded made : Table) (saved : Saved) (from to : ℕ) : Type 0 where

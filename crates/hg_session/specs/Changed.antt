@@ -13,9 +13,9 @@ use Rattle.hg_report.specs.declared.fault.Fault.TheVariants as a_fault
 use Rattle.hg_save.specs.Others.{KeepsRecords}
 use Rattle.hg_save.specs.Record.{id_in, reading}
 use Rattle.hg_save.specs.Saved.{IsLatest}
-use Rattle.hg_session.specs.Acts.{AsksChange, ChangesTree, Makes}
+use Rattle.hg_session.specs.Acts.{ChangesTree, Makes}
 use Rattle.hg_session.specs.Call.{Call, Fails, IsLeftAlone, Serves, Watched}
-use Rattle.hg_session.specs.Change.{Fits, IsDone, IsEarly, IsLocked, IsReadSome, IsSafe, IsUnwritten, MetLocking, Stretch, makes_in, of_change}
+use Rattle.hg_session.specs.Change.{AsksChange, Fits, IsDone, IsEarly, IsLocked, IsReadSome, IsSafe, IsUnwritten, MetLocking, Stretch, makes_in, of_change}
 use Rattle.hg_session.specs.Loaded.{IsUnreadable}
 use Rattle.hg_session.specs.Look.{Look, Concludes, saves_first}
 use Rattle.hg_session.specs.Put.{IsEmpty, IsFaultOrMemory, IsSilent}

@@ -1,9 +1,9 @@
 //! The lock round a change of the record, and what is told of it.
 
 ghost use Rattle.std.specs.Prelude.{◌≡◌, ◌⊎◌, ◌<◌, List, Option, ℕ, IfErr, IfOk, IsTrue, MatchOption, None, OnOk, Err};
-ghost use Rattle.hg_session.specs.Acts.{AsksChange, ChangesTree, makes_of};
+ghost use Rattle.hg_session.specs.Acts.{ChangesTree, makes_of};
 ghost use Rattle.hg_session.specs.Call.{Count, Sink};
-ghost use Rattle.hg_session.specs.Change.{FailsOrUnwritten, IsDone, IsEarly, IsLocked, IsReadSome, IsSafe, MetLocking, Stretch, fault_of, of_change, once_freed};
+ghost use Rattle.hg_session.specs.Change.{AsksChange, FailsOrUnwritten, IsDone, IsEarly, IsLocked, IsReadSome, IsSafe, MetLocking, Stretch, fault_of, of_change, once_freed};
 ghost use Rattle.hg_session.specs.Changed as changed_is;
 ghost use Rattle.hg_session.specs.Changed.{RanChange};
 ghost use Rattle.hg_session.specs.Loaded.{AsksRecord};

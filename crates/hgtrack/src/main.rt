@@ -6,6 +6,8 @@
 //! hgtrack status -m -C     # with flags
 //! hgtrack add src/main.c   # paths from the current folder
 //! hgtrack forget main.o
+//! hgtrack remove src/old.c
+//! hgtrack copy src/main.c src/other.c
 //! hgtrack debugdirstate
 //! hgtrack --help
 //! hgtrack --version
