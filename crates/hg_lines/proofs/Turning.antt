@@ -1,6 +1,6 @@
 -- A script that is run while it's read: nothing yet, one line more, and how it ends.
 use Rattle.std.proofs.Common.{◌≡◌, ℕ, ◌+◌, List, [], ◌∷◌, ◌++◌, Option, Some, None, Ok, Err, refl, sym, ap, ◌∙◌, subst, append_assoc, inl, inr}
-use Rattle.std.specs.Prelude.{IfSome, max}
+use Rattle.std.specs.Prelude.{Bool, true, false, IfSome, is_some, max}
 use Rattle.std.proofs.lemmas.List.{append-nil}
 use Rattle.hg_base.proofs.Runs.{goes_on, no_call, stops_at}
 use Rattle.hg_base.specs.Runs.{RunsAll}
@@ -151,6 +151,23 @@ module _ {D F : Type 0} (Does : Turn → D → D → ℕ → Option F → Type 0
     end = λ none. absurd (cc none);
   }
 
+  -- the same by whether there is a fault at all
+  pub stops_with : (now next : D) (code status : ℕ) (reading new : Reading) (left rest : Option (List ℕ)) (line : List ℕ) (fault : Option F) → is_some fault ≡ true → Going now code reading left
+      → ReadsFrom reading (all_of reading left) new (all_of new rest) (Ok (Some line)) → Answers reading new (Ok (Some line)) → Does (Line (reading.number + 1) line) now next status fault
+      → RunsScript Does from rest old next status fault
+  stops_with now next code status reading new left rest line None some going reads answers does = absurd (cc some)
+  stops_with now next code status reading new left rest line (Some fault) some going reads answers does = stops now next code status reading new left rest line fault going reads answers does
+
+  pub refuses_with : (now next : D) (code status : ℕ) (reading new : Reading) (left rest : Option (List ℕ)) (met : LineFault) (fault : Option F) → is_some fault ≡ true → Going now code reading left
+      → ReadsFrom reading (all_of reading left) new (all_of new rest) (Err met) → Answers reading new (Err met) → Does (Refused met) now next status fault → RunsScript Does from rest old next status fault
+  refuses_with now next code status reading new left rest met None some going reads answers does = absurd (cc some)
+  refuses_with now next code status reading new left rest met (Some fault) some going reads answers does = refuses now next code status reading new left rest met fault going reads answers does
+
+  pub goes_with : (now next : D) (code status : ℕ) (reading new : Reading) (left rest : Option (List ℕ)) (line : List ℕ) (fault : Option F) → is_some fault ≡ false → Going now code reading left
+      → ReadsFrom reading (all_of reading left) new (all_of new rest) (Ok (Some line)) → Answers reading new (Ok (Some line)) → Does (Line (reading.number + 1) line) now next status fault → Going next (max code status) new rest
+  goes_with now next code status reading new left rest line None none going reads answers does = goes now next code status reading new left rest line going reads answers does
+  goes_with now next code status reading new left rest line (Some fault) none going reads answers does = absurd (cc none)
+
   -- there was no memory to begin with
   pub fails_first : (next : D) (status : ℕ) (rest : Option (List ℕ)) (fault : F) → Does (Refused a_fault.OutOfMemory) old next status (Some fault) → RunsScript Does from rest old next status (Some fault)
   fails_first next status rest fault does = record {
@@ -160,3 +177,7 @@ module _ {D F : Type 0} (Does : Turn → D → D → ℕ → Option F → Type 0
     told = cut_told from (all_of start from) [] start a_fault.OutOfMemory fault (going_from from) (inl refl);
     end = λ none. absurd (cc none);
   }
+
+  pub fails_with : (next : D) (status : ℕ) (rest : Option (List ℕ)) (fault : Option F) → is_some fault ≡ true → Does (Refused a_fault.OutOfMemory) old next status fault → RunsScript Does from rest old next status fault
+  fails_with next status rest None some does = absurd (cc some)
+  fails_with next status rest (Some fault) some does = fails_first next status rest fault does
