@@ -24,10 +24,10 @@ use Rattle.hg_save.specs.declared.loaded.Loaded.{Loaded}
 use Rattle.hg_save.proofs.Loads.{found_longer, last_within, tries_longer}
 use Rattle.hg_save.proofs.Published.{keeps_front}
 use Rattle.hg_save.proofs.Spans.{files_front}
-use Rattle.hg_session.specs.Acts.{AsksBehind, Makes, StopsFor}
+use Rattle.hg_session.specs.Acts.{AsksBehind, Makes}
 use Rattle.hg_session.specs.Anew.{CanWrite, IsOpened, IsOverwritten, IsRecorded, LoadsOrRefuses, MetWriting, WritesOnly}
-use Rattle.hg_session.specs.Call.{Fails, Watched}
-use Rattle.hg_session.specs.Change.{AsksChange, FitsFirst, IsDone, IsKept, IsMade, IsPublished, IsReadFirst, IsReadSome, IsSafeHeld, IsUnwritten, IsWritten, MetChanging, up_to}
+use Rattle.hg_session.specs.Call.{Fails, IsLeftAlone, Watched}
+use Rattle.hg_session.specs.Change.{AsksChange, FitsFirst, IsDone, IsKept, IsMade, IsPublished, IsReadFirst, IsReadSome, IsSafeHeld, IsToBlame, IsUnwritten, IsWritten, MetChanging, up_to}
 use Rattle.hg_session.specs.Load.{by_load}
 use Rattle.hg_session.specs.Loaded.{AsksRecord, NodesFind, Refuses}
 use Rattle.hg_session.specs.declared.change_fault.ChangeFault.{ChangeFault}
@@ -52,26 +52,29 @@ refused_load old new tries fault loads = record { tried = loads.tried; answer = 
 
 module _ (Does : Makes) (copy : Watched tree.History) (files : Watched shelf.History) where
   -- the record could not be read
-  pub met_read : (fault : ReadFault) → (IsTrue files.old.told → (tried : Try) × Refuses files.old files.new (tried ∷ []) fault) → (fault ≡ a_read.Failed → Fails files) → MetChanging Does copy files (a_change_fault.Read fault)
-  met_read a_read.OutOfMemory met failed = tt
-  met_read (a_read.Docket fault) met failed = λ told. let m = met told in (m.0 ∷ [], m.1)
-  met_read (a_read.Node fault) met failed = λ told. let m = met told in (m.0 ∷ [], m.1)
-  met_read (a_read.DataGone ids) met failed = λ told. let m = met told in (m.0 ∷ [], m.1)
-  met_read a_read.Failed met failed = failed refl
+  pub met_read : (fault : ReadFault) → (IsTrue files.old.told → (tried : Try) × Refuses files.old files.new (tried ∷ []) fault) → (fault ≡ a_read.Failed → Fails files) → IsLeftAlone copy → MetChanging Does copy files (a_change_fault.Read fault)
+  met_read a_read.OutOfMemory met failed alone = (tt, alone)
+  met_read (a_read.Docket fault) met failed alone = (λ told. let m = met told in (m.0 ∷ [], m.1), alone)
+  met_read (a_read.Node fault) met failed alone = (λ told. let m = met told in (m.0 ∷ [], m.1), alone)
+  met_read (a_read.DataGone ids) met failed alone = (λ told. let m = met told in (m.0 ∷ [], m.1), alone)
+  met_read a_read.Failed met failed alone = (failed refl, alone)
 
   -- its nodes could not
   pub met_opened : {X : Type 0} (IsOf : Table → X → Type 0) (loaded : Loaded) (fault : ReadFault) → docket_refusal loaded.docket.items ≡ None
       → (IsTrue files.old.told → (tried : Try) × LoadsOrRefuses files.old files.new (tried ∷ []) (Ok loaded))
-      → NodesFind IsOf (Err fault) (data_reading (docket_of loaded.docket.items) loaded.nodes.items) → MetChanging Does copy files (a_change_fault.Read fault)
-  met_opened IsOf loaded a_read.OutOfMemory sound loads finds = tt
-  met_opened IsOf loaded (a_read.Node fault) sound loads finds = λ told.
-      let m = loads told in (
-        m.0 ∷ [],
-        record { tried = m.1.tried; answer = m.1.answer.reading ∙ ap (λ r. Some r) (sound_reading loaded.docket.items loaded.nodes.items sound ∙ ap (λ r. of_data r) finds) },
-      )
-  met_opened IsOf loaded (a_read.Docket fault) sound loads finds = absurd finds
-  met_opened IsOf loaded (a_read.DataGone ids) sound loads finds = absurd finds
-  met_opened IsOf loaded a_read.Failed sound loads finds = absurd finds
+      → NodesFind IsOf (Err fault) (data_reading (docket_of loaded.docket.items) loaded.nodes.items) → IsLeftAlone copy → MetChanging Does copy files (a_change_fault.Read fault)
+  met_opened IsOf loaded a_read.OutOfMemory sound loads finds alone = (tt, alone)
+  met_opened IsOf loaded (a_read.Node fault) sound loads finds alone = (
+    λ told.
+        let m = loads told in (
+          m.0 ∷ [],
+          record { tried = m.1.tried; answer = m.1.answer.reading ∙ ap (λ r. Some r) (sound_reading loaded.docket.items loaded.nodes.items sound ∙ ap (λ r. of_data r) finds) },
+        ),
+    alone,
+  )
+  met_opened IsOf loaded (a_read.Docket fault) sound loads finds alone = absurd finds
+  met_opened IsOf loaded (a_read.DataGone ids) sound loads finds alone = absurd finds
+  met_opened IsOf loaded a_read.Failed sound loads finds alone = absurd finds
 
 -- ---- the record that was read first
 
@@ -147,39 +150,35 @@ module _ (a b c : Course) (passes : Passes a.history b.history) (goes : Goes b c
 
   -- ---- what the words made of it
 
+  to_blame : (copy : Watched tree.History) (files : Watched shelf.History) (fault : OpFault) → (fault ≡ an_op.TreeFailed → Fails copy) → (fault ≡ an_op.ShelfFailed → Fails files) → IsToBlame copy files fault
+  to_blame copy files an_op.TreeFailed tree_failed shelf_failed = tree_failed refl
+  to_blame copy files an_op.ShelfFailed tree_failed shelf_failed = shelf_failed refl
+  to_blame copy files fault tree_failed shelf_failed = tt
+
   -- what the command met behind it
   pub met_acting : (Does : Makes) (copy : Watched tree.History) (opened : Held) (begun : IsOpened (docket_of loaded.docket.items) recorded opened) (before mid after : ℕ) (fault : OpFault)
-      → mid ≡ before → StopsFor (Does.stops (table opened)) fault → (fault ≡ an_op.TreeFailed → Fails copy) → (fault ≡ an_op.ShelfFailed → Rose mid after)
+      → mid ≡ before → Does.stops (table opened) fault → (fault ≡ an_op.TreeFailed → Fails copy) → (fault ≡ an_op.ShelfFailed → Rose mid after)
       → MetChanging Does copy (record { old = a.history; new = c.history; before = before; after = after }) (a_change_fault.Op fault)
-  met_acting Does copy opened begun before mid after an_op.OutOfMemory still stops tree_failed shelf_failed = tt
-  met_acting Does copy opened begun before mid after an_op.TreeFailed still stops tree_failed shelf_failed = (tree_failed refl, λ told. (recorded, read_first told))
-  met_acting Does copy opened begun before mid after an_op.ShelfFailed still stops tree_failed shelf_failed = subst (λ (n : ℕ). Rose n after) still (shelf_failed refl)
-  met_acting Does copy opened begun before mid after (an_op.NoManifest id) still stops tree_failed shelf_failed =
-      record { loaded = recorded; read = read_first; stops = subst (λ (t : Table). Does.stops t (an_op.NoManifest id)) (one_table (table opened) recorded begun.same) stops }
-  met_acting Does copy opened begun before mid after (an_op.ManifestTooLarge size) still stops tree_failed shelf_failed =
-      record { loaded = recorded; read = read_first; stops = subst (λ (t : Table). Does.stops t (an_op.ManifestTooLarge size)) (one_table (table opened) recorded begun.same) stops }
-  met_acting Does copy opened begun before mid after (an_op.ManifestLine line) still stops tree_failed shelf_failed =
-      record { loaded = recorded; read = read_first; stops = subst (λ (t : Table). Does.stops t (an_op.ManifestLine line)) (one_table (table opened) recorded begun.same) stops }
-  met_acting Does copy opened begun before mid after (an_op.ManifestOrder line) still stops tree_failed shelf_failed =
-      record { loaded = recorded; read = read_first; stops = subst (λ (t : Table). Does.stops t (an_op.ManifestOrder line)) (one_table (table opened) recorded begun.same) stops }
-  met_acting Does copy opened begun before mid after (an_op.NoContents id) still stops tree_failed shelf_failed =
-      record { loaded = recorded; read = read_first; stops = subst (λ (t : Table). Does.stops t (an_op.NoContents id)) (one_table (table opened) recorded begun.same) stops }
+  met_acting Does copy opened begun before mid after fault still stops tree_failed shelf_failed = (
+    record { loaded = recorded; read = read_first; stops = subst (λ (t : Table). Does.stops t fault) (one_table (table opened) recorded begun.same) stops },
+    to_blame copy (record { old = a.history; new = c.history; before = before; after = after }) fault tree_failed (λ is. subst (λ (n : ℕ). Rose n after) still (shelf_failed is)),
+  )
 
   -- the working copy was looked at behind it
   pub read_some : IsReadSome (record { old = a.history; new = c.history; before = 0; after = 0 })
   read_some = λ told. (recorded, read_first told)
 
   -- what was asked for, the record first
-  pub asks_by : (command : Command) (opened : Held) (begun : IsOpened (docket_of loaded.docket.items) recorded opened) (mid : History) → Extends mid b.history → c.history.asked ≡ b.history.asked
-      → (IsTrue a.history.told → AsksRecord a.history mid) → (IsTrue mid.told → AsksBehind command (table opened) mid b.history) → Extends a.history mid → IsTrue a.history.told → AsksChange command a.history c.history
-  asks_by command opened begun mid past quiet load asks first told = record {
+  pub asks_by : (command : Command) (copy : Watched tree.History) (opened : Held) (begun : IsOpened (docket_of loaded.docket.items) recorded opened) (mid : History) → Extends mid b.history → c.history.asked ≡ b.history.asked
+      → (IsTrue a.history.told → AsksRecord a.history mid) → (IsTrue mid.told → AsksBehind command copy (table opened) mid b.history) → Extends a.history mid → IsTrue a.history.told → AsksChange command copy a.history c.history
+  asks_by command copy opened begun mid past quiet load asks first told = record {
     mid = mid;
     end = b.history;
     past = past;
     later = goes.past;
     quiet = quiet;
     load = load told;
-    behind = inr (recorded, read_first told, subst (λ (t : Table). AsksBehind command t mid b.history) (one_table (table opened) recorded begun.same) (asks (first.told ∙ told)));
+    behind = inr (recorded, read_first told, subst (λ (t : Table). AsksBehind command copy t mid b.history) (one_table (table opened) recorded begun.same) (asks (first.told ∙ told)));
   }
 
   module _ (Does : Makes) (opened made : Held) (begun : IsOpened (docket_of loaded.docket.items) recorded opened) (image : IsOfSameImage opened made)
@@ -201,7 +200,7 @@ module _ (a b c : Course) (passes : Passes a.history b.history) (goes : Goes b c
     made_anew before after set = record { loaded = recorded; read = read_first; does = subst (λ (changed : Bool). Does.does recorded (table made) lines changed) set does_from }
 
     by_encode : (copy : Watched tree.History) (before after : ℕ) (fault : EncodeFault) → HasCause made fault → made.changed ≡ true → MetChanging Does copy (record { old = a.history; new = c.history; before = before; after = after }) (a_change_fault.Encode fault)
-    by_encode copy before after an_encode.OutOfMemory cause set = tt
+    by_encode copy before after an_encode.OutOfMemory cause set = record { made = table made; lines = lines; changed = true; is = made_anew before after set }
     by_encode copy before after (an_encode.TooLarge size) cause set = record {
       made = table made;
       lines = lines;
@@ -222,7 +221,7 @@ module _ (a b c : Course) (passes : Passes a.history b.history) (goes : Goes b c
     pub met_writing : (copy : Watched tree.History) (before mid after : ℕ) (fault : ChangeFault) → mid ≡ before → MetWriting made mid after fault → MetChanging Does copy (record { old = a.history; new = c.history; before = before; after = after }) fault
     met_writing copy before mid after fault still (inl (e, is, cause, set)) = subst (MetChanging Does copy (record { old = a.history; new = c.history; before = before; after = after })) (sym is) (by_encode copy before after e cause set)
     met_writing copy before mid after fault still (inr (is, rose)) =
-        subst (MetChanging Does copy (record { old = a.history; new = c.history; before = before; after = after })) (sym is) (subst (λ (n : ℕ). Rose n after) still rose)
+        subst (MetChanging Does copy (record { old = a.history; new = c.history; before = before; after = after })) (sym is) (subst (λ (n : ℕ). Rose n after) still rose, inr (record { made = table made; lines = lines; changed = made.changed; is = made_by before after }))
 
     -- ---- what is left of it
 

@@ -11,7 +11,7 @@ use Rattle.hg_session.specs.declared.change_fault.ChangeFault.{ChangeFault}
 use Rattle.hg_session.specs.declared.change_fault.ChangeFault.TheVariants as a_change_fault
 use Rattle.hg_session.specs.declared.read_fault.ReadFault.TheVariants as a_read
 use Rattle.hg_save.specs.Leads.{IsHeld}
-use Rattle.hg_session.proofs.Widening.{calm_within, done_wide, held_stretch, met_wide, safe_wide, unwritten_wide}
+use Rattle.hg_session.proofs.Widening.{calm_within, done_met, done_wide, held_stretch, met_wide, safe_wide, unwritten_wide}
 use Rattle.hg_session.specs.Acts.{Makes}
 use Rattle.hg_session.specs.Call.{Count, Saved, Watched}
 use Rattle.hg_session.specs.Change.{FailsOrUnwritten, IsDone, IsLocked, IsSafe, IsSafeHeld, MetChanging, MetLocking, Stretch, fault_of, of_change, once_freed}
@@ -68,12 +68,13 @@ module _ (a b c d : Course) (lock : Waits a.history b.history) (unlock : Waits c
   once_done (Ok lines) (Err failed) is = tt
   once_done (Ok lines) (Ok unit) is = (held_stretch a b c d lock unlock p q r taken held, done_wide a b c d lock unlock p q r taken held Part Whole wide copy before after start end lines.items is)
 
-  pub once_met : (locks : Count) (done : Result (Vec ℕ Global) ChangeFault) (freed : Result Unit Failed) → before ≡ start → before ≤ after → IfErr done (MetChanging Part copy part) → HasCause after end freed (λ e. Unit {0})
-      → IfErr (once_freed done freed) (MetLocking Whole copy whole locks)
-  once_met locks (Err fault) freed same later met cause =
+  pub once_met : (locks : Count) (done : Result (Vec ℕ Global) ChangeFault) (freed : Result Unit Failed) → before ≡ start → before ≤ after → IfOk done (λ lines. IsDone Part part inner b.history.last c.history.last lines.items)
+      → IfErr done (MetChanging Part copy part) → HasCause after end freed (λ e. Unit {0}) → IfErr (once_freed done freed) (MetLocking Whole copy whole locks)
+  once_met locks (Err fault) freed same later is met cause =
       inl (met_wide a b c d lock unlock p q r taken held Part Whole wide copy before after start end fault (λ rose. rose_first start before after end same cause.later rose) met)
-  once_met locks (Ok lines) (Err failed) same later met cause = inl (rose_last start before after end same later (cause.rose tt))
-  once_met locks (Ok lines) (Ok unit) same later met cause = tt
+  once_met locks (Ok lines) (Err failed) same later is met cause =
+      inl (rose_last start before after end same later (cause.rose tt), inr (done_met a b c d lock unlock p q r taken held Part Whole wide copy before after start end (record { made = is.made; lines = lines.items; changed = is.changed; is = is.is })))
+  once_met locks (Ok lines) (Ok unit) same later is met cause = tt
 
   pub once_unwritten : (done : Result (Vec ℕ Global) ChangeFault) (freed : Result Unit Failed) → IfErr done (FailsOrUnwritten b.history c.history) → IfErr (once_freed done freed) (FailsOrUnwritten a.history d.history)
   once_unwritten (Err fault) freed (inl is) = inl is
@@ -95,10 +96,10 @@ module _ (a b c d : Course) (lock : Waits a.history b.history) (unlock : Waits c
   shelf_rose (a_change_fault.Read (a_read.Docket fault)) is met = absurd (cc is)
   shelf_rose (a_change_fault.Read (a_read.Node fault)) is met = absurd (cc is)
   shelf_rose (a_change_fault.Read (a_read.DataGone ids)) is met = absurd (cc is)
-  shelf_rose (a_change_fault.Read a_read.Failed) is met = met
+  shelf_rose (a_change_fault.Read a_read.Failed) is met = met.0
   shelf_rose (a_change_fault.Op an_op.OutOfMemory) is met = absurd (cc is)
   shelf_rose (a_change_fault.Op an_op.TreeFailed) is met = absurd (cc is)
-  shelf_rose (a_change_fault.Op an_op.ShelfFailed) is met = met
+  shelf_rose (a_change_fault.Op an_op.ShelfFailed) is met = met.1
   shelf_rose (a_change_fault.Op (an_op.NoManifest id)) is met = absurd (cc is)
   shelf_rose (a_change_fault.Op (an_op.ManifestTooLarge size)) is met = absurd (cc is)
   shelf_rose (a_change_fault.Op (an_op.ManifestLine line)) is met = absurd (cc is)
@@ -108,7 +109,7 @@ module _ (a b c d : Course) (lock : Waits a.history b.history) (unlock : Waits c
   shelf_rose (a_change_fault.Encode (an_encode.TooLarge size)) is met = absurd (cc is)
   shelf_rose (a_change_fault.Encode an_encode.IdsSpent) is met = absurd (cc is)
   shelf_rose a_change_fault.Held is met = absurd met
-  shelf_rose a_change_fault.ShelfFailed is met = met
+  shelf_rose a_change_fault.ShelfFailed is met = met.0
 
   pub once_locked : (locks : Count) (done : Result (Vec ℕ Global) ChangeFault) (freed : Result Unit Failed) → before ≡ start → before ≤ after → locks.after ≡ locks.before
       → IfOk done (λ lines. IsDone Part part inner b.history.last c.history.last lines.items)

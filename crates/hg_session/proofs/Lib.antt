@@ -3,7 +3,9 @@ pub mod Asking
 pub mod Caused
 pub mod Causes
 pub mod Changes
+pub mod Copying
 pub mod Crashes
+pub mod Doing
 pub mod Expectations
 pub mod Freed
 pub mod Listings
@@ -18,6 +20,8 @@ pub mod Promises
 pub mod Readings
 pub mod Records
 pub mod Refusals
+pub mod Removing
+pub mod Reparenting
 pub mod SameTables
 pub mod SoFar
 pub mod Texts

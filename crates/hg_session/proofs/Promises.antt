@@ -122,16 +122,16 @@ module _ (Does : Makes) (copy : Watched tree.History) (a b : Course) (before aft
 
   doing_own : (fault : OpFault) → MetDoing Does copy files fault → Serves copy → Serves files → IsExpectedChange Does there (Some (of_op fault))
   doing_own an_op.OutOfMemory met p q = tt
-  doing_own an_op.TreeFailed met p q = steady_not_rose copy.before copy.after p met.0
-  doing_own an_op.ShelfFailed met p q = steady_not_rose before after q met
-  doing_own (an_op.NoManifest id) met p q = stop_own (an_op.NoManifest id) met
-  doing_own (an_op.ManifestTooLarge size) met p q = stop_own (an_op.ManifestTooLarge size) met
-  doing_own (an_op.ManifestLine line) met p q = stop_own (an_op.ManifestLine line) met
-  doing_own (an_op.ManifestOrder line) met p q = stop_own (an_op.ManifestOrder line) met
-  doing_own (an_op.NoContents id) met p q = stop_own (an_op.NoContents id) met
+  doing_own an_op.TreeFailed met p q = steady_not_rose copy.before copy.after p met.1
+  doing_own an_op.ShelfFailed met p q = steady_not_rose before after q met.1
+  doing_own (an_op.NoManifest id) met p q = stop_own (an_op.NoManifest id) met.0
+  doing_own (an_op.ManifestTooLarge size) met p q = stop_own (an_op.ManifestTooLarge size) met.0
+  doing_own (an_op.ManifestLine line) met p q = stop_own (an_op.ManifestLine line) met.0
+  doing_own (an_op.ManifestOrder line) met p q = stop_own (an_op.ManifestOrder line) met.0
+  doing_own (an_op.NoContents id) met p q = stop_own (an_op.NoContents id) met.0
 
   pub met_own : (fault : ChangeFault) → IsSafe Does saved (Some (of_change fault)) → MetChanging Does copy files fault → Serves copy → Serves files → IsExpectedChange Does there (Some (of_change fault))
-  met_own (a_change_fault.Read fault) safe met p q = reading_own fault safe met q
+  met_own (a_change_fault.Read fault) safe met p q = reading_own fault safe met.0 q
   met_own (a_change_fault.Op fault) safe met p q = doing_own fault met p q
   met_own (a_change_fault.Encode an_encode.OutOfMemory) safe met p q = tt
   met_own (a_change_fault.Encode (an_encode.TooLarge size)) safe met p q = record {
@@ -150,7 +150,7 @@ module _ (Does : Makes) (copy : Watched tree.History) (a b : Course) (before aft
     spent = ap next_name (id_own met.is.loaded (met.is.read own.told)) ∙ met.spent own.told;
   }
   met_own a_change_fault.Held safe met p q = absurd met
-  met_own a_change_fault.ShelfFailed safe met p q = steady_not_rose before after q met
+  met_own a_change_fault.ShelfFailed safe met p q = steady_not_rose before after q met.0
 
 -- a fault of what the command met is told as another than those of the streams
 not_err : (fault : ChangeFault) → of_change fault ≡ a_fault.ErrFailed → ⊥
@@ -177,7 +177,7 @@ not_err a_change_fault.ShelfFailed is = cc is
 
 module _ (command : Command) (copy : Watched tree.History) (a b : Course) (before after : ℕ) (locks oversize : Count) (out err : Watched (Option (List ℕ)))
     (silent : IsSilent out) (uncounted : oversize.after ≡ oversize.before) (changes : ChangesTree command copy)
-    (behind : IsLeftAlone copy ⊎ IsReadSome (record { old = a.history; new = b.history; before = before; after = after })) (asked : IsTrue a.history.told → AsksChange command a.history b.history) (kept : Goes a b) where
+    (behind : IsLeftAlone copy ⊎ IsReadSome (record { old = a.history; new = b.history; before = before; after = after })) (asked : IsTrue a.history.told → AsksChange command copy a.history b.history) (kept : Goes a b) where
   abbrev call : Call
   call = record {
     command = command;
@@ -302,23 +302,23 @@ module _ (command : Command) (copy : Watched tree.History) (a b : Course) (befor
   locked_own fault safe (inl met) own p q steady = met_own Does copy a b before after kept.past own fault safe met p q
   locked_own fault safe (inr (held, rose)) own p q steady = absurd (steady_not_rose locks.before locks.after steady rose)
 
-  shelf_met : MetLocking Does copy call.looked.shelf locks a_change_fault.ShelfFailed → Fails call.looked.shelf
-  shelf_met (inl rose) = rose
+  shelf_met : MetLocking Does copy call.looked.shelf locks a_change_fault.ShelfFailed → MetChanging Does copy call.looked.shelf a_change_fault.ShelfFailed
+  shelf_met (inl met) = met
   shelf_met (inr (held, rose)) = absurd (cc held)
 
-  shelf_fails : (fault : ChangeFault) → fault ≡ a_change_fault.ShelfFailed → MetLocking Does copy call.looked.shelf locks fault → Fails call.looked.shelf
+  shelf_fails : (fault : ChangeFault) → fault ≡ a_change_fault.ShelfFailed → MetLocking Does copy call.looked.shelf locks fault → MetChanging Does copy call.looked.shelf a_change_fault.ShelfFailed
   shelf_fails fault is met = shelf_met (subst (MetLocking Does copy call.looked.shelf locks) is met)
 
   -- where it was met, whether it is told, or want of memory for its line
   stage_same : (fault : ChangeFault) → MetLocking Does copy call.looked.shelf locks fault → FailsOrUnwritten a.history b.history fault → Tells err (of_change fault)
       → (stage : Stage) × LeavesAt (change_look Does call) out err Tells stage (of_change fault)
   stage_same fault met (inl is) line = (at_saving, ((shelf_fails fault is met, inl (ap of_change is)), silent, line))
-  stage_same fault met (inr none) line = (at_first, ((none, (fault, refl, met)), silent, line))
+  stage_same fault met (inr none) line = (at_first, ((none, (fault, inl refl, met)), silent, line))
 
   stage_memory : (fault : ChangeFault) → MetLocking Does copy call.looked.shelf locks fault → FailsOrUnwritten a.history b.history fault → Tells err a_fault.OutOfMemory
       → (stage : Stage) × LeavesAt (change_look Does call) out err Tells stage a_fault.OutOfMemory
   stage_memory fault met (inl is) line = (at_saving, ((shelf_fails fault is met, inr refl), silent, line))
-  stage_memory fault met (inr none) line = (at_first, ((none, (a_change_fault.Op an_op.OutOfMemory, refl, inl tt)), silent, line))
+  stage_memory fault met (inr none) line = (at_first, ((none, (fault, inr refl, met)), silent, line))
 
   ran_fault : (status : ℕ) (fault : ChangeFault) (answered : Fault) → LockedBy (Some (of_change fault)) → (answered ≡ of_change fault) ⊎ (answered ≡ a_fault.OutOfMemory) → MetLocking Does copy call.looked.shelf locks fault
       → (Undisturbed a b → IsSafe Does call.saved (Some (of_change fault))) → FailsOrUnwritten a.history b.history fault → (locks.before < locks.after → fault ≡ a_change_fault.Held)

@@ -22,7 +22,7 @@ use Rattle.hg_save.specs.Record.{data_name, id_in, reading}
 use Rattle.hg_save.specs.Saved.{IsExact, IsLatest, KeepsOthers, ReadsAsBeforeOr, name_after, used_in}
 use Rattle.hg_session.specs.Acts.{Makes}
 use Rattle.hg_session.specs.Call.{Watched}
-use Rattle.hg_session.specs.Change.{AsksChange, Fits, FitsFirst, IsDone, IsKept, IsMade, IsPublished, IsReadFirst, IsSafe, IsSafeHeld, IsUnwritten, IsWritten, MetChanging, MetDoing, MetStop, NoneOurs, Stretch, id_read, up_to}
+use Rattle.hg_session.specs.Change.{AsksChange, Fits, FitsFirst, IsDone, IsKept, IsMade, IsPublished, IsReadFirst, IsSafe, IsSafeHeld, IsUnwritten, IsToBlame, IsWritten, MetChanging, MetMade, MetStop, NoneOurs, Stretch, id_read, up_to}
 use Rattle.hg_session.specs.Loaded.{LoadMet, MetReading}
 use Rattle.hg_session.specs.Loaded.{IsRefused}
 use Rattle.hg_session.specs.Locks.{TakenAt}
@@ -158,8 +158,8 @@ module _ (a b c d : Course) (lock : Waits a.history b.history) (unlock : Waits c
   read_some_wide is told = let read = is (p.past.told ∙ told) in (read.0, read_wide read.0 read.1)
 
   -- what was asked for, where taking the lock and giving it back ask for nothing
-  pub asks_whole : (command : Command) → b.history.asked ≡ a.history.asked → d.history.asked ≡ c.history.asked → AsksChange command b.history c.history → AsksChange command a.history d.history
-  asks_whole command before behind is = record {
+  pub asks_whole : (command : Command) (copy : Watched tree.History) → b.history.asked ≡ a.history.asked → d.history.asked ≡ c.history.asked → AsksChange command copy b.history c.history → AsksChange command copy a.history d.history
+  asks_whole command copy before behind is = record {
     mid = is.mid;
     end = is.end;
     past = is.past;
@@ -321,20 +321,18 @@ module _ (a b c d : Course) (lock : Waits a.history b.history) (unlock : Waits c
     reading_met (a_read.DataGone ids) rose met = refuses_wide (a_read.DataGone ids) met
     reading_met a_read.Failed rose met = rose met
 
-    doing_met : (fault : OpFault) → (Rose before after → Rose start end) → MetDoing Part copy part fault → MetDoing Whole copy whole fault
-    doing_met an_op.OutOfMemory rose met = tt
-    doing_met an_op.TreeFailed rose met = (met.0, read_some_wide met.1)
-    doing_met an_op.ShelfFailed rose met = rose met
-    doing_met (an_op.NoManifest id) rose met = stop_wide (an_op.NoManifest id) met
-    doing_met (an_op.ManifestTooLarge size) rose met = stop_wide (an_op.ManifestTooLarge size) met
-    doing_met (an_op.ManifestLine line) rose met = stop_wide (an_op.ManifestLine line) met
-    doing_met (an_op.ManifestOrder line) rose met = stop_wide (an_op.ManifestOrder line) met
-    doing_met (an_op.NoContents id) rose met = stop_wide (an_op.NoContents id) met
+    blame_wide : (fault : OpFault) → (Rose before after → Rose start end) → IsToBlame copy part fault → IsToBlame copy whole fault
+    blame_wide an_op.TreeFailed rose met = met
+    blame_wide an_op.ShelfFailed rose met = rose met
+    blame_wide fault rose met = tt
+
+    pub done_met : MetMade Part part → MetMade Whole whole
+    done_met met = record { made = met.made; lines = met.lines; changed = met.changed; is = made_wide met.made met.lines met.changed met.is }
 
     pub met_wide : (fault : ChangeFault) → (Rose before after → Rose start end) → MetChanging Part copy part fault → MetChanging Whole copy whole fault
-    met_wide (a_change_fault.Read fault) rose met = reading_met fault rose met
-    met_wide (a_change_fault.Op fault) rose met = doing_met fault rose met
-    met_wide (a_change_fault.Encode an_encode.OutOfMemory) rose met = tt
+    met_wide (a_change_fault.Read fault) rose met = (reading_met fault rose met.0, met.1)
+    met_wide (a_change_fault.Op fault) rose met = (stop_wide fault met.0, blame_wide fault rose met.1)
+    met_wide (a_change_fault.Encode an_encode.OutOfMemory) rose met = done_met met
     met_wide (a_change_fault.Encode (an_encode.TooLarge size)) rose met = record {
       made = met.made;
       lines = met.lines;
@@ -351,4 +349,4 @@ module _ (a b c d : Course) (lock : Waits a.history b.history) (unlock : Waits c
       spent = λ told. ap next_name (id_wide met.is.loaded (met.is.read (told_part told))) ∙ met.spent (told_part told);
     }
     met_wide a_change_fault.Held rose met = absurd met
-    met_wide a_change_fault.ShelfFailed rose met = rose met
+    met_wide a_change_fault.ShelfFailed rose met = (rose met.0, elim met.1 [ inl alone ↦ inl alone | inr made ↦ inr (done_met made) ])

@@ -1,5 +1,5 @@
 -- What a command that changes the record makes of it, and how each does so.
-use Rattle.std.specs.Prelude.{ℕ, ◌≡◌, ◌<◌, Bool, true, false, List, [], ◌∷◌, ◌++◌, map, Option, Some, None, Result, Err, IfErr, IfOk, OnOk, IsTrue, Vec, codes}
+use Rattle.std.specs.Prelude.{ℕ, ◌≡◌, ◌⊎◌, ◌<◌, Bool, true, false, List, [], ◌∷◌, ◌++◌, map, Option, Some, None, Result, Err, IfErr, IfOk, OnOk, IsTrue, Vec, codes}
 use Rattle.std.specs.List.{AllByRecursion}
 use Rattle.std.specs.declared.alloc.Global.{Global}
 use Rattle.hg_base.specs.Fault.{HasCause}
@@ -10,7 +10,7 @@ use Rattle.hg_mixed.specs.Held.{Held, table}
 use Rattle.hg_ops.specs.Copy.{Copies, OnlyCopies}
 use Rattle.hg_ops.specs.Look.{Adds, Looks}
 use Rattle.hg_ops.specs.Parent.{AsksStore, Span, upto}
-use Rattle.hg_ops.specs.Remove.{MetRemoving, NeedsRow, Removes, needs_row}
+use Rattle.hg_ops.specs.Remove.{MetRemoving, NeedsRow, ReadsWord, Removes, Takes, may_take, needs_row}
 use Rattle.hg_ops.specs.Step.{IsForget}
 use Rattle.hg_ops.specs.declared.copy_refusal.CopyRefusal.{CopyRefusal}
 use Rattle.hg_ops.specs.declared.copy_refusal.CopyRefusal.TheVariants as a_word
@@ -19,7 +19,7 @@ use Rattle.hg_ops.specs.declared.refusal.OpFault.TheVariants as an_op_fault
 use Rattle.hg_ops.specs.declared.refusal.Refusal.{Refusal}
 use Rattle.hg_report.specs.Refusal.{refusal_line}
 use Rattle.hg_session.specs.Call.{IsLeftAlone, Watched}
-use Rattle.hg_session.specs.Manifests.{IsReparented, LacksParents}
+use Rattle.hg_session.specs.Manifests.{IsReparented, StopsParents}
 use Rattle.hg_session.specs.declared.acting.Changing.{Changing}
 use Rattle.hg_session.specs.declared.acting.Changing.TheVariants as a_change
 use Rattle.hg_shelf.specs.Asks.{AsksFrontOf}
@@ -113,6 +113,7 @@ pub record TakesAway (after : Bool) (s : Span) (old new : tree.History) (word : 
   pub end : shelf.History
   pub within : shelf.Extends end s.new
   pub removes : Removes after word old new (upto s end) was refused made
+  pub reads : ReadsWord (needs_row after word was) word old new
 
 -- it did so with each of these words; the first parent is that of the record that was read
 pub record IsRemoved (after : Bool) (words : List (List ℕ)) (copy : Watched tree.History) (files : Watched shelf.History) (old new : Table) (lines : List ℕ) (changed : Bool) : Type 0 where
@@ -120,7 +121,7 @@ pub record IsRemoved (after : Bool) (words : List (List ℕ)) (copy : Watched tr
   pub begun : shelf.Extends files.old start
   pub acted : IsActed (codes "remove") (TakesAway after (span_of old start files.new)) words copy old new lines changed
 
--- with the words in front it did so, and with the next one it met this fault
+-- with the words in front it did so, and with the next one it met this fault, behind which nothing more was done
 pub record StopsAtWord (after : Bool) (words : List (List ℕ)) (copy : Watched tree.History) (files : Watched shelf.History) (old : Table) (fault : OpFault) : Type 0 where
   pub start : shelf.History
   pub begun : shelf.Extends files.old start
@@ -131,9 +132,26 @@ pub record StopsAtWord (after : Bool) (words : List (List ℕ)) (copy : Watched 
   pub mid : tree.History
   pub between : Table
   pub steps : AllSteps (TakesAway after (span_of old start files.new)) copy.old mid deeds old between
+  pub past : tree.Extends mid copy.new
+  pub takes : Takes (may_take after (Err fault)) word mid copy.new
+  pub reads : ReadsWord (needs_row after word between) word mid copy.new
   pub end : shelf.History
   pub within : shelf.Extends end files.new
   pub met : MetRemoving (needs_row after word between) word mid copy.new (span_of old start end) fault
+
+-- with some words it did so, and then there was no memory for a line
+pub record StopsBehind (after : Bool) (words : List (List ℕ)) (copy : Watched tree.History) (files : Watched shelf.History) (old : Table) (fault : OpFault) : Type 0 where
+  pub is : fault ≡ an_op_fault.OutOfMemory
+  pub start : shelf.History
+  pub begun : shelf.Extends files.old start
+  pub deeds : List Deed
+  pub rest : List (List ℕ)
+  pub all : words ≡ map (λ deed. deed.word) deeds ++ rest
+  pub between : Table
+  pub steps : AllSteps (TakesAway after (span_of old start files.new)) copy.old copy.new deeds old between
+
+abbrev pub StopsRemoving : Bool → List (List ℕ) → Watched tree.History → Watched shelf.History → Table → OpFault → Type 0
+StopsRemoving after words copy files old fault = StopsAtWord after words copy files old fault ⊎ StopsBehind after words copy files old fault
 
 -- ---- `copy`
 
@@ -160,25 +178,18 @@ pub record IsNothingMade (old new : Table) (lines : List ℕ) (changed : Bool) :
   pub silent : lines ≡ []
   pub unchanged : changed ≡ false
 
+-- there was no memory, or the working copy failed
+abbrev pub IsTreeFault : OpFault → Type 0
+IsTreeFault fault = (fault ≡ an_op_fault.OutOfMemory) ⊎ (fault ≡ an_op_fault.TreeFailed)
+
 -- what a command makes of the record, by what the working copy and the files below `.hg` tell of the call
 abbrev pub makes_of : Command → Watched tree.History → Watched shelf.History → Makes
-makes_of (a_command.Add words) copy files = record { does = IsActed (codes "add") (steps_of a_change.Add) words copy; stops = λ loaded fault. ⊥ }
-makes_of (a_command.Forget words) copy files = record { does = IsActed (codes "forget") (steps_of a_change.Forget) words copy; stops = λ loaded fault. ⊥ }
-makes_of (a_command.Remove after words) copy files = record { does = IsRemoved after words copy files; stops = StopsAtWord after words copy files }
-makes_of (a_command.Copy source target) copy files = record { does = IsCopied source target copy; stops = λ loaded fault. ⊥ }
-makes_of (a_command.SetParents p1 p2) copy files = record { does = IsReparented p1 p2 files; stops = λ loaded fault. LacksParents p1 p2 files fault }
+makes_of (a_command.Add words) copy files = record { does = IsActed (codes "add") (steps_of a_change.Add) words copy; stops = λ loaded fault. IsTreeFault fault }
+makes_of (a_command.Forget words) copy files = record { does = IsActed (codes "forget") (steps_of a_change.Forget) words copy; stops = λ loaded fault. IsTreeFault fault }
+makes_of (a_command.Remove after words) copy files = record { does = IsRemoved after words copy files; stops = StopsRemoving after words copy files }
+makes_of (a_command.Copy source target) copy files = record { does = IsCopied source target copy; stops = λ loaded fault. IsTreeFault fault }
+makes_of (a_command.SetParents p1 p2) copy files = record { does = IsReparented p1 p2 files; stops = λ loaded fault. StopsParents p1 p2 files fault }
 makes_of command copy files = record { does = IsNothingMade; stops = λ loaded fault. ⊥ }
-
--- a fault of the plain store comes only for its cause; want of memory, and a device that fails, say nothing of it
-abbrev pub StopsFor : (OpFault → Type 0) → OpFault → Type 0
-StopsFor Stops an_op_fault.OutOfMemory = Unit {0}
-StopsFor Stops an_op_fault.TreeFailed = Unit {0}
-StopsFor Stops an_op_fault.ShelfFailed = Unit {0}
-StopsFor Stops (an_op_fault.NoManifest id) = Stops (an_op_fault.NoManifest id)
-StopsFor Stops (an_op_fault.ManifestTooLarge size) = Stops (an_op_fault.ManifestTooLarge size)
-StopsFor Stops (an_op_fault.ManifestLine line) = Stops (an_op_fault.ManifestLine line)
-StopsFor Stops (an_op_fault.ManifestOrder line) = Stops (an_op_fault.ManifestOrder line)
-StopsFor Stops (an_op_fault.NoContents id) = Stops (an_op_fault.NoContents id)
 
 -- ---- the working copy
 
@@ -187,29 +198,33 @@ pub record OnlyLooks (copy : Watched tree.History) : Type 0 where
   pub passes : tree.Passes copy.old copy.new
   pub asked : IsTrue copy.old.told → copy.new.asked ≡ copy.old.asked
 
--- the bytes of a word's path were asked for, which is compared
-pub record IsWordRead (words : List (List ℕ)) (copy : Watched tree.History) (ask : Asked) : Type 0 where
+-- the first parent's row of a word was needed: by a table behind the words in front, and by a look that showed a file or a link
+pub record NeedsSome (after : Bool) (words : List (List ℕ)) (copy : Watched tree.History) : Type 0 where
   pub word : List ℕ
   pub among : is_among word words ≡ true
-  pub is : ask ≡ an_ask.Read word
   pub old : tree.History
   pub new : tree.History
   pub before : tree.Extends copy.old old
   pub behind : tree.Extends new copy.new
-  pub need : NeedsRow true word old new
+  pub table : Table
+  pub need : NeedsRow (needs_row after word table) word old new
+
+-- the bytes of such a word's path were asked for
+abbrev pub IsWordRead : Bool → List (List ℕ) → Watched tree.History → Asked → Type 0
+IsWordRead after words copy ask = (some : NeedsSome after words copy) × (ask ≡ an_ask.Read some.word)
 
 -- nothing else was asked for
-pub record ReadsWords (words : List (List ℕ)) (copy : Watched tree.History) : Type 0 where
+pub record ReadsWords (after : Bool) (words : List (List ℕ)) (copy : Watched tree.History) : Type 0 where
   pub more : List Asked
   pub asked : copy.new.asked ≡ copy.old.asked ++ more
-  pub each : AllByRecursion (IsWordRead words copy) more
+  pub each : AllByRecursion (IsWordRead after words copy) more
 
 -- of the tree nothing is changed but these words, and directories above them; and nothing where they are to be gone already
 pub record OnlyTakes (after : Bool) (words : List (List ℕ)) (copy : Watched tree.History) : Type 0 where
   pub past : tree.Extends copy.old copy.new
   pub gone : after ≡ true → tree.Passes copy.old copy.new
   pub only : IsTrue copy.old.told → ChangesOnly words copy.old copy.new
-  pub reads : IsTrue copy.old.told → ReadsWords words copy
+  pub reads : IsTrue copy.old.told → ReadsWords after words copy
 
 -- of the tree nothing is changed but the target, by parts of the source, and directories above it
 pub record OnlyPuts (source target : List ℕ) (copy : Watched tree.History) : Type 0 where
@@ -226,25 +241,25 @@ ChangesTree command copy = IsLeftAlone copy
 
 -- ---- below `.hg`
 
--- what is asked for there once the record was read: for `remove` the manifest of the first parent once, and contents that its rows name; for new parents
--- their manifests, the first before the second; and else nothing
-abbrev pub AsksBehind : Command → Table → shelf.History → shelf.History → Type 0
-AsksBehind (a_command.Remove after words) loaded old new = AsksStore (span_of loaded old new)
-AsksBehind (a_command.SetParents p1 p2) loaded old new = AsksFrontOf (asks_of p1 ++ asks_of p2) old new
-AsksBehind command loaded old new = new.asked ≡ old.asked
+-- what is asked for there once the record was read: for `remove`, where a row of the first parent was needed, its manifest once, and contents that its rows
+-- name; for new parents their manifests, the first before the second; and else nothing
+abbrev pub AsksBehind : Command → Watched tree.History → Table → shelf.History → shelf.History → Type 0
+AsksBehind (a_command.Remove after words) copy loaded old new = (new.asked ≡ old.asked) ⊎ (NeedsSome after words copy × AsksStore (span_of loaded old new))
+AsksBehind (a_command.SetParents p1 p2) copy loaded old new = AsksFrontOf (asks_of p1 ++ asks_of p2) old new
+AsksBehind command copy loaded old new = new.asked ≡ old.asked
 
 -- ---- over a table in memory
 
 -- what a command did over a table in memory in which nothing was changed before, at each answer: what it made, or why it stopped; and what it asked
 pub record ActsOn (command : Command) (copy : Watched tree.History) (files : Watched shelf.History) (old new : Held) (result : Result (Vec ℕ Global) OpFault) : Type 0 where
   pub does : old.changed ≡ false → IfOk result (λ lines. (makes_of command copy files).does (table old) (table new) lines.items new.changed)
-  pub stops : old.changed ≡ false → IfErr result (StopsFor ((makes_of command copy files).stops (table old)))
+  pub stops : old.changed ≡ false → IfErr result ((makes_of command copy files).stops (table old))
   -- what isn't marked as changed is the same
   pub same : old.changed ≡ false → OnOk result (new.changed ≡ false → IsSame (table new) (table old))
   pub image : IsOfSameImage old new
   pub tree : ChangesTree command copy
   pub below : shelf.Passes files.old files.new
-  pub asked : IsTrue files.old.told → AsksBehind command (table old) files.old files.new
+  pub asked : IsTrue files.old.told → AsksBehind command copy (table old) files.old files.new
   -- a device's fault comes only where its count rose; a working copy that failed is told as such
   pub tree_cause : HasCause copy.before copy.after result (λ e. e ≡ an_op_fault.TreeFailed)
   pub tree_failed : copy.before < copy.after → result ≡ Err an_op_fault.TreeFailed

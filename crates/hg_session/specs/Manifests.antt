@@ -10,6 +10,7 @@ use Rattle.hg_mixed.specs.Edits.{IsSame}
 use Rattle.hg_ops.specs.Cause.{of_manifest}
 use Rattle.hg_ops.specs.Parents.{HasParents}
 use Rattle.hg_ops.specs.declared.refusal.OpFault.{OpFault}
+use Rattle.hg_ops.specs.declared.refusal.OpFault.TheVariants as an_op_fault
 use Rattle.hg_session.specs.Call.{Watched}
 use Rattle.hg_shelf.specs.History.{Extends, History}
 
@@ -46,3 +47,14 @@ pub record LacksRows (id : Id20) (files : Watched History) (fault : OpFault) : T
 -- why new parents aren't set: the manifest of the first has a fault, or else that of the second
 abbrev pub LacksParents : Id20 → Id20 → Watched History → OpFault → Type 0
 LacksParents p1 p2 files fault = LacksRows p1 files fault ⊎ ((m1 : Rows) × LoadsRows files p1 (Ok m1) × LacksRows p2 files fault)
+
+-- so it is at each fault; want of memory, and a shelf that fails, say nothing of what stands there
+abbrev pub StopsParents : Id20 → Id20 → Watched History → OpFault → Type 0
+StopsParents p1 p2 files an_op_fault.OutOfMemory = Unit {0}
+StopsParents p1 p2 files an_op_fault.TreeFailed = ⊥
+StopsParents p1 p2 files an_op_fault.ShelfFailed = Unit {0}
+StopsParents p1 p2 files (an_op_fault.NoManifest id) = LacksParents p1 p2 files (an_op_fault.NoManifest id)
+StopsParents p1 p2 files (an_op_fault.ManifestTooLarge size) = LacksParents p1 p2 files (an_op_fault.ManifestTooLarge size)
+StopsParents p1 p2 files (an_op_fault.ManifestLine line) = LacksParents p1 p2 files (an_op_fault.ManifestLine line)
+StopsParents p1 p2 files (an_op_fault.ManifestOrder line) = LacksParents p1 p2 files (an_op_fault.ManifestOrder line)
+StopsParents p1 p2 files (an_op_fault.NoContents id) = ⊥

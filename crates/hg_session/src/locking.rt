@@ -87,7 +87,12 @@ fn change<T: Tree, S: Shelf>(
     ensures calm_tree { OnOk result (T.faults tree.new ≡ T.faults tree.old) }
     ensures calm_shelf { OnOk result (S.faults shelf.new ≡ S.faults shelf.old) }
     ensures kept { Goes (course (S.history shelf.old) (S.images shelf.old)) (course (S.history shelf.new) (S.images shelf.new)) }
-    ensures asked { IsTrue (S.history shelf.old).told → AsksChange command.now (S.history shelf.old) (S.history shelf.new) }
+    ensures asked { IsTrue (S.history shelf.old).told
+        → AsksChange
+        command.now
+        (record { old = T.history tree.old; new = T.history tree.new; before = T.faults tree.old; after = T.faults tree.new })
+        (S.history shelf.old)
+        (S.history shelf.new) }
     ensures locked { IsLocked
         (makes_of
         command.now

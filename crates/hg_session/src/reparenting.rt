@@ -7,8 +7,7 @@ ghost use Rattle.hg_manifest.specs.declared.fault.ManifestFault.TheVariants as a
 ghost use Rattle.hg_mixed.specs.Edits.{IsOfSameImage};
 ghost use Rattle.hg_mixed.specs.Held.{table};
 ghost use Rattle.hg_ops.specs.declared.refusal.OpFault.TheVariants as an_op_fault;
-ghost use Rattle.hg_session.specs.Acts.{StopsFor};
-ghost use Rattle.hg_session.specs.Manifests.{Answers, IsReparented, LacksParents};
+ghost use Rattle.hg_session.specs.Manifests.{Answers, IsReparented, StopsParents};
 ghost use Rattle.hg_shelf.specs.Asks.{AsksFrontOf, AsksInOrder};
 ghost use Rattle.hg_shelf.specs.History.{Passes};
 ghost use Rattle.hg_shelf.specs.Images.{Goes, course};
@@ -40,7 +39,7 @@ pub(crate) fn reparent<S: Shelf>(
     mixed: &mut Mixed<'_>,
     shelf: &mut S,
 ) -> Result<Vec<u8>, OpFault>
-    // `IsReparented` and `LacksParents` in specs/Manifests.antt; of a table in which nothing was changed before.
+    // `IsReparented` and `StopsParents` in specs/Manifests.antt; of a table in which nothing was changed before.
     ensures does { mixed.old.changed ≡ false
         → IfOk
         result
@@ -54,11 +53,10 @@ pub(crate) fn reparent<S: Shelf>(
         mixed.new.changed) }
     ensures stops { IfErr
         result
-        (StopsFor
-        (LacksParents
+        (StopsParents
         p1
         p2
-        (record { old = S.history shelf.old; new = S.history shelf.new; before = S.faults shelf.old; after = S.faults shelf.new }))) }
+        (record { old = S.history shelf.old; new = S.history shelf.new; before = S.faults shelf.old; after = S.faults shelf.new })) }
     ensures image { IsOfSameImage mixed.old mixed.new }
     ensures passes { Passes (S.history shelf.old) (S.history shelf.new) }
     ensures kept { Goes (course (S.history shelf.old) (S.images shelf.old)) (course (S.history shelf.new) (S.images shelf.new)) }
