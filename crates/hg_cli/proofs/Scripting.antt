@@ -6,7 +6,7 @@ use Rattle.std.specs.Str.{bytes_eq}
 use Rattle.std.proofs.lemmas.Bool.{eq-eqb, ne_eqb}
 use Rattle.std.proofs.lemmas.List.Splits.{length-slice_split}
 use Rattle.hg_cli.specs.Run.{IsRun}
-use Rattle.hg_cli.specs.Script.{DoesWords, IsStopped, Seen, script_name}
+use Rattle.hg_cli.specs.Script.{DoesWords, IsStopped, Seen, is_script, script_name}
 use Rattle.hg_lines.specs.Script.{words_of}
 use Rattle.hg_report.specs.declared.fault.Fault.{Fault}
 use Rattle.hg_report.specs.declared.fault.Fault.TheVariants as a_fault
@@ -21,6 +21,27 @@ some_fault answered fault (inr is) = ap is_some is
 out_of_memory : (answered : Option Fault) → IsFaultOrMemory answered a_fault.OutOfMemory → answered ≡ Some a_fault.OutOfMemory
 out_of_memory answered (inl is) = is
 out_of_memory answered (inr is) = is
+
+-- whether words ask for a script
+pub is_one : (words : List (List ℕ)) (first : List ℕ) → length words ≡ 1 → slice_get words 0 ≡ Some first → bytes_eq first script_name ≡ is_script words
+is_one [] first one is = absurd (cc is)
+is_one (name ∷ []) first one is =
+    let same : name ≡ first = cc is in
+    ap (λ (n : List ℕ). bytes_eq n script_name) (sym same)
+is_one (name ∷ next ∷ more) first one is = absurd (omega (arith, one))
+
+pub is_none : (words : List (List ℕ)) → (length words ≡ 1 → ⊥) → false ≡ is_script words
+is_none [] other = refl
+is_none (name ∷ []) other = absurd (other refl)
+is_none (name ∷ next ∷ more) other = refl
+
+pub where_true : {P : Type 0} (Q : Type 0) (is : Bool) → is ≡ true → P → MatchBool is P Q
+where_true Q true so p = p
+where_true Q false so p = absurd (cc so)
+
+pub where_false : {Q : Type 0} (P : Type 0) (is : Bool) → is ≡ false → Q → MatchBool is P Q
+where_false P true so q = absurd (cc so)
+where_false P false so q = q
 
 -- a line's turn, by its number and its text
 pub does_line : {D : Type 0} (seen : D → D → Seen) (n number : ℕ) (text line : List ℕ) (old new : D) (code : ℕ) (fault : Option Fault) → n ≡ number → text ≡ line → DoesWords seen n (words_of text) old new code fault

@@ -3,7 +3,7 @@ use Rattle.std.specs.Prelude.{ℕ, ◌≡◌, Bool, false, List, [], ◌∷◌, 
 use Rattle.std.specs.Str.{bytes_eq}
 use Rattle.hg_cli.specs.Run.{IsRun}
 use Rattle.hg_lines.specs.Script.{words_of}
-use Rattle.hg_lines.specs.Turns.{Turn, Line, Refused}
+use Rattle.hg_lines.specs.Turns.{RunsScript, Turn, Line, Refused}
 use Rattle.hg_lines.specs.declared.fault.LineFault.{LineFault}
 use Rattle.hg_lines.specs.declared.fault.LineFault.TheVariants as a_line
 use Rattle.hg_report.specs.declared.fault.Fault.{Fault}
@@ -88,3 +88,9 @@ DoesWords seen number (name ∷ words) old new code fault =
 abbrev pub Does : {D : Type 0} → (D → D → Seen) → Turn → D → D → ℕ → Option Fault → Type 0
 Does seen (Line number line) old new code fault = DoesWords seen number (words_of line) old new code fault
 Does seen (Refused met) old new code fault = IsStopped (of_line met) (seen old new) code fault
+
+-- what a call over words does: it runs a script from the input, or the one command that the words are
+abbrev pub RunsWords : {T S G O E : Type 0} → Views T S G O E → List (List ℕ) → Option (List ℕ) → Option (List ℕ) → T × S × G × O × E → T × S × G × O × E → ℕ → Option Fault → Type 0
+RunsWords views words from to old new code fault =
+    let part : Seen = seen views old new in
+    MatchBool (is_script words) (RunsScript (Does (seen views)) from to old new code fault) (IsRun words part.looked part.saved part.locks part.out part.err code fault)

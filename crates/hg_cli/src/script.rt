@@ -3,6 +3,7 @@
 ghost use Rattle.std.specs.Prelude.{◌≡◌};
 ghost use Rattle.hg_cli.specs.Run.{IsRun};
 ghost use Rattle.hg_cli.specs.Script.{Does, DoesWords, of_line, seen};
+ghost use Rattle.hg_cli.specs.Script as scripts;
 ghost use Rattle.hg_lines.specs.Script as lines_are;
 ghost use Rattle.hg_lines.specs.Turns.{RunsScript};
 ghost use Rattle.hg_session.specs.Call.{counted, saved_by, watched};
@@ -18,8 +19,18 @@ use hg_tree::Tree;
 use hg_words::read;
 use std::alloc::Global;
 
-/// The name of the command that runs a script.
-pub(crate) const SCRIPT: &str = "debugscript";
+// The name of the command that runs a script.
+const SCRIPT: &str = "debugscript";
+
+/// Whether words ask for a script.
+pub(crate) fn is_script(words: &Words) -> bool
+    ensures { result ≡ scripts.is_script words.now }
+{
+    if words.len() != 1 {
+        return false;
+    }
+    words.at(0).as_str() == SCRIPT
+}
 
 // The fault of a command for one of reading lines.
 fn fault_of(fault: LineFault) -> Fault
