@@ -2,7 +2,7 @@
 use Rattle.std.proofs.Common.{ℕ, ◌≤◌, ◌<◌, ◌+◌, List, sym, ◌∙◌, subst, arith, inl, inr}
 use Rattle.std.proofs.lemmas.Bool.{cases_lt}
 use Rattle.hg_base.proofs.Runs.{says_each}
-use Rattle.hg_cli.specs.Run.{EachIsSafe, IsSafe, KeepsAll, OthersKeep, Runs, saved_by}
+use Rattle.hg_cli.specs.Run.{EachIsSafe, IsSafe, KeepsAll, OthersKeep, Runs, saved_over}
 use Rattle.hg_save.proofs.Published.{keeps_later, orderly_same}
 use Rattle.hg_save.proofs.Spans.{keep_beside}
 use Rattle.hg_save.specs.Loads.{files_at}
@@ -48,7 +48,7 @@ module _ {S : Type 0} (course_of : S → Course) (first : S) where
   run_goes words old new (looked, locks, out, err, code, fault, inl (command, is, answered)) = answered.kept
   run_goes words old new (looked, locks, out, err, code, fault, inr unread) = unread.idle.kept
 
-  run_safe : (words : List (List ℕ)) (old new : S) → Runs course_of words old new → IsSafeFromCrashes (saved_by course_of old new)
+  run_safe : (words : List (List ℕ)) (old new : S) → Runs course_of words old new → IsSafeFromCrashes (saved_over course_of old new)
   run_safe words old new (looked, locks, out, err, code, fault, inl (command, is, answered)) = answered.crash
   run_safe words old new (looked, locks, out, err, code, fault, inr unread) =
       λ calm keep latest. (_, crash_unwritten (course_of old) (course_of new) unread.idle.kept calm keep unread.idle.unwritten latest)

@@ -40,13 +40,13 @@ IsRun words looked saved locks out err code fault =
 -- ---- lists of runs, each over the files that the one before it left
 
 -- the files below `.hg` with what a crash may leave of them, before and after
-abbrev pub saved_by : {S : Type 0} → (S → Course) → S → S → Saved
-saved_by course_of old new = record { old = course_of old; new = course_of new }
+abbrev pub saved_over : {S : Type 0} → (S → Course) → S → S → Saved
+saved_over course_of old new = record { old = course_of old; new = course_of new }
 
 -- a run over these words leads from one shelf to another, whatever the other devices
 abbrev pub Runs : {S : Type 0} → (S → Course) → List (List ℕ) → S → S → Type 0
 Runs course_of words old new =
-    (looked : Looked) × (locks : Count) × (out : Sink) × (err : Sink) × (code : ℕ) × (fault : Option Fault) × IsRun words looked (saved_by course_of old new) locks out err code fault
+    (looked : Looked) × (locks : Count) × (out : Sink) × (err : Sink) × (code : ℕ) × (fault : Option Fault) × IsRun words looked (saved_over course_of old new) locks out err code fault
 
 -- from a first course on others only read while the lock is held, and publish as a record is published
 pub record OthersKeep (first last : Course) : Type 0 where
@@ -56,7 +56,7 @@ pub record OthersKeep (first last : Course) : Type 0 where
 
 -- at each moment of a run a crash leaves a record of what it might have left at its start, of what it published, or of what others published since
 abbrev pub IsSafe : {S : Type 0} → (S → Course) → List (List ℕ) → S → S → Type 0
-IsSafe course_of words old new = (own : Option Table) × IsCrashSafe own (saved_by course_of old new)
+IsSafe course_of words old new = (own : Option Table) × IsCrashSafe own (saved_over course_of old new)
 
 -- what holds of a list of runs as one
 pub record KeepsAll (first last : Course) : Type 0 where

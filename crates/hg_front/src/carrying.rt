@@ -4,7 +4,7 @@ ghost use Rattle.std.specs.Prelude.{◌≡◌, IfErr, IfNone, IfOk, IfSome, Some
 ghost use Rattle.std.specs.Option.{option_map};
 ghost use Rattle.hg_cli.specs.Run.{IsRun};
 ghost use Rattle.hg_front.specs.Carried.{Begins, IsCarried};
-ghost use Rattle.hg_shelf.specs.Images.{course};
+ghost use Rattle.hg_session.specs.Call.{counted, saved_by, watched};
 
 use crate::placing::{Placed, place, unreached};
 use crate::start::{stopped_inside, stopped_outside};
@@ -63,13 +63,13 @@ pub fn carry<R: Files + AllocGlobal, T: Tree, S: Shelf, G: Regexps, I: Source, O
         (λ given told before code fault. IsRun
         given
         (record {
-          tree = record { old = T.history tree.old; new = T.history tree.new; before = T.faults tree.old; after = T.faults tree.new };
-          shelf = record { old = S.history shelf.old; new = S.history shelf.new; before = S.faults shelf.old; after = S.faults shelf.new };
-          oversize = record { before = G.oversize regexps.old; after = G.oversize regexps.new };
+          tree = watched T.history T.faults tree.old tree.new;
+          shelf = watched S.history S.faults shelf.old shelf.new;
+          oversize = counted G.oversize regexps.old regexps.new;
         })
-        (record { old = course (S.history shelf.old) (S.images shelf.old); new = course (S.history shelf.new) (S.images shelf.new) })
-        (record { before = S.held shelf.old; after = S.held shelf.new })
-        (record { old = O.bytes out.old; new = O.bytes out.new; before = O.faults out.old; after = O.faults out.new })
+        (saved_by S.history S.images shelf.old shelf.new)
+        (counted S.held shelf.old shelf.new)
+        (watched O.bytes O.faults out.old out.new)
         (record { old = told; new = E.bytes err.new; before = before; after = E.faults err.new })
         code
         fault)) }

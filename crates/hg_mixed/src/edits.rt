@@ -20,10 +20,8 @@ impl Mixed<'_> {
         ensures clash { IfOk result (IsLeast (clashes path.entry.text.now (table self.old).entries)) }
         ensures kept { IsUnchanged self.old self.new }
     {
-        match take_near(&mut self.memory, &mut self.left, self.image, path) {
-            Err(fault) => Err(fault),
-            Ok(()) => self.memory.clash(path),
-        }
+        take_near(&mut self.memory, &mut self.left, self.image, path)?;
+        self.memory.clash(path)
     }
 
     /// Sets the entry of a path. A copy source that is there stays.

@@ -43,9 +43,9 @@ beside_one path t None (Some (a_refusal.Clash other)) p q = absurd (true≢false
 beside_one path t (Some (a_refusal.Clash other)) None p q = absurd (true≢false (sym p.0 ∙ q other))
 beside_one path t (Some (a_refusal.Clash a)) (Some (a_refusal.Clash b)) p q =
     ap (λ (x : List ℕ). Some (a_refusal.Clash x)) (upto_both a b (p.1 b q.0) (q.1 a p.0))
-beside_one path t (Some refusal) s p q = absurd p
 beside_one path t None (Some refusal) p q = absurd q
 beside_one path t (Some (a_refusal.Clash other)) (Some refusal) p q = absurd q
+beside_one path t (Some refusal) s p q = absurd p
 
 thing_one : (path : List ℕ) (thing : Option Refusal) (t : Table) (r s : Option Refusal) → RefusesThing path thing t r → RefusesThing path thing t s → r ≡ s
 thing_one path (Some refusal) t r s p q = p ∙ sym q

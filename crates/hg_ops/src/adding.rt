@@ -4,6 +4,7 @@ ghost use Rattle.std.specs.Prelude.{◌≡◌, false, IfErr, IfOk, IfSome, OnErr
 ghost use Rattle.hg_mixed.specs.Edits.{ArePlacedAsBefore, IsOfSameImage, IsSame, IsUnchanged, Lends, Marks};
 ghost use Rattle.hg_mixed.specs.Held.{table};
 ghost use Rattle.hg_ops.specs.Cause.{HasOpCause};
+ghost use Rattle.hg_ops.specs.Copy.{IsCopyFault};
 ghost use Rattle.hg_ops.specs.declared.refusal.OpFault.TheVariants as a_fault;
 ghost use Rattle.hg_ops.specs.Look.{Adds, Looks};
 ghost use Rattle.hg_ops.specs.Step.{IsAdd, RefusesBeside, added, is_tracked, thing_refusal};
@@ -31,6 +32,7 @@ pub fn add<T: Tree>(
     ensures err { OnErr result (IsUnchanged mixed.old mixed.new) }
     ensures looked { Looks word.now (table mixed.old) (T.history tree.old) (T.history tree.new) }
     ensures cause { HasOpCause (T.faults tree.old) (T.faults tree.new) result }
+    ensures kind { IfErr result IsCopyFault }
 {
     match PathRef::read(word) {
         Err(_) => Ok(Some(Refusal::BadPath)),
@@ -53,6 +55,7 @@ fn add_path<T: Tree>(
     ensures err { OnErr result (IsUnchanged mixed.old mixed.new) }
     ensures looked { Looks path.entry.text.now (table mixed.old) (T.history tree.old) (T.history tree.new) }
     ensures cause { HasOpCause (T.faults tree.old) (T.faults tree.new) result }
+    ensures kind { IfErr result IsCopyFault }
 {
     if is_tracked(mixed, path) {
         return Ok(None);

@@ -1,5 +1,5 @@
 -- What is asked for below `.hg` while a record is read, in a longer call too.
-use Rattle.std.proofs.Common.{◌≡◌, List, ◌∷◌, ◌++◌, length, take, Result, Ok, Err, sym, ap, ◌∙◌, arith}
+use Rattle.std.proofs.Common.{◌≡◌, List, ◌∷◌, ◌++◌, length, take, Result, Ok, Err, inl, refl, sym, ap, ◌∙◌, arith}
 use Rattle.std.proofs.Math.Seq.{take-length}
 use Rattle.std.proofs.lemmas.List.{append-nil}
 use Rattle.hg_docket.specs.Docket.{docket_of}
@@ -8,10 +8,15 @@ use Rattle.hg_save.specs.Loads.{files_at}
 use Rattle.hg_save.specs.Record.{docket_in}
 use Rattle.hg_save.specs.declared.load_fault.LoadFault.{LoadFault}
 use Rattle.hg_save.specs.declared.loaded.Loaded.{Loaded}
+use Rattle.hg_session.specs.Call.{Watched}
+use Rattle.hg_session.specs.Change.{AsksChange}
 use Rattle.hg_session.specs.Loaded.{AsksRecord}
 use Rattle.hg_shelf.specs.Asks.{AsksFrontOf, AsksInOrder}
 use Rattle.hg_shelf.specs.History.{Extends, Files, History}
 use Rattle.hg_shelf.specs.declared.asked.Asked.{Asked}
+use Rattle.hg_shelf.proofs.Histories.{extends_same}
+use Rattle.hg_tree.specs.History as tree
+use Rattle.hg_words.specs.declared.given.Command.{Command}
 
 -- all of them are a front of them
 front_of : (asks : List Asked) (old new : History) (result : Result Loaded LoadFault) → AsksInOrder asks old new result → AsksFrontOf asks old new
@@ -45,3 +50,12 @@ asks_wide a b c d first before last behind is =
             ∙ ap (λ (f : Files). a.asked ++ take is.asks.some (docket_ask ∷ named_asks (docket_in f))) (sym same);
       };
     }
+
+-- ---- a command that changes the record
+
+-- nothing was asked for but the record
+pub asks_read : (command : Command) (copy : Watched tree.History) (old new : History) → AsksRecord old new → AsksChange command copy old new
+asks_read command copy old new load = record { mid = new; end = new; past = extends_same new; later = extends_same new; quiet = refl; load = load; behind = inl refl }
+
+pub asks_nothing : (command : Command) (copy : Watched tree.History) (old new : History) → Extends old new → new.asked ≡ old.asked → AsksChange command copy old new
+asks_nothing command copy old new past none = asks_read command copy old new (asks_none old new past none)

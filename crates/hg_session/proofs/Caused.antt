@@ -102,36 +102,37 @@ record_cause call fault (Err met) prints (inr memory, told) = subst (λ (f : Opt
 module _ (call : Call) (is : is_change call.command ≡ true) where
   by_doing : (fault : OpFault) → MetDoing (makes_in call) call.looked.tree call.looked.shelf fault → CommandCause call (of_op fault)
   by_doing an_op_fault.OutOfMemory met = tt
-  by_doing an_op_fault.TreeFailed met = (met.0, was_loaded call.looked.shelf met.1)
-  by_doing an_op_fault.ShelfFailed met = met
-  by_doing (an_op_fault.NoManifest id) met = inr (is, met)
-  by_doing (an_op_fault.ManifestTooLarge size) met = inr (is, met)
-  by_doing (an_op_fault.ManifestLine line) met = inr (is, met)
-  by_doing (an_op_fault.ManifestOrder line) met = inr (is, met)
-  by_doing (an_op_fault.NoContents id) met = inr (is, met)
+  by_doing an_op_fault.TreeFailed met = (met.1, was_loaded call.looked.shelf (λ told. (met.0.loaded, met.0.read told)))
+  by_doing an_op_fault.ShelfFailed met = met.1
+  by_doing (an_op_fault.NoManifest id) met = inr (is, met.0)
+  by_doing (an_op_fault.ManifestTooLarge size) met = inr (is, met.0)
+  by_doing (an_op_fault.ManifestLine line) met = inr (is, met.0)
+  by_doing (an_op_fault.ManifestOrder line) met = inr (is, met.0)
+  by_doing (an_op_fault.NoContents id) met = inr (is, met.0)
 
   by_changing : (fault : ChangeFault) → MetChanging (makes_in call) call.looked.tree call.looked.shelf fault → CommandCause call (of_change fault)
-  by_changing (a_change_fault.Read fault) met = by_reading call fault met
+  by_changing (a_change_fault.Read fault) met = by_reading call fault met.0
   by_changing (a_change_fault.Op fault) met = by_doing fault met
   by_changing (a_change_fault.Encode an_encode_fault.OutOfMemory) met = tt
   by_changing (a_change_fault.Encode (an_encode_fault.TooLarge size)) met = (is, met)
   by_changing (a_change_fault.Encode an_encode_fault.IdsSpent) met = (is, met)
   by_changing a_change_fault.Held met = absurd met
-  by_changing a_change_fault.ShelfFailed met = met
+  by_changing a_change_fault.ShelfFailed met = met.0
 
   by_locking : (fault : ChangeFault) → MetLocking (makes_in call) call.looked.tree call.looked.shelf call.locks fault → CommandCause call (of_change fault)
   by_locking fault (inl met) = by_changing fault met
-  by_locking fault (inr (held, rose)) = subst (λ (f : ChangeFault). CommandCause call (of_change f)) (sym held) (is, rose)
+  by_locking fault (inr (held, rose, alone)) = subst (λ (f : ChangeFault). CommandCause call (of_change f)) (sym held) (is, rose)
 
   by_saving : (fault : Fault) → Fails call.looked.shelf → (fault ≡ a_fault.ShelfFailed) ⊎ (fault ≡ a_fault.OutOfMemory) → CommandCause call fault
   by_saving fault failed (inl same) = subst (CommandCause call) (sym same) failed
   by_saving fault failed (inr same) = subst (CommandCause call) (sym same) tt
 
   change_left : (fault : Fault) → (stage : Stage) × LeavesAt (change_look (makes_in call) call) call.out call.err Tells stage fault → CommandCause call fault
-  change_left fault (at_first, ((none, f, same, met), silent, line)) = subst (CommandCause call) (sym same) (by_locking f met)
+  change_left fault (at_first, ((none, f, inl same, met), silent, line)) = subst (CommandCause call) (sym (cc same)) (by_locking f met)
+  change_left fault (at_first, ((none, f, inr memory, met), silent, line)) = subst (CommandCause call) (sym (cc memory)) tt
   change_left fault (at_printing, (never, ready, front, kind, line)) = absurd never
   change_left fault (at_telling, (telling, ready, puts, front, same)) = subst (CommandCause call) (sym same) front.failed
-  change_left fault (at_saving, ((failed, kind), left)) = by_saving fault failed kind
+  change_left fault (at_saving, ((failed, kind), left)) = by_saving fault failed.0 kind
 
   changed_cause : (fault : Option Fault) → Concludes (change_look (makes_in call) call) call.out call.err fault → IfSome fault (CommandCause call)
   changed_cause None looks = tt

@@ -12,11 +12,11 @@ use Rattle.hg_image.specs.Reading.{data_reading, of_data}
 use Rattle.hg_mixed.specs.Edits.{IsOfSameImage, IsSame}
 use Rattle.hg_mixed.specs.Held.{Held, table}
 use Rattle.hg_ops.proofs.Added.{same_table}
-use Rattle.hg_report.specs.Cause.{of_encode}
+use Rattle.hg_ops.specs.declared.refusal.OpFault.{OpFault}
+use Rattle.hg_ops.specs.declared.refusal.OpFault.TheVariants as an_op
 use Rattle.hg_report.specs.declared.fault.Fault.{Fault}
-use Rattle.hg_report.specs.declared.fault.Fault.TheVariants as a_fault
 use Rattle.hg_save.specs.Leads.{Leads}
-use Rattle.hg_save.specs.Loads.{IsTry, Loads, Try, files_at, found_by}
+use Rattle.hg_save.specs.Loads.{IsLoad, IsTry, Loads, Tries, Try, files_at, found_by}
 use Rattle.hg_save.specs.Record.{data_name, docket_in, id_in, reading}
 use Rattle.hg_save.specs.Saved.{KeepsOthers, LeavesOnly, ReadsAsBeforeOr, ShowsOnly, Stands}
 use Rattle.hg_save.specs.declared.load_fault.LoadFault.{LoadFault}
@@ -24,12 +24,14 @@ use Rattle.hg_save.specs.declared.loaded.Loaded.{Loaded}
 use Rattle.hg_save.proofs.Loads.{found_longer, last_within, tries_longer}
 use Rattle.hg_save.proofs.Published.{keeps_front}
 use Rattle.hg_save.proofs.Spans.{files_front}
-use Rattle.hg_session.specs.Acts.{Makes}
+use Rattle.hg_session.specs.Acts.{AsksBehind, Makes}
 use Rattle.hg_session.specs.Anew.{CanWrite, IsOpened, IsOverwritten, IsRecorded, LoadsOrRefuses, MetWriting, WritesOnly}
-use Rattle.hg_session.specs.Call.{Fails, Watched}
-use Rattle.hg_session.specs.Change.{FitsFirst, IsDone, IsKept, IsMade, IsPublished, IsReadFirst, IsReadSome, IsSafeHeld, IsUnwritten, IsWritten, MetChanging, up_to}
-use Rattle.hg_session.specs.Load.{by_load, of_read}
-use Rattle.hg_session.specs.Loaded.{NodesFind, Refuses}
+use Rattle.hg_session.specs.Call.{Fails, IsLeftAlone, Watched}
+use Rattle.hg_session.specs.Change.{AsksChange, FitsFirst, IsDone, IsKept, IsMade, IsPublished, IsReadFirst, IsReadSome, IsSafeHeld, IsToBlame, IsUnwritten, IsWritten, MetChanging, up_to}
+use Rattle.hg_session.specs.Load.{by_load}
+use Rattle.hg_session.specs.Loaded.{AsksRecord, NodesFind, Refuses}
+use Rattle.hg_session.specs.declared.change_fault.ChangeFault.{ChangeFault}
+use Rattle.hg_session.specs.declared.change_fault.ChangeFault.TheVariants as a_change_fault
 use Rattle.hg_session.specs.declared.read_fault.ReadFault.{ReadFault}
 use Rattle.hg_session.specs.declared.read_fault.ReadFault.TheVariants as a_read
 use Rattle.hg_session.proofs.Locked.{end_remains, front_docket, front_found, front_latest, front_remains, none_front, unwritten, unwritten_then}
@@ -40,6 +42,7 @@ use Rattle.hg_shelf.specs.History.{Extends, Files, History, Passes, us}
 use Rattle.hg_shelf.specs.Images.{Course, Goes, last_scene, scene}
 use Rattle.hg_shelf.specs.Polite.{Undisturbed}
 use Rattle.hg_tree.specs.History as tree
+use Rattle.hg_words.specs.declared.given.Command.{Command}
 
 -- ---- why it met a fault, before it wrote
 
@@ -49,32 +52,54 @@ refused_load old new tries fault loads = record { tried = loads.tried; answer = 
 
 module _ (Does : Makes) (copy : Watched tree.History) (files : Watched shelf.History) where
   -- the record could not be read
-  pub met_read : (fault : ReadFault) → (IsTrue files.old.told → (tried : Try) × Refuses files.old files.new (tried ∷ []) fault) → (fault ≡ a_read.Failed → Fails files) → MetChanging Does copy files (of_read fault)
-  met_read a_read.OutOfMemory met failed = tt
-  met_read (a_read.Docket fault) met failed = λ told. let m = met told in (m.0 ∷ [], m.1)
-  met_read (a_read.Node fault) met failed = λ told. let m = met told in (m.0 ∷ [], m.1)
-  met_read (a_read.DataGone ids) met failed = λ told. let m = met told in (m.0 ∷ [], m.1)
-  met_read a_read.Failed met failed = failed refl
+  pub met_read : (fault : ReadFault) → (IsTrue files.old.told → (tried : Try) × Refuses files.old files.new (tried ∷ []) fault) → (fault ≡ a_read.Failed → Fails files) → IsLeftAlone copy → MetChanging Does copy files (a_change_fault.Read fault)
+  met_read a_read.OutOfMemory met failed alone = (tt, alone)
+  met_read (a_read.Docket fault) met failed alone = (λ told. let m = met told in (m.0 ∷ [], m.1), alone)
+  met_read (a_read.Node fault) met failed alone = (λ told. let m = met told in (m.0 ∷ [], m.1), alone)
+  met_read (a_read.DataGone ids) met failed alone = (λ told. let m = met told in (m.0 ∷ [], m.1), alone)
+  met_read a_read.Failed met failed alone = (failed refl, alone)
 
   -- its nodes could not
   pub met_opened : {X : Type 0} (IsOf : Table → X → Type 0) (loaded : Loaded) (fault : ReadFault) → docket_refusal loaded.docket.items ≡ None
       → (IsTrue files.old.told → (tried : Try) × LoadsOrRefuses files.old files.new (tried ∷ []) (Ok loaded))
-      → NodesFind IsOf (Err fault) (data_reading (docket_of loaded.docket.items) loaded.nodes.items) → MetChanging Does copy files (of_read fault)
-  met_opened IsOf loaded a_read.OutOfMemory sound loads finds = tt
-  met_opened IsOf loaded (a_read.Node fault) sound loads finds = λ told.
-      let m = loads told in (
-        m.0 ∷ [],
-        record { tried = m.1.tried; answer = m.1.answer.reading ∙ ap (λ r. Some r) (sound_reading loaded.docket.items loaded.nodes.items sound ∙ ap (λ r. of_data r) finds) },
-      )
-  met_opened IsOf loaded (a_read.Docket fault) sound loads finds = absurd finds
-  met_opened IsOf loaded (a_read.DataGone ids) sound loads finds = absurd finds
-  met_opened IsOf loaded a_read.Failed sound loads finds = absurd finds
+      → NodesFind IsOf (Err fault) (data_reading (docket_of loaded.docket.items) loaded.nodes.items) → IsLeftAlone copy → MetChanging Does copy files (a_change_fault.Read fault)
+  met_opened IsOf loaded a_read.OutOfMemory sound loads finds alone = (tt, alone)
+  met_opened IsOf loaded (a_read.Node fault) sound loads finds alone = (
+    λ told.
+        let m = loads told in (
+          m.0 ∷ [],
+          record { tried = m.1.tried; answer = m.1.answer.reading ∙ ap (λ r. Some r) (sound_reading loaded.docket.items loaded.nodes.items sound ∙ ap (λ r. of_data r) finds) },
+        ),
+    alone,
+  )
+  met_opened IsOf loaded (a_read.Docket fault) sound loads finds alone = absurd finds
+  met_opened IsOf loaded (a_read.DataGone ids) sound loads finds alone = absurd finds
+  met_opened IsOf loaded a_read.Failed sound loads finds alone = absurd finds
 
 -- ---- the record that was read first
 
+-- a record was loaded by these tries
+pub record HasLoaded (old new : History) (tries : List Try) (loaded : Loaded) : Type 0 where
+  pub tried : Tries old new tries
+  pub answer : IsLoad (docket_in (files_at new tried.last.docket)) (found_by new tried.last) loaded
+
+loaded_longer : (old mid new : History) (tries : List Try) (loaded : Loaded) → Extends mid new → Loads old mid tries (Ok loaded) → HasLoaded old new tries loaded
+loaded_longer old mid new tries loaded past loads = record {
+  tried = tries_longer old mid new tries past loads.tried;
+  answer = record {
+    docket = loads.answer.docket ∙ ap docket_in (sym (past.stay loads.tried.last.docket (last_within old mid tries loads.tried).docket.to).shown);
+    reading = found_longer old mid new tries past loads.tried ∙ loads.answer.reading;
+  };
+}
+
+-- so it was, seen from a later place
+pub loads_upto : (old mid new : History) (loaded : Loaded) → Extends mid new → (IsTrue old.told → (tried : Try) × LoadsOrRefuses old mid (tried ∷ []) (Ok loaded))
+    → IsTrue old.told → (tried : Try) × HasLoaded old new (tried ∷ []) loaded
+loads_upto old mid new loaded past loads told = let l = loads told in (l.0, loaded_longer old mid new (l.0 ∷ []) loaded past l.1)
+
 -- the shelf before the load, behind it and at the end; what was loaded, the table that it records, and the one that was made of it
 module _ (a b c : Course) (passes : Passes a.history b.history) (goes : Goes b c) (loaded : Loaded) (sound : docket_refusal loaded.docket.items ≡ None)
-    (loads : IsTrue a.history.told → (tried : Try) × LoadsOrRefuses a.history b.history (tried ∷ []) (Ok loaded))
+    (loads : IsTrue a.history.told → (tried : Try) × HasLoaded a.history b.history (tried ∷ []) loaded)
     (recorded : Table) (nodes : data_reading (docket_of loaded.docket.items) loaded.nodes.items ≡ Ok recorded) where
   abbrev tried_within : (told : IsTrue a.history.told) → IsTry a.history b.history (loads told).1.tried.last
   tried_within told = last_within a.history b.history ((loads told).0 ∷ []) (loads told).1.tried
@@ -125,21 +150,41 @@ module _ (a b c : Course) (passes : Passes a.history b.history) (goes : Goes b c
 
   -- ---- what the words made of it
 
-  -- the words were met by no memory, or a working copy that failed behind it
-  pub met_acting : (Does : Makes) (copy : Watched tree.History) (before after : ℕ) (fault : Fault) → (fault ≡ a_fault.OutOfMemory) ⊎ (fault ≡ a_fault.TreeFailed) → (fault ≡ a_fault.TreeFailed → Fails copy)
-      → MetChanging Does copy (record { old = a.history; new = c.history; before = before; after = after }) fault
-  met_acting Does copy before after fault (inl is) failed = subst (MetChanging Does copy (record { old = a.history; new = c.history; before = before; after = after })) (sym is) tt
-  met_acting Does copy before after fault (inr is) failed =
-      subst (MetChanging Does copy (record { old = a.history; new = c.history; before = before; after = after })) (sym is) (failed is, λ told. (recorded, read_first told))
+  to_blame : (copy : Watched tree.History) (files : Watched shelf.History) (fault : OpFault) → (fault ≡ an_op.TreeFailed → Fails copy) → (fault ≡ an_op.ShelfFailed → Fails files) → IsToBlame copy files fault
+  to_blame copy files an_op.TreeFailed tree_failed shelf_failed = tree_failed refl
+  to_blame copy files an_op.ShelfFailed tree_failed shelf_failed = shelf_failed refl
+  to_blame copy files fault tree_failed shelf_failed = tt
+
+  -- what the command met behind it
+  pub met_acting : (Does : Makes) (copy : Watched tree.History) (opened : Held) (begun : IsOpened (docket_of loaded.docket.items) recorded opened) (before mid after : ℕ) (fault : OpFault)
+      → mid ≡ before → Does.stops (table opened) fault → (fault ≡ an_op.TreeFailed → Fails copy) → (fault ≡ an_op.ShelfFailed → Rose mid after)
+      → MetChanging Does copy (record { old = a.history; new = c.history; before = before; after = after }) (a_change_fault.Op fault)
+  met_acting Does copy opened begun before mid after fault still stops tree_failed shelf_failed = (
+    record { loaded = recorded; read = read_first; stops = subst (λ (t : Table). Does.stops t fault) (one_table (table opened) recorded begun.same) stops },
+    to_blame copy (record { old = a.history; new = c.history; before = before; after = after }) fault tree_failed (λ is. subst (λ (n : ℕ). Rose n after) still (shelf_failed is)),
+  )
 
   -- the working copy was looked at behind it
   pub read_some : IsReadSome (record { old = a.history; new = c.history; before = 0; after = 0 })
   read_some = λ told. (recorded, read_first told)
 
+  -- what was asked for, the record first
+  pub asks_by : (command : Command) (copy : Watched tree.History) (opened : Held) (begun : IsOpened (docket_of loaded.docket.items) recorded opened) (mid : History) → Extends mid b.history → c.history.asked ≡ b.history.asked
+      → (IsTrue a.history.told → AsksRecord a.history mid) → (IsTrue mid.told → AsksBehind command copy (table opened) mid b.history) → Extends a.history mid → IsTrue a.history.told → AsksChange command copy a.history c.history
+  asks_by command copy opened begun mid past quiet load asks first told = record {
+    mid = mid;
+    end = b.history;
+    past = past;
+    later = goes.past;
+    quiet = quiet;
+    load = load told;
+    behind = inr (recorded, read_first told, subst (λ (t : Table). AsksBehind command copy t mid b.history) (one_table (table opened) recorded begun.same) (asks (first.told ∙ told)));
+  }
+
   module _ (Does : Makes) (opened made : Held) (begun : IsOpened (docket_of loaded.docket.items) recorded opened) (image : IsOfSameImage opened made)
-      (lines : List ℕ) (acted : Does (table opened) (table made) lines made.changed) where
-    does_from : Does recorded (table made) lines made.changed
-    does_from = subst (λ (t : Table). Does t (table made) lines made.changed) (one_table (table opened) recorded begun.same) acted
+      (lines : List ℕ) (acted : Does.does (table opened) (table made) lines made.changed) where
+    does_from : Does.does recorded (table made) lines made.changed
+    does_from = subst (λ (t : Table). Does.does t (table made) lines made.changed) (one_table (table opened) recorded begun.same) acted
 
     unwritten_still : c ≡ b → IsUnwritten a.history c.history
     unwritten_still none = subst (λ (x : Course). IsUnwritten a.history x.history) (sym none) (unwritten a.history b.history passes)
@@ -152,10 +197,10 @@ module _ (a b c : Course) (passes : Passes a.history b.history) (goes : Goes b c
 
     -- where something was changed
     abbrev made_anew : (before after : ℕ) → made.changed ≡ true → IsMade Does (record { old = a.history; new = c.history; before = before; after = after }) (table made) lines true
-    made_anew before after set = record { loaded = recorded; read = read_first; does = subst (λ (changed : Bool). Does recorded (table made) lines changed) set does_from }
+    made_anew before after set = record { loaded = recorded; read = read_first; does = subst (λ (changed : Bool). Does.does recorded (table made) lines changed) set does_from }
 
-    by_encode : (copy : Watched tree.History) (before after : ℕ) (fault : EncodeFault) → HasCause made fault → made.changed ≡ true → MetChanging Does copy (record { old = a.history; new = c.history; before = before; after = after }) (of_encode fault)
-    by_encode copy before after an_encode.OutOfMemory cause set = tt
+    by_encode : (copy : Watched tree.History) (before after : ℕ) (fault : EncodeFault) → HasCause made fault → made.changed ≡ true → MetChanging Does copy (record { old = a.history; new = c.history; before = before; after = after }) (a_change_fault.Encode fault)
+    by_encode copy before after an_encode.OutOfMemory cause set = record { made = table made; lines = lines; changed = true; is = made_anew before after set }
     by_encode copy before after (an_encode.TooLarge size) cause set = record {
       made = table made;
       lines = lines;
@@ -173,10 +218,10 @@ module _ (a b c : Course) (passes : Passes a.history b.history) (goes : Goes b c
     }
 
     -- it was not written
-    pub met_writing : (copy : Watched tree.History) (before mid after : ℕ) (fault : Fault) → mid ≡ before → MetWriting made mid after fault → MetChanging Does copy (record { old = a.history; new = c.history; before = before; after = after }) fault
+    pub met_writing : (copy : Watched tree.History) (before mid after : ℕ) (fault : ChangeFault) → mid ≡ before → MetWriting made mid after fault → MetChanging Does copy (record { old = a.history; new = c.history; before = before; after = after }) fault
     met_writing copy before mid after fault still (inl (e, is, cause, set)) = subst (MetChanging Does copy (record { old = a.history; new = c.history; before = before; after = after })) (sym is) (by_encode copy before after e cause set)
     met_writing copy before mid after fault still (inr (is, rose)) =
-        subst (MetChanging Does copy (record { old = a.history; new = c.history; before = before; after = after })) (sym is) (subst (λ (n : ℕ). Rose n after) still rose)
+        subst (MetChanging Does copy (record { old = a.history; new = c.history; before = before; after = after })) (sym is) (subst (λ (n : ℕ). Rose n after) still rose, inr (record { made = table made; lines = lines; changed = made.changed; is = made_by before after }))
 
     -- ---- what is left of it
 
@@ -239,7 +284,7 @@ module _ (a b c : Course) (passes : Passes a.history b.history) (goes : Goes b c
         there = there;
         made = table made;
         lines = lines;
-        does = subst (λ (changed : Bool). Does recorded (table made) lines changed) over.changed does_from;
+        does = subst (λ (changed : Bool). Does.does recorded (table made) lines changed) over.changed does_from;
         found = over.found;
         is = over.is;
         crash = λ latest. crash_over over.found (over.crash (front_latest a b c ours passes goes calm latest));

@@ -3,13 +3,16 @@ pub mod Asking
 pub mod Caused
 pub mod Causes
 pub mod Changes
+pub mod Copying
 pub mod Crashes
+pub mod Doing
 pub mod Expectations
 pub mod Freed
 pub mod Listings
 pub mod Locked
 pub mod Locks
 pub mod Looks
+pub mod Makers
 pub mod Overs
 pub mod Parents
 pub mod Printing
@@ -17,6 +20,8 @@ pub mod Promises
 pub mod Readings
 pub mod Records
 pub mod Refusals
+pub mod Removing
+pub mod Reparenting
 pub mod SameTables
 pub mod SoFar
 pub mod Texts

@@ -1,11 +1,11 @@
 -- What stays while the caller holds the lock and makes no step: others only read.
 use Rattle.std.proofs.Common.{ℕ, ◌≡◌, ◌≤◌, true, refl, sym, ap, ◌∙◌, subst, arith, inl, inr}
 use Rattle.std.proofs.lemmas.Bool.{cases_lt}
-use Rattle.hg_report.specs.declared.fault.Fault.{Fault}
 use Rattle.hg_save.specs.Loads.{During, IsTry, Try, files_at, found_by}
 use Rattle.hg_save.specs.Record.{docket_in, id_in, reading, record_in}
 use Rattle.hg_save.specs.Saved.{IsLatest, name_after, used_in}
 use Rattle.hg_session.specs.Change.{FailsOrUnwritten, IsUnwritten, NoneOurs}
+use Rattle.hg_session.specs.declared.change_fault.ChangeFault.{ChangeFault}
 use Rattle.hg_shelf.specs.History.{By, Files, History, Passes, label, readers}
 use Rattle.hg_shelf.specs.Images.{Course, Goes, Remains, last_scene, scene}
 use Rattle.hg_shelf.specs.Polite.{Undisturbed}
@@ -37,7 +37,7 @@ unwritten_then a b c passes goes behind = record {
   ];
 }
 
-pub unwritten_unless : (a b c : Course) → Passes a.history b.history → Goes b c → (fault : Fault) → FailsOrUnwritten b.history c.history fault → FailsOrUnwritten a.history c.history fault
+pub unwritten_unless : (a b c : Course) → Passes a.history b.history → Goes b c → (fault : ChangeFault) → FailsOrUnwritten b.history c.history fault → FailsOrUnwritten a.history c.history fault
 unwritten_unless a b c passes goes fault (inl failed) = inl failed
 unwritten_unless a b c passes goes fault (inr none) = inr (unwritten_then a b c passes goes none)
 

@@ -13,16 +13,22 @@ use Rattle.hg_save.specs.Record.{id_in, reading}
 use Rattle.hg_session.proofs.Looks.{not_without}
 use Rattle.hg_session.proofs.Crashes.{crash_safe, lasting}
 use Rattle.hg_session.proofs.Readings.{unreadable_now}
-use Rattle.hg_session.specs.Acts.{Makes}
+use Rattle.hg_append.specs.declared.fault.EncodeFault.TheVariants as an_encode
+use Rattle.hg_ops.specs.declared.refusal.OpFault.{OpFault}
+use Rattle.hg_ops.specs.declared.refusal.OpFault.TheVariants as an_op
+use Rattle.hg_report.specs.Cause.{of_op}
+use Rattle.hg_session.specs.Acts.{ChangesTree, Makes}
 use Rattle.hg_session.specs.Call.{Call, Count, Fails, IsLeftAlone, Saved, Serves, Watched}
-use Rattle.hg_session.specs.Change.{FailsOrUnwritten, Fits, FitsFirst, IsDone, IsEarly, IsLocked, IsMade, IsReadFirst, IsReadSome, IsSafe, MayFollowWriting, MetChanging, MetLocking, NoneOurs, Stretch, id_read, makes_in, up_to}
-use Rattle.hg_session.specs.Changed.{IsChangeText, IsExpectedChange, IsMadeOf, OnlyLooks, RanChange, change_look, status_of}
+use Rattle.hg_session.specs.Change.{FailsOrUnwritten, Fits, FitsFirst, IsDone, IsEarly, IsLocked, IsMade, IsReadFirst, IsReadSome, IsSafe, MayFollowWriting, AsksChange, MetChanging, MetDoing, MetLocking, MetStop, NoneOurs, Stretch, id_read, makes_in, of_change, up_to}
+use Rattle.hg_session.specs.Changed.{IsChangeText, IsExpectedChange, IsMadeOf, IsStoppedFor, RanChange, change_look, status_of}
 use Rattle.hg_session.proofs.Records.{puts_none}
 use Rattle.hg_session.specs.Look.{LeavesAt, Stage, at_first, at_saving, at_telling}
 use Rattle.hg_session.specs.Put.{IsFaultOrMemory, IsSilent, Tells, TellsLine}
-use Rattle.hg_session.specs.Loaded.{AsksRecord}
-use Rattle.hg_session.specs.declared.acting.Changing.{Changing}
-use Rattle.hg_session.specs.declared.acting.Changing.TheVariants as a_change
+use Rattle.hg_session.specs.Load.{of_read}
+use Rattle.hg_session.specs.Loaded.{MetReading}
+use Rattle.hg_session.specs.declared.change_fault.ChangeFault.{ChangeFault}
+use Rattle.hg_session.specs.declared.change_fault.ChangeFault.TheVariants as a_change_fault
+use Rattle.hg_session.specs.declared.read_fault.ReadFault.{ReadFault}
 use Rattle.hg_session.specs.declared.read_fault.ReadFault.TheVariants as a_read
 use Rattle.hg_shelf.specs.History.{Extends, Files, History, IsOurs, now, readers, us}
 use Rattle.hg_shelf.specs.Images.{Course, Goes}
@@ -101,15 +107,34 @@ module _ (Does : Makes) (copy : Watched tree.History) (a b : Course) (before aft
   apart fault shelf err memory (inr (inl is)) = err is
   apart fault shelf err memory (inr (inr is)) = memory is
 
-  pub met_own : (fault : Fault) → IsSafe Does saved (Some fault) → MetChanging Does copy files fault → Serves copy → Serves files → IsExpectedChange Does there (Some fault)
-  met_own a_fault.OutOfMemory safe met p q = tt
-  met_own (a_fault.Docket fault) safe met p q =
+  stop_own : (fault : OpFault) → MetStop Does files fault → IsStoppedFor Does there fault
+  stop_own fault met = record { loaded = met.loaded; recorded = read_own met.loaded (met.read own.told); stops = met.stops }
+
+  reading_own : (fault : ReadFault) → IsSafe Does saved (Some (of_read fault)) → MetReading files fault → Serves files → IsExpectedChange Does there (Some (of_read fault))
+  reading_own a_read.OutOfMemory safe met q = tt
+  reading_own (a_read.Docket fault) safe met q =
       unreadable_now files past (still_by (a_fault.Docket fault) (apart (a_fault.Docket fault) (λ is. cc is) (λ is. cc is) (λ is. cc is)) safe) own.told (a_read.Docket fault) met q
-  met_own (a_fault.Node fault) safe met p q =
+  reading_own (a_read.Node fault) safe met q =
       unreadable_now files past (still_by (a_fault.Node fault) (apart (a_fault.Node fault) (λ is. cc is) (λ is. cc is) (λ is. cc is)) safe) own.told (a_read.Node fault) met q
-  met_own (a_fault.DataGone ids) safe met p q =
+  reading_own (a_read.DataGone ids) safe met q =
       unreadable_now files past (still_by (a_fault.DataGone ids) (apart (a_fault.DataGone ids) (λ is. cc is) (λ is. cc is) (λ is. cc is)) safe) own.told (a_read.DataGone ids) met q
-  met_own (a_fault.TooLarge size) safe met p q = record {
+  reading_own a_read.Failed safe met q = steady_not_rose before after q met
+
+  doing_own : (fault : OpFault) → MetDoing Does copy files fault → Serves copy → Serves files → IsExpectedChange Does there (Some (of_op fault))
+  doing_own an_op.OutOfMemory met p q = tt
+  doing_own an_op.TreeFailed met p q = steady_not_rose copy.before copy.after p met.1
+  doing_own an_op.ShelfFailed met p q = steady_not_rose before after q met.1
+  doing_own (an_op.NoManifest id) met p q = stop_own (an_op.NoManifest id) met.0
+  doing_own (an_op.ManifestTooLarge size) met p q = stop_own (an_op.ManifestTooLarge size) met.0
+  doing_own (an_op.ManifestLine line) met p q = stop_own (an_op.ManifestLine line) met.0
+  doing_own (an_op.ManifestOrder line) met p q = stop_own (an_op.ManifestOrder line) met.0
+  doing_own (an_op.NoContents id) met p q = stop_own (an_op.NoContents id) met.0
+
+  pub met_own : (fault : ChangeFault) → IsSafe Does saved (Some (of_change fault)) → MetChanging Does copy files fault → Serves copy → Serves files → IsExpectedChange Does there (Some (of_change fault))
+  met_own (a_change_fault.Read fault) safe met p q = reading_own fault safe met.0 q
+  met_own (a_change_fault.Op fault) safe met p q = doing_own fault met p q
+  met_own (a_change_fault.Encode an_encode.OutOfMemory) safe met p q = tt
+  met_own (a_change_fault.Encode (an_encode.TooLarge size)) safe met p q = record {
     made = met.made;
     lines = met.lines;
     is = made_own met.made met.lines true met.is;
@@ -118,24 +143,44 @@ module _ (Does : Makes) (copy : Watched tree.History) (a b : Course) (before aft
     large = met.large;
     next = ap (λ (id : List ℕ). is_some (next_name id)) (id_own met.is.loaded (met.is.read own.told)) ∙ met.next own.told;
   }
-  met_own a_fault.IdsSpent safe met p q = record {
+  met_own (a_change_fault.Encode an_encode.IdsSpent) safe met p q = record {
     made = met.made;
     lines = met.lines;
     is = made_own met.made met.lines true met.is;
     spent = ap next_name (id_own met.is.loaded (met.is.read own.told)) ∙ met.spent own.told;
   }
-  met_own a_fault.TreeFailed safe met p q = steady_not_rose copy.before copy.after p met.0
-  met_own a_fault.ShelfFailed safe met p q = steady_not_rose before after q met
-  met_own fault safe met p q = absurd met
+  met_own a_change_fault.Held safe met p q = absurd met
+  met_own a_change_fault.ShelfFailed safe met p q = steady_not_rose before after q met.0
+
+-- a fault of what the command met is told as another than those of the streams
+not_err : (fault : ChangeFault) → of_change fault ≡ a_fault.ErrFailed → ⊥
+not_err (a_change_fault.Read a_read.OutOfMemory) is = cc is
+not_err (a_change_fault.Read (a_read.Docket fault)) is = cc is
+not_err (a_change_fault.Read (a_read.Node fault)) is = cc is
+not_err (a_change_fault.Read (a_read.DataGone ids)) is = cc is
+not_err (a_change_fault.Read a_read.Failed) is = cc is
+not_err (a_change_fault.Op an_op.OutOfMemory) is = cc is
+not_err (a_change_fault.Op an_op.TreeFailed) is = cc is
+not_err (a_change_fault.Op an_op.ShelfFailed) is = cc is
+not_err (a_change_fault.Op (an_op.NoManifest id)) is = cc is
+not_err (a_change_fault.Op (an_op.ManifestTooLarge size)) is = cc is
+not_err (a_change_fault.Op (an_op.ManifestLine line)) is = cc is
+not_err (a_change_fault.Op (an_op.ManifestOrder line)) is = cc is
+not_err (a_change_fault.Op (an_op.NoContents id)) is = cc is
+not_err (a_change_fault.Encode an_encode.OutOfMemory) is = cc is
+not_err (a_change_fault.Encode (an_encode.TooLarge size)) is = cc is
+not_err (a_change_fault.Encode an_encode.IdsSpent) is = cc is
+not_err a_change_fault.Held is = cc is
+not_err a_change_fault.ShelfFailed is = cc is
 
 -- ---- the whole command
 
-module _ (command : Changing) (words : List (List ℕ)) (copy : Watched tree.History) (a b : Course) (before after : ℕ) (locks oversize : Count) (called : Command) (out err : Watched (Option (List ℕ)))
-    (silent : IsSilent out) (uncounted : oversize.after ≡ oversize.before) (looks : OnlyLooks copy) (unlooked : command ≡ a_change.Forget → IsLeftAlone copy)
-    (behind : IsLeftAlone copy ⊎ IsReadSome (record { old = a.history; new = b.history; before = before; after = after })) (asked : IsTrue a.history.told → AsksRecord a.history b.history) (kept : Goes a b) where
+module _ (command : Command) (copy : Watched tree.History) (a b : Course) (before after : ℕ) (locks oversize : Count) (out err : Watched (Option (List ℕ)))
+    (silent : IsSilent out) (uncounted : oversize.after ≡ oversize.before) (changes : ChangesTree command copy)
+    (behind : IsLeftAlone copy ⊎ IsReadSome (record { old = a.history; new = b.history; before = before; after = after })) (asked : IsTrue a.history.told → AsksChange command copy a.history b.history) (kept : Goes a b) where
   abbrev call : Call
   call = record {
-    command = called;
+    command = command;
     looked = record { tree = copy; shelf = record { old = a.history; new = b.history; before = before; after = after }; oversize = oversize };
     saved = record { old = a; new = b };
     locks = locks;
@@ -144,7 +189,7 @@ module _ (command : Changing) (words : List (List ℕ)) (copy : Watched tree.His
   }
 
   abbrev Does : Makes
-  Does = makes_in command words call
+  Does = makes_in call
 
   -- what came of the lock, where this is the fault
   abbrev pub LockedBy : Option Fault → Type 0
@@ -179,7 +224,7 @@ module _ (command : Changing) (words : List (List ℕ)) (copy : Watched tree.His
     first =
         elim is.first [
           | inl done ↦ inl (same a_fault.ShelfFailed done.0, done.1, done.2, done.3)
-          | inr met ↦ inr (met.0, same met.0 met.1, met.2, met.3)
+          | inr met ↦ inr (met.0, same (of_change met.0) met.1, met.2, met.3)
         ];
   })))
 
@@ -192,7 +237,7 @@ module _ (command : Changing) (words : List (List ℕ)) (copy : Watched tree.His
 
   pub ran_done : LockedBy None → (status : ℕ) (stretch : Stretch a.history b.history) (lines : List ℕ) (done : IsDone Does call.looked.shelf call.saved stretch.from stretch.to lines) → Grown err.old err.new lines → status ≡ status_of lines
       → (Undisturbed a b → IsSafe Does call.saved None) → copy.after ≡ copy.before → after ≡ before → err.after ≡ err.before → (locks.before < locks.after → ⊥) → (copy.before < copy.after → ⊥)
-      → RanChange command words call status None
+      → RanChange call status None
   ran_done locked status stretch lines done grown is safe calm_tree calm_shelf calm_err unheld well = record {
     shows = record {
       done = λ none. record { ready = tt; printed = puts_none out silent; told = record { text = lines; is = change_text stretch lines done; put = grown } };
@@ -209,10 +254,9 @@ module _ (command : Changing) (words : List (List ℕ)) (copy : Watched tree.His
     calm_err = λ none. calm_err;
     silent = silent;
     uncounted = uncounted;
-    looks = looks;
+    copy = changes;
     behind = behind;
     early = λ never. absurd never;
-    unlooked = unlooked;
     asked = asked;
     kept = kept;
     locked = locked;
@@ -224,7 +268,7 @@ module _ (command : Changing) (words : List (List ℕ)) (copy : Watched tree.His
 
   -- the error stream failed while the refused words were told
   pub ran_untold : LockedBy None → (stretch : Stretch a.history b.history) (lines : List ℕ) (done : IsDone Does call.looked.shelf call.saved stretch.from stretch.to lines) → GrownByFront err.old err.new lines → Fails err → after ≡ before
-      → (Undisturbed a b → IsSafe Does call.saved None) → (locks.before < locks.after → ⊥) → (copy.before < copy.after → ⊥) → (status : ℕ) → RanChange command words call status (Some a_fault.ErrFailed)
+      → (Undisturbed a b → IsSafe Does call.saved None) → (locks.before < locks.after → ⊥) → (copy.before < copy.after → ⊥) → (status : ℕ) → RanChange call status (Some a_fault.ErrFailed)
   ran_untold locked stretch lines done grown failed calm_shelf safe unheld well status = record {
     shows = record {
       done = λ none. absurd (cc none);
@@ -241,10 +285,9 @@ module _ (command : Changing) (words : List (List ℕ)) (copy : Watched tree.His
     calm_err = λ none. absurd (cc none);
     silent = silent;
     uncounted = uncounted;
-    looks = looks;
+    copy = changes;
     behind = behind;
     early = λ never. absurd never;
-    unlooked = unlooked;
     asked = asked;
     kept = kept;
     locked = locked_as None (Some a_fault.ErrFailed) (λ fault is. never_none fault is) locked;
@@ -254,71 +297,63 @@ module _ (command : Changing) (words : List (List ℕ)) (copy : Watched tree.His
   safe_any fault (inl none) = inl none
   safe_any fault (inr (may, is)) = inr (inr (inr refl), is)
 
-  locked_own : (fault : Fault) → IsSafe Does call.saved (Some fault) → MetLocking Does copy call.looked.shelf locks fault → IsOurs a.history b.history → Serves copy → Serves call.looked.shelf
-      → IsSteady locks.before locks.after → IsExpectedChange Does (now a.history).files (Some fault)
+  locked_own : (fault : ChangeFault) → IsSafe Does call.saved (Some (of_change fault)) → MetLocking Does copy call.looked.shelf locks fault → IsOurs a.history b.history → Serves copy → Serves call.looked.shelf
+      → IsSteady locks.before locks.after → IsExpectedChange Does (now a.history).files (Some (of_change fault))
   locked_own fault safe (inl met) own p q steady = met_own Does copy a b before after kept.past own fault safe met p q
   locked_own fault safe (inr (held, rose)) own p q steady = absurd (steady_not_rose locks.before locks.after steady rose)
 
-  shelf_met : MetLocking Does copy call.looked.shelf locks a_fault.ShelfFailed → Fails call.looked.shelf
-  shelf_met (inl rose) = rose
+  shelf_met : MetLocking Does copy call.looked.shelf locks a_change_fault.ShelfFailed → MetChanging Does copy call.looked.shelf a_change_fault.ShelfFailed
+  shelf_met (inl met) = met
   shelf_met (inr (held, rose)) = absurd (cc held)
 
-  shelf_fails : (fault : Fault) → fault ≡ a_fault.ShelfFailed → MetLocking Does copy call.looked.shelf locks fault → Fails call.looked.shelf
+  shelf_fails : (fault : ChangeFault) → fault ≡ a_change_fault.ShelfFailed → MetLocking Does copy call.looked.shelf locks fault → MetChanging Does copy call.looked.shelf a_change_fault.ShelfFailed
   shelf_fails fault is met = shelf_met (subst (MetLocking Does copy call.looked.shelf locks) is met)
 
-  err_met : MetLocking Does copy call.looked.shelf locks a_fault.ErrFailed → ⊥
-  err_met (inl met) = met
-  err_met (inr (held, rose)) = cc held
-
-  -- the error stream isn't told before the lines of the words
-  never_err : (fault : Fault) → MetLocking Does copy call.looked.shelf locks fault → fault ≡ a_fault.ErrFailed → ⊥
-  never_err fault met is = err_met (subst (MetLocking Does copy call.looked.shelf locks) is met)
-
   -- where it was met, whether it is told, or want of memory for its line
-  stage_same : (fault : Fault) → MetLocking Does copy call.looked.shelf locks fault → FailsOrUnwritten a.history b.history fault → Tells err fault
-      → (stage : Stage) × LeavesAt (change_look Does call) out err Tells stage fault
-  stage_same fault met (inl is) line = (at_saving, ((shelf_fails fault is met, inl is), silent, line))
-  stage_same fault met (inr none) line = (at_first, ((none, met), silent, line))
+  stage_same : (fault : ChangeFault) → MetLocking Does copy call.looked.shelf locks fault → FailsOrUnwritten a.history b.history fault → Tells err (of_change fault)
+      → (stage : Stage) × LeavesAt (change_look Does call) out err Tells stage (of_change fault)
+  stage_same fault met (inl is) line = (at_saving, ((shelf_fails fault is met, inl (ap of_change is)), silent, line))
+  stage_same fault met (inr none) line = (at_first, ((none, (fault, inl refl, met)), silent, line))
 
-  stage_memory : (fault : Fault) → MetLocking Does copy call.looked.shelf locks fault → FailsOrUnwritten a.history b.history fault → Tells err a_fault.OutOfMemory
+  stage_memory : (fault : ChangeFault) → MetLocking Does copy call.looked.shelf locks fault → FailsOrUnwritten a.history b.history fault → Tells err a_fault.OutOfMemory
       → (stage : Stage) × LeavesAt (change_look Does call) out err Tells stage a_fault.OutOfMemory
   stage_memory fault met (inl is) line = (at_saving, ((shelf_fails fault is met, inr refl), silent, line))
-  stage_memory fault met (inr none) line = (at_first, ((none, inl tt), silent, line))
+  stage_memory fault met (inr none) line = (at_first, ((none, (fault, inr refl, met)), silent, line))
 
-  ran_fault : (status : ℕ) (fault answered : Fault) → LockedBy (Some fault) → (answered ≡ fault) ⊎ (answered ≡ a_fault.OutOfMemory) → MetLocking Does copy call.looked.shelf locks fault
-      → (Undisturbed a b → IsSafe Does call.saved (Some fault)) → FailsOrUnwritten a.history b.history fault → (locks.before < locks.after → fault ≡ a_fault.Held) → (copy.before < copy.after → fault ≡ a_fault.TreeFailed) → (IsEarly fault → IsLeftAlone copy)
-      → TellsLine err.old err.new err.before err.after answered → RanChange command words call status (Some answered)
+  ran_fault : (status : ℕ) (fault : ChangeFault) (answered : Fault) → LockedBy (Some (of_change fault)) → (answered ≡ of_change fault) ⊎ (answered ≡ a_fault.OutOfMemory) → MetLocking Does copy call.looked.shelf locks fault
+      → (Undisturbed a b → IsSafe Does call.saved (Some (of_change fault))) → FailsOrUnwritten a.history b.history fault → (locks.before < locks.after → fault ≡ a_change_fault.Held)
+      → (copy.before < copy.after → fault ≡ a_change_fault.Op an_op.TreeFailed) → (IsEarly (of_change fault) → IsLeftAlone copy)
+      → TellsLine err.old err.new err.before err.after answered → RanChange call status (Some answered)
   ran_fault status fault answered locked (inl same) met safe written held failed early line =
-      subst (λ (f : Fault). TellsLine err.old err.new err.before err.after f → RanChange command words call status (Some f)) (sym same) (λ told. record {
+      subst (λ (f : Fault). TellsLine err.old err.new err.before err.after f → RanChange call status (Some f)) (sym same) (λ told. record {
         shows = record { done = λ none. absurd (cc none); left = stage_same fault met written told };
         ends = λ none. absurd (cc none);
         safe = safe;
-        crash = λ calm keep first. crash_safe a b kept calm keep Does first (Some fault) (safe calm);
-        held = λ rose. inl (ap Some (held rose));
-        tree = λ rose. inl (ap Some (failed rose));
+        crash = λ calm keep first. crash_safe a b kept calm keep Does first (Some (of_change fault)) (safe calm);
+        held = λ rose. inl (ap (λ (f : ChangeFault). Some (of_change f)) (held rose));
+        tree = λ rose. inl (ap (λ (f : ChangeFault). Some (of_change f)) (failed rose));
         complete = λ own p q r steady. locked_own fault (safe (calm_own a b own.shelf)) met own.shelf p q steady;
         calm_tree = λ none. absurd (cc none);
         calm_shelf = λ told_so. elim told_so [
           | inl none ↦ absurd (cc none)
-          | inr is ↦ absurd (never_err fault met (cc is))
+          | inr is ↦ absurd (not_err fault (cc is))
         ];
         calm_err = λ none. absurd (cc none);
         silent = silent;
         uncounted = uncounted;
-        looks = looks;
+        copy = changes;
         behind = behind;
         early = early;
-        unlooked = unlooked;
         asked = asked;
         kept = kept;
         locked = locked;
       }) line
   ran_fault status fault answered locked (inr memory) met safe written held failed early line =
-      subst (λ (f : Fault). TellsLine err.old err.new err.before err.after f → RanChange command words call status (Some f)) (sym memory) (λ told. record {
+      subst (λ (f : Fault). TellsLine err.old err.new err.before err.after f → RanChange call status (Some f)) (sym memory) (λ told. record {
         shows = record { done = λ none. absurd (cc none); left = stage_memory fault met written told };
         ends = λ none. absurd (cc none);
-        safe = λ calm. safe_any fault (safe calm);
-        crash = λ calm keep first. crash_safe a b kept calm keep Does first (Some a_fault.OutOfMemory) (safe_any fault (safe calm));
+        safe = λ calm. safe_any (of_change fault) (safe calm);
+        crash = λ calm keep first. crash_safe a b kept calm keep Does first (Some a_fault.OutOfMemory) (safe_any (of_change fault) (safe calm));
         held = λ rose. inr refl;
         tree = λ rose. inr refl;
         complete = λ own p q r steady. tt;
@@ -330,18 +365,18 @@ module _ (command : Changing) (words : List (List ℕ)) (copy : Watched tree.His
         calm_err = λ none. absurd (cc none);
         silent = silent;
         uncounted = uncounted;
-        looks = looks;
+        copy = changes;
         behind = behind;
         early = λ never. absurd never;
-        unlooked = unlooked;
         asked = asked;
         kept = kept;
-        locked = locked_as (Some fault) (Some a_fault.OutOfMemory) (λ met is. inr refl) locked;
+        locked = locked_as (Some (of_change fault)) (Some a_fault.OutOfMemory) (λ met is. inr refl) locked;
       }) line
 
-  pub ran_failed : (status : ℕ) (fault : Fault) (answered : Option Fault) → LockedBy (Some fault) → IsFaultOrMemory answered fault → MetLocking Does copy call.looked.shelf locks fault
-      → (Undisturbed a b → IsSafe Does call.saved (Some fault)) → FailsOrUnwritten a.history b.history fault → (locks.before < locks.after → fault ≡ a_fault.Held) → (copy.before < copy.after → fault ≡ a_fault.TreeFailed) → (IsEarly fault → IsLeftAlone copy)
-      → IfSome answered (λ f. TellsLine err.old err.new err.before err.after f) → RanChange command words call status answered
-  ran_failed status fault None locked is met safe written held failed early line = not_without None fault is refl
+  pub ran_failed : (status : ℕ) (fault : ChangeFault) (answered : Option Fault) → LockedBy (Some (of_change fault)) → IsFaultOrMemory answered (of_change fault) → MetLocking Does copy call.looked.shelf locks fault
+      → (Undisturbed a b → IsSafe Does call.saved (Some (of_change fault))) → FailsOrUnwritten a.history b.history fault → (locks.before < locks.after → fault ≡ a_change_fault.Held)
+      → (copy.before < copy.after → fault ≡ a_change_fault.Op an_op.TreeFailed) → (IsEarly (of_change fault) → IsLeftAlone copy)
+      → IfSome answered (λ f. TellsLine err.old err.new err.before err.after f) → RanChange call status answered
+  ran_failed status fault None locked is met safe written held failed early line = not_without None (of_change fault) is refl
   ran_failed status fault (Some f) locked (inl same) met safe written held failed early line = ran_fault status fault f locked (inl (cc same)) met safe written held failed early line
   ran_failed status fault (Some f) locked (inr memory) met safe written held failed early line = ran_fault status fault f locked (inr (cc memory)) met safe written held failed early line

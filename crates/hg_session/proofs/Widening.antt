@@ -7,7 +7,12 @@ use Rattle.hg_docket.specs.Number.{next_name}
 use Rattle.hg_entry.specs.Table.{Table}
 use Rattle.hg_image.specs.Reading.{RecordFault}
 use Rattle.hg_report.specs.declared.fault.Fault.{Fault}
-use Rattle.hg_report.specs.declared.fault.Fault.TheVariants as a_fault
+use Rattle.hg_append.specs.declared.fault.EncodeFault.TheVariants as an_encode
+use Rattle.hg_ops.specs.declared.refusal.OpFault.{OpFault}
+use Rattle.hg_ops.specs.declared.refusal.OpFault.TheVariants as an_op
+use Rattle.hg_session.proofs.Makers.{IsWider}
+use Rattle.hg_session.specs.declared.change_fault.ChangeFault.{ChangeFault}
+use Rattle.hg_session.specs.declared.change_fault.ChangeFault.TheVariants as a_change_fault
 use Rattle.hg_save.proofs.Loads.{found_longer, last_within, tries_longer}
 use Rattle.hg_save.proofs.Published.{keeps_longer}
 use Rattle.hg_save.proofs.Spans.{files_longer}
@@ -17,18 +22,21 @@ use Rattle.hg_save.specs.Record.{data_name, id_in, reading}
 use Rattle.hg_save.specs.Saved.{IsExact, IsLatest, KeepsOthers, ReadsAsBeforeOr, name_after, used_in}
 use Rattle.hg_session.specs.Acts.{Makes}
 use Rattle.hg_session.specs.Call.{Watched}
-use Rattle.hg_session.specs.Change.{Fits, FitsFirst, IsDone, IsKept, IsMade, IsPublished, IsReadFirst, IsSafe, IsSafeHeld, IsUnwritten, IsWritten, MetChanging, NoneOurs, Stretch, id_read, up_to}
-use Rattle.hg_session.specs.Loaded.{LoadMet}
+use Rattle.hg_session.specs.Change.{AsksChange, Fits, FitsFirst, IsDone, IsKept, IsMade, IsPublished, IsReadFirst, IsSafe, IsSafeHeld, IsUnwritten, IsToBlame, IsWritten, MetChanging, MetMade, MetStop, NoneOurs, Stretch, id_read, up_to}
+use Rattle.hg_session.specs.Loaded.{LoadMet, MetReading}
 use Rattle.hg_session.specs.Loaded.{IsRefused}
 use Rattle.hg_session.specs.Locks.{TakenAt}
 use Rattle.hg_session.specs.declared.read_fault.ReadFault.{ReadFault}
 use Rattle.hg_session.specs.declared.read_fault.ReadFault.TheVariants as a_read
+use Rattle.hg_session.proofs.Asking.{asks_wide}
 use Rattle.hg_session.proofs.Locked.{none_within}
+use Rattle.hg_shelf.proofs.Histories.{extends_same, extends_trans}
 use Rattle.hg_shelf.proofs.Scenes.{first_part, second_part}
 use Rattle.hg_shelf.specs.History.{Extends, Files, History, Waits, us}
 use Rattle.hg_shelf.specs.Images.{Course, Goes, Remains, Scene, scene}
 use Rattle.hg_shelf.specs.Polite.{Undisturbed}
 use Rattle.hg_tree.specs.History as tree
+use Rattle.hg_words.specs.declared.given.Command.{Command}
 
 -- of a scene that is the same both ways the same is said
 latest_same : (a b : Scene) → Remains a b → Remains b a → IsLatest a → IsLatest b
@@ -149,6 +157,22 @@ module _ (a b c d : Course) (lock : Waits a.history b.history) (unlock : Waits c
   pub read_some_wide : (IsTrue b.history.told → (loaded : Table) × IsReadFirst b.history c.history loaded) → IsTrue a.history.told → (loaded : Table) × IsReadFirst a.history d.history loaded
   read_some_wide is told = let read = is (p.past.told ∙ told) in (read.0, read_wide read.0 read.1)
 
+  -- what was asked for, where taking the lock and giving it back ask for nothing
+  pub asks_whole : (command : Command) (copy : Watched tree.History) → b.history.asked ≡ a.history.asked → d.history.asked ≡ c.history.asked → AsksChange command copy b.history c.history → AsksChange command copy a.history d.history
+  asks_whole command copy before behind is = record {
+    mid = is.mid;
+    end = is.end;
+    past = is.past;
+    later = extends_trans is.end c.history d.history is.later r.past;
+    quiet = behind ∙ is.quiet;
+    load = asks_wide a.history b.history is.mid is.mid p.past before (extends_same is.mid) refl is.load;
+    behind =
+        elim is.behind [
+          | inl none ↦ inl none
+          | inr asks ↦ inr (asks.0, read_wide asks.0 asks.1, asks.2)
+        ];
+  }
+
   -- the identifier that was read is the same, seen from the end
   id_wide : (loaded : Table) (is : IsReadFirst b.history c.history loaded) → id_read (read_wide loaded is) ≡ id_read is
   id_wide loaded is =
@@ -178,7 +202,7 @@ module _ (a b c d : Course) (lock : Waits a.history b.history) (unlock : Waits c
         left = λ f left. is.left f ((to_end to far).left f left);
       })
 
-  module _ (Part Whole : Makes) (wide : (old new : Table) (lines : List ℕ) (changed : Bool) → Part old new lines changed → Whole old new lines changed)
+  module _ (Part Whole : Makes) (wide : IsWider Part Whole)
       (copy : Watched tree.History) (before after start end : ℕ) where
     abbrev part : Watched History
     part = record { old = b.history; new = c.history; before = before; after = after }
@@ -190,7 +214,7 @@ module _ (a b c d : Course) (lock : Waits a.history b.history) (unlock : Waits c
     told_part told = p.past.told ∙ told
 
     abbrev made_wide : (made : Table) (lines : List ℕ) (changed : Bool) → IsMade Part part made lines changed → IsMade Whole whole made lines changed
-    made_wide made lines changed is = record { loaded = is.loaded; read = λ told. read_wide is.loaded (is.read (told_part told)); does = wide is.loaded made lines changed is.does }
+    made_wide made lines changed is = record { loaded = is.loaded; read = λ told. read_wide is.loaded (is.read (told_part told)); does = wide.does is.loaded made lines changed is.does }
 
     fits_wide : (made : Table) → FitsFirst b.history c.history made → FitsFirst a.history d.history made
     fits_wide made is = record {
@@ -243,7 +267,7 @@ module _ (a b c d : Course) (lock : Waits a.history b.history) (unlock : Waits c
           there = reading_wide from near ∙ is.there;
           made = is.made;
           lines = is.lines;
-          does = wide is.loaded is.made is.lines true is.does;
+          does = wide.does is.loaded is.made is.lines true is.does;
           found = is.found;
           is = is.is;
           crash = λ first k f after upto left.
@@ -287,12 +311,29 @@ module _ (a b c d : Course) (lock : Waits a.history b.history) (unlock : Waits c
           },
         )
 
-    pub met_wide : (fault : Fault) → (Rose before after → Rose start end) → MetChanging Part copy part fault → MetChanging Whole copy whole fault
-    met_wide a_fault.OutOfMemory rose met = tt
-    met_wide (a_fault.Docket fault) rose met = refuses_wide (a_read.Docket fault) met
-    met_wide (a_fault.Node fault) rose met = refuses_wide (a_read.Node fault) met
-    met_wide (a_fault.DataGone ids) rose met = refuses_wide (a_read.DataGone ids) met
-    met_wide (a_fault.TooLarge size) rose met = record {
+    stop_wide : (fault : OpFault) → MetStop Part part fault → MetStop Whole whole fault
+    stop_wide fault met = record { loaded = met.loaded; read = λ told. read_wide met.loaded (met.read (told_part told)); stops = wide.stops met.loaded fault met.stops }
+
+    reading_met : (fault : ReadFault) → (Rose before after → Rose start end) → MetReading part fault → MetReading whole fault
+    reading_met a_read.OutOfMemory rose met = tt
+    reading_met (a_read.Docket fault) rose met = refuses_wide (a_read.Docket fault) met
+    reading_met (a_read.Node fault) rose met = refuses_wide (a_read.Node fault) met
+    reading_met (a_read.DataGone ids) rose met = refuses_wide (a_read.DataGone ids) met
+    reading_met a_read.Failed rose met = rose met
+
+    blame_wide : (fault : OpFault) → (Rose before after → Rose start end) → IsToBlame copy part fault → IsToBlame copy whole fault
+    blame_wide an_op.TreeFailed rose met = met
+    blame_wide an_op.ShelfFailed rose met = rose met
+    blame_wide fault rose met = tt
+
+    pub done_met : MetMade Part part → MetMade Whole whole
+    done_met met = record { made = met.made; lines = met.lines; changed = met.changed; is = made_wide met.made met.lines met.changed met.is }
+
+    pub met_wide : (fault : ChangeFault) → (Rose before after → Rose start end) → MetChanging Part copy part fault → MetChanging Whole copy whole fault
+    met_wide (a_change_fault.Read fault) rose met = (reading_met fault rose met.0, met.1)
+    met_wide (a_change_fault.Op fault) rose met = (stop_wide fault met.0, blame_wide fault rose met.1)
+    met_wide (a_change_fault.Encode an_encode.OutOfMemory) rose met = done_met met
+    met_wide (a_change_fault.Encode (an_encode.TooLarge size)) rose met = record {
       made = met.made;
       lines = met.lines;
       is = made_wide met.made met.lines true met.is;
@@ -301,12 +342,11 @@ module _ (a b c d : Course) (lock : Waits a.history b.history) (unlock : Waits c
       large = met.large;
       next = λ told. ap (λ (id : List ℕ). is_some (next_name id)) (id_wide met.is.loaded (met.is.read (told_part told))) ∙ met.next (told_part told);
     }
-    met_wide a_fault.IdsSpent rose met = record {
+    met_wide (a_change_fault.Encode an_encode.IdsSpent) rose met = record {
       made = met.made;
       lines = met.lines;
       is = made_wide met.made met.lines true met.is;
       spent = λ told. ap next_name (id_wide met.is.loaded (met.is.read (told_part told))) ∙ met.spent (told_part told);
     }
-    met_wide a_fault.TreeFailed rose met = (met.0, read_some_wide met.1)
-    met_wide a_fault.ShelfFailed rose met = rose met
-    met_wide fault rose met = absurd met
+    met_wide a_change_fault.Held rose met = absurd met
+    met_wide a_change_fault.ShelfFailed rose met = (rose met.0, elim met.1 [ inl alone ↦ inl alone | inr made ↦ inr (done_met made) ])

@@ -1,5 +1,5 @@
 -- What a command that changes the record makes of it, and how each does so.
-use Rattle.std.specs.Prelude.{ℕ, ◌≡◌, ◌<◌, Bool, false, List, [], ◌∷◌, ◌++◌, map, Option, Some, None, Result, Err, IfErr, IfOk, OnOk, IsTrue, Vec, codes}
+use Rattle.std.specs.Prelude.{ℕ, ◌≡◌, ◌⊎◌, ◌<◌, Bool, true, false, List, [], ◌∷◌, ◌++◌, map, Option, Some, None, Result, Err, IfErr, IfOk, OnOk, IsTrue, Vec, codes}
 use Rattle.std.specs.List.{AllByRecursion}
 use Rattle.std.specs.declared.alloc.Global.{Global}
 use Rattle.hg_base.specs.Fault.{HasCause}
@@ -7,20 +7,28 @@ use Rattle.hg_entry.specs.Table.{Table}
 use Rattle.hg_manifest.specs.Load.{asks_of}
 use Rattle.hg_mixed.specs.Edits.{IsOfSameImage, IsSame}
 use Rattle.hg_mixed.specs.Held.{Held, table}
+use Rattle.hg_ops.specs.Copy.{Copies, OnlyCopies}
 use Rattle.hg_ops.specs.Look.{Adds, Looks}
+use Rattle.hg_ops.specs.Parent.{AsksStore, Span, upto}
+use Rattle.hg_ops.specs.Remove.{MetRemoving, NeedsRow, ReadsWord, Removes, Takes, may_take, needs_row}
 use Rattle.hg_ops.specs.Step.{IsForget}
+use Rattle.hg_ops.specs.declared.copy_refusal.CopyRefusal.{CopyRefusal}
+use Rattle.hg_ops.specs.declared.copy_refusal.CopyRefusal.TheVariants as a_word
 use Rattle.hg_ops.specs.declared.refusal.OpFault.{OpFault}
 use Rattle.hg_ops.specs.declared.refusal.OpFault.TheVariants as an_op_fault
 use Rattle.hg_ops.specs.declared.refusal.Refusal.{Refusal}
 use Rattle.hg_report.specs.Refusal.{refusal_line}
 use Rattle.hg_session.specs.Call.{IsLeftAlone, Watched}
-use Rattle.hg_session.specs.Loaded.{AsksRecord}
-use Rattle.hg_session.specs.Manifests.{IsReparented, LacksParents}
+use Rattle.hg_session.specs.Manifests.{IsReparented, StopsParents}
 use Rattle.hg_session.specs.declared.acting.Changing.{Changing}
 use Rattle.hg_session.specs.declared.acting.Changing.TheVariants as a_change
 use Rattle.hg_shelf.specs.Asks.{AsksFrontOf}
 use Rattle.hg_shelf.specs.History as shelf
 use Rattle.hg_tree.specs.History as tree
+use Rattle.hg_tree.specs.Moment.{is_among}
+use Rattle.hg_tree.specs.Touched.{ChangesOnly}
+use Rattle.hg_tree.specs.declared.asked.Asked.{Asked}
+use Rattle.hg_tree.specs.declared.asked.Asked.TheVariants as an_ask
 use Rattle.hg_words.specs.declared.given.Command.{Command}
 use Rattle.hg_words.specs.declared.given.Command.TheVariants as a_command
 
@@ -30,66 +38,136 @@ pub record Makes : Type 1 where
   pub does : Table → Table → List ℕ → Bool → Type 0
   pub stops : Table → OpFault → Type 0
 
--- ---- the words of `add` and `forget`, one after another
+-- ---- words, one after another
 
--- the command's name
-abbrev pub name : Changing → List ℕ
-name a_change.Add = codes "add"
-name a_change.Forget = codes "forget"
+-- what a command makes of one word and a table while the tree goes from one history to another
+abbrev pub Stepping : Type 1
+Stepping = tree.History → tree.History → List ℕ → Table → Option Refusal → Table → Type 0
 
 -- a word, and why it was refused, if it was
 pub record Deed : Type 0 where
   pub word : List ℕ
   pub refused : Option Refusal
 
--- what a command makes of one word and a table while the tree goes from one history to another
-abbrev pub Steps : Changing → tree.History → tree.History → List ℕ → Table → Option Refusal → Table → Type 0
-Steps a_change.Add before after word old refused new = Adds word before after old refused new
-Steps a_change.Forget before after word old refused new = IsForget word old refused new
-
--- so it does with this word; of the working copy it looked at nothing but the word's path, and at that only where it isn't tracked
-pub record IsStep (command : Changing) (before after : tree.History) (deed : Deed) (old new : Table) : Type 0 where
+-- a command did what it says with this word
+pub record IsStep (Steps : Stepping) (before after : tree.History) (deed : Deed) (old new : Table) : Type 0 where
   pub past : tree.Extends before after
-  pub made : Steps command before after deed.word old deed.refused new
-  pub looks : Looks deed.word old before after
+  pub made : Steps before after deed.word old deed.refused new
 
 -- several words were done one after another, each over the tree and the table that those before it left
-abbrev pub AllSteps : Changing → tree.History → tree.History → List Deed → Table → Table → Type 0
-AllSteps command before after [] old new = (after ≡ before) × IsSame new old
-AllSteps command before after (deed ∷ more) old new =
-    (mid : tree.History) × (between : Table) × IsStep command before mid deed old between × AllSteps command mid after more between new
+abbrev pub AllSteps : Stepping → tree.History → tree.History → List Deed → Table → Table → Type 0
+AllSteps Steps before after [] old new = (after ≡ before) × IsSame new old
+AllSteps Steps before after (deed ∷ more) old new =
+    (mid : tree.History) × (between : Table) × IsStep Steps before mid deed old between × AllSteps Steps mid after more between new
 
 -- each of these words left the table as it found it
-abbrev pub AllIdle : (command : Changing) (before after : tree.History) (deeds : List Deed) (old new : Table)
-    → AllSteps command before after deeds old new → Type 0
-AllIdle command before after [] old new steps = Unit {0}
-AllIdle command before after (deed ∷ more) old new steps = IsSame steps.1 old × AllIdle command steps.0 after more steps.1 new steps.3
+abbrev pub AllIdle : (Steps : Stepping) (before after : tree.History) (deeds : List Deed) (old new : Table)
+    → AllSteps Steps before after deeds old new → Type 0
+AllIdle Steps before after [] old new steps = Unit {0}
+AllIdle Steps before after (deed ∷ more) old new steps = IsSame steps.1 old × AllIdle Steps steps.0 after more steps.1 new steps.3
 
--- the line of a word that was refused
-abbrev pub refused_line : Changing → List ℕ → Option Refusal → List ℕ
-refused_line command word None = []
-refused_line command word (Some refusal) = refusal_line (name command) word refusal
+-- the line of a word that was refused, by the command's name
+abbrev pub refused_line : List ℕ → List ℕ → Option Refusal → List ℕ
+refused_line name word None = []
+refused_line name word (Some refusal) = refusal_line name word refusal
 
 -- the lines of those words that were refused, in their order
-abbrev pub refusals_text : Changing → List Deed → List ℕ
-refusals_text command [] = []
-refusals_text command (deed ∷ more) = refused_line command deed.word deed.refused ++ refusals_text command more
+abbrev pub refusals_text : List ℕ → List Deed → List ℕ
+refusals_text name [] = []
+refusals_text name (deed ∷ more) = refused_line name deed.word deed.refused ++ refusals_text name more
 
 -- no word was refused
 abbrev pub NoneRefused : List Deed → Type 0
 NoneRefused deeds = AllByRecursion (λ deed. deed.refused ≡ None) deeds
 
--- `add` or `forget` did what it says for each of these words in order, and told the lines of those that were refused
-pub record IsActed (command : Changing) (words : List (List ℕ)) (copy : Watched tree.History) (old new : Table) (lines : List ℕ) (changed : Bool) : Type 0 where
+-- a command of this name did what it says for each of these words in order, and told the lines of those that were refused
+pub record IsActed (name : List ℕ) (Steps : Stepping) (words : List (List ℕ)) (copy : Watched tree.History) (old new : Table) (lines : List ℕ) (changed : Bool) : Type 0 where
   pub deeds : List Deed
   pub all : map (λ deed. deed.word) deeds ≡ words
-  pub steps : AllSteps command copy.old copy.new deeds old new
-  pub text : lines ≡ refusals_text command deeds
+  pub steps : AllSteps Steps copy.old copy.new deeds old new
+  pub text : lines ≡ refusals_text name deeds
   -- there is no line exactly where no word was refused
   pub silent : NoneRefused deeds → lines ≡ []
   pub told : lines ≡ [] → NoneRefused deeds
   -- where no word changed anything nothing was changed, and then the record is the same
-  pub idle : AllIdle command copy.old copy.new deeds old new steps → changed ≡ false
+  pub idle : AllIdle Steps copy.old copy.new deeds old new steps → changed ≡ false
+  pub same : changed ≡ false → IsSame new old
+
+-- `add` and `forget` read no file below `.hg`; of the working copy each looks at nothing but a word's path, and at that only where it isn't tracked
+abbrev pub name : Changing → List ℕ
+name a_change.Add = codes "add"
+name a_change.Forget = codes "forget"
+
+abbrev pub steps_of : Changing → Stepping
+steps_of a_change.Add before after word old refused new = Adds word before after old refused new × Looks word old before after
+steps_of a_change.Forget before after word old refused new = IsForget word old refused new × Looks word old before after
+
+-- ---- `remove`
+
+-- the first parent of a record, over a stretch of the files below `.hg`
+abbrev pub span_of : Table → shelf.History → shelf.History → Span
+span_of t old new = record { id = record { 0 = t.p1 }; old = old; new = new }
+
+-- what `remove` makes of a word, by what it read below `.hg` up to some place in the stretch
+pub record TakesAway (after : Bool) (s : Span) (old new : tree.History) (word : List ℕ) (was : Table) (refused : Option Refusal) (made : Table) : Type 0 where
+  pub end : shelf.History
+  pub within : shelf.Extends end s.new
+  pub removes : Removes after word old new (upto s end) was refused made
+  pub reads : ReadsWord (needs_row after word was) word old new
+
+-- it did so with each of these words; the first parent is that of the record that was read
+pub record IsRemoved (after : Bool) (words : List (List ℕ)) (copy : Watched tree.History) (files : Watched shelf.History) (old new : Table) (lines : List ℕ) (changed : Bool) : Type 0 where
+  pub start : shelf.History
+  pub begun : shelf.Extends files.old start
+  pub acted : IsActed (codes "remove") (TakesAway after (span_of old start files.new)) words copy old new lines changed
+
+-- with the words in front it did so, and with the next one it met this fault, behind which nothing more was done
+pub record StopsAtWord (after : Bool) (words : List (List ℕ)) (copy : Watched tree.History) (files : Watched shelf.History) (old : Table) (fault : OpFault) : Type 0 where
+  pub start : shelf.History
+  pub begun : shelf.Extends files.old start
+  pub deeds : List Deed
+  pub word : List ℕ
+  pub rest : List (List ℕ)
+  pub all : words ≡ map (λ deed. deed.word) deeds ++ word ∷ rest
+  pub mid : tree.History
+  pub between : Table
+  pub steps : AllSteps (TakesAway after (span_of old start files.new)) copy.old mid deeds old between
+  pub past : tree.Extends mid copy.new
+  pub takes : Takes (may_take after (Err fault)) word mid copy.new
+  pub reads : ReadsWord (needs_row after word between) word mid copy.new
+  pub end : shelf.History
+  pub within : shelf.Extends end files.new
+  pub met : MetRemoving (needs_row after word between) word mid copy.new (span_of old start end) fault
+
+-- with some words it did so, and then there was no memory for a line
+pub record StopsBehind (after : Bool) (words : List (List ℕ)) (copy : Watched tree.History) (files : Watched shelf.History) (old : Table) (fault : OpFault) : Type 0 where
+  pub is : fault ≡ an_op_fault.OutOfMemory
+  pub start : shelf.History
+  pub begun : shelf.Extends files.old start
+  pub deeds : List Deed
+  pub rest : List (List ℕ)
+  pub all : words ≡ map (λ deed. deed.word) deeds ++ rest
+  pub between : Table
+  pub steps : AllSteps (TakesAway after (span_of old start files.new)) copy.old copy.new deeds old between
+
+abbrev pub StopsRemoving : Bool → List (List ℕ) → Watched tree.History → Watched shelf.History → Table → OpFault → Type 0
+StopsRemoving after words copy files old fault = StopsAtWord after words copy files old fault ⊎ StopsBehind after words copy files old fault
+
+-- ---- `copy`
+
+-- the line of a copy that was refused, which names the word that it is about
+abbrev pub copy_line : List ℕ → List ℕ → Option CopyRefusal → List ℕ
+copy_line source target None = []
+copy_line source target (Some (a_word.Source refusal)) = refusal_line (codes "copy") source refusal
+copy_line source target (Some (a_word.Target refusal)) = refusal_line (codes "copy") target refusal
+
+-- `copy` did what it says with its two words, and told the line of a refusal; nothing was changed exactly where the record is the same
+pub record IsCopied (source target : List ℕ) (copy : Watched tree.History) (old new : Table) (lines : List ℕ) (changed : Bool) : Type 0 where
+  pub refused : Option CopyRefusal
+  pub copies : Copies source target copy.old copy.new old refused new
+  pub text : lines ≡ copy_line source target refused
+  pub told : lines ≡ [] → refused ≡ None
+  pub idle : IsSame new old → changed ≡ false
   pub same : changed ≡ false → IsSame new old
 
 -- ---- each command
@@ -100,56 +178,88 @@ pub record IsNothingMade (old new : Table) (lines : List ℕ) (changed : Bool) :
   pub silent : lines ≡ []
   pub unchanged : changed ≡ false
 
+-- there was no memory, or the working copy failed
+abbrev pub IsTreeFault : OpFault → Type 0
+IsTreeFault fault = (fault ≡ an_op_fault.OutOfMemory) ⊎ (fault ≡ an_op_fault.TreeFailed)
+
 -- what a command makes of the record, by what the working copy and the files below `.hg` tell of the call
 abbrev pub makes_of : Command → Watched tree.History → Watched shelf.History → Makes
-makes_of (a_command.Add words) copy files = record { does = IsActed a_change.Add words copy; stops = λ loaded fault. ⊥ }
-makes_of (a_command.Forget words) copy files = record { does = IsActed a_change.Forget words copy; stops = λ loaded fault. ⊥ }
-makes_of (a_command.SetParents p1 p2) copy files = record { does = IsReparented p1 p2 files; stops = λ loaded fault. LacksParents p1 p2 files fault }
+makes_of (a_command.Add words) copy files = record { does = IsActed (codes "add") (steps_of a_change.Add) words copy; stops = λ loaded fault. IsTreeFault fault }
+makes_of (a_command.Forget words) copy files = record { does = IsActed (codes "forget") (steps_of a_change.Forget) words copy; stops = λ loaded fault. IsTreeFault fault }
+makes_of (a_command.Remove after words) copy files = record { does = IsRemoved after words copy files; stops = StopsRemoving after words copy files }
+makes_of (a_command.Copy source target) copy files = record { does = IsCopied source target copy; stops = λ loaded fault. IsTreeFault fault }
+makes_of (a_command.SetParents p1 p2) copy files = record { does = IsReparented p1 p2 files; stops = λ loaded fault. StopsParents p1 p2 files fault }
 makes_of command copy files = record { does = IsNothingMade; stops = λ loaded fault. ⊥ }
 
--- a fault of the plain store comes only for its cause; want of memory, and a device that fails, say nothing of it
-abbrev pub StopsFor : (OpFault → Type 0) → OpFault → Type 0
-StopsFor Stops an_op_fault.OutOfMemory = Unit {0}
-StopsFor Stops an_op_fault.TreeFailed = Unit {0}
-StopsFor Stops an_op_fault.ShelfFailed = Unit {0}
-StopsFor Stops (an_op_fault.NoManifest id) = Stops (an_op_fault.NoManifest id)
-StopsFor Stops (an_op_fault.ManifestTooLarge size) = Stops (an_op_fault.ManifestTooLarge size)
-StopsFor Stops (an_op_fault.ManifestLine line) = Stops (an_op_fault.ManifestLine line)
-StopsFor Stops (an_op_fault.ManifestOrder line) = Stops (an_op_fault.ManifestOrder line)
-StopsFor Stops (an_op_fault.NoContents id) = Stops (an_op_fault.NoContents id)
+-- ---- the working copy
 
 -- the tree is asked for no bytes and no names, and nothing of it is changed
 pub record OnlyLooks (copy : Watched tree.History) : Type 0 where
   pub passes : tree.Passes copy.old copy.new
   pub asked : IsTrue copy.old.told → copy.new.asked ≡ copy.old.asked
 
--- what becomes of the working copy, whatever is answered: `add` alone looks at it
+-- the first parent's row of a word was needed: by a table behind the words in front, and by a look that showed a file or a link
+pub record NeedsSome (after : Bool) (words : List (List ℕ)) (copy : Watched tree.History) : Type 0 where
+  pub word : List ℕ
+  pub among : is_among word words ≡ true
+  pub old : tree.History
+  pub new : tree.History
+  pub before : tree.Extends copy.old old
+  pub behind : tree.Extends new copy.new
+  pub table : Table
+  pub need : NeedsRow (needs_row after word table) word old new
+
+-- the bytes of such a word's path were asked for
+abbrev pub IsWordRead : Bool → List (List ℕ) → Watched tree.History → Asked → Type 0
+IsWordRead after words copy ask = (some : NeedsSome after words copy) × (ask ≡ an_ask.Read some.word)
+
+-- nothing else was asked for
+pub record ReadsWords (after : Bool) (words : List (List ℕ)) (copy : Watched tree.History) : Type 0 where
+  pub more : List Asked
+  pub asked : copy.new.asked ≡ copy.old.asked ++ more
+  pub each : AllByRecursion (IsWordRead after words copy) more
+
+-- of the tree nothing is changed but these words, and directories above them; and nothing where they are to be gone already
+pub record OnlyTakes (after : Bool) (words : List (List ℕ)) (copy : Watched tree.History) : Type 0 where
+  pub past : tree.Extends copy.old copy.new
+  pub gone : after ≡ true → tree.Passes copy.old copy.new
+  pub only : IsTrue copy.old.told → ChangesOnly words copy.old copy.new
+  pub reads : IsTrue copy.old.told → ReadsWords after words copy
+
+-- of the tree nothing is changed but the target, by parts of the source, and directories above it
+pub record OnlyPuts (source target : List ℕ) (copy : Watched tree.History) : Type 0 where
+  pub past : tree.Extends copy.old copy.new
+  pub copies : IsTrue copy.old.told → OnlyCopies source target copy.old copy.new
+  pub only : IsTrue copy.old.told → ChangesOnly (target ∷ []) copy.old copy.new
+
+-- what becomes of the working copy, whatever is answered
 abbrev pub ChangesTree : Command → Watched tree.History → Type 0
 ChangesTree (a_command.Add words) copy = OnlyLooks copy
+ChangesTree (a_command.Remove after words) copy = OnlyTakes after words copy
+ChangesTree (a_command.Copy source target) copy = OnlyPuts source target copy
 ChangesTree command copy = IsLeftAlone copy
 
--- what is asked below `.hg` once the record was read: the manifests of new parents, the first before the second, and else nothing
-abbrev pub AsksBehind : Command → shelf.History → shelf.History → Type 0
-AsksBehind (a_command.SetParents p1 p2) old new = AsksFrontOf (asks_of p1 ++ asks_of p2) old new
-AsksBehind command old new = new.asked ≡ old.asked
+-- ---- below `.hg`
 
--- the record was asked for, and behind it what its command needs
-pub record AsksChange (command : Command) (old new : shelf.History) : Type 0 where
-  pub mid : shelf.History
-  pub past : shelf.Extends mid new
-  pub load : AsksRecord old mid
-  pub behind : AsksBehind command mid new
+-- what is asked for there once the record was read: for `remove`, where a row of the first parent was needed, its manifest once, and contents that its rows
+-- name; for new parents their manifests, the first before the second; and else nothing
+abbrev pub AsksBehind : Command → Watched tree.History → Table → shelf.History → shelf.History → Type 0
+AsksBehind (a_command.Remove after words) copy loaded old new = (new.asked ≡ old.asked) ⊎ (NeedsSome after words copy × AsksStore (span_of loaded old new))
+AsksBehind (a_command.SetParents p1 p2) copy loaded old new = AsksFrontOf (asks_of p1 ++ asks_of p2) old new
+AsksBehind command copy loaded old new = new.asked ≡ old.asked
+
+-- ---- over a table in memory
 
 -- what a command did over a table in memory in which nothing was changed before, at each answer: what it made, or why it stopped; and what it asked
 pub record ActsOn (command : Command) (copy : Watched tree.History) (files : Watched shelf.History) (old new : Held) (result : Result (Vec ℕ Global) OpFault) : Type 0 where
   pub does : old.changed ≡ false → IfOk result (λ lines. (makes_of command copy files).does (table old) (table new) lines.items new.changed)
-  pub stops : IfErr result (StopsFor ((makes_of command copy files).stops (table old)))
+  pub stops : old.changed ≡ false → IfErr result ((makes_of command copy files).stops (table old))
   -- what isn't marked as changed is the same
   pub same : old.changed ≡ false → OnOk result (new.changed ≡ false → IsSame (table new) (table old))
   pub image : IsOfSameImage old new
   pub tree : ChangesTree command copy
   pub below : shelf.Passes files.old files.new
-  pub asked : IsTrue files.old.told → AsksBehind command files.old files.new
+  pub asked : IsTrue files.old.told → AsksBehind command copy (table old) files.old files.new
   -- a device's fault comes only where its count rose; a working copy that failed is told as such
   pub tree_cause : HasCause copy.before copy.after result (λ e. e ≡ an_op_fault.TreeFailed)
   pub tree_failed : copy.before < copy.after → result ≡ Err an_op_fault.TreeFailed

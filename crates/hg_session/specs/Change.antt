@@ -21,10 +21,10 @@ use Rattle.hg_save.specs.Loads.{files_at}
 use Rattle.hg_save.specs.Others.{KeepsFiles, KeepsRecords}
 use Rattle.hg_save.specs.Record.{data_name, docket_in, id_in, reading}
 use Rattle.hg_save.specs.Saved.{IsExact, IsLatest, IsOver, KeepsOthers, ReadsAsBeforeOr}
-use Rattle.hg_session.specs.Acts.{Makes, makes_of}
+use Rattle.hg_session.specs.Acts.{AsksBehind, Makes, makes_of}
 use Rattle.hg_session.specs.Call.{Call, Count, Fails, FailsTwice, IsLeftAlone, Saved, Watched}
 use Rattle.hg_session.specs.Load.{of_read}
-use Rattle.hg_session.specs.Loaded.{IsRead, MetReading}
+use Rattle.hg_session.specs.Loaded.{AsksRecord, IsRead, MetReading}
 use Rattle.hg_session.specs.Locks.{NotReturned, NotTaken, Refused, Returned, TakenAt}
 use Rattle.hg_session.specs.Put.{IsFaultOrMemory}
 use Rattle.hg_session.specs.declared.change_fault.ChangeFault.{ChangeFault}
@@ -33,6 +33,7 @@ use Rattle.hg_shelf.specs.History as shelf
 use Rattle.hg_shelf.specs.Images.{Course, Scene, scene}
 use Rattle.hg_shelf.specs.Polite.{Undisturbed}
 use Rattle.hg_tree.specs.History as tree
+use Rattle.hg_words.specs.declared.given.Command.{Command}
 
 -- ---- what the words make of the record
 
@@ -128,6 +129,16 @@ pub record IsWritten (found : Table) (before : shelf.Files) (behind : Scene) : T
   pub shown : IsExact new before behind.files
   pub left : (f : shelf.Files) → behind.leaves f → IsExact new before f
 
+-- the record was asked for, and behind it, up to a place, what its command needs
+pub record AsksChange (command : Command) (copy : Watched tree.History) (old new : shelf.History) : Type 0 where
+  pub mid : shelf.History
+  pub end : shelf.History
+  pub past : shelf.Extends mid end
+  pub later : shelf.Extends end new
+  pub quiet : new.asked ≡ end.asked
+  pub load : AsksRecord old mid
+  pub behind : (end.asked ≡ mid.asked) ⊎ ((loaded : Table) × IsReadFirst old new loaded × AsksBehind command copy loaded mid end)
+
 -- at the second of two moments reads show a record of this table, and so does whatever a crash leaves, unless nothing was to be published
 pub record IsKept (loaded made : Table) (saved : Saved) (from to : ℕ) : Type 0 where
   pub found : Table
@@ -203,33 +214,39 @@ pub record MetSpent (Does : Makes) (files : Watched shelf.History) : Type 0 wher
 abbrev pub IsReadSome : Watched shelf.History → Type 0
 IsReadSome files = IsTrue files.old.told → (loaded : Table) × IsReadFirst files.old files.new loaded
 
--- the record was read in the call, and what is made of it stops for this fault of the plain store
+-- the record was read in the call, and this stops what is made of it
 pub record MetStop (Does : Makes) (files : Watched shelf.History) (fault : OpFault) : Type 0 where
   pub loaded : Table
   pub read : IsTrue files.old.told → IsReadFirst files.old files.new loaded
   pub stops : Does.stops loaded fault
 
--- while the command did what it says: a device that failed, a working copy behind a record that was read, or what stood in the plain store. Want of
--- memory needs no reason
-abbrev pub MetDoing : Makes → Watched tree.History → Watched shelf.History → OpFault → Type 0
-MetDoing Does copy files an_op_fault.OutOfMemory = Unit {0}
-MetDoing Does copy files an_op_fault.TreeFailed = Fails copy × IsReadSome files
-MetDoing Does copy files an_op_fault.ShelfFailed = Fails files
-MetDoing Does copy files (an_op_fault.NoManifest id) = MetStop Does files (an_op_fault.NoManifest id)
-MetDoing Does copy files (an_op_fault.ManifestTooLarge size) = MetStop Does files (an_op_fault.ManifestTooLarge size)
-MetDoing Does copy files (an_op_fault.ManifestLine line) = MetStop Does files (an_op_fault.ManifestLine line)
-MetDoing Does copy files (an_op_fault.ManifestOrder line) = MetStop Does files (an_op_fault.ManifestOrder line)
-MetDoing Does copy files (an_op_fault.NoContents id) = MetStop Does files (an_op_fault.NoContents id)
+-- a device that is to blame failed
+abbrev pub IsToBlame : Watched tree.History → Watched shelf.History → OpFault → Type 0
+IsToBlame copy files an_op_fault.TreeFailed = Fails copy
+IsToBlame copy files an_op_fault.ShelfFailed = Fails files
+IsToBlame copy files fault = Unit {0}
 
--- before anything was published, or while it was: what stood in the files, what the command met, a table that can't be written, or a shelf that failed
+-- while the command did what it says
+abbrev pub MetDoing : Makes → Watched tree.History → Watched shelf.History → OpFault → Type 0
+MetDoing Does copy files fault = MetStop Does files fault × IsToBlame copy files fault
+
+-- all that the command says was done
+pub record MetMade (Does : Makes) (files : Watched shelf.History) : Type 0 where
+  pub made : Table
+  pub lines : List ℕ
+  pub changed : Bool
+  pub is : IsMade Does files made lines changed
+
+-- before anything was published, or while it was: what stood in the files, and then the working copy isn't looked at; what the command met; behind all that
+-- it says a table that can't be written, or a shelf that failed, which may be the lock's
 abbrev pub MetChanging : Makes → Watched tree.History → Watched shelf.History → ChangeFault → Type 0
-MetChanging Does copy files (a_change_fault.Read fault) = MetReading files fault
+MetChanging Does copy files (a_change_fault.Read fault) = MetReading files fault × IsLeftAlone copy
 MetChanging Does copy files (a_change_fault.Op fault) = MetDoing Does copy files fault
-MetChanging Does copy files (a_change_fault.Encode an_encode_fault.OutOfMemory) = Unit {0}
+MetChanging Does copy files (a_change_fault.Encode an_encode_fault.OutOfMemory) = MetMade Does files
 MetChanging Does copy files (a_change_fault.Encode (an_encode_fault.TooLarge size)) = MetLarge Does files size
 MetChanging Does copy files (a_change_fault.Encode an_encode_fault.IdsSpent) = MetSpent Does files
 MetChanging Does copy files a_change_fault.Held = ⊥
-MetChanging Does copy files a_change_fault.ShelfFailed = Fails files
+MetChanging Does copy files a_change_fault.ShelfFailed = Fails files × (IsLeftAlone copy ⊎ MetMade Does files)
 
 -- a fault that is met before the working copy is looked at: what stood in the files, or a lock that was refused
 abbrev pub IsEarly : Fault → Type 0
@@ -241,7 +258,7 @@ IsEarly fault = ⊥
 
 -- or a lock that was refused
 abbrev pub MetLocking : Makes → Watched tree.History → Watched shelf.History → Count → ChangeFault → Type 0
-MetLocking Does copy files locks fault = MetChanging Does copy files fault ⊎ ((fault ≡ a_change_fault.Held) × Rose locks.before locks.after)
+MetLocking Does copy files locks fault = MetChanging Does copy files fault ⊎ ((fault ≡ a_change_fault.Held) × Rose locks.before locks.after × IsLeftAlone copy)
 
 -- what a call makes of the record
 abbrev pub makes_in : Call → Makes

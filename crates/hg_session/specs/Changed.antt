@@ -13,15 +13,16 @@ use Rattle.hg_report.specs.declared.fault.Fault.TheVariants as a_fault
 use Rattle.hg_save.specs.Others.{KeepsRecords}
 use Rattle.hg_save.specs.Record.{id_in, reading}
 use Rattle.hg_save.specs.Saved.{IsLatest}
-use Rattle.hg_session.specs.Acts.{AsksChange, ChangesTree, Makes}
-use Rattle.hg_session.specs.Call.{Call, Fails, IsLeftAlone, Serves, Watched}
-use Rattle.hg_session.specs.Change.{Fits, IsDone, IsEarly, IsLocked, IsReadSome, IsSafe, IsUnwritten, MetLocking, Stretch, makes_in, of_change}
+use Rattle.hg_session.specs.Acts.{ChangesTree, Makes}
+use Rattle.hg_session.specs.Call.{Call, IsLeftAlone, Serves, Watched}
+use Rattle.hg_session.specs.Change.{AsksChange, Fits, IsDone, IsEarly, IsLocked, IsReadSome, IsSafe, IsUnwritten, MetChanging, MetLocking, Stretch, makes_in, of_change}
 use Rattle.hg_session.specs.Loaded.{IsUnreadable}
 use Rattle.hg_session.specs.Look.{Look, Concludes, saves_first}
 use Rattle.hg_session.specs.Put.{IsEmpty, IsFaultOrMemory, IsSilent}
 use Rattle.hg_session.specs.Crash.{IsCrashSafe, IsLasting, published_in}
 use Rattle.hg_session.specs.Listed.{IsOwn}
 use Rattle.hg_session.specs.declared.change_fault.ChangeFault.{ChangeFault}
+use Rattle.hg_session.specs.declared.change_fault.ChangeFault.TheVariants as a_change_fault
 use Rattle.hg_shelf.specs.History as shelf
 use Rattle.hg_shelf.specs.Images.{Goes, last_scene}
 use Rattle.hg_shelf.specs.Polite.{Undisturbed}
@@ -44,13 +45,13 @@ pub record IsChangeText (Does : Makes) (call : Call) (lines : List ℕ) : Type 0
 -- unless the shelf failed while it saved, for whose line there may be no memory
 abbrev pub change_look : Makes → Call → Look
 change_look Does call = record {
-  Before = λ fault. IsUnwritten call.saved.old.history call.saved.new.history × (f : ChangeFault) × (fault ≡ of_change f) × MetLocking Does call.looked.tree call.looked.shelf call.locks f;
+  Before = λ fault. IsUnwritten call.saved.old.history call.saved.new.history × (f : ChangeFault) × IsFaultOrMemory (Some fault) (of_change f) × MetLocking Does call.looked.tree call.looked.shelf call.locks f;
   Ready = Unit {0};
   Printing = ⊥;
   Text = IsEmpty;
   Telling = Unit {0};
   Told = IsChangeText Does call;
-  Saving = λ fault. Fails call.looked.shelf × ((fault ≡ a_fault.ShelfFailed) ⊎ (fault ≡ a_fault.OutOfMemory));
+  Saving = λ fault. MetChanging Does call.looked.tree call.looked.shelf a_change_fault.ShelfFailed × ((fault ≡ a_fault.ShelfFailed) ⊎ (fault ≡ a_fault.OutOfMemory));
   order = saves_first;
 }
 
@@ -140,7 +141,7 @@ pub record RanChange (call : Call) (status : ℕ) (fault : Option Fault) : Type 
   pub behind : IsLeftAlone call.looked.tree ⊎ IsReadSome call.looked.shelf
   pub early : IsSomeAnd fault IsEarly → IsLeftAlone call.looked.tree
   -- below `.hg` it asks for the record, and behind it for what its command needs
-  pub asked : IsTrue call.looked.shelf.old.told → AsksChange call.command call.looked.shelf.old call.looked.shelf.new
+  pub asked : IsTrue call.looked.shelf.old.told → AsksChange call.command call.looked.tree call.looked.shelf.old call.looked.shelf.new
   -- what was so far stays
   pub kept : Goes call.saved.old call.saved.new
   -- the lock was called for once, also where nothing was to be changed

@@ -1,60 +1,60 @@
 -- The manifests that a command loads to set the parents.
-use Rattle.std.specs.Prelude.{ℕ, ◌≡◌, ◌≤◌, ◌<◌, ◌⊎◌, Bool, false, List, [], length, Some, None, Result, Ok, Err, MatchBool}
+use Rattle.std.specs.Prelude.{◌≡◌, ◌⊎◌, Bool, false, List, [], ℕ, Result, Ok, Err, MatchBool}
 use Rattle.hg_base.specs.declared.id.Id20.{Id20}
 use Rattle.hg_entry.specs.Table.{Table}
-use Rattle.hg_manifest.specs.Load.{IsFrontOf, Was}
-use Rattle.hg_manifest.specs.Plain.{is_null, most, plain_name}
-use Rattle.hg_manifest.specs.Rows.{Rows, manifest_of}
+use Rattle.hg_manifest.specs.Load.{Finds}
+use Rattle.hg_manifest.specs.Plain.{is_null, plain_name}
+use Rattle.hg_manifest.specs.Rows.{Rows}
 use Rattle.hg_manifest.specs.declared.fault.ManifestFault.{ManifestFault}
-use Rattle.hg_manifest.specs.declared.fault.ManifestFault.TheVariants as a_fault
 use Rattle.hg_mixed.specs.Edits.{IsSame}
 use Rattle.hg_ops.specs.Cause.{of_manifest}
 use Rattle.hg_ops.specs.Parents.{HasParents}
 use Rattle.hg_ops.specs.declared.refusal.OpFault.{OpFault}
+use Rattle.hg_ops.specs.declared.refusal.OpFault.TheVariants as an_op_fault
 use Rattle.hg_session.specs.Call.{Watched}
-use Rattle.hg_shelf.specs.History.{History}
-use Rattle.hg_shelf.specs.Reads.{size_of}
+use Rattle.hg_shelf.specs.History.{Extends, History}
 
--- the file of a manifest was read in a call, and its text has this answer: it had so many bytes at one moment, and these were in front at another
-pub record ReadsRows (files : Watched History) (id : Id20) (answer : Result Rows ManifestFault) : Type 0 where
-  pub size : ℕ
-  pub bytes : List ℕ
-  pub few : size ≤ most
-  pub short : length bytes ≤ size
-  pub sized : Was files.old files.new (plain_name id.0) (λ file. size_of file ≡ Some size)
-  pub front : Was files.old files.new (plain_name id.0) (IsFrontOf size bytes)
-  pub found : manifest_of bytes ≡ answer
+-- a load of an identifier's manifest answered this; the null parent has no file and no rows
+abbrev pub Answers : History → History → Id20 → Result Rows ManifestFault → Type 0
+Answers old new id answer = MatchBool (is_null id.0) (answer ≡ Ok []) (Finds old new (plain_name id.0) id answer)
 
--- what a load of an identifier's manifest found in a call; the null parent has no rows and no file. Want of memory and a shelf that fails say
--- nothing of the file
-abbrev pub FindsRows : Watched History → Id20 → Result Rows ManifestFault → Type 0
-FindsRows files id (Ok rows) = MatchBool (is_null id.0) (rows ≡ []) (ReadsRows files id (Ok rows))
-FindsRows files id (Err a_fault.OutOfMemory) = Unit {0}
-FindsRows files id (Err a_fault.Failed) = Unit {0}
-FindsRows files id (Err (a_fault.NoManifest gone)) = (is_null id.0 ≡ false) × (gone ≡ id) × Was files.old files.new (plain_name id.0) (λ file. file ≡ None)
-FindsRows files id (Err (a_fault.ManifestTooLarge size)) =
-    (is_null id.0 ≡ false) × (most < size) × Was files.old files.new (plain_name id.0) (λ file. size_of file ≡ Some size)
-FindsRows files id (Err (a_fault.ManifestLine line)) = (is_null id.0 ≡ false) × ReadsRows files id (Err (a_fault.ManifestLine line))
-FindsRows files id (Err (a_fault.ManifestOrder line)) = (is_null id.0 ≡ false) × ReadsRows files id (Err (a_fault.ManifestOrder line))
+-- so it did within a call
+pub record LoadsRows (files : Watched History) (id : Id20) (answer : Result Rows ManifestFault) : Type 0 where
+  pub old : History
+  pub new : History
+  pub before : Extends files.old old
+  pub behind : Extends new files.new
+  pub answers : Answers old new id answer
 
 -- new parents were set by the manifests of both, as they were loaded in the call; no line is told, and nothing was changed exactly where the
 -- record is the same
 pub record IsReparented (p1 p2 : Id20) (files : Watched History) (old new : Table) (lines : List ℕ) (changed : Bool) : Type 0 where
   pub m1 : Rows
   pub m2 : Rows
-  pub first : FindsRows files p1 (Ok m1)
-  pub second : FindsRows files p2 (Ok m2)
+  pub first : LoadsRows files p1 (Ok m1)
+  pub second : LoadsRows files p2 (Ok m2)
   pub parents : HasParents p1.0 p2.0 m1 m2 old new
   pub silent : lines ≡ []
   pub idle : IsSame new old → changed ≡ false
   pub same : changed ≡ false → IsSame new old
 
--- one of the manifests has this fault
+-- a manifest has this fault
 pub record LacksRows (id : Id20) (files : Watched History) (fault : OpFault) : Type 0 where
   pub met : ManifestFault
   pub is : fault ≡ of_manifest met
-  pub found : FindsRows files id (Err met)
+  pub loads : LoadsRows files id (Err met)
 
 -- why new parents aren't set: the manifest of the first has a fault, or else that of the second
 abbrev pub LacksParents : Id20 → Id20 → Watched History → OpFault → Type 0
-LacksParents p1 p2 files fault = LacksRows p1 files fault ⊎ ((m1 : Rows) × FindsRows files p1 (Ok m1) × LacksRows p2 files fault)
+LacksParents p1 p2 files fault = LacksRows p1 files fault ⊎ ((m1 : Rows) × LoadsRows files p1 (Ok m1) × LacksRows p2 files fault)
+
+-- so it is at each fault; want of memory, and a shelf that fails, say nothing of what stands there
+abbrev pub StopsParents : Id20 → Id20 → Watched History → OpFault → Type 0
+StopsParents p1 p2 files an_op_fault.OutOfMemory = Unit {0}
+StopsParents p1 p2 files an_op_fault.TreeFailed = ⊥
+StopsParents p1 p2 files an_op_fault.ShelfFailed = Unit {0}
+StopsParents p1 p2 files (an_op_fault.NoManifest id) = LacksParents p1 p2 files (an_op_fault.NoManifest id)
+StopsParents p1 p2 files (an_op_fault.ManifestTooLarge size) = LacksParents p1 p2 files (an_op_fault.ManifestTooLarge size)
+StopsParents p1 p2 files (an_op_fault.ManifestLine line) = LacksParents p1 p2 files (an_op_fault.ManifestLine line)
+StopsParents p1 p2 files (an_op_fault.ManifestOrder line) = LacksParents p1 p2 files (an_op_fault.ManifestOrder line)
+StopsParents p1 p2 files (an_op_fault.NoContents id) = ⊥

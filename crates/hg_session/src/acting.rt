@@ -1,17 +1,18 @@
 //! What a command that changes the record makes of it, in memory.
 
-ghost use Rattle.std.specs.Prelude.{◌≡◌, ◌<◌, ◌++◌, ◌⊎◌, Err, IfErr, IfOk, IsTrue, OnOk, false, true};
+ghost use Rattle.std.specs.Prelude.{◌≡◌, ◌<◌, ◌++◌, ◌⊎◌, Err, IfErr, IfOk, IsTrue, OnOk, false};
 ghost use Rattle.hg_base.specs.Fault.{HasCause};
 ghost use Rattle.hg_mixed.specs.Edits.{IsOfSameImage, IsSame, Marks};
 ghost use Rattle.hg_mixed.specs.Held.{table};
 ghost use Rattle.hg_ops.specs.Cause.{HasOpCause};
-ghost use Rattle.hg_ops.specs.Look.{Looks};
 ghost use Rattle.hg_ops.specs.declared.refusal.OpFault.TheVariants as an_op_fault;
-ghost use Rattle.hg_session.specs.Acts.{ActsOn, IsActed, Steps, name, refused_line};
+ghost use Rattle.hg_session.specs.Acts.{ActsOn, IsActed, name, refused_line, steps_of};
 ghost use Rattle.hg_session.specs.declared.acting.Changing.TheVariants as a_change;
 ghost use Rattle.hg_shelf.specs.Images.{Goes, course};
 ghost use Rattle.hg_tree.specs.History.{Passes};
 
+use crate::copying::copy_one;
+use crate::removing::remove_words;
 use crate::reparenting::reparent;
 use hg_base::{OutOfMemory, Words};
 use hg_mixed::Mixed;
@@ -22,15 +23,15 @@ use hg_tree::Tree;
 use hg_words::Command;
 use std::alloc::Global;
 
-/// A command that changes the record by each of its words.
+/// A command that changes the record alone, by each of its words.
 #[derive(Clone, Copy, Debug)]
 pub(crate) enum Changing {
     Add,
     Forget,
 }
 
-/// The command's name.
-pub(crate) fn name_of(command: Changing) -> &'static str
+// The command's name.
+fn name_of(command: Changing) -> &'static str
     ensures { result.now ≡ name command }
 {
     match command {
@@ -46,8 +47,7 @@ fn step<T: Tree>(
     mixed: &mut Mixed<'_>,
     tree: &mut T,
 ) -> Result<Option<Refusal>, OpFault>
-    ensures stepped { IfOk result (λ refused. Steps command (T.history tree.old) (T.history tree.new) word.now (table mixed.old) refused (table mixed.new)) }
-    ensures looks { Looks word.now (table mixed.old) (T.history tree.old) (T.history tree.new) }
+    ensures stepped { IfOk result (λ refused. steps_of command (T.history tree.old) (T.history tree.new) word.now (table mixed.old) refused (table mixed.new)) }
     ensures changed { OnOk result (Marks (IsSame (table mixed.new) (table mixed.old)) mixed.old.changed mixed.new.changed) }
     ensures image { IsOfSameImage mixed.old mixed.new }
     ensures passes { Passes (T.history tree.old) (T.history tree.new) }
@@ -55,7 +55,6 @@ fn step<T: Tree>(
     ensures unlooked { command ≡ a_change.Forget → tree.new ≡ tree.old }
     ensures cause { HasOpCause (T.faults tree.old) (T.faults tree.new) result }
     ensures kind { IfErr result (λ e. (e ≡ an_op_fault.OutOfMemory) ⊎ (e ≡ an_op_fault.TreeFailed)) }
-    ensures memory { command ≡ a_change.Forget → IfErr result (λ fault. fault ≡ an_op_fault.OutOfMemory) }
 {
     match command {
         Changing::Add => add(mixed, tree, word),
@@ -63,20 +62,20 @@ fn step<T: Tree>(
     }
 }
 
-// Puts the line of a word behind the others, where the word was refused.
-fn put_refused(
+/// Puts the line of a word behind the others, where a command of this name refused the word.
+pub(crate) fn put_refused(
     alloc: Global,
-    command: Changing,
+    name: &str,
     word: &str,
     refused: &Option<Refusal>,
     lines: &mut Vec<u8>,
 ) -> Result<(), OutOfMemory>
-    ensures { OnOk result (lines.new.items ≡ lines.old.items ++ refused_line command word.now refused.now) }
+    ensures { OnOk result (lines.new.items ≡ lines.old.items ++ refused_line name.now word.now refused.now) }
 {
     match refused {
         None => Ok(()),
         Some(refusal) => {
-            let line = refusal_text(alloc, name_of(command), word, refusal)?;
+            let line = refusal_text(alloc, name, word, refusal)?;
             lines.extend_from_slice(line.as_slice())?;
             Ok(())
         }
@@ -96,7 +95,8 @@ fn act_words<T: Tree>(
         → IfOk
         result
         (λ lines. IsActed
-        command
+        (name command)
+        (steps_of command)
         words.now
         (record { old = T.history tree.old; new = T.history tree.new; before = T.faults tree.old; after = T.faults tree.new })
         (table mixed.old)
@@ -117,7 +117,7 @@ fn act_words<T: Tree>(
     for i in 0..words.len() {
         let word = words.at(i).as_str();
         let refused = step(command, word, mixed, tree)?;
-        match put_refused(alloc, command, word, &refused, &mut lines) {
+        match put_refused(alloc, name_of(command), word, &refused, &mut lines) {
             Err(_) => return Err(OpFault::OutOfMemory),
             Ok(()) => {}
         }
@@ -147,10 +147,15 @@ pub(crate) fn act<T: Tree, S: Shelf>(
     match command {
         Command::Add { files } => act_words(alloc, Changing::Add, files, mixed, tree),
         Command::Forget { files } => act_words(alloc, Changing::Forget, files, mixed, tree),
-        Command::SetParents { p1, p2 } => match reparent(alloc, *p1, *p2, mixed, shelf) {
-            Err(fault) => Err(fault),
-            Ok(()) => Ok(Vec::new(alloc)),
-        },
+        Command::Remove { after, files } => remove_words(alloc, *after, files, mixed, tree, shelf),
+        Command::Copy { source, target } => copy_one(
+            alloc,
+            source.as_str(),
+            target.as_str(),
+            mixed,
+            tree,
+        ),
+        Command::SetParents { p1, p2 } => reparent(alloc, *p1, *p2, mixed, shelf),
         _ => Ok(Vec::new(alloc)),
     }
 }

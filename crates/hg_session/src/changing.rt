@@ -7,9 +7,9 @@ ghost use Rattle.hg_image.specs.Reading.{data_reading};
 ghost use Rattle.hg_save.specs.Leads.{IsHeld};
 ghost use Rattle.hg_save.specs.Loads.{Try};
 ghost use Rattle.hg_save.specs.Saved.{Stands};
-ghost use Rattle.hg_session.specs.Acts.{AsksChange, ChangesTree, makes_of};
+ghost use Rattle.hg_session.specs.Acts.{ChangesTree, makes_of};
 ghost use Rattle.hg_session.specs.Anew.{CanWrite, IsOpened, IsRecorded, LoadsOrRefuses, MetWriting, WritesOnly};
-ghost use Rattle.hg_session.specs.Change.{FailsOrUnwritten, IsDone, IsEarly, IsReadSome, IsSafeHeld, MetChanging, fault_of, of_change};
+ghost use Rattle.hg_session.specs.Change.{AsksChange, FailsOrUnwritten, IsDone, IsEarly, IsReadSome, IsSafeHeld, MetChanging, fault_of, of_change};
 ghost use Rattle.hg_session.specs.Loaded.{AsksRecord, NodesFind};
 ghost use Rattle.hg_ops.specs.declared.refusal.OpFault.TheVariants as an_op_fault;
 ghost use Rattle.hg_session.specs.declared.change_fault.ChangeFault.TheVariants as a_fault;
@@ -154,7 +154,12 @@ pub(crate) fn change_locked<T: Tree, S: Shelf>(
     ensures later { S.faults shelf.old ≤ S.faults shelf.new }
     ensures kept { Goes (course (S.history shelf.old) (S.images shelf.old)) (course (S.history shelf.new) (S.images shelf.new)) }
     ensures ours { (S.history shelf.new).ours ≡ (S.history shelf.old).ours }
-    ensures asked { IsTrue (S.history shelf.old).told → AsksChange command.now (S.history shelf.old) (S.history shelf.new) }
+    ensures asked { IsTrue (S.history shelf.old).told
+        → AsksChange
+        command.now
+        (record { old = T.history tree.old; new = T.history tree.new; before = T.faults tree.old; after = T.faults tree.new })
+        (S.history shelf.old)
+        (S.history shelf.new) }
     ensures lock { IsTrue (S.history shelf.old).told → IsHeld (S.history shelf.old) (S.history shelf.new) }
     ensures uncalled { (S.history shelf.new).locks ≡ (S.history shelf.old).locks }
     ensures locks { S.held shelf.new ≡ S.held shelf.old }

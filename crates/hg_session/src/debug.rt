@@ -94,10 +94,10 @@ pub(crate) fn show_record<S: Shelf, O: Sink, E: Sink>(
     ensures status { MatchOption result.fault (result.status ≡ 0) (λ fault. result.status ≡ 255) }
 {
     match print_record(alloc, shelf, out) {
+        Err(fault) => failed(alloc, Fault::from(fault), err),
         Ok(()) => Outcome {
             status: 0,
             fault: None,
         },
-        Err(fault) => failed(alloc, Fault::from(fault), err),
     }
 }

@@ -16,6 +16,7 @@ mod acting;
 mod change_fault;
 mod changing;
 mod choosing;
+mod copying;
 mod debug;
 mod ending;
 mod flags;
@@ -27,6 +28,7 @@ mod print_fault;
 mod printed;
 mod read_fault;
 mod reading;
+mod removing;
 mod reparenting;
 
 pub use choosing::command;

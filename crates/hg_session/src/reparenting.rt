@@ -1,14 +1,13 @@
 //! New parents, by their manifests.
 
-ghost use Rattle.std.specs.Prelude.{◌≡◌, ◌++◌, [], false, IfErr, IfOk, IsTrue, OnOk};
+ghost use Rattle.std.specs.Prelude.{◌≡◌, ◌++◌, false, IfErr, IfOk, IsTrue, OnOk};
 ghost use Rattle.hg_base.specs.Fault.{HasCause};
 ghost use Rattle.hg_manifest.specs.Load.{asks_of};
 ghost use Rattle.hg_manifest.specs.declared.fault.ManifestFault.TheVariants as a_manifest_fault;
 ghost use Rattle.hg_mixed.specs.Edits.{IsOfSameImage};
 ghost use Rattle.hg_mixed.specs.Held.{table};
 ghost use Rattle.hg_ops.specs.declared.refusal.OpFault.TheVariants as an_op_fault;
-ghost use Rattle.hg_session.specs.Acts.{StopsFor};
-ghost use Rattle.hg_session.specs.Manifests.{FindsRows, IsReparented, LacksParents};
+ghost use Rattle.hg_session.specs.Manifests.{Answers, IsReparented, StopsParents};
 ghost use Rattle.hg_shelf.specs.Asks.{AsksFrontOf, AsksInOrder};
 ghost use Rattle.hg_shelf.specs.History.{Passes};
 ghost use Rattle.hg_shelf.specs.Images.{Goes, course};
@@ -22,10 +21,7 @@ use std::alloc::Global;
 
 // Loads the manifest of a parent.
 fn rows_of<S: Shelf>(alloc: Global, shelf: &mut S, id: &Id20) -> Result<Manifest, ManifestFault>
-    ensures found { FindsRows
-        (record { old = S.history shelf.old; new = S.history shelf.new; before = S.faults shelf.old; after = S.faults shelf.new })
-        id.now
-        result }
+    ensures answers { Answers (S.history shelf.old) (S.history shelf.new) id.now result }
     ensures passes { Passes (S.history shelf.old) (S.history shelf.new) }
     ensures kept { Goes (course (S.history shelf.old) (S.images shelf.old)) (course (S.history shelf.new) (S.images shelf.new)) }
     ensures held { S.held shelf.new ≡ S.held shelf.old }
@@ -35,32 +31,32 @@ fn rows_of<S: Shelf>(alloc: Global, shelf: &mut S, id: &Id20) -> Result<Manifest
     Manifest::load(alloc, shelf, id)
 }
 
-/// Sets the parents of a table, by the manifests of both: the first is loaded before the second.
+/// Sets the parents of a table, by the manifests of both: the first is loaded before the second. No line is told.
 pub(crate) fn reparent<S: Shelf>(
     alloc: Global,
     p1: Id20,
     p2: Id20,
     mixed: &mut Mixed<'_>,
     shelf: &mut S,
-) -> Result<(), OpFault>
+) -> Result<Vec<u8>, OpFault>
+    // `IsReparented` and `StopsParents` in specs/Manifests.antt; of a table in which nothing was changed before.
     ensures does { mixed.old.changed ≡ false
-        → OnOk
+        → IfOk
         result
-        (IsReparented
+        (λ lines. IsReparented
         p1
         p2
         (record { old = S.history shelf.old; new = S.history shelf.new; before = S.faults shelf.old; after = S.faults shelf.new })
         (table mixed.old)
         (table mixed.new)
-        []
+        lines.items
         mixed.new.changed) }
     ensures stops { IfErr
         result
-        (StopsFor
-        (LacksParents
+        (StopsParents
         p1
         p2
-        (record { old = S.history shelf.old; new = S.history shelf.new; before = S.faults shelf.old; after = S.faults shelf.new }))) }
+        (record { old = S.history shelf.old; new = S.history shelf.new; before = S.faults shelf.old; after = S.faults shelf.new })) }
     ensures image { IsOfSameImage mixed.old mixed.new }
     ensures passes { Passes (S.history shelf.old) (S.history shelf.new) }
     ensures kept { Goes (course (S.history shelf.old) (S.images shelf.old)) (course (S.history shelf.new) (S.images shelf.new)) }
@@ -73,6 +69,6 @@ pub(crate) fn reparent<S: Shelf>(
     let m2 = rows_of(alloc, shelf, &p2)?;
     match set_parents(alloc, mixed, p1, p2, &m1, &m2) {
         Err(_) => Err(OpFault::OutOfMemory),
-        Ok(()) => Ok(()),
+        Ok(()) => Ok(Vec::new(alloc)),
     }
 }

@@ -6,5 +6,5 @@ use Rattle.hg_mixed.proofs.clash.clash.Goals as goal
 chosen : (b : Bool) (P Q : Type 0) → true ≡ b → P → MatchBool b P Q
 chosen b P Q is p = subst (λ (t : Bool). MatchBool t P Q) is p
 
-pub returns-near_clash : goal.returns-near_clash
-returns-near_clash c = chosen _ _ _ (sym c.if-not-makes_tracked.false ∙ c.makes_tracked.ensures) c.near_clash.ensures
+pub returns : goal.returns
+returns c = chosen _ _ _ (sym c.if-not-makes_tracked.false ∙ c.makes_tracked.ensures) c.near_clash.ensures

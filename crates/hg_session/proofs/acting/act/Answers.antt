@@ -1,31 +1,34 @@
-use Rattle.std.proofs.Common.{◌≡◌, ◌++◌, Some, take, refl, sym, ap, ◌∙◌}
-use Rattle.std.specs.List.{slice_get}
-use Rattle.hg_session.specs.Acts.{refused_line}
-use Rattle.hg_session.proofs.SoFar.{goes_on, goes_on_at, none_yet}
+-- What a command did over a table in memory, by the command.
+use Rattle.std.proofs.Common.{refl, ap}
+use Rattle.hg_session.proofs.Doing.{acts_add, acts_copy, acts_forget, acts_nothing, acts_parents, acts_remove, own_fault}
 use Rattle.hg_session.proofs.acting.act.Goals as goal
 
-pub loop-i-init : goal.loop-i-init
-loop-i-init g c = record {
-  unlooked = λ is. refl;
-  so_far = none_yet c.args.command (g.T.Tree.history c.args.tree.now) c.args.mixed.now c.new-lines.result.items (g.T.Tree.faults c.args.tree.now) c.new-lines.ensures.items;
-}
+pub returns-in-Add-clause-acts : goal.returns-in-Add-clause-acts
+returns-in-Add-clause-acts g c =
+    acts_add _ _ _ _ _ c.act_words.result c.act_words.ensures.kind c.act_words.ensures.image c.act_words.ensures.cause c.act_words.ensures.failed c.args.command.now c.in-Add.files c.in-Add.is
+    c.act_words.ensures.acts (record { passes = c.act_words.ensures.passes; asked = c.act_words.ensures.asked })
 
-pub loop-i-preserved : goal.loop-i-preserved
-loop-i-preserved g c =
-    let start = g.T.Tree.history c.args.tree.now in
-    let mid = g.T.Tree.history c.loop-i.tree in
-    let at = g.T.Tree.history c.step.new.tree in
-    let words = take c.loop-i.i c.args.words.now in
-    let is : slice_get c.args.words.now c.loop-i.i ≡ Some c.as_str-word.result.now = c.at.ensures ∙ ap Some (sym c.as_str-word.ensures) in
-    record {
-      unlooked = λ is. c.step.ensures.unlooked is ∙ c.loop-i.invariant.unlooked is;
-      so_far =
-          goes_on_at c.args.command start at c.args.words.now c.loop-i.i c.as_str-word.result.now c.args.mixed.now c.step.new.mixed
-          (c.loop-i.lines.items ++ refused_line c.args.command c.as_str-word.result.now c.in_ok-refused.refused) c.put_refused.new.lines.items (g.T.Tree.faults c.args.tree.now) (g.T.Tree.faults c.step.new.tree)
-          is c.in_ok-put_refused.ensures
-          (goes_on c.args.command start mid at c.args.mixed.now c.loop-i.mixed c.step.new.mixed words c.as_str-word.result.now c.loop-i.lines.items c.in_ok-refused.refused
-          (g.T.Tree.faults c.args.tree.now) (g.T.Tree.faults c.loop-i.tree) (g.T.Tree.faults c.step.new.tree)
-          c.loop-i.invariant.so_far c.in_ok-refused.ensures.stepped c.step.ensures.looks
-          (record { passes = c.step.ensures.passes; asked = c.step.ensures.asked; image = c.step.ensures.image })
-          c.in_ok-refused.ensures.changed c.in_ok-refused.ensures.cause);
-    }
+pub returns-in-Forget-clause-acts : goal.returns-in-Forget-clause-acts
+returns-in-Forget-clause-acts g c =
+    acts_forget _ _ _ _ _ c.act_words-in-Forget.result c.act_words-in-Forget.ensures.kind c.act_words-in-Forget.ensures.image c.act_words-in-Forget.ensures.cause c.act_words-in-Forget.ensures.failed
+    c.args.command.now c.in-Forget.files c.in-Forget.is c.act_words-in-Forget.ensures.acts
+    (record { history = ap (λ t. g.T.Tree.history t) (c.act_words-in-Forget.ensures.unlooked refl); count = ap (λ t. g.T.Tree.faults t) (c.act_words-in-Forget.ensures.unlooked refl) })
+
+pub returns-in-Remove-clause-acts : goal.returns-in-Remove-clause-acts
+returns-in-Remove-clause-acts g c =
+    acts_remove _ _ _ _ c.remove_words.result c.args.command.now c.in-Remove.after c.in-Remove.files c.in-Remove.is c.remove_words.ensures.acts c.remove_words.ensures.stops c.remove_words.ensures.image
+    c.remove_words.ensures.takes c.remove_words.ensures.passes c.remove_words.ensures.asked c.remove_words.ensures.cause c.remove_words.ensures.failed c.remove_words.ensures.cause_shelf
+
+pub returns-in-Copy-clause-acts : goal.returns-in-Copy-clause-acts
+returns-in-Copy-clause-acts g c =
+    acts_copy _ _ _ _ _ c.copy_one.result (own_fault c.copy_one.result c.copy_one.ensures.kind) c.copy_one.ensures.image c.copy_one.ensures.cause c.copy_one.ensures.failed c.args.command.now c.in-Copy.source c.in-Copy.target c.in-Copy.is
+    c.copy_one.ensures.does c.copy_one.ensures.puts
+
+pub returns-in-SetParents-clause-acts : goal.returns-in-SetParents-clause-acts
+returns-in-SetParents-clause-acts g c =
+    acts_parents _ _ _ _ _ c.reparent.result c.args.command.now c.in-SetParents.p1 c.in-SetParents.p2 c.in-SetParents.is c.reparent.ensures.does c.reparent.ensures.stops c.reparent.ensures.image c.reparent.ensures.passes
+    c.reparent.ensures.asked c.reparent.ensures.cause c.reparent.ensures.kind
+
+pub returns-in_default-clause-acts : goal.returns-in_default-clause-acts
+returns-in_default-clause-acts g c =
+    acts_nothing _ _ _ _ _ _ c.new.ensures.items c.args.command.now c.in_default.not-Add c.in_default.not-Forget c.in_default.not-Remove c.in_default.not-Copy c.in_default.not-SetParents

@@ -7,8 +7,8 @@ pub returns-in-Err-clause-shows : goal.returns-in-Err-clause-shows
 returns-in-Err-clause-shows g c =
     record { came = c.print_record.result; prints = c.print_record.ensures.prints; tells = (c.failed.ensures.fault, c.failed.ensures.told) }
 
-pub returns-in-Ok-clause-shows : goal.returns-in-Ok-clause-shows
-returns-in-Ok-clause-shows g c =
+pub returns-clause-shows : goal.returns-clause-shows
+returns-clause-shows g c =
     record { came = c.print_record.result; prints = c.print_record.ensures.prints; tells = (refl, record { bytes = refl; count = refl }) }
 
 pub returns-in-Err-clause-calm_shelf : goal.returns-in-Err-clause-calm_shelf

@@ -7,11 +7,11 @@ use Rattle.hg_stream.specs.Stream.{Grown, GrownByFront}
 use Rattle.hg_session.proofs.locking.change_record.Goals as goal
 
 pub returns-in-Err-clause-ran : goal.returns-in-Err-clause-ran
-returns-in-Err-clause-ran g c = λ called out oversize silent uncounted.
-    ran_failed c.args.command c.args.words.now _ (course (g.S.Shelf.history c.args.shelf.now) (g.S.Shelf.images c.args.shelf.now)) (course (g.S.Shelf.history c.change.new.shelf) (g.S.Shelf.images c.change.new.shelf))
-    (g.S.Shelf.faults c.args.shelf.now) (g.S.Shelf.faults c.change.new.shelf) _ oversize called out
+returns-in-Err-clause-ran g c = λ out oversize silent uncounted.
+    ran_failed c.args.command.now _ (course (g.S.Shelf.history c.args.shelf.now) (g.S.Shelf.images c.args.shelf.now)) (course (g.S.Shelf.history c.change.new.shelf) (g.S.Shelf.images c.change.new.shelf))
+    (g.S.Shelf.faults c.args.shelf.now) (g.S.Shelf.faults c.change.new.shelf) _ oversize out
     (record { old = g.E.Sink.bytes c.args.err.now; new = g.E.Sink.bytes c.failed.new.err; before = g.E.Sink.faults c.args.err.now; after = g.E.Sink.faults c.failed.new.err })
-    silent uncounted c.change.ensures.looks (λ is. record { history = ap (λ t. g.T.Tree.history t) (c.change.ensures.unlooked is); count = ap (λ t. g.T.Tree.faults t) (c.change.ensures.unlooked is) })
+    silent uncounted c.change.ensures.copy
     (elim c.change.ensures.behind [
       | inl same ↦ inl (record { history = ap (λ t. g.T.Tree.history t) same; count = ap (λ t. g.T.Tree.faults t) same })
       | inr read ↦ inr read
@@ -21,11 +21,11 @@ returns-in-Err-clause-ran g c = λ called out oversize silent uncounted.
     c.failed.ensures.told
 
 pub returns-in-Err-put_all-clause-ran : goal.returns-in-Err-put_all-clause-ran
-returns-in-Err-put_all-clause-ran g c = λ called out oversize silent uncounted.
-    ran_untold c.args.command c.args.words.now _ (course (g.S.Shelf.history c.args.shelf.now) (g.S.Shelf.images c.args.shelf.now)) (course (g.S.Shelf.history c.change.new.shelf) (g.S.Shelf.images c.change.new.shelf))
-    (g.S.Shelf.faults c.args.shelf.now) (g.S.Shelf.faults c.change.new.shelf) _ oversize called out
+returns-in-Err-put_all-clause-ran g c = λ out oversize silent uncounted.
+    ran_untold c.args.command.now _ (course (g.S.Shelf.history c.args.shelf.now) (g.S.Shelf.images c.args.shelf.now)) (course (g.S.Shelf.history c.change.new.shelf) (g.S.Shelf.images c.change.new.shelf))
+    (g.S.Shelf.faults c.args.shelf.now) (g.S.Shelf.faults c.change.new.shelf) _ oversize out
     (record { old = g.E.Sink.bytes c.args.err.now; new = g.E.Sink.bytes c.put_all.new.out; before = g.E.Sink.faults c.args.err.now; after = g.E.Sink.faults c.put_all.new.out })
-    silent uncounted c.change.ensures.looks (λ is. record { history = ap (λ t. g.T.Tree.history t) (c.change.ensures.unlooked is); count = ap (λ t. g.T.Tree.faults t) (c.change.ensures.unlooked is) })
+    silent uncounted c.change.ensures.copy
     (elim c.change.ensures.behind [
       | inl same ↦ inl (record { history = ap (λ t. g.T.Tree.history t) same; count = ap (λ t. g.T.Tree.faults t) same })
       | inr read ↦ inr read
@@ -34,11 +34,11 @@ returns-in-Err-put_all-clause-ran g c = λ called out oversize silent uncounted.
     (c.in-Err-put_all.ensures.cause.rose tt) c.in-Ok.ensures.calm_shelf c.in-Ok.ensures.safe (λ rose. cc (c.in-Ok.ensures.held rose)) (λ rose. cc (c.in-Ok.ensures.failed rose)) 255
 
 pub returns-clause-ran : goal.returns-clause-ran
-returns-clause-ran g c = λ called out oversize silent uncounted.
-    ran_done c.args.command c.args.words.now _ (course (g.S.Shelf.history c.args.shelf.now) (g.S.Shelf.images c.args.shelf.now)) (course (g.S.Shelf.history c.change.new.shelf) (g.S.Shelf.images c.change.new.shelf))
-    (g.S.Shelf.faults c.args.shelf.now) (g.S.Shelf.faults c.change.new.shelf) _ oversize called out
+returns-clause-ran g c = λ out oversize silent uncounted.
+    ran_done c.args.command.now _ (course (g.S.Shelf.history c.args.shelf.now) (g.S.Shelf.images c.args.shelf.now)) (course (g.S.Shelf.history c.change.new.shelf) (g.S.Shelf.images c.change.new.shelf))
+    (g.S.Shelf.faults c.args.shelf.now) (g.S.Shelf.faults c.change.new.shelf) _ oversize out
     (record { old = g.E.Sink.bytes c.args.err.now; new = g.E.Sink.bytes c.put_all.new.out; before = g.E.Sink.faults c.args.err.now; after = g.E.Sink.faults c.put_all.new.out })
-    silent uncounted c.change.ensures.looks (λ is. record { history = ap (λ t. g.T.Tree.history t) (c.change.ensures.unlooked is); count = ap (λ t. g.T.Tree.faults t) (c.change.ensures.unlooked is) })
+    silent uncounted c.change.ensures.copy
     (elim c.change.ensures.behind [
       | inl same ↦ inl (record { history = ap (λ t. g.T.Tree.history t) same; count = ap (λ t. g.T.Tree.faults t) same })
       | inr read ↦ inr read

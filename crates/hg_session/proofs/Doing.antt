@@ -1,0 +1,230 @@
+-- What a command did over a table in memory, from what its words came to.
+use Rattle.std.proofs.Common.{ℕ, ◌≡◌, ◌<◌, ◌≤◌, ◌⊎◌, Bool, true, false, List, [], ◌++◌, Result, Ok, Err, Vec, Global, IfErr, IfOk, OnOk, IsTrue, refl, sym, subst, inl, inr, arith}
+use Rattle.hg_append.specs.declared.fault.EncodeFault.{EncodeFault}
+use Rattle.hg_append.specs.declared.fault.EncodeFault.TheVariants as an_encode
+use Rattle.hg_base.specs.Fault.{HasCause}
+use Rattle.hg_base.specs.declared.id.Id20.{Id20}
+use Rattle.hg_entry.specs.Table.{Table}
+use Rattle.hg_manifest.specs.Load.{asks_of}
+use Rattle.hg_mixed.specs.Edits.{IsOfSameImage, IsSame}
+use Rattle.hg_mixed.specs.Held.{Held, table}
+use Rattle.hg_ops.specs.Copy.{IsCopyFault}
+use Rattle.hg_ops.specs.Parent.{AsksStore}
+use Rattle.hg_ops.specs.declared.refusal.OpFault.{OpFault}
+use Rattle.hg_ops.specs.declared.refusal.OpFault.TheVariants as an_op
+use Rattle.hg_ops.proofs.Added.{same_table}
+use Rattle.hg_report.specs.Cause.{of_encode, of_op}
+use Rattle.hg_session.specs.Anew.{MetWriting}
+use Rattle.hg_session.specs.Change.{IsEarly, of_change}
+use Rattle.hg_session.specs.declared.change_fault.ChangeFault.{ChangeFault}
+use Rattle.hg_session.proofs.Removing.{takes_none_yet}
+use Rattle.hg_session.specs.Acts.{ActsOn, ChangesTree, IsActed, IsCopied, IsNothingMade, IsRemoved, IsTreeFault, NeedsSome, OnlyPuts, OnlyTakes, StopsRemoving, name, span_of, steps_of}
+use Rattle.hg_session.specs.Call.{IsLeftAlone, Watched}
+use Rattle.hg_session.specs.Manifests.{IsReparented, StopsParents}
+use Rattle.hg_session.specs.declared.acting.Changing.{Changing}
+use Rattle.hg_session.specs.declared.acting.Changing.TheVariants as a_change
+use Rattle.hg_shelf.specs.Asks.{AsksFrontOf}
+use Rattle.hg_shelf.specs.History as shelf
+use Rattle.hg_shelf.proofs.Histories as shelves
+use Rattle.hg_tree.specs.History as tree
+use Rattle.hg_tree.proofs.Histories.{extends_same}
+use Rattle.hg_tree.proofs.Spans as trees
+use Rattle.hg_words.specs.declared.given.Command.{Command}
+use Rattle.hg_words.specs.declared.given.Command.TheVariants as a_command
+
+-- ---- faults
+
+own_copy : (fault : OpFault) → IsCopyFault fault → IsTreeFault fault
+own_copy an_op.OutOfMemory is = inl refl
+own_copy an_op.TreeFailed is = inr refl
+own_copy fault is = absurd is
+
+pub own_fault : {A : Type 0} (result : Result A OpFault) → IfErr result IsCopyFault → IfErr result IsTreeFault
+own_fault (Ok done) is = tt
+own_fault (Err fault) is = own_copy fault is
+
+not_shelf : {Q : Type 0} (fault : OpFault) → IsTreeFault fault → fault ≡ an_op.ShelfFailed → Q
+not_shelf fault (inl memory) is = absurd (cc (memory, is))
+not_shelf fault (inr failed) is = absurd (cc (failed, is))
+
+-- the shelf wasn't asked
+shelf_still : {A : Type 0} (count : ℕ) (result : Result A OpFault) → IfErr result IsTreeFault → HasCause count count result (λ e. e ≡ an_op.ShelfFailed)
+shelf_still count (Ok done) is = record { later = omega arith; quiet = refl; rose = tt }
+shelf_still count (Err fault) is = record { later = omega arith; quiet = tt; rose = λ failed. not_shelf fault is failed }
+
+not_tree : {Q : Type 0} (fault : OpFault) → (fault ≡ an_op.TreeFailed → ⊥) → fault ≡ an_op.TreeFailed → Q
+not_tree fault never is = absurd (never is)
+
+-- the tree wasn't asked
+tree_still : {A : Type 0} (count : ℕ) (result : Result A OpFault) → IfErr result (λ e. e ≡ an_op.TreeFailed → ⊥) → HasCause count count result (λ e. e ≡ an_op.TreeFailed)
+tree_still count (Ok done) never = record { later = omega arith; quiet = refl; rose = tt }
+tree_still count (Err fault) never = record { later = omega arith; quiet = tt; rose = λ failed. not_tree fault never failed }
+
+-- what isn't marked as changed is the same
+same_if : (Does : Table → Table → List ℕ → Bool → Type 0) → ((old new : Table) (lines : List ℕ) (changed : Bool) → Does old new lines changed → changed ≡ false → IsSame new old)
+    → (old new : Held) (result : Result (Vec ℕ Global) OpFault) → (old.changed ≡ false → IfOk result (λ lines. Does (table old) (table new) lines.items new.changed))
+    → old.changed ≡ false → OnOk result (new.changed ≡ false → IsSame (table new) (table old))
+same_if Does same old new (Ok lines) does unset = λ still. same (table old) (table new) lines.items new.changed (does unset) still
+same_if Does same old new (Err fault) does unset = tt
+
+-- ---- a command that reads nothing below `.hg`
+
+module _ (copy : Watched tree.History) (h : shelf.History) (count : ℕ) (old new : Held) (result : Result (Vec ℕ Global) OpFault) (kind : IfErr result IsTreeFault) (image : IsOfSameImage old new)
+    (cause : HasCause copy.before copy.after result (λ e. e ≡ an_op.TreeFailed)) (failed : copy.before < copy.after → result ≡ Err an_op.TreeFailed) where
+  abbrev still : Watched shelf.History
+  still = record { old = h; new = h; before = count; after = count }
+
+  pub acts_add : (command : Command) (words : List (List ℕ)) → command ≡ a_command.Add words
+      → (old.changed ≡ false → IfOk result (λ lines. IsActed (name a_change.Add) (steps_of a_change.Add) words copy (table old) (table new) lines.items new.changed))
+      → ChangesTree (a_command.Add words) copy → ActsOn command copy still old new result
+  acts_add command words is does changes = subst (λ (c : Command). ActsOn c copy still old new result) (sym is) (record {
+    does = does;
+    stops = λ unset. kind;
+    same = same_if (IsActed (name a_change.Add) (steps_of a_change.Add) words copy) (λ a b lines changed acted. acted.same) old new result does;
+    image = image;
+    tree = changes;
+    below = shelves.passes_same h;
+    asked = λ told. refl;
+    tree_cause = cause;
+    tree_failed = failed;
+    shelf_cause = shelf_still count result kind;
+  })
+
+  pub acts_forget : (command : Command) (words : List (List ℕ)) → command ≡ a_command.Forget words
+      → (old.changed ≡ false → IfOk result (λ lines. IsActed (name a_change.Forget) (steps_of a_change.Forget) words copy (table old) (table new) lines.items new.changed))
+      → IsLeftAlone copy → ActsOn command copy still old new result
+  acts_forget command words is does alone = subst (λ (c : Command). ActsOn c copy still old new result) (sym is) (record {
+    does = does;
+    stops = λ unset. kind;
+    same = same_if (IsActed (name a_change.Forget) (steps_of a_change.Forget) words copy) (λ a b lines changed acted. acted.same) old new result does;
+    image = image;
+    tree = alone;
+    below = shelves.passes_same h;
+    asked = λ told. refl;
+    tree_cause = cause;
+    tree_failed = failed;
+    shelf_cause = shelf_still count result kind;
+  })
+
+  pub acts_copy : (command : Command) (source target : List ℕ) → command ≡ a_command.Copy source target
+      → (old.changed ≡ false → IfOk result (λ line. IsCopied source target copy (table old) (table new) line.items new.changed))
+      → OnlyPuts source target copy → ActsOn command copy still old new result
+  acts_copy command source target is does puts = subst (λ (c : Command). ActsOn c copy still old new result) (sym is) (record {
+    does = does;
+    stops = λ unset. kind;
+    same = same_if (IsCopied source target copy) (λ a b lines changed acted. acted.same) old new result does;
+    image = image;
+    tree = puts;
+    below = shelves.passes_same h;
+    asked = λ told. refl;
+    tree_cause = cause;
+    tree_failed = failed;
+    shelf_cause = shelf_still count result kind;
+  })
+
+-- ---- the others
+
+pub acts_remove : (copy : Watched tree.History) (files : Watched shelf.History) (old new : Held) (result : Result (Vec ℕ Global) OpFault) (command : Command) (after : Bool) (words : List (List ℕ))
+    → command ≡ a_command.Remove after words
+    → (old.changed ≡ false → IfOk result (λ lines. IsRemoved after words copy files (table old) (table new) lines.items new.changed))
+    → (old.changed ≡ false → IfErr result (StopsRemoving after words copy files (table old))) → IsOfSameImage old new → OnlyTakes after words copy → shelf.Passes files.old files.new
+    → (IsTrue files.old.told → (files.new.asked ≡ files.old.asked) ⊎ (NeedsSome after words copy × AsksStore (span_of (table old) files.old files.new))) → HasCause copy.before copy.after result (λ e. e ≡ an_op.TreeFailed)
+    → (copy.before < copy.after → result ≡ Err an_op.TreeFailed) → HasCause files.before files.after result (λ e. e ≡ an_op.ShelfFailed) → ActsOn command copy files old new result
+acts_remove copy files old new result command after words is does stops image takes passes asked cause failed shelf_cause = subst (λ (c : Command). ActsOn c copy files old new result) (sym is) (record {
+  does = does;
+  stops = stops;
+  same = same_if (IsRemoved after words copy files) (λ a b lines changed acted. acted.acted.same) old new result does;
+  image = image;
+  tree = takes;
+  below = passes;
+  asked = asked;
+  tree_cause = cause;
+  tree_failed = failed;
+  shelf_cause = shelf_cause;
+})
+
+module _ (h : tree.History) (count : ℕ) (files : Watched shelf.History) (old new : Held) (result : Result (Vec ℕ Global) OpFault) where
+  abbrev alone : Watched tree.History
+  alone = record { old = h; new = h; before = count; after = count }
+
+  pub acts_parents : (command : Command) (p1 p2 : Id20) → command ≡ a_command.SetParents p1 p2
+      → (old.changed ≡ false → IfOk result (λ lines. IsReparented p1 p2 files (table old) (table new) lines.items new.changed))
+      → IfErr result (StopsParents p1 p2 files) → IsOfSameImage old new → shelf.Passes files.old files.new
+      → (IsTrue files.old.told → AsksFrontOf (asks_of p1 ++ asks_of p2) files.old files.new) → HasCause files.before files.after result (λ e. e ≡ an_op.ShelfFailed)
+      → IfErr result (λ e. e ≡ an_op.TreeFailed → ⊥) → ActsOn command alone files old new result
+  acts_parents command p1 p2 is does stops image passes asked shelf_cause kind = subst (λ (c : Command). ActsOn c alone files old new result) (sym is) (record {
+    does = does;
+    stops = λ unset. stops;
+    same = same_if (IsReparented p1 p2 files) (λ a b lines changed acted. acted.same) old new result does;
+    image = image;
+    tree = record { history = refl; count = refl };
+    below = passes;
+    asked = asked;
+    tree_cause = tree_still count result kind;
+    tree_failed = λ rose. absurd (omega (arith, rose));
+    shelf_cause = shelf_cause;
+  })
+
+module _ (h : tree.History) (count : ℕ) (files : shelf.History) (counted : ℕ) (held : Held) (lines : Vec ℕ Global) (none : lines.items ≡ []) where
+  abbrev left : Watched tree.History
+  left = record { old = h; new = h; before = count; after = count }
+
+  abbrev kept : Watched shelf.History
+  kept = record { old = files; new = files; before = counted; after = counted }
+
+  nothing : held.changed ≡ false → IsNothingMade (table held) (table held) lines.items held.changed
+  nothing unset = record { table = same_table (table held); silent = none; unchanged = unset }
+
+  -- any other command
+  pub acts_nothing : (command : Command) → ((words : List (List ℕ)) → command ≡ a_command.Add words → ⊥) → ((words : List (List ℕ)) → command ≡ a_command.Forget words → ⊥)
+      → ((after : Bool) (words : List (List ℕ)) → command ≡ a_command.Remove after words → ⊥) → ((source target : List ℕ) → command ≡ a_command.Copy source target → ⊥)
+      → ((p1 p2 : Id20) → command ≡ a_command.SetParents p1 p2 → ⊥) → ActsOn command left kept held held (Ok lines)
+  acts_nothing (a_command.Add words) add forget remove copy parents = absurd (add words refl)
+  acts_nothing (a_command.Forget words) add forget remove copy parents = absurd (forget words refl)
+  acts_nothing (a_command.Remove after words) add forget remove copy parents = absurd (remove after words refl)
+  acts_nothing (a_command.Copy source target) add forget remove copy parents = absurd (copy source target refl)
+  acts_nothing (a_command.SetParents p1 p2) add forget remove copy parents = absurd (parents p1 p2 refl)
+  acts_nothing command add forget remove copy parents = record {
+    does = nothing;
+    stops = λ unset. tt;
+    same = λ unset still. same_table (table held);
+    image = record { docket = refl; bytes = refl };
+    tree = record { history = refl; count = refl };
+    below = shelves.passes_same files;
+    asked = λ told. refl;
+    tree_cause = record { later = omega arith; quiet = refl; rose = tt };
+    tree_failed = λ rose. absurd (omega (arith, rose));
+    shelf_cause = record { later = omega arith; quiet = refl; rose = tt };
+  }
+
+-- a tree that wasn't asked for anything is as each command may leave it
+pub changes_none : (command : Command) (h : tree.History) (count : ℕ) → ChangesTree command (record { old = h; new = h; before = count; after = count })
+changes_none (a_command.Add words) h count = record { passes = trees.passes_same h; asked = λ told. refl }
+changes_none (a_command.Remove after words) h count = takes_none_yet after words h count
+changes_none (a_command.Copy source target) h count = record {
+  past = extends_same h;
+  copies = λ told. inl (record { passes = trees.passes_same h; unasked = refl });
+  only = λ told k from upto. absurd (omega (arith, from, upto));
+}
+changes_none command h count = record { history = refl; count = refl }
+
+-- ---- faults that are met before the working copy is looked at
+
+pub op_late : {Q : Type 0} (fault : OpFault) → IsEarly (of_op fault) → Q
+op_late an_op.OutOfMemory early = absurd early
+op_late an_op.TreeFailed early = absurd early
+op_late an_op.ShelfFailed early = absurd early
+op_late (an_op.NoManifest id) early = absurd early
+op_late (an_op.ManifestTooLarge size) early = absurd early
+op_late (an_op.ManifestLine line) early = absurd early
+op_late (an_op.ManifestOrder line) early = absurd early
+op_late (an_op.NoContents id) early = absurd early
+
+encode_late : {Q : Type 0} (fault : EncodeFault) → IsEarly (of_encode fault) → Q
+encode_late an_encode.OutOfMemory early = absurd early
+encode_late (an_encode.TooLarge size) early = absurd early
+encode_late an_encode.IdsSpent early = absurd early
+
+pub writing_late : {Q : Type 0} (held : Held) (before after : ℕ) (fault : ChangeFault) → MetWriting held before after fault → IsEarly (of_change fault) → Q
+writing_late held before after fault (inl (e, is, cause, set)) early = encode_late e (subst (λ (f : ChangeFault). IsEarly (of_change f)) is early)
+writing_late held before after fault (inr (is, rose)) early = absurd (subst (λ (f : ChangeFault). IsEarly (of_change f)) is early)

@@ -1,0 +1,123 @@
+-- What a command makes, said of a part of a call, holds of the whole.
+use Rattle.std.proofs.Common.{ℕ, Bool, List, Ok, Err, codes, inl, inr}
+use Rattle.hg_base.specs.declared.id.Id20.{Id20}
+use Rattle.hg_entry.specs.Table.{Table}
+use Rattle.hg_manifest.specs.Rows.{Rows}
+use Rattle.hg_manifest.specs.declared.fault.ManifestFault.{ManifestFault}
+use Rattle.hg_ops.specs.declared.refusal.OpFault.{OpFault}
+use Rattle.hg_ops.specs.declared.refusal.OpFault.TheVariants as an_op
+use Rattle.hg_session.specs.Acts.{AllSteps, Deed, IsRemoved, Makes, StopsRemoving, TakesAway, makes_of, span_of}
+use Rattle.hg_session.specs.Call.{Watched}
+use Rattle.hg_session.specs.Manifests.{IsReparented, LacksParents, LacksRows, LoadsRows, StopsParents}
+use Rattle.hg_session.proofs.Acted.{acted_wide, steps_wide}
+use Rattle.hg_session.proofs.Removing.{takes_longer}
+use Rattle.hg_shelf.specs.History.{Extends, History}
+use Rattle.hg_shelf.proofs.Histories.{extends_trans}
+use Rattle.hg_tree.specs.History as tree
+use Rattle.hg_words.specs.declared.given.Command.{Command}
+use Rattle.hg_words.specs.declared.given.Command.TheVariants as a_command
+use Rattle.std.specs.Prelude.{Result}
+
+-- what the one says the other says
+pub record IsWider (Part Whole : Makes) : Type 0 where
+  pub does : (old new : Table) (lines : List ℕ) (changed : Bool) → Part.does old new lines changed → Whole.does old new lines changed
+  pub stops : (loaded : Table) (fault : OpFault) → Part.stops loaded fault → Whole.stops loaded fault
+
+pub as_wide : (One : Makes) → IsWider One One
+as_wide One = record { does = λ old new lines changed is. is; stops = λ loaded fault is. is }
+
+module _ (part whole : Watched History) (before : Extends whole.old part.old) (behind : Extends part.new whole.new) where
+  rows_wide : (id : Id20) (answer : Result Rows ManifestFault) → LoadsRows part id answer → LoadsRows whole id answer
+  rows_wide id answer is = record {
+    old = is.old;
+    new = is.new;
+    before = extends_trans whole.old part.old is.old before is.before;
+    behind = extends_trans is.new part.new whole.new is.behind behind;
+    answers = is.answers;
+  }
+
+  reparented_wide : (p1 p2 : Id20) (old new : Table) (lines : List ℕ) (changed : Bool) → IsReparented p1 p2 part old new lines changed → IsReparented p1 p2 whole old new lines changed
+  reparented_wide p1 p2 old new lines changed is = record {
+    m1 = is.m1;
+    m2 = is.m2;
+    first = rows_wide p1 (Ok is.m1) is.first;
+    second = rows_wide p2 (Ok is.m2) is.second;
+    parents = is.parents;
+    silent = is.silent;
+    idle = is.idle;
+    same = is.same;
+  }
+
+  rows_lacked : (id : Id20) (fault : OpFault) → LacksRows id part fault → LacksRows id whole fault
+  rows_lacked id fault lacks = record { met = lacks.met; is = lacks.is; loads = rows_wide id (Err lacks.met) lacks.loads }
+
+  parents_lacked : (p1 p2 : Id20) (fault : OpFault) → LacksParents p1 p2 part fault → LacksParents p1 p2 whole fault
+  parents_lacked p1 p2 fault (inl lacks) = inl (rows_lacked p1 fault lacks)
+  parents_lacked p1 p2 fault (inr (m1, loads, lacks)) = inr (m1, rows_wide p1 (Ok m1) loads, rows_lacked p2 fault lacks)
+
+  removed_wide : (after : Bool) (words : List (List ℕ)) (copy : Watched tree.History) (old new : Table) (lines : List ℕ) (changed : Bool)
+      → IsRemoved after words copy part old new lines changed → IsRemoved after words copy whole old new lines changed
+  removed_wide after words copy old new lines changed is = record {
+    start = is.start;
+    begun = extends_trans whole.old part.old is.start before is.begun;
+    acted =
+        acted_wide (TakesAway after (span_of old is.start part.new)) (TakesAway after (span_of old is.start whole.new)) (takes_longer after (span_of old is.start part.new) whole.new behind) (codes "remove") words copy old new lines changed is.acted;
+  }
+
+  steps_longer : (after : Bool) (t : Table) (start : History) (from to : tree.History) (deeds : List Deed) (old new : Table)
+      → AllSteps (TakesAway after (span_of t start part.new)) from to deeds old new → AllSteps (TakesAway after (span_of t start whole.new)) from to deeds old new
+  steps_longer after t start from to deeds old new steps =
+      steps_wide (TakesAway after (span_of t start part.new)) (TakesAway after (span_of t start whole.new)) (takes_longer after (span_of t start part.new) whole.new behind) from to deeds old new steps
+
+  stopped_wide : (after : Bool) (words : List (List ℕ)) (copy : Watched tree.History) (old : Table) (fault : OpFault) → StopsRemoving after words copy part old fault → StopsRemoving after words copy whole old fault
+  stopped_wide after words copy old fault (inl is) = inl (record {
+    start = is.start;
+    begun = extends_trans whole.old part.old is.start before is.begun;
+    deeds = is.deeds;
+    word = is.word;
+    rest = is.rest;
+    all = is.all;
+    mid = is.mid;
+    between = is.between;
+    steps = steps_longer after old is.start copy.old is.mid is.deeds old is.between is.steps;
+    past = is.past;
+    takes = is.takes;
+    reads = is.reads;
+    end = is.end;
+    within = extends_trans is.end part.new whole.new is.within behind;
+    met = is.met;
+  })
+  stopped_wide after words copy old fault (inr is) = inr (record {
+    is = is.is;
+    start = is.start;
+    begun = extends_trans whole.old part.old is.start before is.begun;
+    deeds = is.deeds;
+    rest = is.rest;
+    all = is.all;
+    between = is.between;
+    steps = steps_longer after old is.start copy.old copy.new is.deeds old is.between is.steps;
+  })
+
+  parents_stopped : (p1 p2 : Id20) (fault : OpFault) → StopsParents p1 p2 part fault → StopsParents p1 p2 whole fault
+  parents_stopped p1 p2 an_op.OutOfMemory stops = tt
+  parents_stopped p1 p2 an_op.TreeFailed stops = stops
+  parents_stopped p1 p2 an_op.ShelfFailed stops = tt
+  parents_stopped p1 p2 (an_op.NoManifest id) stops = parents_lacked p1 p2 (an_op.NoManifest id) stops
+  parents_stopped p1 p2 (an_op.ManifestTooLarge size) stops = parents_lacked p1 p2 (an_op.ManifestTooLarge size) stops
+  parents_stopped p1 p2 (an_op.ManifestLine line) stops = parents_lacked p1 p2 (an_op.ManifestLine line) stops
+  parents_stopped p1 p2 (an_op.ManifestOrder line) stops = parents_lacked p1 p2 (an_op.ManifestOrder line) stops
+  parents_stopped p1 p2 (an_op.NoContents id) stops = stops
+
+  pub makes_wide : (command : Command) (copy : Watched tree.History) → IsWider (makes_of command copy part) (makes_of command copy whole)
+  makes_wide (a_command.Add words) copy = as_wide (makes_of (a_command.Add words) copy whole)
+  makes_wide (a_command.Forget words) copy = as_wide (makes_of (a_command.Forget words) copy whole)
+  makes_wide (a_command.Remove after words) copy = record {
+    does = λ old new lines changed is. removed_wide after words copy old new lines changed is;
+    stops = λ loaded fault is. stopped_wide after words copy loaded fault is;
+  }
+  makes_wide (a_command.Copy source target) copy = as_wide (makes_of (a_command.Copy source target) copy whole)
+  makes_wide (a_command.SetParents p1 p2) copy = record {
+    does = λ old new lines changed is. reparented_wide p1 p2 old new lines changed is;
+    stops = λ loaded fault is. parents_stopped p1 p2 fault is;
+  }
+  makes_wide command copy = record { does = λ old new lines changed is. is; stops = λ loaded fault is. is }

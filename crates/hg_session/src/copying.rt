@@ -1,0 +1,68 @@
+//! The one copy of `copy`.
+
+ghost use Rattle.std.specs.Prelude.{◌≡◌, ◌<◌, Err, IfErr, IfOk, IsTrue, OnOk, false};
+ghost use Rattle.hg_base.specs.Fault.{HasCause};
+ghost use Rattle.hg_mixed.specs.Edits.{IsOfSameImage};
+ghost use Rattle.hg_mixed.specs.Held.{table};
+ghost use Rattle.hg_ops.specs.Copy.{IsCopyFault};
+ghost use Rattle.hg_ops.specs.declared.refusal.OpFault.TheVariants as an_op_fault;
+ghost use Rattle.hg_session.specs.Acts.{IsCopied, OnlyPuts, copy_line};
+
+use hg_base::OutOfMemory;
+use hg_mixed::Mixed;
+use hg_ops::{CopyRefusal, OpFault, copy};
+use hg_report::refusal_text;
+use hg_tree::Tree;
+use std::alloc::Global;
+
+// The line of a refusal, which names the word that it is about.
+fn line_of(
+    alloc: Global,
+    source: &str,
+    target: &str,
+    refused: &Option<CopyRefusal>,
+) -> Result<Vec<u8>, OutOfMemory>
+    ensures { IfOk result (λ line. line.items ≡ copy_line source.now target.now refused.now) }
+{
+    match refused {
+        None => Ok(Vec::new(alloc)),
+        Some(CopyRefusal::Source(refusal)) => refusal_text(alloc, "copy", source, refusal),
+        Some(CopyRefusal::Target(refusal)) => refusal_text(alloc, "copy", target, refusal),
+    }
+}
+
+/// Copies a file or link that is tracked, and answers the line of the word that was refused.
+pub(crate) fn copy_one<T: Tree>(
+    alloc: Global,
+    source: &str,
+    target: &str,
+    mixed: &mut Mixed<'_>,
+    tree: &mut T,
+) -> Result<Vec<u8>, OpFault>
+    // `IsCopied` in specs/Acts.antt; of a table in which nothing was changed before.
+    ensures does { mixed.old.changed ≡ false
+        → IfOk
+        result
+        (λ line. IsCopied
+        source.now
+        target.now
+        (record { old = T.history tree.old; new = T.history tree.new; before = T.faults tree.old; after = T.faults tree.new })
+        (table mixed.old)
+        (table mixed.new)
+        line.items
+        mixed.new.changed) }
+    ensures image { IsOfSameImage mixed.old mixed.new }
+    ensures puts { OnlyPuts
+        source.now
+        target.now
+        (record { old = T.history tree.old; new = T.history tree.new; before = T.faults tree.old; after = T.faults tree.new }) }
+    ensures kind { IfErr result IsCopyFault }
+    ensures cause { HasCause (T.faults tree.old) (T.faults tree.new) result (λ e. e ≡ an_op_fault.TreeFailed) }
+    ensures failed { T.faults tree.old < T.faults tree.new → result ≡ Err an_op_fault.TreeFailed }
+{
+    let refused = copy(alloc, mixed, tree, source, target)?;
+    match line_of(alloc, source, target, &refused) {
+        Err(_) => Err(OpFault::OutOfMemory),
+        Ok(line) => Ok(line),
+    }
+}
