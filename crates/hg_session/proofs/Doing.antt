@@ -17,7 +17,7 @@ use Rattle.hg_report.specs.Cause.{of_encode, of_op}
 use Rattle.hg_session.specs.Anew.{MetWriting}
 use Rattle.hg_session.specs.Change.{IsEarly, of_change}
 use Rattle.hg_session.specs.declared.change_fault.ChangeFault.{ChangeFault}
-use Rattle.hg_session.proofs.Removing.{takes_none_yet}
+use Rattle.hg_session.proofs.TakenWords.{takes_none_yet}
 use Rattle.hg_session.specs.Acts.{ActsOn, ChangesTree, IsActed, IsCopied, IsNothingMade, IsRemoved, IsTreeFault, NeedsSome, OnlyPuts, OnlyTakes, StopsRemoving, name, span_of, steps_of}
 use Rattle.hg_session.specs.Call.{IsLeftAlone, Watched}
 use Rattle.hg_session.specs.Manifests.{IsReparented, StopsParents}
