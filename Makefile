@@ -3,7 +3,8 @@
 # make test     proves every crate from nothing, and tests the program: what .ci/run runs
 # make documents    writes docs/DEFINITIONS.md from the comments of the definitions
 # make bench    times the program against C loops (gcc)
-# make install PREFIX=..    puts the program and hgtrack-parents into PREFIX/bin, and the hooks that run it into PREFIX/share/hgtrack
+# make install PREFIX=..    puts the program and hgtrack-parents into PREFIX/bin, the hooks that run it into PREFIX/share/hgtrack, and the man page and
+#                           the completion for bash beside them
 # make clean    takes away what the others made
 
 PREFIX ?= /usr/local
@@ -29,10 +30,16 @@ documents:
 bench: build/hgtrack
 	python3 bench/bench.py build/hgtrack
 
-install: build/hgtrack
+# (both by what the program's own help says)
+build/hgtrack.1 build/hgtrack.bash &: build/hgtrack contrib/pages.py
+	python3 contrib/pages.py build/hgtrack build
+
+install: build/hgtrack build/hgtrack.1 build/hgtrack.bash
 	install -d $(DESTDIR)$(PREFIX)/bin $(DESTDIR)$(PREFIX)/share/hgtrack
 	install -m 755 build/hgtrack contrib/hgtrack-parents $(DESTDIR)$(PREFIX)/bin
 	install -m 644 contrib/hgtrack.hgrc $(DESTDIR)$(PREFIX)/share/hgtrack
+	install -D -m 644 build/hgtrack.1 $(DESTDIR)$(PREFIX)/share/man/man1/hgtrack.1
+	install -D -m 644 build/hgtrack.bash $(DESTDIR)$(PREFIX)/share/bash-completion/completions/hgtrack
 	sed -i 's|= hgtrack-parents|= "$(PREFIX)/bin/hgtrack-parents"|; s|/usr/local/|$(PREFIX)/|' $(DESTDIR)$(PREFIX)/share/hgtrack/hgtrack.hgrc
 
 clean:

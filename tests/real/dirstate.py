@@ -56,8 +56,8 @@ def tree_of(paths):
 
 
 def put_list(data, node, path, entry=WDIR_TRACKED):
-    """Puts the list of a node's children behind the data, each child's own list and its path first; `entry` is the flags of each entry. Answers the place and
-    the number of the list, and how many entries it has at any depth."""
+    """Puts the list of a node's children behind the data, each child's own list and its path first; `entry` is the flags of each entry, or those of each
+    path. Answers the place and the number of the list, and how many entries it has at any depth."""
     records, total = [], 0
     for name in sorted(node.children):
         child = node.children[name]
@@ -65,7 +65,7 @@ def put_list(data, node, path, entry=WDIR_TRACKED):
         children, below = put_list(data, child, whole + b"/", entry)
         start = len(data)
         data += whole
-        flags = entry if child.is_tracked else 0
+        flags = (entry[whole] if isinstance(entry, dict) else entry) if child.is_tracked else 0
         records.append(record(start, len(whole), len(path), (0, 0), children, (below, below), flags))
         total += below + child.is_tracked
     start = len(data) if records else 0

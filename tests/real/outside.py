@@ -29,10 +29,12 @@ WORDS = [
     (aborted("unknown command"), [["stat"], ["-m", "status"], ["--", "status"], [""], ["Status"], ["status "], ["debugstate"], ["help"], ["-h"], ["-V"], ["--help", "status"], ["--version", "--version"], ["s" * 100_000]]),
     (aborted("wrong arguments"), [
         ["status", "x"], ["status", ""], ["status", "-mx"], ["status", "-M"], ["status", "-"], ["status", "-m", "x"], ["status", "--modified=x"], ["status", "--no"], ["status", "--", "-m"], ["status", "--help"],
-        ["add"], ["add", "-x", "a"], ["forget", "--"], ["debugdirstate", "--all"], ["copy", "a"], ["debugload", "0"], [b"\xff"], [b"status", b"\xff"],
+        ["add"], ["add", "-x", "a"], ["forget", "--"], ["debugdirstate", "--all"], ["copy", "a"], ["copy", "a", "b", "c"], ["copy", "-A", "a", "b"], ["remove"], ["remove", "-A"], ["remove", "-f", "a"], ["remove", "--"],
+        ["debugsetparents"], ["debugsetparents", *3 * ["0" * 40]], ["debugload", "0"], [b"\xff"], [b"status", b"\xff"],
     ]),
+    (aborted("argument 1 is not a node"), [["debugsetparents", "tip"], ["debugsetparents", "", "0" * 40]]),
     (aborted("argument 2 is not a node"), [["debugsetparents", "0" * 40, "0" * 39]]),
-    (aborted("not built yet"), [["remove", "-A", "a"], ["copy", "a", "b"], ["debugsetparents", "0" * 40], ["debugscript"], ["debugload", "+7"]]),
+    (aborted("not built yet"), [["debugscript"], ["debugload", "+7"]]),
 ]
 
 # what is in the way, what is made of the folder (a path and its mode), the line that is printed to nobody's program

@@ -15,7 +15,8 @@ V2 = "dirstate-v2\n"
 WHOLE = "dirstate-v2\ndotencode\nfncache\ngeneraldelta\nrevlog-compression-zstd\nrevlogv1\nsparserevlog\nstore\n"
 OWN, STORE = "dirstate-v2\nshare-safe\n", "dotencode\nfncache\ngeneraldelta\nrevlog-compression-zstd\nrevlogv1\nsparserevlog\nstore\n"
 
-ALL = (("status",), ("debugdirstate",), ("add", "a"), ("forget", "b"))
+NO_PARENT = "0" * 40
+ALL = (("status",), ("debugdirstate",), ("add", "a"), ("forget", "b"), ("copy", "a", "c"), ("remove", "-A", "c"), ("debugsetparents", NO_PARENT))
 CHANGING = ALL[2:]
 
 
@@ -148,7 +149,8 @@ def answers(tests, root):
 
 
 def run_requires(tests):
-    free = {("status",): (0, lines("A b", "? a"), b""), ("add", "a"): (0, b"", b""), ("forget", "b"): (0, b"", b"")}
+    free = {("status",): (0, lines("A b", "? a"), b""), ("remove", "-A", "c"): (1, b"", lines("remove c: still there"))}
+    free |= dict.fromkeys([("add", "a"), ("forget", "b"), ("copy", "a", "c"), ("debugsetparents", NO_PARENT)], (0, b"", b""))
     for what, own, store, commands, answer in REQUIRES:
         with tests.working_copy() as root:
             lay_repository(root, own, store)
@@ -162,7 +164,7 @@ def run_requires(tests):
     with tests.working_copy() as root:
         lay_repository(root, TRACKED_KEY + "\n", None)
         found = answers(tests, root)[0]
-        tests.compare("requires: a tracked key and an older dirstate", [found[it] for it in ALL], 2 * [OLD] + 2 * [writers(TRACKED_KEY)])
+        tests.compare("requires: a tracked key and an older dirstate", [found[it] for it in ALL], 2 * [OLD] + len(CHANGING) * [writers(TRACKED_KEY)])
     with tests.working_copy() as root:
         lay_out(root, ["a", ".hg/"])
         tests.compare("no requires: as for any folder .hg", (tests.run(root), tests.run(root, ("add", "a")), tests.run(root)), ((0, lines("? a"), b""), (0, b"", b""), (0, lines("A a"), b"")))
@@ -214,7 +216,7 @@ def run_failing(tests):
 def run_nowhere(tests):
     """Where no repository is, here or above, nothing is made."""
     for at in ("", "d", "d/e"):
-        for words in (("add", "a"), ("forget", "a"), ("add", "d/e/f"), ("add", "gone", "a")):
+        for words in (("add", "a"), ("forget", "a"), ("add", "d/e/f"), ("add", "gone", "a"), ("remove", "a"), ("copy", "a", "b"), ("debugsetparents", NO_PARENT)):
             with tests.working_copy() as root:
                 lay_out(root, ["a", "d/a", "d/e/a", "d/e/f"])
                 before = seen(root)
@@ -245,7 +247,7 @@ def run_breaks(tests):
 
 def run_bad_paths(tests):
     for at, given, told, kinds in BAD_PATHS:
-        for command in ("add", "forget"):
+        for command in ("add", "forget", "remove"):
             with tests.working_copy() as root:
                 lay_out(root, ["a", "d/e/f", ".hg/"])
                 wanted = lines(*(f"{command} {it}: bad path" for it in told)) + b"".join(further(it) for it in kinds)
@@ -253,6 +255,9 @@ def run_bad_paths(tests):
     with tests.working_copy() as root:
         lay_out(root, ["a", "d/e/f", ".hg/"])
         tests.compare("a bad path between others", tests.run(root, ("add", "gone", "/a", "a")), (1, b"", lines("add gone: no such file", "add /a: bad path") + further(ABSOLUTE)))
+        for words, said in ((("/a", "../b"), ["copy /a: bad path"]), (("a", "../b"), ["copy ../b: bad path"]), (("", "b"), ["copy : bad path"]), (("a", "d/"), ["copy d/: bad path"])):
+            kind = {"/": ABSOLUTE, ".": OUTSIDE, "d": DIRECTORY, ":": EMPTY}[said[0][5]]
+            tests.compare(f"bad paths: copy {words!r}", tests.run(root, ("copy", *words)), (1, b"", lines(*said) + further(kind)))
         tests.compare("no path is bad", tests.run(root, ("add", "d", "a")), (1, b"", lines("add d: not a file")))
         tests.compare("a bad path, and what stands before it stopped the command", tests.run(root, ("add", "/a", "-x")), (255, b"", aborted("wrong arguments")))
 

@@ -1,5 +1,5 @@
 -- Where nobody else touches a word's path, nor what the first parent has of it, `remove` refuses it exactly as one moment says.
-use Rattle.std.proofs.Common.{ℕ, zero, suc, ◌≡◌, ◌≤◌, ◌<◌, ◌+◌, ◌-◌, Bool, true, false, not, ◌&&◌, ◌||◌, cond, List, Option, Some, None, Result, Ok, Err, option_map, inl, inr, refl, sym, ap, ◌∙◌, subst, arith}
+use Rattle.std.proofs.Common.{ℕ, zero, suc, ◌≡◌, ◌⊎◌, ◌≤◌, ◌<◌, ◌+◌, ◌-◌, Bool, true, false, not, ◌&&◌, ◌||◌, cond, List, Option, Some, None, Result, Ok, Err, option_map, inl, inr, refl, sym, ap, ◌∙◌, subst, arith}
 use Rattle.std.specs.Prelude.{IsTrue, IfSome, MatchBool, is_some}
 use Rattle.hg_base.specs.PathText.{is_path}
 use Rattle.hg_base.specs.declared.stat.Stat.{Stat}
@@ -65,11 +65,11 @@ module _ (old mid new : History) (path : List ℕ) (looks : Passes old mid) (pas
 
 module _ (path : List ℕ) (old mid : History) (s : Span) (before : Stat) (looks : Passes old mid) (told : IsTrue old.told) (stays : StaysShown old mid path) (reads : shelves.Passes s.old s.new)
     (keeps : KeepsRow s.new s.old.last s.id path) (shown : stat_at (now old) path ≡ Some before) where
-  files : shelves.Files
+  abbrev files : shelves.Files
   files = (shelves.now s.old).files
 
-  placed : Option Placed
-  placed = (now old).things path
+  abbrev stood : Option Placed
+  stood = (now old).things path
 
   held : IsTrue s.old.told
   held = sym reads.past.told ∙ keeps.told
@@ -85,8 +85,8 @@ module _ (path : List ℕ) (old mid : History) (s : Span) (before : Stat) (looks
   file_stays rows row read has =
       subst (λ (o : Option FileRow). IfSome o (λ row. KeepsFile s.new s.old.last (contents_name row.id.0))) has (contents_kept s rows path reads keeps (manifest_then s rows path reads keeps read))
 
-  equal : FileRow → Bool
-  equal row = is_unchanged (Some (parent_row row (files (contents_name row.id.0)))) placed
+  abbrev equal : FileRow → Bool
+  equal row = is_unchanged (Some (parent_row row (files (contents_name row.id.0)))) stood
 
   settled : stat_at (now mid) path ≡ Some before
   settled = stays.stat mid.last looks.past.later (omega arith) ∙ ap (λ (m : Moment). stat_at m path) (looks.past.stay old.last (omega arith)) ∙ shown
@@ -103,13 +103,13 @@ module _ (path : List ℕ) (old mid : History) (s : Span) (before : Stat) (looks
           (decides (compared path row old mid s.old s.new) row before (files (contents_name row.id.0)) (Ok a_look.Gone) looks (is.alike, none) told held stays
           (keeps_stays s.old s.new (contents_name row.id.0) reads (file_stays rows row read has)) shown)
 
-  pub unchanged_is : IsUnchangedFile path old mid s before → is_unchanged (parent_rows files s.id path) placed ≡ true
-  unchanged_is is = ap (λ (o : Option ParentRow). is_unchanged o placed) (row_is is.rows is.row is.read is.has) ∙ as_row is.rows is.row is.read is.has is.seen
+  pub unchanged_is : IsUnchangedFile path old mid s before → is_unchanged (parent_rows files s.id path) stood ≡ true
+  unchanged_is is = ap (λ (o : Option ParentRow). is_unchanged o stood) (row_is is.rows is.row is.read is.has) ∙ as_row is.rows is.row is.read is.has is.seen
 
-  unlike : (rows : Rows) → IsManifest s rows → (o : Option FileRow) → row_at rows path ≡ o → IsUnlikeRow path old mid s before o → is_unchanged (parent_rows files s.id path) placed ≡ false
-  unlike rows read None has seen = ap (λ (o : Option ParentRow). is_unchanged o placed) (rows_are rows read ∙ ap (λ (o : Option FileRow). option_map (λ row. parent_row row (files (contents_name row.id.0))) o) has)
+  unlike : (rows : Rows) → IsManifest s rows → (o : Option FileRow) → row_at rows path ≡ o → IsUnlikeRow path old mid s before o → is_unchanged (parent_rows files s.id path) stood ≡ false
+  unlike rows read None has seen = ap (λ (o : Option ParentRow). is_unchanged o stood) (rows_are rows read ∙ ap (λ (o : Option FileRow). option_map (λ row. parent_row row (files (contents_name row.id.0))) o) has)
   unlike rows read (Some row) has seen =
-      ap (λ (o : Option ParentRow). is_unchanged o placed) (row_is rows row read has)
+      ap (λ (o : Option ParentRow). is_unchanged o stood) (row_is rows row read has)
       ∙ decides (compared path row old mid s.old s.new) row before (files (contents_name row.id.0)) (Ok a_look.Differs) looks (differs seen) told held stays
       (keeps_stays s.old s.new (contents_name row.id.0) reads (file_stays rows row read has)) shown
     where
@@ -122,12 +122,12 @@ module _ (path : List ℕ) (old mid : History) (s : Span) (before : Stat) (looks
           by true is = inr (is, other)
           by false is = inl is
 
-  pub changed_is : IsChangedFile path old mid s before → is_unchanged (parent_rows files s.id path) placed ≡ false
+  pub changed_is : IsChangedFile path old mid s before → is_unchanged (parent_rows files s.id path) stood ≡ false
   changed_is is = unlike is.rows is.read (row_at is.rows path) refl is.seen
 
 -- ---- the letter M
 
-chain : Bool → Bool → Bool → Bool → Bool → Bool → Bool
+abbrev chain : Bool → Bool → Bool → Bool → Bool → Bool → Bool
 chain w p1 p2 copied there same =
     is_modified
     (cond w (Some (cond (not there) a_letter.Gone (cond p2 a_letter.M (cond (not p1) a_letter.A (cond copied a_letter.M (cond same a_letter.C a_letter.M))))))
@@ -135,11 +135,9 @@ chain w p1 p2 copied there same =
 
 chain_is : (row : Option ParentRow) (entry : EntryData) (copied : Bool) (placed : Option Placed)
     → is_modified (tracked_letter row (marks_of entry) copied placed) ≡ chain entry.w entry.p1 entry.p2 copied (is_file_or_link placed) (is_unchanged row placed)
-unfolding chain
 chain_is row entry copied placed = refl
 
 chain_by : (w p1 p2 copied there same : Bool) → w ≡ true → (not p1 && not p2) ≡ false → chain w p1 p2 copied there same ≡ (there && not ((w && p1 && not p2 && not copied) && same))
-unfolding chain
 chain_by true p1 p2 copied false same is some = refl
 chain_by true true true copied true same is some = refl
 chain_by true false true copied true same is some = refl
@@ -165,9 +163,9 @@ pub record IsEarly (after : Bool) (word : List ℕ) (t : Table) : Type 0 where
 
 entry_early : (after w added : Bool) → cond w (cond (not after && added) (Some a_refusal.Added) None) (Some a_refusal.NotTracked) ≡ None → (w ≡ true) × (after ≡ false → added ≡ false)
 entry_early after false added is = absurd (cc is)
-entry_early true true added is = (refl, λ no. absurd (cc no))
+entry_early true true added is = (refl, λ never. absurd (cc never))
 entry_early false true true is = absurd (cc is)
-entry_early false true false is = (refl, λ no. refl)
+entry_early false true false is = (refl, λ never. refl)
 
 pub early_none : (after : Bool) (word : List ℕ) (t : Table) → early_refusal after word t ≡ None → IsEarly after word t
 early_none after word t is = by (is_path word) refl (t.entries word) refl is
@@ -190,23 +188,23 @@ thing_file a_thing.Other mtime = refl
 module _ (after : Bool) (word : List ℕ) (t : Table) (old mid : History) (s : Span) (row : Option ParentRow) (placed : Option Placed) (e : IsEarly after word t) (refused : Option Refusal)
     (same_row : (before : Stat) → option_map (λ (p : Placed). stat_of p.thing p.mtime) placed ≡ Some before → needs_row after word t ≡ true → IsUnchangedFile word old mid s before → is_unchanged row placed ≡ true)
     (other_row : (before : Stat) → option_map (λ (p : Placed). stat_of p.thing p.mtime) placed ≡ Some before → needs_row after word t ≡ true → IsChangedFile word old mid s before → is_unchanged row placed ≡ false) where
-  copied : Bool
+  abbrev copied : Bool
   copied = is_some (t.sources word)
 
   needs_is : after ≡ false → needs_row after word t ≡ is_by_row (Some e.entry) copied
-  needs_is no =
+  needs_is never =
       ap (λ (b : Bool). b && not after && is_by_row (t.entries word) copied) e.path
-      ∙ ap (λ (b : Bool). true && not b && is_by_row (t.entries word) copied) no
+      ∙ ap (λ (b : Bool). true && not b && is_by_row (t.entries word) copied) never
       ∙ ap (λ (o : Option EntryData). is_by_row o copied) e.has
 
-  modified : Bool
+  abbrev modified : Bool
   modified = is_modified (tracked_letter row (marks_of e.entry) copied placed)
 
   modified_is : after ≡ false → modified ≡ (is_file_or_link placed && not (is_by_row (Some e.entry) copied && is_unchanged row placed))
-  modified_is no = modified_by row e.entry copied placed e.tracked (e.some no)
+  modified_is never = modified_by row e.entry copied placed e.tracked (e.some never)
 
   -- by whether a file stands there, the flag, and the letter
-  goal : Bool → Bool → Bool → Option Refusal
+  abbrev goal : Bool → Bool → Bool → Option Refusal
   goal there true m = cond there (Some a_refusal.StillThere) None
   goal there false m = cond m (Some a_refusal.Changed) None
 
@@ -214,38 +212,35 @@ module _ (after : Bool) (word : List ℕ) (t : Table) (old mid : History) (s : S
   goal_is = ap (λ (o : Option EntryData). placed_refusal after o copied row placed) e.has ∙ by after
     where
       by : (a : Bool) → placed_refusal a (Some e.entry) copied row placed ≡ goal (is_file_or_link placed) a modified
-      unfolding goal, modified
       by true = refl
       by false = refl
 
   nothing : (a : Bool) → after ≡ a → is_file_or_link placed ≡ false → goal (is_file_or_link placed) a modified ≡ None
-  unfolding goal
   nothing true is none = ap (λ (b : Bool). cond b (Some a_refusal.StillThere) None) none
   nothing false is none =
       ap (λ (b : Bool). cond b (Some a_refusal.Changed) None)
       (modified_is is ∙ ap (λ (b : Bool). b && not (is_by_row (Some e.entry) copied && is_unchanged row placed)) none)
 
   letter : (there needs same : Bool) → after ≡ false → is_file_or_link placed ≡ there → is_by_row (Some e.entry) copied ≡ needs → is_unchanged row placed ≡ same → modified ≡ (there && not (needs && same))
-  letter there needs same no is by_row unchanged =
-      modified_is no
+  letter there needs same never is by_row unchanged =
+      modified_is never
       ∙ ap (λ (b : Bool). b && not (is_by_row (Some e.entry) copied && is_unchanged row placed)) is
       ∙ ap (λ (b : Bool). there && not (b && is_unchanged row placed)) by_row
       ∙ ap (λ (b : Bool). there && not (needs && b)) unchanged
 
   by_row_refused : (before : Stat) → option_map (λ (p : Placed). stat_of p.thing p.mtime) placed ≡ Some before → after ≡ false → is_file_or_link placed ≡ true → needs_row after word t ≡ true → (r : Option Refusal) → RefusesByRow word old mid s before r
       → r ≡ cond modified (Some a_refusal.Changed) None
-  by_row_refused before shown no file needs None is =
-      sym (ap (λ (b : Bool). cond b (Some a_refusal.Changed) None) (letter true true true no file (sym (needs_is no) ∙ needs) (same_row before shown needs is)))
-  by_row_refused before shown no file needs (Some a_refusal.Changed) is =
-      sym (ap (λ (b : Bool). cond b (Some a_refusal.Changed) None) (letter true true false no file (sym (needs_is no) ∙ needs) (other_row before shown needs is)))
-  by_row_refused before shown no file needs (Some refusal) is = absurd is
+  by_row_refused before shown never file needs None is =
+      sym (ap (λ (b : Bool). cond b (Some a_refusal.Changed) None) (letter true true true never file (sym (needs_is never) ∙ needs) (same_row before shown needs is)))
+  by_row_refused before shown never file needs (Some a_refusal.Changed) is =
+      sym (ap (λ (b : Bool). cond b (Some a_refusal.Changed) None) (letter true true false never file (sym (needs_is never) ∙ needs) (other_row before shown needs is)))
+  by_row_refused before shown never file needs (Some refusal) is = absurd is
 
   letter_marked : (same : Bool) → after ≡ false → is_file_or_link placed ≡ true → is_by_row (Some e.entry) copied ≡ false → is_unchanged row placed ≡ same → modified ≡ true
-  letter_marked same no file by_row unchanged = letter true false same no file by_row unchanged
+  letter_marked same never file by_row unchanged = letter true false same never file by_row unchanged
 
   there : (before : Stat) → option_map (λ (p : Placed). stat_of p.thing p.mtime) placed ≡ Some before → is_file_or_link placed ≡ true → (a : Bool) → after ≡ a → (needs : Bool) → needs_row after word t ≡ needs
       → MatchBool a (refused ≡ Some a_refusal.StillThere) (MatchBool needs (RefusesByRow word old mid s before refused) (refused ≡ Some a_refusal.Changed)) → refused ≡ goal (is_file_or_link placed) a modified
-  unfolding goal
   there before shown file true is needs needs_are refuses = refuses ∙ sym (ap (λ (b : Bool). cond b (Some a_refusal.StillThere) None) file)
   there before shown file false is true needs_are refuses = by_row_refused before shown is file needs_are refused refuses
   there before shown file false is false needs_are refuses =
@@ -261,8 +256,8 @@ module _ (after : Bool) (word : List ℕ) (t : Table) (old mid : History) (s : S
 
   pub placed_refused : (shown : Option Stat) → shown ≡ option_map (λ (p : Placed). stat_of p.thing p.mtime) placed → ((before : Stat) → shown ≡ Some before → is_file before.kind ≡ is_file_or_link placed) → (shown ≡ None → is_file_or_link placed ≡ false)
       → RefusesShown after (needs_row after word t) word old mid s shown refused → refused ≡ placed_refusal after (t.entries word) copied row placed
-  placed_refused None shown kind no refuses = of_goal (refuses ∙ sym (nothing after refl (no refl)))
-  placed_refused (Some before) shown kind no refuses =
+  placed_refused None shown kind never refuses = of_goal (refuses ∙ sym (nothing after refl (never refl)))
+  placed_refused (Some before) shown kind never refuses =
       of_goal
       (file_or_none before (sym shown) (is_file_or_link placed) refl
       (subst (λ (b : Bool). MatchBool b (RefusesFile after (needs_row after word t) word old mid s before refused) (refused ≡ None)) (kind before refl) refuses))

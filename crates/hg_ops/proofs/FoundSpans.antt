@@ -1,7 +1,7 @@
 -- What was found in a part of a call was found in the call.
-use Rattle.std.proofs.Common.{ℕ, ◌≡◌, ◌≤◌, ◌⊎◌, Bool, true, false, List, Option, Some, None, option_map, inl, inr, refl, sym, ap, ◌∙◌, subst, arith}
+use Rattle.std.proofs.Common.{ℕ, ◌≡◌, ◌≤◌, ◌⊎◌, Bool, true, false, List, [], ◌++◌, append-nil, Option, Some, None, Result, Ok, Err, option_map, inl, inr, replicate, refl, sym, ap, ◌∙◌, subst, arith}
 use Rattle.std.specs.Option.{option_and_then}
-use Rattle.std.specs.Prelude.{IsTrue, MatchBool}
+use Rattle.std.specs.Prelude.{IfErr, IfOk, IsTrue, MatchBool, OnErr}
 use Rattle.hg_base.specs.declared.stat.Stat.{Stat}
 use Rattle.hg_base.specs.declared.time.Time.{Time}
 use Rattle.hg_compare.specs.Alike.{is_alike}
@@ -11,19 +11,20 @@ use Rattle.hg_compare.proofs.Counting.{pieces_none}
 use Rattle.hg_compare.proofs.Spans.{Parts, bytes_first, bytes_second, first_of, held_first, held_second, nothing_second, other_second, parts_of, second_of, shown_first}
 use Rattle.hg_entry.specs.Steps.{is_file}
 use Rattle.hg_manifest.specs.declared.row.FileRow.{FileRow}
-use Rattle.hg_ops.specs.Finding.{FindsBy, FindsByRow, FindsIn, FindsShown, FindsThere, MetBy}
+use Rattle.hg_ops.specs.Finding.{Finds, FindsBy, FindsByRow, FindsIn, FindsShown, FindsThere, MetBy}
 use Rattle.hg_ops.specs.Look.{WasShown}
-use Rattle.hg_ops.specs.Parent.{Span}
+use Rattle.hg_ops.specs.Parent.{Span, upto}
 use Rattle.hg_ops.specs.Parents.{row_at}
 use Rattle.hg_ops.specs.Remove.{MetRemoving, NeedsRow, ReadsWord, WasGone, compared}
 use Rattle.hg_ops.specs.declared.finding.Found.{Found}
 use Rattle.hg_ops.specs.declared.finding.Found.TheVariants as a_find
 use Rattle.hg_ops.specs.declared.refusal.OpFault.{OpFault}
 use Rattle.hg_ops.specs.declared.refusal.OpFault.TheVariants as a_fault
+use Rattle.hg_ops.proofs.Added.{shown_last}
 use Rattle.hg_shelf.specs.History as shelves
 use Rattle.hg_shelf.specs.Reads.{size_of}
 use Rattle.hg_shelf.proofs.Histories as shelf
-use Rattle.hg_tree.specs.History.{Extends, History, IsOurs, Passes, now}
+use Rattle.hg_tree.specs.History.{Asks, Extends, History, IsOurs, Passes, now}
 use Rattle.hg_tree.specs.Moment.{Moment, bytes_at, bytes_of, stat_at, stat_of}
 use Rattle.hg_tree.specs.declared.asked.Asked.TheVariants as an_ask
 use Rattle.hg_tree.specs.declared.asked.Asked.{Asked}
@@ -34,7 +35,7 @@ use Rattle.hg_tree.proofs.Spans.{ours_first, ours_unstepped, passes_same, passes
 
 -- ---- a comparison with a row
 
-size_first : (p : Parts) (size : ℕ) → HasSize (first_of p) size → HasSize p.whole size
+pub size_first : (p : Parts) (size : ℕ) → HasSize (first_of p) size → HasSize p.whole size
 size_first p size had = held_first p (λ file. size_of file ≡ Some size) had
 
 size_second : (p : Parts) (size : ℕ) → HasSize (second_of p) size → HasSize p.whole size
@@ -56,7 +57,7 @@ other_first p other = record {
   differ = other.differ;
 }
 
-is_other_first : (p : Parts) (before : Stat) → IsOther (first_of p) before → IsOther p.whole before
+pub is_other_first : (p : Parts) (before : Stat) → IsOther (first_of p) before → IsOther p.whole before
 is_other_first p before (inl size) = inl (record { number = size.number; had = size_first p size.number size.had; other = size.other })
 is_other_first p before (inr bytes) = inr (other_first p bytes)
 
@@ -156,9 +157,9 @@ pub nothing_found : (after needs : Bool) (path : List ℕ) (old mid new : Histor
     → FindsThere after needs path old new s before found → found ≡ a_find.Nothing → IsTrue old.told → WasGone old new path
 nothing_found after needs path old mid new s before found first second shown is none told =
     nothing_there (is_file before.kind) after needs path old new s before found none (passes_trans old mid new first second)
-    (λ no known.
+    (λ never known.
     gone_at old new path mid.last (passes_trans old mid new first second) first.past.later second.past.later
-    (ap (λ (m : Moment). bytes_at m path) (second.past.stay mid.last (omega arith)) ∙ no_file (now mid) path (Some before) (shown (first.past.told ∙ known)) no))
+    (ap (λ (m : Moment). bytes_at m path) (second.past.stay mid.last (omega arith)) ∙ no_file (now mid) path (Some before) (shown (first.past.told ∙ known)) never))
     is told
 
 -- ---- that it was shown
@@ -172,7 +173,7 @@ shown_longer a b c path shown second was = record {
   shown_first = λ ours. was.shown_first (ours_first a b c second ours);
 }
 
-pub need_longer : (needs : Bool) (path : List ℕ) (a b c : History) → Extends b c → NeedsRow needs path a b → NeedsRow needs path a c
+abbrev pub need_longer : (needs : Bool) (path : List ℕ) (a b c : History) → Extends b c → NeedsRow needs path a b → NeedsRow needs path a c
 need_longer needs path a b c second need = record {
   decides = need.decides;
   stat = need.stat;
@@ -206,10 +207,10 @@ pub met_longer : (needs : Bool) (path : List ℕ) (a b c : History) (s : Span) (
 met_longer needs path a b c s a_fault.OutOfMemory second met = met
 met_longer needs path a b c s a_fault.TreeFailed second met = met
 met_longer needs path a b c s a_fault.ShelfFailed second met = need_longer needs path a b c second met
-met_longer needs path a b c s (a_fault.NoManifest lost) second met = (need_longer needs path a b c second met.0, met.1, met.2, met.3)
-met_longer needs path a b c s (a_fault.ManifestTooLarge size) second met = (need_longer needs path a b c second met.0, met.1, met.2, met.3)
-met_longer needs path a b c s (a_fault.ManifestLine line) second met = (need_longer needs path a b c second met.0, met.1, met.2)
-met_longer needs path a b c s (a_fault.ManifestOrder line) second met = (need_longer needs path a b c second met.0, met.1, met.2)
+met_longer needs path a b c s (a_fault.NoManifest lost) second met = (need_longer needs path a b c second met.0, met.1)
+met_longer needs path a b c s (a_fault.ManifestTooLarge size) second met = (need_longer needs path a b c second met.0, met.1)
+met_longer needs path a b c s (a_fault.ManifestLine line) second met = (need_longer needs path a b c second met.0, met.1)
+met_longer needs path a b c s (a_fault.ManifestOrder line) second met = (need_longer needs path a b c second met.0, met.1)
 met_longer needs path a b c s (a_fault.NoContents lost) second met = record {
   need = need_longer needs path a b c second met.need;
   rows = met.rows;
@@ -240,4 +241,51 @@ met_behind needs path old new s before (a_fault.NoContents lost) decides file wa
   names = met.file.names;
   alike = met.file.alike;
   absent = met.file.absent;
+}
+
+-- ---- behind a look
+
+pub asked_nothing : (answered : Bool) (old new : History) → Asks answered [] old new → new.asked ≡ old.asked
+asked_nothing answered old new (inl is) = is ∙ append-nil old.asked
+asked_nothing answered old new (inr both) = both.1
+
+module _ (after needs : Bool) (path : List ℕ) (old mid new : History) (later : shelves.History) (before : Stat) (P : Span → Type 0) (first : Passes old mid) (second : Passes mid new)
+    (shown : IsTrue old.told → Some before ≡ stat_at (now mid) path) where
+  was : IsTrue old.told → WasShown old new path (Some before)
+  was told = shown_longer old mid new path (Some before) second.past (shown_last old mid path (Some before) first (shown told))
+
+  pub find_found : (result : Result Found OpFault) → ((s : Span) → P s → shelves.Passes s.old later) → IfOk result (λ found. (s : Span) → P s → FindsThere after needs path mid new (upto s later) before found)
+      → IfOk result (λ found. (s : Span) → P s → Finds after needs path old new (upto s later) found)
+  find_found (Err fault) reads there = tt
+  find_found (Ok found) reads there = λ s keeps.
+      let seen = there_second after needs path old mid new (upto s later) before found first second (reads s keeps) (there s keeps) in
+      record {
+        shown = Some before;
+        was_shown = was;
+        seen = seen;
+        gone = λ none told. nothing_found after needs path old mid new (upto s later) before found first second (λ known. shown (sym first.past.told ∙ known)) seen none told;
+      }
+
+  pub find_met : (result : Result Found OpFault) → IfErr result (λ fault. (s : Span) → P s → MetBy (upto s later) path before fault) → OnErr result ((needs ≡ true) × (is_file before.kind ≡ true))
+      → IfErr result (λ fault. (s : Span) → P s → MetRemoving needs path old new (upto s later) fault)
+  find_met (Ok found) met compared = tt
+  find_met (Err fault) met compared = λ s keeps. met_behind needs path old new (upto s later) before fault compared.0 compared.1 was (met s keeps)
+
+  pub find_need : needs ≡ true → is_file before.kind ≡ true → NeedsRow needs path old new
+  find_need decides file = record { decides = decides; stat = before; file = file; was = was }
+
+  pub find_reads : needs ≡ true → is_file before.kind ≡ true → (IsTrue old.told → mid.asked ≡ old.asked) → (IsTrue mid.told → Reads before.size path mid new) → ReadsWord needs path old new
+  find_reads decides file same reads = record {
+    size = before.size;
+    asked = λ told. let r = reads (first.past.told ∙ told) in record { pieces = r.pieces; few = r.few; asked = subst (λ (l : List Asked). new.asked ≡ l ++ replicate r.pieces (an_ask.Read path)) (same told) r.asked };
+    needed = inr (record { decides = decides; stat = before; file = file; was = was }, refl);
+  }
+
+-- a look that showed nothing
+pub find_nothing : (after needs : Bool) (path : List ℕ) (old new : History) (s : Span) → Passes old new → (IsTrue old.told → None ≡ stat_at (now new) path) → Finds after needs path old new s a_find.Nothing
+find_nothing after needs path old new s passes shown = record {
+  shown = None;
+  was_shown = λ told. shown_last old new path None passes (shown told);
+  seen = refl;
+  gone = λ none told. gone_at old new path new.last passes passes.past.later (omega arith) (no_file (now new) path None (shown told) tt);
 }

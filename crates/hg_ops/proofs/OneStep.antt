@@ -72,7 +72,7 @@ untracked_one path (Some entry) was a b p q = by_parents (entry.p1 || entry.p2) 
     by_parents true p q = both_same a b (after_untracked path entry was) p q
     by_parents false p q = pruned_one path (after_clear path was) a b p q
 
-forgotten_one : (word : List ℕ) (refused : Option Refusal) (was a b : Table) → IsForgotten word refused was a → IsForgotten word refused was b → IsSame a b
+pub forgotten_one : (word : List ℕ) (refused : Option Refusal) (was a b : Table) → IsForgotten word refused was a → IsForgotten word refused was b → IsSame a b
 forgotten_one word (Some refusal) was a b p q = both_same a b was p q
 forgotten_one word None was a b p q = untracked_one word (was.entries word) was a b p q
 

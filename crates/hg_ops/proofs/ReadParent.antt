@@ -221,3 +221,13 @@ met_load s path before (a_fault.ManifestTooLarge size) lacks = lacks
 met_load s path before (a_fault.ManifestLine line) lacks = lacks
 met_load s path before (a_fault.ManifestOrder line) lacks = lacks
 met_load s path before (a_fault.NoContents gone) lacks = absurd lacks
+
+-- ---- at the ends of the calls
+
+pub always : {T E : Type 0} (r : Result T E) (P : Type 0) → P → OnOk r P
+always (Ok x) P is = is
+always (Err e) P is = tt
+
+pub always_failed : {T E : Type 0} (r : Result T E) (P : Type 0) → P → IfErr r (λ e. P)
+always_failed (Ok x) P is = tt
+always_failed (Err e) P is = is

@@ -1,7 +1,7 @@
 -- What `copy` makes of a table and of a working copy, by its two words (Mercurial help, copy).
-use Rattle.std.specs.Prelude.{ℕ, suc, ◌≡◌, ◌≤◌, ◌<◌, ◌+◌, ◌⊎◌, Bool, true, false, not, ◌&&◌, ◌||◌, if◌then◌else◌, IsTrue, List, [], ◌∷◌, length, take, drop, Option, Some, None, is_some, option_map, MatchOption}
+use Rattle.std.specs.Prelude.{ℕ, ◌≡◌, ◌⊎◌, Bool, true, false, not, ◌&&◌, ◌||◌, if◌then◌else◌, IsTrue, List, [], ◌∷◌, Option, Some, None, is_some, MatchOption}
 use Rattle.std.specs.Str.{bytes_eq}
-use Rattle.hg_base.specs.PathText.{is_below, is_path}
+use Rattle.hg_base.specs.PathText.{is_path}
 use Rattle.hg_base.specs.declared.stat.Stat.{Stat}
 use Rattle.hg_compare.specs.Same.{Reads}
 use Rattle.hg_entry.specs.Entry.{EntryData}
@@ -9,6 +9,8 @@ use Rattle.hg_entry.specs.Table.{Table}
 use Rattle.hg_mixed.specs.Clash.{IsLeast, clashes}
 use Rattle.hg_mixed.specs.Edits.{ArePlacedAsBefore, IsSame, PlacesCopy, after_copy}
 use Rattle.hg_mixed.specs.Held.{Held, table}
+use Rattle.hg_ops.specs.Parts.{CutsShort, HasCopy, PutsParts, WasPut}
+use Rattle.hg_ops.specs.Seen.{At, During, IsTaken, IsVacant, Known, WasStat}
 use Rattle.hg_ops.specs.Step.{after_add, is_tracked, thing_refusal}
 use Rattle.hg_ops.specs.declared.copy_refusal.CopyRefusal.{CopyRefusal}
 use Rattle.hg_ops.specs.declared.copy_refusal.CopyRefusal.TheVariants as a_word
@@ -16,10 +18,9 @@ use Rattle.hg_ops.specs.declared.refusal.OpFault.{OpFault}
 use Rattle.hg_ops.specs.declared.refusal.OpFault.TheVariants as a_fault
 use Rattle.hg_ops.specs.declared.refusal.Refusal.{Refusal}
 use Rattle.hg_ops.specs.declared.refusal.Refusal.TheVariants as a_refusal
-use Rattle.hg_tree.specs.History.{History, Extends, IsOurs, Passes, now, us}
-use Rattle.hg_tree.specs.Moment.{Moment, Things, bytes_at, is_dir, stat_at}
-use Rattle.hg_tree.specs.Own.{CannotPut, IsBarred, IsPut, IsPutInPart}
-use Rattle.hg_tree.specs.Touched.{ChangesOnly, TouchesOnly}
+use Rattle.hg_tree.specs.History.{History, Extends, IsOurs, Passes, now}
+use Rattle.hg_tree.specs.Moment.{stat_at}
+use Rattle.hg_tree.specs.Touched.{ChangesOnly}
 
 -- ---- the table
 
@@ -54,24 +55,6 @@ PlacesCopied from to None old new = PlacesCopy to ((table old).sources to ≡ co
 
 -- ---- refusals
 
--- how something that is so at a moment is known: at one moment, or at some moment of a call
-abbrev pub Known : Type 1
-Known = (Moment → Type 0) → Type 0
-
-abbrev pub At : Moment → Known
-At moment so = so moment
-
--- at a moment of a call it was so
-pub record Was (old new : History) (so : Moment → Type 0) : Type 0 where
-  pub moment : ℕ
-  pub later : old.last ≤ moment
-  pub upto : moment ≤ new.last
-  pub is : so (new.at moment)
-
--- the same of a tree that tells its moments
-abbrev pub During : History → History → Known
-During old new so = IsTrue old.told → Was old new so
-
 -- why two words and a table are refused before the first look
 abbrev pub words_refusal : List ℕ → List ℕ → Table → Option CopyRefusal
 words_refusal from to t =
@@ -80,19 +63,6 @@ words_refusal from to t =
     then (if is_tracked t from then None else Some (a_word.Source a_refusal.NotTracked))
     else Some (a_word.Target a_refusal.BadPath))
     else Some (a_word.Source a_refusal.BadPath)
-
--- something stands at a path, or above it something that isn't a directory
-abbrev pub IsTaken : List ℕ → Moment → Type 0
-IsTaken path moment = (is_some (moment.things path) ≡ true) ⊎ IsBarred path moment.things
-
--- what is there of the directories above a path is a directory
-abbrev pub IsDirOrNone : List ℕ → Moment → Type 0
-IsDirOrNone dir moment = is_some (moment.things dir) ≡ true → is_dir (moment.things dir) ≡ true
-
--- nothing stands at a path, and nothing but directories above it
-pub record IsVacant (path : List ℕ) (Knows : Known) : Type 0 where
-  pub here : Knows (λ moment. moment.things path ≡ None)
-  pub above : (dir : List ℕ) → is_below dir path ≡ true → Knows (IsDirOrNone dir)
 
 -- a target isn't tracked, and nothing keeps a file from being made there
 pub record IsUnused (to : List ℕ) (t : Table) (Knows : Known) : Type 0 where
@@ -122,32 +92,6 @@ RefusesCopy from to t Knows refused = MatchOption (words_refusal from to t) (Ref
 
 -- ---- the working copy
 
--- bytes stand at a place of a path
-abbrev pub HasPart : ℕ → List ℕ → Option (List ℕ) → Type 0
-HasPart place part None = ⊥
-HasPart place part (Some bytes) = part ≡ take (length part) (drop place bytes)
-
--- a part of what stood at the source at a moment of a call, at its place in it, and within so many bytes; of no bytes this says nothing
-pub record IsPart (from : List ℕ) (old new : History) (size place : ℕ) (part : List ℕ) : Type 0 where
-  pub within : place + length part ≤ size
-  pub read : (part ≡ []) ⊎ Was old new (λ moment. HasPart place part (bytes_at moment from))
-
--- a step puts a part of the source at the target, at its place in the source, with the source's kind and executable bit and within its size as a look
--- showed them; or a front of the part, where the `put` failed
-pub record PutsPart (from to : List ℕ) (stat : Stat) (old new : History) (before after : Moment) : Type 0 where
-  pub place : ℕ
-  pub part : List ℕ
-  pub source : IsPart from old new stat.size place part
-  pub made : IsPut stat.kind stat.exec place part to before after ⊎ IsPutInPart stat.kind stat.exec place part to before after
-
--- each own step of a span is such a step
-abbrev pub PutsParts : List ℕ → List ℕ → Stat → History → History → Type 0
-PutsParts from to stat old new = (k : ℕ) → old.last ≤ k → k < new.last → new.who k ≡ us → PutsPart from to stat old new (new.at k) (new.at (suc k))
-
--- a moment of a call showed this at a path
-abbrev pub WasStat : List ℕ → Stat → History → History → Type 0
-WasStat path stat old new = Was old new (λ moment. stat_at moment path ≡ Some stat)
-
 -- the caller made no step and read nothing, or a look showed the source, and then nothing was read but the source, in no more pieces of 65,536 bytes than it had
 -- by that look, and each own step put a part of it
 pub record WorksBy (from to : List ℕ) (stat : Stat) (old new : History) : Type 0 where
@@ -175,23 +119,10 @@ pub record Looked (from to : List ℕ) (t : Table) (before after : History) (ref
   pub passes : Passes before after
   pub refusal : RefusesCopy from to t (During before after) refused
 
--- a part of the source was put at this place, behind a moment of the call
-pub record WasPut (from to : List ℕ) (stat : Stat) (place : ℕ) (before mid after : History) : Type 0 where
-  pub step : ℕ
-  pub later : mid.last ≤ step
-  pub within : step < after.last
-  pub by_us : after.who step ≡ us
-  pub part : List ℕ
-  pub source : IsPart from before after stat.size place part
-  pub made : IsPut stat.kind stat.exec place part to (after.at step) (after.at (suc step))
-
--- how a copy ended that the looks didn't refuse: done, the first put at place 0, or cut short, since neither file nor link was at the source, or the target couldn't be put
+-- how a copy ended that the looks didn't refuse: done, the first part put at place 0, or cut short
 abbrev pub Ends : List ℕ → List ℕ → Stat → History → History → History → Option CopyRefusal → Type 0
 Ends from to stat before mid after None = IsTrue before.told → WasPut from to stat 0 before mid after
-Ends from to stat before mid after (Some (a_word.Source a_refusal.NotThere)) = During mid after (λ moment. bytes_at moment from ≡ None)
-Ends from to stat before mid after (Some (a_word.Target a_refusal.Exists)) =
-    During mid after (λ moment. (place : ℕ) × (part : List ℕ) × CannotPut stat.kind stat.exec place part to moment.things)
-Ends from to stat before mid after (Some refusal) = ⊥
+Ends from to stat before mid after (Some refusal) = IsTrue before.told → CutsShort from to stat mid after refusal
 
 -- the looks didn't refuse a copy, and behind them it was done or cut short
 pub record GoesOn (from to : List ℕ) (t : Table) (before after : History) (refused : Option CopyRefusal) : Type 0 where
@@ -201,11 +132,6 @@ pub record GoesOn (from to : List ℕ) (t : Table) (before after : History) (ref
   pub stat : Stat
   pub shown : IsTrue before.told → WasStat from stat before mid
   pub ends : Ends from to stat before mid after refused
-
--- the target has the source's kind, executable bit and bytes, and all else is as it was, but for directories above the target
-pub record HasCopy (from to : List ℕ) (before after : Moment) : Type 0 where
-  pub here : option_map (λ placed. placed.thing) (after.things to) ≡ option_map (λ placed. placed.thing) (before.things from)
-  pub others : TouchesOnly (to ∷ []) before.things after.things
 
 abbrev pub Leaves : List ℕ → List ℕ → History → History → Option CopyRefusal → Type 0
 Leaves from to before after None = HasCopy from to (now before) (now after)

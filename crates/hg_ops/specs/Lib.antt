@@ -1,12 +1,16 @@
 pub mod Cause
 pub mod Collected
 pub mod Copy
+pub mod Copying
 pub mod Dropping
 pub mod Finding
 pub mod Look
 pub mod Parent
 pub mod Parents
+pub mod Parts
+pub mod Putting
 pub mod Remove
+pub mod Seen
 pub mod Setting
 pub mod Step
 pub mod Untracked

@@ -29,6 +29,7 @@ use Rattle.hg_shelf.specs.declared.asked.Asked.TheVariants as an_ask
 abbrev pub manifest_at : shelf.Files → Id20 → Result Rows ManifestFault
 manifest_at files id = manifest_in id (files (plain_name id.0))
 
+-- the row of a path in what a load answers
 abbrev pub row_among : Result Rows ManifestFault → List ℕ → Option FileRow
 row_among (Ok rows) path = row_at rows path
 row_among (Err fault) path = None

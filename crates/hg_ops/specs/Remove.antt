@@ -44,6 +44,7 @@ entry_refusal after (Some entry) =
 abbrev pub early_refusal : Bool → List ℕ → Table → Option Refusal
 early_refusal after word t = if is_path word then entry_refusal after (t.entries word) else Some a_refusal.BadPath
 
+-- the letter is M
 abbrev pub is_modified : Option Letter → Bool
 is_modified (Some a_letter.M) = true
 is_modified letter = false
@@ -55,6 +56,7 @@ placed_refusal true (Some entry) copied row placed = if is_file_or_link placed t
 placed_refusal false (Some entry) copied row placed =
     if is_modified (tracked_letter row (marks_of entry) copied placed) then Some a_refusal.Changed else None
 
+-- the first of two that is one
 abbrev pub first_refusal : Option Refusal → Option Refusal → Option Refusal
 first_refusal (Some refusal) second = Some refusal
 first_refusal None second = second
@@ -66,6 +68,7 @@ remove_refusal after word t row placed =
 
 -- ---- why a word is refused, by what was seen at moments of a call
 
+-- an entry whose marks, with no copy source, leave it to the row of the first parent whether its file is changed
 abbrev pub is_by_row : Option EntryData → Bool → Bool
 is_by_row None copied = false
 is_by_row (Some entry) copied = entry.w && entry.p1 && not entry.p2 && not copied
@@ -97,12 +100,13 @@ pub record IsUnchangedFile (path : List ℕ) (old new : History) (s : Span) (bef
   pub has : row_at rows path ≡ Some row
   pub seen : IsAsRow (compared path row old new s.old s.new) row before
 
--- it isn't
+-- what a look showed isn't as the first parent has it, or that has no row of the path
 pub record IsChangedFile (path : List ℕ) (old new : History) (s : Span) (before : Stat) : Type 0 where
   pub rows : Rows
   pub read : IsManifest s rows
   pub seen : IsUnlikeRow path old new s before (row_at rows path)
 
+-- so the row decides
 abbrev pub RefusesByRow : List ℕ → History → History → Span → Stat → Option Refusal → Type 0
 RefusesByRow path old new s before None = IsUnchangedFile path old new s before
 RefusesByRow path old new s before (Some a_refusal.Changed) = IsChangedFile path old new s before
@@ -119,6 +123,7 @@ abbrev pub RefusesShown : Bool → Bool → List ℕ → History → History →
 RefusesShown after needs word old new s None refused = refused ≡ None
 RefusesShown after needs word old new s (Some before) refused = MatchBool (is_file before.kind) (RefusesFile after needs word old new s before refused) (refused ≡ None)
 
+-- where nothing recorded refuses the word
 abbrev pub RefusesBehind : Option Refusal → Bool → Bool → List ℕ → History → History → Span → Option Stat → Option Refusal → Type 0
 RefusesBehind (Some refusal) after needs word old new s shown refused = refused ≡ Some refusal
 RefusesBehind None after needs word old new s shown refused = RefusesShown after needs word old new s shown refused
@@ -144,6 +149,34 @@ may_take false (Err fault) = false
 abbrev pub Takes : Bool → List ℕ → History → History → Type 0
 Takes may word old new = MatchBool may (Extends old new × (IsTrue old.told → MayUnlink word old new)) (Passes old new)
 
+-- the first parent's row was needed: nothing else decides, and a look showed a file or a link
+pub record NeedsRow (needs : Bool) (word : List ℕ) (old new : History) : Type 0 where
+  pub decides : needs ≡ true
+  pub stat : Stat
+  pub file : is_file stat.kind ≡ true
+  pub was : IsTrue old.told → WasShown old new word (Some stat)
+
+-- all bytes of a file or a link were seen to be those of the first parent's row
+pub record SeesClean (needs : Bool) (word : List ℕ) (old new : History) (s : Span) : Type 0 where
+  pub need : NeedsRow needs word old new
+  pub rows : Rows
+  pub read : IsManifest s rows
+  pub row : FileRow
+  pub has : row_at rows word ≡ Some row
+  pub alike : is_alike row need.stat ≡ true
+  pub same : IsSame (compared word row old new s.old s.new) need.stat
+
+-- such a file may be taken away behind the look, where nothing recorded refuses the word
+pub record TakesClean (after : Bool) (word : List ℕ) (was : Table) (old mid new : History) (s : Span) : Type 0 where
+  pub early : early_refusal after word was ≡ None
+  pub clean : SeesClean (needs_row after word was) word old mid s
+  pub past : Extends mid new
+  pub taken : IsTrue mid.told → MayUnlink word mid new
+
+-- where a fault is answered nothing is changed, or such a file may be gone
+abbrev pub StopsRemoving : Bool → List ℕ → Table → History → History → Span → Type 0
+StopsRemoving after word was old new s = Passes old new ⊎ ((mid : History) × Passes old mid × TakesClean after word was old mid new s)
+
 -- at a moment of the call neither a file nor a link stood at the path; where nobody else stepped, so it is at the end
 pub record WasGone (old new : History) (path : List ℕ) : Type 0 where
   pub moment : ℕ
@@ -152,11 +185,13 @@ pub record WasGone (old new : History) (path : List ℕ) : Type 0 where
   pub gone_then : bytes_at (new.at moment) path ≡ None
   pub gone_last : IsOurs old new → bytes_at (now new) path ≡ None
 
+-- so where the word isn't refused
 abbrev pub IsGone : List ℕ → History → History → Option Refusal → Type 0
 IsGone word old new (Some refusal) = Unit {0}
 IsGone word old new None = IsTrue old.told → WasGone old new word
 
--- what `remove` made of a word and a table. All that it looked at is told by `mid`, and behind that the file may be taken away. What it read below `.hg`,
+-- what `remove` made of a word and a table. All that it looked at is told by `mid`; behind that a file
+-- that was seen to be the first parent's is taken away, and no other. What it read below `.hg`,
 -- and what was read there before it of the first parent, was so at moments of a span
 pub record Removes (after : Bool) (word : List ℕ) (old new : History) (s : Span) (was : Table) (refused : Option Refusal) (made : Table) : Type 0 where
   pub mid : History
@@ -167,17 +202,11 @@ pub record Removes (after : Bool) (word : List ℕ) (old new : History) (s : Spa
   pub was_shown : IsTrue old.told → WasShown old mid word shown
   pub refusal : RefusesRemove after word was old mid s shown refused
   pub takes : Takes (may_take after (Ok refused)) word mid new
+  pub took : Passes mid new ⊎ ((refused ≡ None) × TakesClean after word was old mid new s)
   pub gone : IsGone word old new refused
   pub table : IsForgotten word refused was made
 
 -- ---- what is asked for, and why a call stops
-
--- the first parent's row was needed: nothing else decides, and a look showed a file or a link
-pub record NeedsRow (needs : Bool) (word : List ℕ) (old new : History) : Type 0 where
-  pub decides : needs ≡ true
-  pub stat : Stat
-  pub file : is_file stat.kind ≡ true
-  pub was : IsTrue old.told → WasShown old new word (Some stat)
 
 -- of the working copy nothing was asked for but bytes of the word's path, and they only where they are compared
 pub record ReadsWord (needs : Bool) (word : List ℕ) (old new : History) : Type 0 where

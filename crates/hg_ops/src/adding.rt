@@ -101,8 +101,8 @@ fn add_shown(
     }
 }
 
-// A path that isn't tracked is tracked, whatever stands there.
-fn track(mixed: &mut Mixed<'_>, path: PathRef<'_>) -> Result<Option<Refusal>, OpFault>
+/// A path that isn't tracked is tracked, whatever stands there.
+pub(crate) fn track(mixed: &mut Mixed<'_>, path: PathRef<'_>) -> Result<Option<Refusal>, OpFault>
     requires { is_tracked (table mixed.old) path.text.now ≡ false }
     ensures refused { IfOk result (RefusesBeside path.entry.text.now (table mixed.old)) }
     ensures table { IfOk result (λ refused. IsSame (table mixed.new) (added path.entry.text.now refused (table mixed.old))) }

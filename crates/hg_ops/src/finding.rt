@@ -278,6 +278,7 @@ fn find_there<T: Tree, S: Shelf>(
     ensures asked { IsTrue (T.history tree.old).told → Reads before.now.size path.entry.text.now (T.history tree.old) (T.history tree.new) }
     ensures needed { ((tree.new ≡ tree.old) × (shelf.new ≡ shelf.old)) ⊎ ((needs ≡ true) × (is_file before.now.kind ≡ true)) }
     ensures compared { OnErr result ((needs ≡ true) × (is_file before.now.kind ≡ true)) }
+    ensures never { after ≡ true → IfOk result (λ found. found ≡ a_find.Unchanged → ⊥) }
     ensures cause { HasOpCause (T.faults tree.old) (T.faults tree.new) result }
     ensures cause_shelf { HasStoreCause (S.faults shelf.old) (S.faults shelf.new) result }
 {
@@ -325,6 +326,7 @@ pub(crate) fn find<T: Tree, S: Shelf>(
         → AsksStore (upto s (S.history shelf.new))) }
     ensures asked { ReadsWord needs path.entry.text.now (T.history tree.old) (T.history tree.new) }
     ensures needed { (shelf.new ≡ shelf.old) ⊎ NeedsRow needs path.entry.text.now (T.history tree.old) (T.history tree.new) }
+    ensures never { after ≡ true → IfOk result (λ found. found ≡ a_find.Unchanged → ⊥) }
     ensures cause { HasOpCause (T.faults tree.old) (T.faults tree.new) result }
     ensures cause_shelf { HasStoreCause (S.faults shelf.old) (S.faults shelf.new) result }
 {

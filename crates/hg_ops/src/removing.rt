@@ -7,7 +7,7 @@ ghost use Rattle.hg_mixed.specs.Held.{table};
 ghost use Rattle.hg_ops.specs.Cause.{HasOpCause, LeavesAll};
 ghost use Rattle.hg_ops.specs.Finding.{TakesFound, refusal_of};
 ghost use Rattle.hg_ops.specs.Parent.{AsksStore, HasStoreCause, KeepsParent, Span, upto};
-ghost use Rattle.hg_ops.specs.Remove.{MetRemoving, NeedsRow, ReadsWord, Removes, Takes, early_refusal, entry_refusal, may_take, needs_row};
+ghost use Rattle.hg_ops.specs.Remove.{MetRemoving, NeedsRow, ReadsWord, Removes, StopsRemoving, Takes, early_refusal, entry_refusal, may_take, needs_row};
 ghost use Rattle.hg_ops.specs.Step.{IsForgotten};
 ghost use Rattle.hg_ops.specs.Untracked.{PlacesForgotten};
 ghost use Rattle.hg_ops.specs.declared.finding.Found.TheVariants as a_find;
@@ -74,6 +74,10 @@ pub fn remove<T: Tree, S: Shelf>(
         (T.history tree.new)
         (upto s (S.history shelf.new))
         fault) }
+    ensures stopped { IfErr
+        result
+        (λ fault. (s : Span) → KeepsParent (upto s (S.history shelf.old)) parent.old
+        → StopsRemoving after word.now (table mixed.old) (T.history tree.old) (T.history tree.new) (upto s (S.history shelf.new))) }
     ensures unchanged { IfOk result (λ refused. IfSome refused (λ r. IsUnchanged mixed.old mixed.new)) }
     ensures changed { OnOk result (Marks (IsSame (table mixed.new) (table mixed.old)) mixed.old.changed mixed.new.changed) }
     ensures lent { OnOk result (Lends word.now (IsSame (table mixed.new) (table mixed.old)) mixed.old mixed.new) }
@@ -143,6 +147,10 @@ fn remove_path<T: Tree, S: Shelf>(
         (T.history tree.new)
         (upto s (S.history shelf.new))
         fault) }
+    ensures stopped { IfErr
+        result
+        (λ fault. (s : Span) → KeepsParent (upto s (S.history shelf.old)) parent.old
+        → StopsRemoving after path.entry.text.now (table mixed.old) (T.history tree.old) (T.history tree.new) (upto s (S.history shelf.new))) }
     ensures unchanged { IfOk result (λ refused. IfSome refused (λ r. IsUnchanged mixed.old mixed.new)) }
     ensures changed { OnOk result (Marks (IsSame (table mixed.new) (table mixed.old)) mixed.old.changed mixed.new.changed) }
     ensures lent { OnOk result (Lends path.entry.text.now (IsSame (table mixed.new) (table mixed.old)) mixed.old mixed.new) }
@@ -239,6 +247,10 @@ fn remove_tracked<T: Tree, S: Shelf>(
         (T.history tree.new)
         (upto s (S.history shelf.new))
         fault) }
+    ensures stopped { IfErr
+        result
+        (λ fault. (s : Span) → KeepsParent (upto s (S.history shelf.old)) parent.old
+        → StopsRemoving after path.entry.text.now (table mixed.old) (T.history tree.old) (T.history tree.new) (upto s (S.history shelf.new))) }
     ensures unchanged { IfOk result (λ refused. IfSome refused (λ r. IsUnchanged mixed.old mixed.new)) }
     ensures changed { OnOk result (Marks (IsSame (table mixed.new) (table mixed.old)) mixed.old.changed mixed.new.changed) }
     ensures lent { OnOk result (Lends path.entry.text.now (IsSame (table mixed.new) (table mixed.old)) mixed.old mixed.new) }

@@ -5,9 +5,13 @@
 #![tactic(auto)]
 
 #[cfg(test)]
+mod acting;
+#[cfg(test)]
 mod devices;
 #[cfg(test)]
 mod open_files;
+#[cfg(test)]
+mod puts;
 #[cfg(test)]
 mod standing;
 #[cfg(test)]

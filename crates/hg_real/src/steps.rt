@@ -1,4 +1,5 @@
 //! Cases over real files: their steps, one function each.
+use crate::acting::acted;
 use hg_base::{Failed, Got, PathRef, Stat};
 use hg_case_tests::{bytes, none, note, number, print, word};
 use hg_disk::{RealShelf, RealTree, Root};
@@ -360,6 +361,9 @@ fn done(
         "text" | "is" | "rights" => seen(rt, step, answer),
         "stat" | "list" | "contents" | "times" | "later" => {
             above(rt, &mut world.tree, step, answer)
+        }
+        "put" | "many" | "take" | "like" | "alike" | "target" | "told" | "home" => {
+            acted(rt, &mut world.tree, step, answer)
         }
         _ => below(&mut world.one, step, answer),
     }

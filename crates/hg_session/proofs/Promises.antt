@@ -313,12 +313,12 @@ module _ (command : Command) (copy : Watched tree.History) (a b : Course) (befor
   stage_same : (fault : ChangeFault) → MetLocking Does copy call.looked.shelf locks fault → FailsOrUnwritten a.history b.history fault → Tells err (of_change fault)
       → (stage : Stage) × LeavesAt (change_look Does call) out err Tells stage (of_change fault)
   stage_same fault met (inl is) line = (at_saving, ((shelf_fails fault is met, inl (ap of_change is)), (silent, line)))
-  stage_same fault met (inr none) line = (at_first, ((none, (fault, inl refl, met)), silent, line))
+  stage_same fault met (inr none) line = (at_first, ((none, fault, inl refl, met), silent, line))
 
   stage_memory : (fault : ChangeFault) → MetLocking Does copy call.looked.shelf locks fault → FailsOrUnwritten a.history b.history fault → Tells err a_fault.OutOfMemory
       → (stage : Stage) × LeavesAt (change_look Does call) out err Tells stage a_fault.OutOfMemory
   stage_memory fault met (inl is) line = (at_saving, ((shelf_fails fault is met, inr refl), (silent, line)))
-  stage_memory fault met (inr none) line = (at_first, ((none, (fault, inr refl, met)), silent, line))
+  stage_memory fault met (inr none) line = (at_first, ((none, fault, inr refl, met), silent, line))
 
   ran_fault : (status : ℕ) (fault : ChangeFault) (answered : Fault) → LockedBy (Some (of_change fault)) → (answered ≡ of_change fault) ⊎ (answered ≡ a_fault.OutOfMemory) → MetLocking Does copy call.looked.shelf locks fault
       → (Undisturbed a b → IsSafe Does call.saved (Some (of_change fault))) → FailsOrUnwritten a.history b.history fault → (locks.before < locks.after → fault ≡ a_change_fault.Held)

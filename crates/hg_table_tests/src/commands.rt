@@ -1,12 +1,12 @@
-//! Steps of `add` and `forget`, worked by hand.
+//! Steps of `add`, `forget` and `copy`, worked by hand.
 use crate::tables::opened;
-use hg_base::{Blob, PathRef, Stamp, Time};
+use hg_base::{Blob, Got, Kind, PathRef, Stamp, Time};
 use hg_case_tests::{Play, agree, word};
 use hg_docket::Docket;
 use hg_entry::Entry;
 use hg_mixed::Mixed;
-use hg_ops::{OpFault, Refusal, add, forget};
-use hg_tree::{MemTree, Thing};
+use hg_ops::{CopyRefusal, OpFault, Refusal, add, copy, forget};
+use hg_tree::{MemTree, Thing, Tree};
 use std::alloc::Global;
 use std::string::String;
 use std::test::Fail;
@@ -68,13 +68,25 @@ fn forget_word(m: &mut Mixed<'_>, word: &str) -> Result<Option<Refusal>, OpFault
     Ok(forget(m, word)?)
 }
 
-fn place_file(alloc: Global, tree: &mut MemTree, path: &str) -> Result<(), Fail> {
-    let bytes = Blob::of(alloc, b"hello")?;
-    tree.place(
-        PathRef::read(path)?,
-        Thing::File { exec: false, bytes },
-        NOON,
-    )?;
+fn copy_words(
+    alloc: Global,
+    m: &mut Mixed<'_>,
+    tree: &mut MemTree,
+    from: &str,
+    to: &str,
+) -> Result<Option<CopyRefusal>, OpFault> {
+    copy(alloc, m, tree, from, to)
+}
+
+fn place_file(
+    alloc: Global,
+    tree: &mut MemTree,
+    exec: bool,
+    bytes: &[u8],
+    path: &str,
+) -> Result<(), Fail> {
+    let bytes = Blob::of(alloc, bytes)?;
+    tree.place(PathRef::read(path)?, Thing::File { exec, bytes }, NOON)?;
     Ok(())
 }
 
@@ -99,7 +111,7 @@ fn set(m: &mut Mixed<'_>, path: &str, entry: Entry) -> Result<(), Fail> {
     Ok(())
 }
 
-fn copy(m: &mut Mixed<'_>, path: &str, source: &str) -> Result<(), Fail> {
+fn set_source(m: &mut Mixed<'_>, path: &str, source: &str) -> Result<(), Fail> {
     let path = PathRef::read(path)?;
     if m.get(path).is_none() {
         return Err("no entry".into());
@@ -119,8 +131,26 @@ fn tell(refused: Option<Refusal>, answer: &mut String) -> Result<(), Fail> {
             answer.push_str(" clashes:")?;
             answer.push_str(other.as_str())?;
         }
+        Some(Refusal::Changed) => answer.push_str(" changed")?,
+        Some(Refusal::Added) => answer.push_str(" added")?,
+        Some(Refusal::StillThere) => answer.push_str(" still-there")?,
+        Some(Refusal::Exists) => answer.push_str(" exists")?,
     }
     Ok(())
+}
+
+fn tell_copy(refused: Option<CopyRefusal>, answer: &mut String) -> Result<(), Fail> {
+    match refused {
+        None => tell(None, answer),
+        Some(CopyRefusal::Source(refusal)) => {
+            answer.push_str(" source")?;
+            tell(Some(refusal), answer)
+        }
+        Some(CopyRefusal::Target(refusal)) => {
+            answer.push_str(" target")?;
+            tell(Some(refusal), answer)
+        }
+    }
 }
 
 fn put(is_so: bool, name: &str, answer: &mut String) -> Result<(), Fail> {
@@ -142,8 +172,40 @@ fn show(m: &Mixed<'_>, path: &str, answer: &mut String) -> Result<(), Fail> {
     put(item.source.is_some(), " copied", answer)
 }
 
+// The copy source of a path.
+fn source(m: &Mixed<'_>, path: &str, answer: &mut String) -> Result<(), Fail> {
+    let Some(item) = m.get(PathRef::read(path)?) else {
+        return Ok(answer.push_str(" nothing")?);
+    };
+    let Some(source) = item.source else {
+        return Ok(answer.push_str(" none")?);
+    };
+    answer.push_str(" from:")?;
+    Ok(answer.push_str(source.text)?)
+}
+
+// What stands at a path: the kind of a file or link, and its first bytes.
+fn stand(tree: &mut MemTree, path: &str, answer: &mut String) -> Result<(), Fail> {
+    let path = PathRef::read(path)?;
+    let Some(stat) = tree.stat(path)? else {
+        return Ok(answer.push_str(" none")?);
+    };
+    put(stat.kind == Kind::File, " file", answer)?;
+    put(stat.kind == Kind::Link, " link", answer)?;
+    put(stat.exec, "*", answer)?;
+    let mut room = [0u8; 8];
+    match tree.read(path, 0, &mut room)? {
+        Got::Absent => Ok(answer.push_str(" unread")?),
+        Got::Bytes(n) => {
+            answer.push_str(":")?;
+            Ok(answer.push_str(str::from_utf8(&room[..n])?)?)
+        }
+    }
+}
+
 fn look(m: &Mixed<'_>, step: &str, answer: &mut String) -> Result<(), Fail> {
     match word(step, 0) {
+        "from" => source(m, word(step, 1), answer),
         "show" => show(m, word(step, 1), answer),
         "node" => put(m.has_node(PathRef::read(word(step, 1))?), " node", answer),
         "changed" => put(m.changed(), " changed", answer),
@@ -153,7 +215,9 @@ fn look(m: &Mixed<'_>, step: &str, answer: &mut String) -> Result<(), Fail> {
 
 fn lay(alloc: Global, tree: &mut MemTree, kind: &str, path: &str) -> Result<(), Fail> {
     match kind {
-        "file" => place_file(alloc, tree, path),
+        "file" => place_file(alloc, tree, false, b"hello", path),
+        "exec" => place_file(alloc, tree, true, b"hello", path),
+        "empty" => place_file(alloc, tree, false, b"", path),
         "link" => place_link(alloc, tree, path),
         _ => place(tree, kind, path),
     }
@@ -173,8 +237,12 @@ fn done(
         "clean" => set(m, path, CLEAN),
         "gone" => set(m, path, GONE),
         "new" => set(m, path, NEW),
-        "copy" => copy(m, path, word(step, 2)),
+        "source" => set_source(m, path, word(step, 2)),
+        "copy" => tell_copy(copy_words(alloc, m, tree, path, word(step, 2))?, answer),
+        "stand" => stand(tree, path, answer),
         "file" => lay(alloc, tree, "file", path),
+        "exec" => lay(alloc, tree, "exec", path),
+        "empty" => lay(alloc, tree, "empty", path),
         "link" => lay(alloc, tree, "link", path),
         "dir" => lay(alloc, tree, "dir", path),
         "fifo" => lay(alloc, tree, "fifo", path),
@@ -225,6 +293,29 @@ node d; show d/n => node tracked copied
 
 #[test]
 fn forgets(rt: HostRuntime) -> Result<(), Fail> {
-    let before = "clean p; copy p q; new d/n; copy d/n q; ";
+    let before = "clean p; source p q; new d/n; source d/n q; ";
     agree::<Commands>(rt.alloc(), before, FORGETS)
+}
+
+const COPIES: &str = "
+copy a x; show x; from x; stand x => done tracked copied from:a file:hello
+copy b x; show x; stand x => done tracked file:hello
+copy s x; from x => done from:o
+copy s o; show o; stand o => done tracked file:hello
+copy l d/m; from d/m; stand d/m => done from:l link:to
+copy e x; stand x => done file:
+copy r x; stand x => done file*:hello
+copy b y; show y => done tracked parent sized
+copy a//b x; copy a x//y => source bad-path target bad-path
+copy n x; copy m x; copy t x => source not-tracked source not-there source special
+copy a b; copy a u; copy a u/x; copy a t => target exists target exists target exists target exists
+copy a g/x; show g/x; stand g/x => target clashes:g nothing none
+copy a a; changed => target exists changed
+";
+
+#[test]
+fn copies(rt: HostRuntime) -> Result<(), Fail> {
+    let before =
+        "file a; clean a; file b; new b; link l; clean l; file s; clean s; source s o; empty e; clean e; exec r; clean r; clean m; dir t; clean t; file u; clean g; gone y; source y q; ";
+    agree::<Commands>(rt.alloc(), before, COPIES)
 }

@@ -201,7 +201,7 @@ returns-clause-acts g c = λ unset. record {
   acted =
       subst (λ (l : List (List ℕ)). IsActed (codes "remove") (TakesAway c.args.after (span_of (table c.args.mixed.now) (g.S.Shelf.history c.args.shelf.now) (g.S.Shelf.history c.loop-i.shelf))) l
       (record { old = g.T.Tree.history c.args.tree.now; new = g.T.Tree.history c.loop-i.tree; before = g.T.Tree.faults c.args.tree.now; after = g.T.Tree.faults c.loop-i.tree })
-      (table c.args.mixed.now) (table c.loop-i.mixed) c.loop-i.lines.items c.loop-i.mixed.changed) (take_all c.loop-i.i c.args.words.now (omega (arith, c.loop-i-test.false, c.len.ensures))) (c.loop-i.invariant.so_far.acted unset);
+      (table c.args.mixed.now) (table c.loop-i.mixed) c.loop-i.lines.items c.loop-i.mixed.changed) (take_all c.loop-i.i c.args.words.now (omega (arith, c.loop-i-test.false, c.len-i-end.ensures))) (c.loop-i.invariant.so_far.acted unset);
 }
 
 pub returns-clause-asked : goal.returns-clause-asked

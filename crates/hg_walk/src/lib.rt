@@ -1,0 +1,26 @@
+//! Trusted times: which recorded times of files and directories say what a look would show, and what keeps them so.
+//!
+//! A record keeps the time with which a file was seen to be that of the first parent, and the time with which all names in a directory were seen
+//! (Mercurial help page internals.dirstate-v2, `HAS_MTIME` and `ALL_UNKNOWN_RECORDED`). A status that finds the same time again doesn't read the
+//! file, nor list the directory. That is right where times are *honest* (`hg_tree`): a time that had passed when it was shown, and is shown again, is
+//! of the same thing.
+//!
+//! | word | what it says | where |
+//! |---|---|---|
+//! | seen | a moment showed the path with that time, below its clock, and the path was so | `specs/Seeing.antt` |
+//! | trusted | each recorded time that could be taken for a look was seen with what it stands for | `specs/Trust.antt` |
+//! | right | where a time is taken for a look, it says what the look would have shown | `specs/Right.antt` |
+//! | earned | what a walk notes was seen by it | `specs/Notes.antt` |
+//!
+//! Trust is a premise on the history at the start of a call, honesty on that at its end. The functions of this crate are laws: each has an empty
+//! body, and its clause is the law.
+#![tactic(auto)]
+
+mod edits;
+mod laws;
+
+pub use edits::{caches_are_kept, times_are_kept};
+pub use laws::{
+    good_with_notes, listed_is_seen, noted_is_earned, notes_are_trusted, notes_grow,
+    right_in_parts, timeless_are_right, trust_stays, trusted_are_right, worked_case,
+};
