@@ -128,8 +128,12 @@ module _ (call : Call) (is : is_change call.command ≡ true) where
   by_saving fault failed (inr same) = subst (CommandCause call) (sym same) tt
 
   change_left : (fault : Fault) → (stage : Stage) × LeavesAt (change_look (makes_in call) call) call.out call.err Tells stage fault → CommandCause call fault
-  change_left fault (at_first, ((none, f, inl same, met), silent, line)) = subst (CommandCause call) (sym (cc same)) (by_locking f met)
-  change_left fault (at_first, ((none, f, inr memory, met), silent, line)) = subst (CommandCause call) (sym (cc memory)) tt
+  change_left fault (at_first, ((none, f, inl same, met), silent, line)) =
+      let is : fault ≡ of_change f = cc same in
+      subst (CommandCause call) (sym is) (by_locking f met)
+  change_left fault (at_first, ((none, f, inr memory, met), silent, line)) =
+      let is : fault ≡ a_fault.OutOfMemory = cc memory in
+      subst (CommandCause call) (sym is) tt
   change_left fault (at_printing, (never, ready, front, kind, line)) = absurd never
   change_left fault (at_telling, (telling, ready, puts, front, same)) = subst (CommandCause call) (sym same) front.failed
   change_left fault (at_saving, ((failed, kind), left)) = by_saving fault failed.0 kind
