@@ -14,6 +14,7 @@
 #![tactic(auto)]
 
 mod laws;
+mod script;
 mod top;
 
 pub use laws::each_run_is_safe;

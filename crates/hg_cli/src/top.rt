@@ -1,21 +1,19 @@
 //! The top call: one command over a working copy, the files below `.hg`, and the standard streams.
 
-ghost use Rattle.std.specs.Prelude.{◌≡◌};
-ghost use Rattle.hg_cli.specs.Run.{IsRun};
-ghost use Rattle.hg_session.specs.Call.{counted, saved_by, watched};
+ghost use Rattle.std.specs.Prelude.{◌≡◌, false};
+ghost use Rattle.hg_cli.specs.Script.{RunsWords, is_script};
 
+use crate::script::{is_script, run_words, script};
 use hg_base::Words;
 use hg_ignore::Regexps;
-use hg_report::Fault;
-use hg_session::{Outcome, command, failed};
+use hg_session::Outcome;
 use hg_shelf::Shelf;
 use hg_stream::{Sink, Source};
 use hg_tree::Tree;
-use hg_words::read;
 use std::alloc::Global;
 
 /// Runs one command: `words` come after the program's name. The rows of a status and the text of the record go to `out`, the warnings of a
-/// status, behind its rows, the lines of refused words, and the line of a fault to `err`, and `input` isn't looked at. `regexps` compiles the ignore patterns.
+/// status, behind its rows, the lines of refused words, and the line of a fault to `err`. `input` is looked at for a script alone. `regexps` compiles the ignore patterns.
 ///
 /// Words that are no command are told as such, and nothing else is done. A fault that is met before leaves the warnings and the refused words
 /// out: its line stands alone. Where the error stream fails while they are written, the fault is `ErrFailed`, and nothing more is written.
@@ -29,27 +27,34 @@ pub fn run<T: Tree, S: Shelf, G: Regexps, I: Source, O: Sink, E: Sink>(
     out: &mut O,
     err: &mut E,
 ) -> Outcome
-    // What the call did and answers: `IsRun` in specs/Run.antt, by what the words are; where they are a command `IsAnswered` of `hg_session`,
-    // in specs/Answered.antt there, a sentence a field.
-    ensures answered { IsRun
-        words.now
+    // What the call did and answers: `RunsWords` in specs/Script.antt. Where the words ask for a script, each of its lines ran as a call of its
+    // own; else it is `IsRun` in specs/Run.antt, and where they are a command `IsAnswered` of `hg_session`, a sentence a field.
+    ensures answered { RunsWords
         (record {
-          tree = watched T.history T.faults tree.old tree.new;
-          shelf = watched S.history S.faults shelf.old shelf.new;
-          oversize = counted G.oversize regexps.old regexps.new;
+          tree = T.history;
+          tree_faults = T.faults;
+          shelf = S.history;
+          images = S.images;
+          shelf_faults = S.faults;
+          held = S.held;
+          oversize = G.oversize;
+          out = O.bytes;
+          out_faults = O.faults;
+          err = E.bytes;
+          err_faults = E.faults;
         })
-        (saved_by S.history S.images shelf.old shelf.new)
-        (counted S.held shelf.old shelf.new)
-        (watched O.bytes O.faults out.old out.new)
-        (watched E.bytes E.faults err.old err.new)
+        words.now
+        (I.left input.old)
+        (I.left input.new)
+        (tree.old, shelf.old, regexps.old, out.old, err.old)
+        (tree.new, shelf.new, regexps.new, out.new, err.new)
         result.status
         result.fault }
-    // Nobody looks at the input.
-    ensures unread { input.new ≡ input.old }
+    // Nobody looks at the input but a script.
+    ensures unread { is_script words.now ≡ false → input.new ≡ input.old }
 {
-    let _ = input;
-    match read(alloc, words) {
-        Ok(given) => command(alloc, &given, tree, shelf, regexps, out, err),
-        Err(fault) => failed(alloc, Fault::from(fault), err),
+    if is_script(words) {
+        return script(alloc, tree, shelf, regexps, input, out, err);
     }
+    run_words(alloc, words, tree, shelf, regexps, out, err)
 }

@@ -10,9 +10,8 @@ abbrev pub Begins : Option (List ℕ) → Option (List ℕ) → Type 0
 Begins old new = (new ≡ old) ⊎ Says old new (codes "no .hg here or above")
 
 -- the words that are run are the given ones in the folder, and what run answers of them, from where the error stream then is, is what is answered
-pub record IsCarried (folder : Option (List ℕ)) (words : List (List ℕ)) (old : Option (List ℕ)) (Runs : List (List ℕ) → Option (List ℕ) → ℕ → ℕ → Option Fault → Type 0) (ran : Ran) : Type 0 where
+pub record IsCarried {E : Type 0} (bytes : E → Option (List ℕ)) (folder : Option (List ℕ)) (words : List (List ℕ)) (old : Option (List ℕ)) (Runs : List (List ℕ) → E → ℕ → Option Fault → Type 0) (ran : Ran) : Type 0 where
   pub placed : IsPlaced folder words ran.placed
-  pub told : Option (List ℕ)
-  pub before : ℕ
-  pub begins : Begins old told
-  pub run : Runs ran.placed.words told before ran.outcome.status ran.outcome.fault
+  pub begun : E
+  pub begins : Begins old (bytes begun)
+  pub run : Runs ran.placed.words begun ran.outcome.status ran.outcome.fault

@@ -1,10 +1,9 @@
 //! A command from its words to what it ends with.
 
-ghost use Rattle.std.specs.Prelude.{◌≡◌, IfErr, IfNone, IfOk, IfSome, Some};
+ghost use Rattle.std.specs.Prelude.{◌≡◌, false, IfErr, IfNone, IfOk, IfSome, Some};
 ghost use Rattle.std.specs.Option.{option_map};
-ghost use Rattle.hg_cli.specs.Run.{IsRun};
+ghost use Rattle.hg_cli.specs.Script.{RunsWords, is_script};
 ghost use Rattle.hg_front.specs.Carried.{Begins, IsCarried};
-ghost use Rattle.hg_session.specs.Call.{counted, saved_by, watched};
 
 use crate::placing::{Placed, place, unreached};
 use crate::start::{stopped_inside, stopped_outside};
@@ -57,25 +56,34 @@ pub fn carry<R: Files + AllocGlobal, T: Tree, S: Shelf, G: Regexps, I: Source, O
 ) -> Result<Ran, u8>
     // Every word reaches `run`, and what it answers of them is answered.
     ensures ran { IfOk result (IsCarried
+        E.bytes
         (option_map (λ f. f.now) folder.entry)
         words
         (E.bytes err.old)
-        (λ given told before code fault. IsRun
-        given
+        (λ given begun code fault. RunsWords
         (record {
-          tree = watched T.history T.faults tree.old tree.new;
-          shelf = watched S.history S.faults shelf.old shelf.new;
-          oversize = counted G.oversize regexps.old regexps.new;
+          tree = T.history;
+          tree_faults = T.faults;
+          shelf = S.history;
+          images = S.images;
+          shelf_faults = S.faults;
+          held = S.held;
+          oversize = G.oversize;
+          out = O.bytes;
+          out_faults = O.faults;
+          err = E.bytes;
+          err_faults = E.faults;
         })
-        (saved_by S.history S.images shelf.old shelf.new)
-        (counted S.held shelf.old shelf.new)
-        (watched O.bytes O.faults out.old out.new)
-        (record { old = told; new = E.bytes err.new; before = before; after = E.faults err.new })
+        given
+        (I.left input.old)
+        (I.left input.new)
+        (tree.old, shelf.old, regexps.old, out.old, begun)
+        (tree.new, shelf.new, regexps.new, out.new, err.new)
         code
         fault)) }
     // Else nothing is looked at, saved or put to `out`.
-    ensures stopped { IfErr result (λ status. (status ≡ 255) × (tree.new ≡ tree.old) × (shelf.new ≡ shelf.old) × (out.new ≡ out.old)) }
-    ensures unread { input.new ≡ input.old }
+    ensures stopped { IfErr result (λ status. (status ≡ 255) × (tree.new ≡ tree.old) × (shelf.new ≡ shelf.old) × (out.new ≡ out.old) × (input.new ≡ input.old)) }
+    ensures unread { IfOk result (λ ran. is_script ran.placed.words ≡ false → input.new ≡ input.old) }
 {
     let alloc = rt.alloc();
     let placed = match place(alloc, folder, words) {

@@ -125,10 +125,10 @@ module _ (old mid : Reading) (from to : Option (List ℕ)) (still : IsStill old 
   -- ---- over any source
 
   pub handed_end : IsLine mid.line → HasEnd mid → IsHanded old (passed mid 1) mid.line
-  handed_end fine ends = record { fine = fine; number = ap (λ (n : ℕ). n + 1) still.number; before = inl (omega (arith, still.before)); within = ends.1 }
+  handed_end fine ends = record { fine = fine; number = ap (λ (n : ℕ). n + 1) still.number; before = inl (omega (arith, still.before)); more = omega (arith, still.before); within = ends.1 }
 
-  pub handed_last : IsLine mid.line → mid.before + length mid.line ≤ 67108864 → IsHanded old (passed mid 0) mid.line
-  handed_last fine room = record { fine = fine; number = ap (λ (n : ℕ). n + 1) still.number; before = inr (omega (arith, still.before)); within = omega (arith, room) }
+  pub handed_last : IsLine mid.line → 0 < length mid.line → mid.before + length mid.line ≤ 67108864 → IsHanded old (passed mid 0) mid.line
+  handed_last fine some room = record { fine = fine; number = ap (λ (n : ℕ). n + 1) still.number; before = inr (omega (arith, still.before)); more = omega (arith, still.before, some); within = omega (arith, room) }
 
   named : (n : ℕ) → n ≡ mid.number + 1 → n ≡ old.number + 1
   named n is = omega (arith, is, still.number)

@@ -105,6 +105,7 @@ pub record IsHanded (old new : Reading) (line : List ℕ) : Type 0 where
   pub fine : IsLine line
   pub number : new.number ≡ old.number + 1
   pub before : (new.before ≡ old.before + length line + 1) ⊎ (new.before ≡ old.before + length line)
+  pub more : old.before < new.before
   pub within : new.before ≤ 67108864
 
 -- what an answer says over any source: after a fault the same lines were handed out, and a fault names the next one

@@ -81,6 +81,13 @@ impl Lines {
         })
     }
 
+    /// How many lines were handed out: the number of the last one.
+    pub fn number(&self) -> u32
+        ensures { result ≡ self.now.number }
+    {
+        self.number
+    }
+
     // Takes more where all that was taken belongs to the next line, and answers whether there is more.
     fn refill<I: Source>(&mut self, input: &mut I) -> Result<bool, Failed>
         ensures same { self.new ≡ record self.old { piece = self.new.piece } }

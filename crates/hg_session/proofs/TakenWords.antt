@@ -2,7 +2,6 @@
 use Rattle.std.proofs.Common.{ℕ, zero, suc, ◌≡◌, ◌+◌, ◌<◌, ◌≤◌, ◌*◌, ◌||◌, ◌⊎◌, Bool, true, false, List, [], ◌∷◌, ◌++◌, replicate, length, take, drop, Option, Some, None, Result, Err, IsTrue, codes, inl, inr, refl, sym, ap, ◌∙◌, subst, arith}
 use Rattle.std.specs.List.{AllByRecursion, list_any, slice_get}
 use Rattle.std.specs.Str.{bytes_eq}
-use Rattle.std.specs.Prelude.{MatchBool}
 use Rattle.std.proofs.lemmas.Bool.{cases_Bool}
 use Rattle.std.proofs.Math.Seq.{take-length}
 use Rattle.std.proofs.lemmas.List.{append-nil, append_assoc}
@@ -27,7 +26,7 @@ use Rattle.hg_session.proofs.SoFar.{SoFar}
 use Rattle.hg_shelf.specs.History as shelf
 use Rattle.hg_shelf.proofs.Histories as shelves
 use Rattle.hg_shelf.specs.declared.asked.Asked as shelf_asks
-use Rattle.hg_tree.specs.History.{Extends, History, Passes, us}
+use Rattle.hg_tree.specs.History.{Extends, History, Passes}
 use Rattle.hg_tree.specs.Moment.{Things, is_among}
 use Rattle.hg_tree.specs.Touched.{ChangesOnly, TouchesOnly}
 use Rattle.hg_tree.specs.declared.asked.Asked.{Asked}

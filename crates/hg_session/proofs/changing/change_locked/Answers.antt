@@ -1,5 +1,5 @@
 -- A change of the record: the load, what the command makes of it, the publication.
-use Rattle.std.proofs.Common.{Some, None, Ok, Err, inl, inr, refl, ap, ◌∙◌}
+use Rattle.std.proofs.Common.{Some, None, Err, inl, inr, refl, ap, ◌∙◌}
 use Rattle.std.proofs.lemmas.Result.{err_from_is_err_and}
 use Rattle.hg_docket.specs.Docket.{docket_of}
 use Rattle.hg_ops.specs.declared.refusal.OpFault.{OpFault}

@@ -1,0 +1,84 @@
+-- What the line of a script does where it has no words, or where there is no memory for them.
+use Rattle.std.proofs.Common.{◌≡◌, ℕ, ◌<◌, Bool, true, false, cond, List, [], ◌∷◌, length, Option, Some, None, refl, sym, ap, ◌∙◌, subst, arith, eqb, inl, inr}
+use Rattle.std.specs.Prelude.{MatchBool, is_some}
+use Rattle.std.specs.List.{slice_get, slice_split}
+use Rattle.std.specs.Str.{bytes_eq}
+use Rattle.std.proofs.lemmas.Bool.{eq-eqb, ne_eqb}
+use Rattle.std.proofs.lemmas.List.Splits.{length-slice_split}
+use Rattle.hg_cli.specs.Run.{IsRun}
+use Rattle.hg_cli.specs.Script.{DoesWords, IsStopped, Seen, is_script, script_name}
+use Rattle.hg_lines.specs.Script.{words_of}
+use Rattle.hg_report.specs.declared.fault.Fault.{Fault}
+use Rattle.hg_report.specs.declared.fault.Fault.TheVariants as a_fault
+use Rattle.hg_session.specs.Put.{IsFaultOrMemory}
+use Rattle.hg_words.specs.declared.fault.WordsFault.TheVariants as a_words
+
+-- a fault or want of memory is a fault
+pub some_fault : (answered : Option Fault) (fault : Fault) → IsFaultOrMemory answered fault → is_some answered ≡ true
+some_fault answered fault (inl is) = ap is_some is
+some_fault answered fault (inr is) = ap is_some is
+
+out_of_memory : (answered : Option Fault) → IsFaultOrMemory answered a_fault.OutOfMemory → answered ≡ Some a_fault.OutOfMemory
+out_of_memory answered (inl is) = is
+out_of_memory answered (inr is) = is
+
+-- whether words ask for a script
+pub is_one : (words : List (List ℕ)) (first : List ℕ) → length words ≡ 1 → slice_get words 0 ≡ Some first → bytes_eq first script_name ≡ is_script words
+is_one [] first one is = absurd (cc is)
+is_one (name ∷ []) first one is =
+    let same : name ≡ first = cc is in
+    ap (λ (n : List ℕ). bytes_eq n script_name) (sym same)
+is_one (name ∷ next ∷ more) first one is = absurd (omega (arith, one))
+
+pub is_none : (words : List (List ℕ)) → (length words ≡ 1 → ⊥) → false ≡ is_script words
+is_none [] other = refl
+is_none (name ∷ []) other = absurd (other refl)
+is_none (name ∷ next ∷ more) other = refl
+
+pub where_true : {P : Type 0} (Q : Type 0) (is : Bool) → is ≡ true → P → MatchBool is P Q
+where_true Q true so p = p
+where_true Q false so p = absurd (cc so)
+
+pub where_false : {Q : Type 0} (P : Type 0) (is : Bool) → is ≡ false → Q → MatchBool is P Q
+where_false P true so q = absurd (cc so)
+where_false P false so q = q
+
+-- a line's turn, by its number and its text
+pub does_line : {D : Type 0} (seen : D → D → Seen) (n number : ℕ) (text line : List ℕ) (old new : D) (code : ℕ) (fault : Option Fault) → n ≡ number → text ≡ line → DoesWords seen n (words_of text) old new code fault
+    → DoesWords seen number (words_of line) old new code fault
+does_line seen n number text line old new code fault numbered same does =
+    subst (λ (t : List ℕ). DoesWords seen number (words_of t) old new code fault) same (subst (λ (m : ℕ). DoesWords seen m (words_of text) old new code fault) numbered does)
+
+module _ {D : Type 0} (seen : D → D → Seen) (number : ℕ) where
+  pub no_words : (line : List ℕ) (d : D) → length line ≡ 0 → DoesWords seen number (words_of line) d d 0 None
+  no_words line d none =
+      subst (λ (words : List (List ℕ)). DoesWords seen number words d d 0 None) (sym (ap (λ (t : Bool). cond t [] (slice_split (λ b. eqb b 32) line)) (eq-eqb (length line) 0 none))) (refl, refl, refl)
+
+  by_other : (is : Bool) (words : List (List ℕ)) (part : Seen) (code : ℕ) (fault : Option Fault) → is ≡ false → IsRun words part.looked part.saved part.locks part.out part.err code fault
+      → MatchBool is (IsStopped (a_fault.ScriptNested number) part code fault) (IsRun words part.looked part.saved part.locks part.out part.err code fault)
+  by_other true words part code fault other run = absurd (cc other)
+  by_other false words part code fault other run = run
+
+  -- words whose first isn't the name of a script
+  pub run_so : (words : List (List ℕ)) (first : List ℕ) (old new : D) (code : ℕ) (fault : Option Fault) → slice_get words 0 ≡ Some first → bytes_eq first script_name ≡ false
+      → IsRun words (seen old new).looked (seen old new).saved (seen old new).locks (seen old new).out (seen old new).err code fault → DoesWords seen number words old new code fault
+  run_so [] first old new code fault is other run = absurd (cc is)
+  run_so (name ∷ words) first old new code fault is other run =
+      let same : name ≡ first = cc is in
+      by_other (bytes_eq name script_name) (name ∷ words) (seen old new) code fault (ap (λ (n : List ℕ). bytes_eq n script_name) same ∙ other) run
+
+  by_name : (is : Bool) (words : List (List ℕ)) (part : Seen) (code : ℕ) (fault : Option Fault) → IsStopped a_fault.OutOfMemory part code fault
+      → MatchBool is (IsStopped (a_fault.ScriptNested number) part code fault) (IsRun words part.looked part.saved part.locks part.out part.err code fault)
+  by_name true words part code fault stopped = record { answered = inr (out_of_memory fault stopped.answered); told = stopped.told; idle = stopped.idle; status = stopped.status }
+  by_name false words part code fault stopped =
+      inr (record { met = a_words.OutOfMemory; why = inl refl; answered = stopped.answered; told = stopped.told; idle = stopped.idle; status = stopped.status })
+
+  of_words : (words : List (List ℕ)) (old new : D) (code : ℕ) (fault : Option Fault) → 0 < length words → IsStopped a_fault.OutOfMemory (seen old new) code fault → DoesWords seen number words old new code fault
+  of_words [] old new code fault some stopped = absurd (omega (arith, some))
+  of_words (name ∷ words) old new code fault some stopped = by_name (bytes_eq name script_name) (name ∷ words) (seen old new) code fault stopped
+
+  -- no memory for the words of a line
+  pub no_memory : (line : List ℕ) (old new : D) (code : ℕ) (fault : Option Fault) → (length line ≡ 0 → ⊥) → IsStopped a_fault.OutOfMemory (seen old new) code fault → DoesWords seen number (words_of line) old new code fault
+  no_memory line old new code fault some stopped =
+      subst (λ (words : List (List ℕ)). DoesWords seen number words old new code fault) (sym (ap (λ (t : Bool). cond t [] (slice_split (λ b. eqb b 32) line)) (ne_eqb (length line) 0 some)))
+      (of_words (slice_split (λ b. eqb b 32) line) old new code fault (omega (arith, length-slice_split (λ b. eqb b 32) line)) stopped)
