@@ -5,8 +5,7 @@ use Rattle.hg_session.proofs.Locked.{unwritten, unwritten_here}
 use Rattle.hg_shelf.proofs.Histories.{passes_same}
 use Rattle.hg_shelf.proofs.Scenes.{goes_same}
 use Rattle.hg_shelf.specs.Images.{course}
-use Rattle.hg_session.specs.Commands.{is_change}
-use Rattle.hg_words.specs.Given.{is_built}
+use Rattle.hg_session.specs.Commands.{is_change, is_done}
 use Rattle.hg_session.proofs.choosing.command.Goals as goal
 
 pub returns-in-Status : goal.returns-in-Status
@@ -34,8 +33,8 @@ returns-in-Add g c =
 pub returns-in-DebugScript : goal.returns-in-DebugScript
 returns-in-DebugScript g c =
     answered_unbuilt _ c.failed.result.status c.failed.result.fault (elim c.in-DebugScript.is [
-      | inl is ↦ ap is_built is
-      | inr (n, is) ↦ ap is_built is
+      | inl is ↦ ap is_done is
+      | inr (n, is) ↦ ap is_done is
     ]) c.failed.ensures.fault c.failed.ensures.told
     (record {
       copy = record { history = refl; count = refl };
