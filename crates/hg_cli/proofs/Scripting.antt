@@ -1,17 +1,24 @@
 -- What the line of a script does where it has no words, or where there is no memory for them.
-use Rattle.std.proofs.Common.{◌≡◌, ℕ, ◌<◌, Bool, true, false, cond, List, [], ◌∷◌, length, Option, Some, None, refl, sym, ap, ◌∙◌, subst, arith, eqb, inl, inr}
-use Rattle.std.specs.Prelude.{MatchBool, is_some}
+use Rattle.std.proofs.Common.{◌≡◌, ℕ, ◌<◌, Bool, true, false, cond, List, [], ◌∷◌, length, Option, Some, None, Result, Ok, Err, refl, sym, ap, ◌∙◌, subst, arith, eqb, inl, inr}
+use Rattle.std.specs.Prelude.{◌⊎◌, MatchBool, is_some}
 use Rattle.std.specs.List.{slice_get, slice_split}
 use Rattle.std.specs.Str.{bytes_eq}
 use Rattle.std.proofs.lemmas.Bool.{eq-eqb, ne_eqb}
 use Rattle.std.proofs.lemmas.List.Splits.{length-slice_split}
 use Rattle.hg_cli.specs.Run.{IsRun}
-use Rattle.hg_cli.specs.Script.{DoesWords, IsStopped, Seen, is_script, script_name}
+use Rattle.hg_cli.specs.Script.{Does, DoesWords, IsStopped, RunsWords, Seen, Views, asks, is_script, script_name, seen}
 use Rattle.hg_lines.specs.Script.{words_of}
 use Rattle.hg_report.specs.declared.fault.Fault.{Fault}
 use Rattle.hg_report.specs.declared.fault.Fault.TheVariants as a_fault
 use Rattle.hg_session.specs.Put.{IsFaultOrMemory}
+use Rattle.hg_lines.proofs.Turning.{fails_with}
+use Rattle.hg_lines.specs.Turns.{RunsScript}
+use Rattle.hg_report.specs.Cause as cause
+use Rattle.hg_words.specs.Command.{command_of}
+use Rattle.hg_words.specs.declared.fault.WordsFault.{WordsFault}
 use Rattle.hg_words.specs.declared.fault.WordsFault.TheVariants as a_words
+use Rattle.hg_words.specs.declared.given.Command.{Command}
+use Rattle.hg_words.specs.declared.given.Command.TheVariants as a_command
 
 -- a fault or want of memory is a fault
 pub some_fault : (answered : Option Fault) (fault : Fault) → IsFaultOrMemory answered fault → is_some answered ≡ true
@@ -22,18 +29,20 @@ out_of_memory : (answered : Option Fault) → IsFaultOrMemory answered a_fault.O
 out_of_memory answered (inl is) = is
 out_of_memory answered (inr is) = is
 
--- whether words ask for a script
-pub is_one : (words : List (List ℕ)) (first : List ℕ) → length words ≡ 1 → slice_get words 0 ≡ Some first → bytes_eq first script_name ≡ is_script words
-is_one [] first one is = absurd (cc is)
-is_one (name ∷ []) first one is =
-    let same : name ≡ first = cc is in
-    ap (λ (n : List ℕ). bytes_eq n script_name) (sym same)
-is_one (name ∷ next ∷ more) first one is = absurd (omega (arith, one))
-
-pub is_none : (words : List (List ℕ)) → (length words ≡ 1 → ⊥) → false ≡ is_script words
-is_none [] other = refl
-is_none (name ∷ []) other = absurd (other refl)
-is_none (name ∷ next ∷ more) other = refl
+-- a command other than the one that runs a script
+pub other_asked : (words : List (List ℕ)) (given : Command) → command_of words ≡ Ok given → (given ≡ a_command.DebugScript → ⊥) → is_script words ≡ false
+other_asked words given is other = ap asks is ∙ not_asked given other
+  where
+    not_asked : (given : Command) → (given ≡ a_command.DebugScript → ⊥) → asks (Ok given) ≡ false
+    not_asked (a_command.Status flags) other = refl
+    not_asked (a_command.Add files) other = refl
+    not_asked (a_command.Forget files) other = refl
+    not_asked (a_command.Remove after files) other = refl
+    not_asked (a_command.Copy source target) other = refl
+    not_asked (a_command.SetParents first second) other = refl
+    not_asked a_command.DebugDirstate other = refl
+    not_asked a_command.DebugScript other = absurd (other refl)
+    not_asked (a_command.DebugLoad n) other = refl
 
 pub where_true : {P : Type 0} (Q : Type 0) (is : Bool) → is ≡ true → P → MatchBool is P Q
 where_true Q true so p = p
@@ -82,3 +91,19 @@ module _ {D : Type 0} (seen : D → D → Seen) (number : ℕ) where
   no_memory line old new code fault some stopped =
       subst (λ (words : List (List ℕ)). DoesWords seen number words old new code fault) (sym (ap (λ (t : Bool). cond t [] (slice_split (λ b. eqb b 32) line)) (ne_eqb (length line) 0 some)))
       (of_words (slice_split (λ b. eqb b 32) line) old new code fault (omega (arith, length-slice_split (λ b. eqb b 32) line)) stopped)
+
+-- words that weren't read
+module _ {T S G O E : Type 0} (views : Views T S G O E) (words : List (List ℕ)) (from to : Option (List ℕ)) (old new : T × S × G × O × E) (code : ℕ) (fault : Option Fault) where
+  unread_by : (is : Bool) (met : WordsFault) → is_script words ≡ is → (met ≡ a_words.OutOfMemory) ⊎ (command_of words ≡ Err met) → IsStopped (cause.of_words met) (seen views old new) code fault
+      → MatchBool is (RunsScript (Does (seen views)) from to old new code fault)
+      (IsRun words (seen views old new).looked (seen views old new).saved (seen views old new).locks (seen views old new).out (seen views old new).err code fault)
+  unread_by false met is why stopped = inr (record { met = met; why = why; answered = stopped.answered; told = stopped.told; idle = stopped.idle; status = stopped.status })
+  unread_by true met is (inl memory) stopped =
+      let so : IsStopped a_fault.OutOfMemory (seen views old new) code fault = subst (λ (m : WordsFault). IsStopped (cause.of_words m) (seen views old new) code fault) memory stopped in
+      fails_with (Does (seen views)) from old new code to fault (some_fault fault a_fault.OutOfMemory so.answered) so
+  unread_by true met is (inr none) stopped =
+      let both : false ≡ true = sym (ap asks none) ∙ is in
+      absurd (cc both)
+
+  pub unread : (met : WordsFault) → (met ≡ a_words.OutOfMemory) ⊎ (command_of words ≡ Err met) → IsStopped (cause.of_words met) (seen views old new) code fault → RunsWords views words from to old new code fault
+  unread met why stopped = unread_by (is_script words) met refl why stopped

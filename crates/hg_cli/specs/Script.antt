@@ -1,5 +1,5 @@
 -- What a script does: the command of each line, one after another.
-use Rattle.std.specs.Prelude.{ℕ, ◌≡◌, Bool, false, List, [], ◌∷◌, codes, Option, None, IfSome, MatchBool}
+use Rattle.std.specs.Prelude.{ℕ, ◌≡◌, Bool, true, false, List, [], ◌∷◌, codes, Option, None, Result, Ok, IfSome, MatchBool}
 use Rattle.std.specs.Str.{bytes_eq}
 use Rattle.hg_cli.specs.Run.{IsRun}
 use Rattle.hg_lines.specs.Script.{words_of}
@@ -14,15 +14,22 @@ use Rattle.hg_session.specs.Put.{IsFaultOrMemory, Tells}
 use Rattle.hg_shelf.specs.History as shelf
 use Rattle.hg_shelf.specs.Images.{Images}
 use Rattle.hg_tree.specs.History as tree
+use Rattle.hg_words.specs.Command.{command_of}
+use Rattle.hg_words.specs.declared.fault.WordsFault.{WordsFault}
+use Rattle.hg_words.specs.declared.given.Command.{Command}
+use Rattle.hg_words.specs.declared.given.Command.TheVariants as a_command
 
 -- the name of the command that runs a script
 abbrev pub script_name : List ℕ
 script_name = codes "debugscript"
 
--- words that ask for a script
+-- words that are read as the command that runs a script
+abbrev pub asks : Result Command WordsFault → Bool
+asks (Ok a_command.DebugScript) = true
+asks read = false
+
 abbrev pub is_script : List (List ℕ) → Bool
-is_script (name ∷ []) = bytes_eq name script_name
-is_script words = false
+is_script words = asks (command_of words)
 
 -- the fault of a command for one of reading lines
 abbrev pub of_line : LineFault → Fault

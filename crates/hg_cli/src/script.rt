@@ -3,7 +3,6 @@
 ghost use Rattle.std.specs.Prelude.{◌≡◌};
 ghost use Rattle.hg_cli.specs.Run.{IsRun};
 ghost use Rattle.hg_cli.specs.Script.{Does, DoesWords, of_line, seen};
-ghost use Rattle.hg_cli.specs.Script as scripts;
 ghost use Rattle.hg_lines.specs.Script as lines_are;
 ghost use Rattle.hg_lines.specs.Turns.{RunsScript};
 ghost use Rattle.hg_session.specs.Call.{counted, saved_by, watched};
@@ -22,16 +21,6 @@ use std::alloc::Global;
 // The name of the command that runs a script.
 const SCRIPT: &str = "debugscript";
 
-/// Whether words ask for a script.
-pub(crate) fn is_script(words: &Words) -> bool
-    ensures { result ≡ scripts.is_script words.now }
-{
-    if words.len() != 1 {
-        return false;
-    }
-    words.at(0).as_str() == SCRIPT
-}
-
 // The fault of a command for one of reading lines.
 fn fault_of(fault: LineFault) -> Fault
     ensures { result ≡ of_line fault }
@@ -45,8 +34,8 @@ fn fault_of(fault: LineFault) -> Fault
     }
 }
 
-/// Runs the command that the words are.
-pub(crate) fn run_words<T: Tree, S: Shelf, G: Regexps, O: Sink, E: Sink>(
+// Runs the command that the words are.
+fn run_words<T: Tree, S: Shelf, G: Regexps, O: Sink, E: Sink>(
     alloc: Global,
     words: &Words,
     tree: &mut T,

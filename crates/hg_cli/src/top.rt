@@ -3,13 +3,15 @@
 ghost use Rattle.std.specs.Prelude.{◌≡◌, false};
 ghost use Rattle.hg_cli.specs.Script.{RunsWords, is_script};
 
-use crate::script::{is_script, run_words, script};
+use crate::script::script;
 use hg_base::Words;
 use hg_ignore::Regexps;
-use hg_session::Outcome;
+use hg_report::Fault;
+use hg_session::{Outcome, command, failed};
 use hg_shelf::Shelf;
 use hg_stream::{Sink, Source};
 use hg_tree::Tree;
+use hg_words::{Command, read};
 use std::alloc::Global;
 
 /// Runs one command: `words` come after the program's name. The rows of a status and the text of the record go to `out`, the warnings of a
@@ -53,8 +55,9 @@ pub fn run<T: Tree, S: Shelf, G: Regexps, I: Source, O: Sink, E: Sink>(
     // Nobody looks at the input but a script.
     ensures unread { is_script words.now ≡ false → input.new ≡ input.old }
 {
-    if is_script(words) {
-        return script(alloc, tree, shelf, regexps, input, out, err);
+    match read(alloc, words) {
+        Ok(Command::DebugScript) => script(alloc, tree, shelf, regexps, input, out, err),
+        Ok(given) => command(alloc, &given, tree, shelf, regexps, out, err),
+        Err(fault) => failed(alloc, Fault::from(fault), err),
     }
-    run_words(alloc, words, tree, shelf, regexps, out, err)
 }

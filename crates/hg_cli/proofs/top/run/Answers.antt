@@ -1,10 +1,22 @@
-use Rattle.std.proofs.Common.{◌∙◌, sym}
-use Rattle.hg_cli.proofs.Scripting.{where_false, where_true}
-use Rattle.hg_cli.specs.Script.{is_script}
+use Rattle.hg_cli.proofs.Scripting.{unread}
 use Rattle.hg_cli.proofs.top.run.Goals as goal
+use Rattle.std.proofs.Common.{rules}
 
-pub returns-then-is_script-clause-answered : goal.returns-then-is_script-clause-answered
-returns-then-is_script-clause-answered g c = where_true _ (is_script c.args.words.now) (sym c.is_script.ensures ∙ c.if-is_script.true) c.script.ensures.ran
-
-pub returns-clause-answered : goal.returns-clause-answered
-returns-clause-answered g c = where_false _ (is_script c.args.words.now) (sym c.is_script.ensures ∙ c.if-is_script.false) c.run_words.ensures.answered
+pub returns-in-Err-clause-answered : goal.returns-in-Err-clause-answered
+returns-in-Err-clause-answered g c =
+    unread
+    (record {
+      tree = g.T.Tree.history;
+      tree_faults = g.T.Tree.faults;
+      shelf = g.S.Shelf.history;
+      images = g.S.Shelf.images;
+      shelf_faults = g.S.Shelf.faults;
+      held = g.S.Shelf.held;
+      oversize = g.G.Regexps.oversize;
+      out = g.O.Sink.bytes;
+      out_faults = g.O.Sink.faults;
+      err = g.E.Sink.bytes;
+      err_faults = g.E.Sink.faults;
+    })
+    c.args.words.now _ _ _ _ _ _ c.in-Err.fault c.in-Err.ensures.err
+    (record { answered = rw c.from.ensures at c.failed.ensures.fault; told = c.failed.ensures.told; idle = search rules; status = c.failed.ensures.status })
