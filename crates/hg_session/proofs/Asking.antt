@@ -2,7 +2,6 @@
 use Rattle.std.proofs.Common.{◌≡◌, List, ◌∷◌, ◌++◌, length, take, Result, Ok, Err, inl, refl, sym, ap, ◌∙◌, arith}
 use Rattle.std.proofs.Math.Seq.{take-length}
 use Rattle.std.proofs.lemmas.List.{append-nil}
-use Rattle.hg_docket.specs.Docket.{docket_of}
 use Rattle.hg_save.specs.Asked.{AsksAsOf, docket_ask, named_asks}
 use Rattle.hg_save.specs.Loads.{files_at}
 use Rattle.hg_save.specs.Record.{docket_in}

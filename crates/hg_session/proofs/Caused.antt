@@ -15,7 +15,7 @@ use Rattle.hg_session.specs.Call.{Call, Count, Fails, IsLeftAlone, Looked, Saved
 use Rattle.hg_session.specs.Cause.{CommandCause}
 use Rattle.hg_session.specs.Change.{IsUnwritten, MetChanging, MetDoing, MetLocking, makes_in, of_change}
 use Rattle.hg_session.specs.Changed.{RanChange, change_look}
-use Rattle.hg_session.specs.Commands.{is_change}
+use Rattle.hg_session.specs.Commands.{is_change, is_done}
 use Rattle.hg_session.specs.Crash.{published_in}
 use Rattle.hg_session.specs.Debug.{AnswersPrinting, Prints, ShowsRecord}
 use Rattle.hg_session.specs.Flags.{wanted_of}
@@ -39,7 +39,6 @@ use Rattle.hg_session.proofs.Looks.{calm_by, from_well, joined, looks_by, not_wi
 use Rattle.hg_session.proofs.Readings.{was_loaded}
 use Rattle.hg_session.proofs.Records.{record_by}
 use Rattle.hg_shelf.specs.History as shelf
-use Rattle.hg_words.specs.Given.{is_built}
 use Rattle.hg_words.specs.declared.flags.StatusFlags.{StatusFlags}
 use Rattle.hg_words.specs.declared.given.Command.{Command}
 use Rattle.hg_words.specs.declared.given.Command.TheVariants as a_command
@@ -121,8 +120,12 @@ module _ (call : Call) (is : is_change call.command ≡ true) where
   by_saving fault failed (inr same) = subst (CommandCause call) (sym same) tt
 
   change_left : (fault : Fault) → (stage : Stage) × LeavesAt (change_look (makes_in call) call) call.out call.err Tells stage fault → CommandCause call fault
-  change_left fault (at_first, ((none, f, inl same, met), silent, line)) = subst (CommandCause call) (sym (cc same)) (by_locking f met)
-  change_left fault (at_first, ((none, f, inr memory, met), silent, line)) = subst (CommandCause call) (sym (cc memory)) tt
+  change_left fault (at_first, ((none, f, inl same, met), silent, line)) =
+      let is : fault ≡ of_change f = cc same in
+      subst (CommandCause call) (sym is) (by_locking f met)
+  change_left fault (at_first, ((none, f, inr memory, met), silent, line)) =
+      let is : fault ≡ a_fault.OutOfMemory = cc memory in
+      subst (CommandCause call) (sym is) tt
   change_left fault (at_printing, (never, ready, front, kind, line)) = absurd never
   change_left fault (at_telling, (telling, ready, puts, front, same)) = subst (CommandCause call) (sym same) front.failed
   change_left fault (at_saving, ((failed, kind), left)) = by_saving fault failed.0 kind
@@ -207,7 +210,7 @@ answered_record call code fault is shows below alone uncounted calm only none st
 
 -- ---- a command that isn't built
 
-ran_unbuilt : (call : Call) (code : ℕ) (fault : Option Fault) → IsUnbuilt call code fault → (command : Command) → is_built command ≡ false → Ran command call code fault
+ran_unbuilt : (call : Call) (code : ℕ) (fault : Option Fault) → IsUnbuilt call code fault → (command : Command) → is_done command ≡ false → Ran command call code fault
 ran_unbuilt call code fault unbuilt (a_command.Status flags) is = absurd (true≢false is)
 ran_unbuilt call code fault unbuilt (a_command.Add files) is = absurd (true≢false is)
 ran_unbuilt call code fault unbuilt (a_command.Forget files) is = absurd (true≢false is)
@@ -218,11 +221,11 @@ ran_unbuilt call code fault unbuilt a_command.DebugDirstate is = absurd (true≢
 ran_unbuilt call code fault unbuilt a_command.DebugScript is = unbuilt
 ran_unbuilt call code fault unbuilt (a_command.DebugLoad n) is = unbuilt
 
-unbuilt_cause : (call : Call) (answered : Option Fault) → IsFaultOrMemory answered a_fault.NotBuilt → is_built call.command ≡ false → IfSome answered (CommandCause call)
+unbuilt_cause : (call : Call) (answered : Option Fault) → IsFaultOrMemory answered a_fault.NotBuilt → is_done call.command ≡ false → IfSome answered (CommandCause call)
 unbuilt_cause call answered (inl same) is = subst (λ (f : Option Fault). IfSome f (CommandCause call)) (sym same) is
 unbuilt_cause call answered (inr memory) is = subst (λ (f : Option Fault). IfSome f (CommandCause call)) (sym memory) tt
 
-pub answered_unbuilt : (call : Call) (code : ℕ) (fault : Option Fault) → is_built call.command ≡ false → IsFaultOrMemory fault a_fault.NotBuilt → IfSome fault (Tells call.err)
+pub answered_unbuilt : (call : Call) (code : ℕ) (fault : Option Fault) → is_done call.command ≡ false → IsFaultOrMemory fault a_fault.NotBuilt → IfSome fault (Tells call.err)
     → IsIdle call.looked call.saved call.locks call.out → shelf.Passes call.looked.shelf.old call.looked.shelf.new → code ≡ 255 → IsAnswered call code fault
 answered_unbuilt call code fault is answered told idle passes status =
     let look : IsLook call code fault =

@@ -1,5 +1,5 @@
 -- What a command did over a table in memory, from what its words came to.
-use Rattle.std.proofs.Common.{ℕ, ◌≡◌, ◌<◌, ◌≤◌, ◌⊎◌, Bool, true, false, List, [], ◌++◌, Result, Ok, Err, Vec, Global, IfErr, IfOk, OnOk, IsTrue, refl, sym, subst, inl, inr, arith}
+use Rattle.std.proofs.Common.{ℕ, ◌≡◌, ◌<◌, ◌⊎◌, Bool, false, List, [], ◌++◌, Result, Ok, Err, Vec, Global, IfErr, IfOk, OnOk, IsTrue, refl, sym, subst, inl, inr, arith}
 use Rattle.hg_append.specs.declared.fault.EncodeFault.{EncodeFault}
 use Rattle.hg_append.specs.declared.fault.EncodeFault.TheVariants as an_encode
 use Rattle.hg_base.specs.Fault.{HasCause}
@@ -17,11 +17,10 @@ use Rattle.hg_report.specs.Cause.{of_encode, of_op}
 use Rattle.hg_session.specs.Anew.{MetWriting}
 use Rattle.hg_session.specs.Change.{IsEarly, of_change}
 use Rattle.hg_session.specs.declared.change_fault.ChangeFault.{ChangeFault}
-use Rattle.hg_session.proofs.Removing.{takes_none_yet}
+use Rattle.hg_session.proofs.TakenWords.{takes_none_yet}
 use Rattle.hg_session.specs.Acts.{ActsOn, ChangesTree, IsActed, IsCopied, IsNothingMade, IsRemoved, IsTreeFault, NeedsSome, OnlyPuts, OnlyTakes, StopsRemoving, name, span_of, steps_of}
 use Rattle.hg_session.specs.Call.{IsLeftAlone, Watched}
 use Rattle.hg_session.specs.Manifests.{IsReparented, StopsParents}
-use Rattle.hg_session.specs.declared.acting.Changing.{Changing}
 use Rattle.hg_session.specs.declared.acting.Changing.TheVariants as a_change
 use Rattle.hg_shelf.specs.Asks.{AsksFrontOf}
 use Rattle.hg_shelf.specs.History as shelf

@@ -1,8 +1,7 @@
 -- A change of the record with the lock round it, from what was done under the lock.
-use Rattle.std.proofs.Common.{ℕ, ◌≡◌, ◌+◌, ◌-◌, ◌^◌, ◌≤◌, min, Bool, false, true, IsTrue, List, Some, None, Result, Ok, Err, Vec, Global, IfErr, IfOk, refl, subst, arith, inl, inr, ◌∙◌}
+use Rattle.std.proofs.Common.{ℕ, ◌≡◌, ◌+◌, ◌-◌, ◌^◌, ◌≤◌, min, Bool, false, true, IsTrue, Some, None, Result, Ok, Err, Vec, Global, IfErr, IfOk, refl, arith, inl, inr, ◌∙◌}
 use Rattle.hg_base.specs.Fault.{HasCause, Rose}
 use Rattle.hg_base.specs.declared.fault.Failed.{Failed}
-use Rattle.hg_entry.specs.Table.{Table}
 use Rattle.hg_append.specs.declared.fault.EncodeFault.TheVariants as an_encode
 use Rattle.hg_ops.specs.declared.refusal.OpFault.TheVariants as an_op
 use Rattle.hg_report.specs.declared.fault.Fault.TheVariants as a_fault

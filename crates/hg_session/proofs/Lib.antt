@@ -3,7 +3,7 @@ pub mod Asking
 pub mod Caused
 pub mod Causes
 pub mod Changes
-pub mod Copying
+pub mod CopyLines
 pub mod Crashes
 pub mod Doing
 pub mod Expectations
@@ -14,15 +14,15 @@ pub mod Locks
 pub mod Looks
 pub mod Makers
 pub mod Overs
+pub mod ParentLoads
 pub mod Parents
 pub mod Printing
 pub mod Promises
 pub mod Readings
 pub mod Records
 pub mod Refusals
-pub mod Removing
-pub mod Reparenting
 pub mod SameTables
 pub mod SoFar
+pub mod TakenWords
 pub mod Texts
 pub mod Widening

@@ -10,7 +10,7 @@ use Rattle.hg_session.specs.Acts.{AllSteps, Deed, IsRemoved, Makes, StopsRemovin
 use Rattle.hg_session.specs.Call.{Watched}
 use Rattle.hg_session.specs.Manifests.{IsReparented, LacksParents, LacksRows, LoadsRows, StopsParents}
 use Rattle.hg_session.proofs.Acted.{acted_wide, steps_wide}
-use Rattle.hg_session.proofs.Removing.{takes_longer}
+use Rattle.hg_session.proofs.TakenWords.{takes_longer}
 use Rattle.hg_shelf.specs.History.{Extends, History}
 use Rattle.hg_shelf.proofs.Histories.{extends_trans}
 use Rattle.hg_tree.specs.History as tree

@@ -300,11 +300,11 @@ module _ (command : Command) (copy : Watched tree.History) (a b : Course) (befor
   locked_own : (fault : ChangeFault) → IsSafe Does call.saved (Some (of_change fault)) → MetLocking Does copy call.looked.shelf locks fault → IsOurs a.history b.history → Serves copy → Serves call.looked.shelf
       → IsSteady locks.before locks.after → IsExpectedChange Does (now a.history).files (Some (of_change fault))
   locked_own fault safe (inl met) own p q steady = met_own Does copy a b before after kept.past own fault safe met p q
-  locked_own fault safe (inr (held, rose)) own p q steady = absurd (steady_not_rose locks.before locks.after steady rose)
+  locked_own fault safe (inr (held, rose, alone)) own p q steady = absurd (steady_not_rose locks.before locks.after steady rose)
 
   shelf_met : MetLocking Does copy call.looked.shelf locks a_change_fault.ShelfFailed → MetChanging Does copy call.looked.shelf a_change_fault.ShelfFailed
   shelf_met (inl met) = met
-  shelf_met (inr (held, rose)) = absurd (cc held)
+  shelf_met (inr (held, rose, alone)) = absurd (cc held)
 
   shelf_fails : (fault : ChangeFault) → fault ≡ a_change_fault.ShelfFailed → MetLocking Does copy call.looked.shelf locks fault → MetChanging Does copy call.looked.shelf a_change_fault.ShelfFailed
   shelf_fails fault is met = shelf_met (subst (MetLocking Does copy call.looked.shelf locks) is met)
@@ -312,13 +312,13 @@ module _ (command : Command) (copy : Watched tree.History) (a b : Course) (befor
   -- where it was met, whether it is told, or want of memory for its line
   stage_same : (fault : ChangeFault) → MetLocking Does copy call.looked.shelf locks fault → FailsOrUnwritten a.history b.history fault → Tells err (of_change fault)
       → (stage : Stage) × LeavesAt (change_look Does call) out err Tells stage (of_change fault)
-  stage_same fault met (inl is) line = (at_saving, ((shelf_fails fault is met, inl (ap of_change is)), silent, line))
-  stage_same fault met (inr none) line = (at_first, ((none, (fault, inl refl, met)), silent, line))
+  stage_same fault met (inl is) line = (at_saving, ((shelf_fails fault is met, inl (ap of_change is)), (silent, line)))
+  stage_same fault met (inr none) line = (at_first, ((none, fault, inl refl, met), silent, line))
 
   stage_memory : (fault : ChangeFault) → MetLocking Does copy call.looked.shelf locks fault → FailsOrUnwritten a.history b.history fault → Tells err a_fault.OutOfMemory
       → (stage : Stage) × LeavesAt (change_look Does call) out err Tells stage a_fault.OutOfMemory
-  stage_memory fault met (inl is) line = (at_saving, ((shelf_fails fault is met, inr refl), silent, line))
-  stage_memory fault met (inr none) line = (at_first, ((none, (fault, inr refl, met)), silent, line))
+  stage_memory fault met (inl is) line = (at_saving, ((shelf_fails fault is met, inr refl), (silent, line)))
+  stage_memory fault met (inr none) line = (at_first, ((none, fault, inr refl, met), silent, line))
 
   ran_fault : (status : ℕ) (fault : ChangeFault) (answered : Fault) → LockedBy (Some (of_change fault)) → (answered ≡ of_change fault) ⊎ (answered ≡ a_fault.OutOfMemory) → MetLocking Does copy call.looked.shelf locks fault
       → (Undisturbed a b → IsSafe Does call.saved (Some (of_change fault))) → FailsOrUnwritten a.history b.history fault → (locks.before < locks.after → fault ≡ a_change_fault.Held)

@@ -11,7 +11,6 @@ use Rattle.hg_mixed.specs.Held.{Held, table}
 use Rattle.hg_mixed.proofs.Edited.{same_trans}
 use Rattle.hg_ops.specs.declared.refusal.Refusal.{Refusal}
 use Rattle.hg_session.specs.Acts.{Deed, IsActed, IsStep, Stepping, refused_line}
-use Rattle.hg_session.specs.Call.{Watched}
 use Rattle.hg_session.proofs.Acted.{acted_more, acted_none}
 use Rattle.hg_session.proofs.SameTables.{table_stays}
 use Rattle.hg_tree.specs.History.{Extends, History, Passes}

@@ -206,8 +206,8 @@ pub record NeedsSome (after : Bool) (words : List (List ℕ)) (copy : Watched tr
   pub new : tree.History
   pub before : tree.Extends copy.old old
   pub behind : tree.Extends new copy.new
-  pub table : Table
-  pub need : NeedsRow (needs_row after word table) word old new
+  pub was : Table
+  pub need : NeedsRow (needs_row after word was) word old new
 
 -- the bytes of such a word's path were asked for
 abbrev pub IsWordRead : Bool → List (List ℕ) → Watched tree.History → Asked → Type 0

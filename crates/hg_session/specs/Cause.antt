@@ -9,12 +9,11 @@ use Rattle.hg_report.specs.declared.fault.Fault.{Fault}
 use Rattle.hg_report.specs.declared.fault.Fault.TheVariants as a_fault
 use Rattle.hg_session.specs.Call.{Call, Fails}
 use Rattle.hg_session.specs.Change.{MetLarge, MetSpent, MetStop, makes_in}
-use Rattle.hg_session.specs.Commands.{is_change}
+use Rattle.hg_session.specs.Commands.{is_change, is_done}
 use Rattle.hg_session.specs.Flags.{wanted_of}
 use Rattle.hg_session.specs.Listed.{StatusMet}
 use Rattle.hg_session.specs.Loaded.{LoadMet, WasLoaded}
 use Rattle.hg_session.specs.declared.read_fault.ReadFault.TheVariants as a_read
-use Rattle.hg_words.specs.Given.{is_built}
 use Rattle.hg_words.specs.declared.flags.StatusFlags.{StatusFlags}
 use Rattle.hg_words.specs.declared.given.Command.TheVariants as a_command
 
@@ -33,7 +32,7 @@ MetInStore call listed done = MetByStatus call listed ⊎ MetByChange call (MetS
 -- each fault comes only for its cause; want of memory needs none, and no fault of the words comes once they are a command
 abbrev pub CommandCause : Call → Fault → Type 0
 CommandCause call a_fault.OutOfMemory = Unit {0}
-CommandCause call a_fault.NotBuilt = is_built call.command ≡ false
+CommandCause call a_fault.NotBuilt = is_done call.command ≡ false
 CommandCause call (a_fault.Docket fault) = LoadMet (a_read.Docket fault) call.looked.shelf
 CommandCause call (a_fault.Node fault) = LoadMet (a_read.Node fault) call.looked.shelf
 CommandCause call (a_fault.DataGone ids) = LoadMet (a_read.DataGone ids) call.looked.shelf

@@ -14,7 +14,7 @@ use Rattle.hg_save.specs.Others.{KeepsRecords}
 use Rattle.hg_save.specs.Record.{id_in, reading}
 use Rattle.hg_save.specs.Saved.{IsLatest}
 use Rattle.hg_session.specs.Acts.{ChangesTree, Makes}
-use Rattle.hg_session.specs.Call.{Call, IsLeftAlone, Serves, Watched}
+use Rattle.hg_session.specs.Call.{Call, IsLeftAlone, Serves}
 use Rattle.hg_session.specs.Change.{AsksChange, Fits, IsDone, IsEarly, IsLocked, IsReadSome, IsSafe, IsUnwritten, MetChanging, MetLocking, Stretch, makes_in, of_change}
 use Rattle.hg_session.specs.Loaded.{IsUnreadable}
 use Rattle.hg_session.specs.Look.{Look, Concludes, saves_first}
@@ -26,7 +26,6 @@ use Rattle.hg_session.specs.declared.change_fault.ChangeFault.TheVariants as a_c
 use Rattle.hg_shelf.specs.History as shelf
 use Rattle.hg_shelf.specs.Images.{Goes, last_scene}
 use Rattle.hg_shelf.specs.Polite.{Undisturbed}
-use Rattle.hg_tree.specs.History as tree
 
 -- 1 where a line is told, and else 0
 abbrev pub status_of : List ℕ → ℕ

@@ -31,6 +31,22 @@ fn line_of(
     }
 }
 
+// The same, or that there is no memory for it.
+fn told(
+    alloc: Global,
+    source: &str,
+    target: &str,
+    refused: &Option<CopyRefusal>,
+) -> Result<Vec<u8>, OpFault>
+    ensures line { IfOk result (λ line. line.items ≡ copy_line source.now target.now refused.now) }
+    ensures memory { IfErr result (λ e. e ≡ an_op_fault.OutOfMemory) }
+{
+    match line_of(alloc, source, target, refused) {
+        Err(_) => Err(OpFault::OutOfMemory),
+        Ok(line) => Ok(line),
+    }
+}
+
 /// Copies a file or link that is tracked, and answers the line of the word that was refused.
 pub(crate) fn copy_one<T: Tree>(
     alloc: Global,
@@ -61,8 +77,6 @@ pub(crate) fn copy_one<T: Tree>(
     ensures failed { T.faults tree.old < T.faults tree.new → result ≡ Err an_op_fault.TreeFailed }
 {
     let refused = copy(alloc, mixed, tree, source, target)?;
-    match line_of(alloc, source, target, &refused) {
-        Err(_) => Err(OpFault::OutOfMemory),
-        Ok(line) => Ok(line),
-    }
+    let line = told(alloc, source, target, &refused)?;
+    Ok(line)
 }

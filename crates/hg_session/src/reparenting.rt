@@ -4,8 +4,9 @@ ghost use Rattle.std.specs.Prelude.{◌≡◌, ◌++◌, false, IfErr, IfOk, IsT
 ghost use Rattle.hg_base.specs.Fault.{HasCause};
 ghost use Rattle.hg_manifest.specs.Load.{asks_of};
 ghost use Rattle.hg_manifest.specs.declared.fault.ManifestFault.TheVariants as a_manifest_fault;
-ghost use Rattle.hg_mixed.specs.Edits.{IsOfSameImage};
+ghost use Rattle.hg_mixed.specs.Edits.{IsOfSameImage, IsSame, Marks};
 ghost use Rattle.hg_mixed.specs.Held.{table};
+ghost use Rattle.hg_ops.specs.Parents.{HasParents};
 ghost use Rattle.hg_ops.specs.declared.refusal.OpFault.TheVariants as an_op_fault;
 ghost use Rattle.hg_session.specs.Manifests.{Answers, IsReparented, StopsParents};
 ghost use Rattle.hg_shelf.specs.Asks.{AsksFrontOf, AsksInOrder};
@@ -29,6 +30,26 @@ fn rows_of<S: Shelf>(alloc: Global, shelf: &mut S, id: &Id20) -> Result<Manifest
     ensures cause { HasCause (S.faults shelf.old) (S.faults shelf.new) result (λ e. e ≡ a_manifest_fault.Failed) }
 {
     Manifest::load(alloc, shelf, id)
+}
+
+// Sets the parents, where there is memory.
+fn set_rows(
+    alloc: Global,
+    mixed: &mut Mixed<'_>,
+    p1: Id20,
+    p2: Id20,
+    m1: &Manifest,
+    m2: &Manifest,
+) -> Result<(), OpFault>
+    ensures parents { OnOk result (HasParents p1.0 p2.0 m1.now m2.now (table mixed.old) (table mixed.new)) }
+    ensures changed { OnOk result (Marks (IsSame (table mixed.new) (table mixed.old)) mixed.old.changed mixed.new.changed) }
+    ensures image { IsOfSameImage mixed.old mixed.new }
+    ensures memory { IfErr result (λ e. e ≡ an_op_fault.OutOfMemory) }
+{
+    match set_parents(alloc, mixed, p1, p2, m1, m2) {
+        Err(_) => Err(OpFault::OutOfMemory),
+        Ok(()) => Ok(()),
+    }
 }
 
 /// Sets the parents of a table, by the manifests of both: the first is loaded before the second. No line is told.
@@ -67,8 +88,6 @@ pub(crate) fn reparent<S: Shelf>(
 {
     let m1 = rows_of(alloc, shelf, &p1)?;
     let m2 = rows_of(alloc, shelf, &p2)?;
-    match set_parents(alloc, mixed, p1, p2, &m1, &m2) {
-        Err(_) => Err(OpFault::OutOfMemory),
-        Ok(()) => Ok(Vec::new(alloc)),
-    }
+    set_rows(alloc, mixed, p1, p2, &m1, &m2)?;
+    Ok(Vec::new(alloc))
 }

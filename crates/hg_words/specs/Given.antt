@@ -32,7 +32,7 @@ is_built (a_command.Remove after files) = true
 is_built (a_command.Copy source target) = true
 is_built (a_command.SetParents p1 p2) = true
 is_built a_command.DebugDirstate = true
-is_built a_command.DebugScript = false
+is_built a_command.DebugScript = true
 is_built (a_command.DebugLoad n) = false
 
 abbrev pub name_of : Command → List ℕ

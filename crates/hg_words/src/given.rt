@@ -100,8 +100,9 @@ impl Command {
             | Command::Remove { .. }
             | Command::Copy { .. }
             | Command::SetParents { .. }
-            | Command::DebugDirstate => true,
-            Command::DebugScript | Command::DebugLoad { .. } => false,
+            | Command::DebugDirstate
+            | Command::DebugScript => true,
+            Command::DebugLoad { .. } => false,
         }
     }
 

@@ -59,7 +59,7 @@ static ROWS: [HelpRow; 9] = [
         name: "debugscript",
         words: "",
         line: "run commands from standard input",
-        is_built: false,
+        is_built: true,
     },
     HelpRow {
         name: "debugload",

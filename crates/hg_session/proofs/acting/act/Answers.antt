@@ -1,5 +1,6 @@
 -- What a command did over a table in memory, by the command.
-use Rattle.std.proofs.Common.{refl, ap}
+use Rattle.std.proofs.Common.{refl, sym, ap, ◌∙◌}
+use Rattle.hg_words.specs.declared.given.Command.TheVariants as a_command
 use Rattle.hg_session.proofs.Doing.{acts_add, acts_copy, acts_forget, acts_nothing, acts_parents, acts_remove, own_fault}
 use Rattle.hg_session.proofs.acting.act.Goals as goal
 
@@ -21,7 +22,8 @@ returns-in-Remove-clause-acts g c =
 
 pub returns-in-Copy-clause-acts : goal.returns-in-Copy-clause-acts
 returns-in-Copy-clause-acts g c =
-    acts_copy _ _ _ _ _ c.copy_one.result (own_fault c.copy_one.result c.copy_one.ensures.kind) c.copy_one.ensures.image c.copy_one.ensures.cause c.copy_one.ensures.failed c.args.command.now c.in-Copy.source c.in-Copy.target c.in-Copy.is
+    acts_copy _ _ _ _ _ c.copy_one.result (own_fault c.copy_one.result c.copy_one.ensures.kind) c.copy_one.ensures.image c.copy_one.ensures.cause c.copy_one.ensures.failed c.args.command.now c.as_str.result.now c.as_str-in-Copy.result.now
+    (c.in-Copy.is ∙ (λ i. a_command.Copy (sym c.as_str.ensures i) (sym c.as_str-in-Copy.ensures i)))
     c.copy_one.ensures.does c.copy_one.ensures.puts
 
 pub returns-in-SetParents-clause-acts : goal.returns-in-SetParents-clause-acts

@@ -1,4 +1,4 @@
-use Rattle.std.proofs.Common.{◌≡◌, ◌++◌, Some, List, ℕ, take, refl, sym, ap, ◌∙◌, subst}
+use Rattle.std.proofs.Common.{◌≡◌, ◌++◌, Some, List, ℕ, take, refl, sym, ap, ◌∙◌}
 use Rattle.std.specs.List.{slice_get}
 use Rattle.hg_session.specs.Acts.{name, refused_line, steps_of}
 use Rattle.hg_session.proofs.SoFar.{goes_on, goes_on_at, leaves_same, leaves_trans, none_yet}

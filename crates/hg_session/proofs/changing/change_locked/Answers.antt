@@ -1,5 +1,5 @@
 -- A change of the record: the load, what the command makes of it, the publication.
-use Rattle.std.proofs.Common.{Some, None, Ok, Err, inl, inr, refl, ap, ◌∙◌}
+use Rattle.std.proofs.Common.{Some, None, Err, inl, inr, refl, ap, ◌∙◌}
 use Rattle.std.proofs.lemmas.Result.{err_from_is_err_and}
 use Rattle.hg_docket.specs.Docket.{docket_of}
 use Rattle.hg_ops.specs.declared.refusal.OpFault.{OpFault}
@@ -26,7 +26,7 @@ use Rattle.hg_session.proofs.changing.change_locked.Goals as goal
 pub returns-in_err-loaded-clause-met : goal.returns-in_err-loaded-clause-met
 returns-in_err-loaded-clause-met g c =
     let p = err_from_is_err_and c.from_residual.result c.from_residual.ensures.1 in
-    rw (p.1, p.2) (met_read _ (record { old = g.T.Tree.history c.args.tree.now; new = g.T.Tree.history c.args.tree.now; before = g.T.Tree.faults c.args.tree.now; after = g.T.Tree.faults c.args.tree.now }) _ c.in_err-loaded.field-0.0 c.in_err-loaded.ensures.found c.in_err-loaded.ensures.cause.rose (record { history = refl; count = refl }))
+    rw (p.1, p.2) (met_read (makes_of c.args.command.now (record { old = g.T.Tree.history c.args.tree.now; new = g.T.Tree.history c.args.tree.now; before = g.T.Tree.faults c.args.tree.now; after = g.T.Tree.faults c.args.tree.now }) (record { old = g.S.Shelf.history c.args.shelf.now; new = g.S.Shelf.history c.read.new.shelf; before = g.S.Shelf.faults c.args.shelf.now; after = g.S.Shelf.faults c.read.new.shelf })) (record { old = g.T.Tree.history c.args.tree.now; new = g.T.Tree.history c.args.tree.now; before = g.T.Tree.faults c.args.tree.now; after = g.T.Tree.faults c.args.tree.now }) (record { old = g.S.Shelf.history c.args.shelf.now; new = g.S.Shelf.history c.read.new.shelf; before = g.S.Shelf.faults c.args.shelf.now; after = g.S.Shelf.faults c.read.new.shelf }) c.in_err-loaded.field-0.0 c.in_err-loaded.ensures.found c.in_err-loaded.ensures.cause.rose (record { history = refl; count = refl }))
 
 pub returns-in_err-loaded-clause-unwritten : goal.returns-in_err-loaded-clause-unwritten
 returns-in_err-loaded-clause-unwritten g c =
@@ -48,7 +48,7 @@ pub returns-in_err-table-clause-met : goal.returns-in_err-table-clause-met
 returns-in_err-table-clause-met g c =
     let p = err_from_is_err_and c.from_residual-in_err-table.result c.from_residual-in_err-table.ensures.1 in
     rw (p.1, p.2)
-    (met_opened _ (record { old = g.T.Tree.history c.args.tree.now; new = g.T.Tree.history c.args.tree.now; before = g.T.Tree.faults c.args.tree.now; after = g.T.Tree.faults c.args.tree.now }) _ (IsOpened (docket_of c.in_ok-loaded.loaded.docket.items)) c.in_ok-loaded.loaded c.in_err-table.field-0.0 c.in_ok-loaded.ensures.whole
+    (met_opened (makes_of c.args.command.now (record { old = g.T.Tree.history c.args.tree.now; new = g.T.Tree.history c.args.tree.now; before = g.T.Tree.faults c.args.tree.now; after = g.T.Tree.faults c.args.tree.now }) (record { old = g.S.Shelf.history c.args.shelf.now; new = g.S.Shelf.history c.read.new.shelf; before = g.S.Shelf.faults c.args.shelf.now; after = g.S.Shelf.faults c.read.new.shelf })) (record { old = g.T.Tree.history c.args.tree.now; new = g.T.Tree.history c.args.tree.now; before = g.T.Tree.faults c.args.tree.now; after = g.T.Tree.faults c.args.tree.now }) (record { old = g.S.Shelf.history c.args.shelf.now; new = g.S.Shelf.history c.read.new.shelf; before = g.S.Shelf.faults c.args.shelf.now; after = g.S.Shelf.faults c.read.new.shelf }) (IsOpened (docket_of c.in_ok-loaded.loaded.docket.items)) c.in_ok-loaded.loaded c.in_err-table.field-0.0 c.in_ok-loaded.ensures.whole
     c.in_ok-loaded.ensures.found c.in_err-table.ensures (record { history = refl; count = refl }))
 
 pub returns-in_err-table-clause-unwritten : goal.returns-in_err-table-clause-unwritten

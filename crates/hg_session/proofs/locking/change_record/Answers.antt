@@ -2,6 +2,7 @@
 use Rattle.std.proofs.Common.{ℕ, List, inl, inr, ap, ◌∙◌, subst}
 use Rattle.hg_session.proofs.Promises.{ran_done, ran_failed, ran_untold}
 use Rattle.hg_session.specs.Changed.{status_of}
+use Rattle.hg_session.specs.Put.{IsFaultOrMemory}
 use Rattle.hg_shelf.specs.Images.{course}
 use Rattle.hg_stream.specs.Stream.{Grown, GrownByFront}
 use Rattle.hg_session.proofs.locking.change_record.Goals as goal
@@ -15,7 +16,7 @@ returns-in-Err-clause-ran g c = λ out oversize silent uncounted.
     (elim c.change.ensures.behind [
       | inl same ↦ inl (record { history = ap (λ t. g.T.Tree.history t) same; count = ap (λ t. g.T.Tree.faults t) same })
       | inr read ↦ inr read
-    ]) c.change.ensures.asked c.change.ensures.kept c.failed.result.status c.in-Err.fault c.failed.result.fault c.in-Err.ensures.locked c.failed.ensures.fault
+    ]) c.change.ensures.asked c.change.ensures.kept c.failed.result.status c.in-Err.fault c.failed.result.fault c.in-Err.ensures.locked (subst (IsFaultOrMemory c.failed.result.fault) c.from.ensures c.failed.ensures.fault)
     c.in-Err.ensures.met c.in-Err.ensures.safe c.in-Err.ensures.unwritten (λ rose. cc (c.in-Err.ensures.held rose)) (λ rose. cc (c.in-Err.ensures.failed rose))
     (λ early. record { history = ap (λ t. g.T.Tree.history t) (c.in-Err.ensures.early early); count = ap (λ t. g.T.Tree.faults t) (c.in-Err.ensures.early early) })
     c.failed.ensures.told

@@ -1,13 +1,13 @@
 -- The words of `remove`, one after another.
-use Rattle.std.proofs.Common.{ℕ, ◌≡◌, ◌+◌, ◌++◌, ◌∷◌, [], Some, Err, List, codes, take, drop, inl, inr, refl, sym, ap, ◌∙◌, subst}
+use Rattle.std.proofs.Common.{ℕ, ◌≡◌, ◌++◌, ◌∷◌, [], suc, Option, Some, Err, List, codes, take, take_all, drop, arith, inl, inr, refl, sym, ap, ◌∙◌, subst}
 use Rattle.std.specs.List.{slice_get}
 use Rattle.std.proofs.lemmas.Result.{err_from_is_err_and}
 use Rattle.hg_base.specs.declared.id.Id20.{Id20}
 use Rattle.hg_mixed.specs.Held.{table}
-use Rattle.hg_ops.specs.Parent.{KeepsParent}
-use Rattle.hg_ops.specs.declared.refusal.OpFault.TheVariants as an_op
-use Rattle.hg_session.specs.Acts.{TakesAway, refused_line, span_of}
-use Rattle.hg_session.proofs.Removing.{asks_kept, asks_needed, needed_more, so_far_wide, split_more, split_word, stops_at, stops_behind, store_cause, takes_extends, takes_longer, takes_more, takes_none_yet, tree_cause, tree_failed, word_among}
+use Rattle.hg_ops.specs.Parent.{AsksStore, KeepsParent}
+use Rattle.hg_ops.specs.declared.refusal.Refusal.{Refusal}
+use Rattle.hg_session.specs.Acts.{IsActed, TakesAway, refused_line, span_of}
+use Rattle.hg_session.proofs.TakenWords.{asks_kept, asks_needed, needed_more, so_far_wide, split_more, split_word, stops_at, stops_behind, store_cause, takes_extends, takes_longer, takes_more, takes_none_yet, tree_cause, tree_failed, word_among}
 use Rattle.hg_session.proofs.SoFar.{goes_on, goes_on_at, image_trans, none_yet}
 use Rattle.hg_shelf.proofs.Histories.{extends_same, passes_trans}
 use Rattle.hg_shelf.proofs.Scenes.{goes_same, goes_trans}
@@ -85,7 +85,7 @@ returns-in_err-refused-clause-stops g c = λ unset.
     (record { old = g.T.Tree.history c.args.tree.now; new = g.T.Tree.history c.remove.new.tree; before = g.T.Tree.faults c.args.tree.now; after = g.T.Tree.faults c.remove.new.tree })
     (record { old = first; new = last; before = g.S.Shelf.faults c.args.shelf.now; after = g.S.Shelf.faults c.remove.new.shelf })
     t (table c.loop-i.mixed) first (extends_same first) (g.T.Tree.faults c.args.tree.now) (g.T.Tree.faults c.loop-i.tree) c.loop-i.lines.items c.loop-i.mixed.changed
-    (take c.loop-i.i c.args.words.now) (word ∷ drop (c.loop-i.i + 1) c.args.words.now) (split_word c.args.words.now c.loop-i.i word is) word (drop (c.loop-i.i + 1) c.args.words.now) refl (g.T.Tree.history c.loop-i.tree)
+    (take c.loop-i.i c.args.words.now) (word ∷ drop (suc c.loop-i.i) c.args.words.now) (split_word c.args.words.now c.loop-i.i word is) word (drop (suc c.loop-i.i) c.args.words.now) refl (g.T.Tree.history c.loop-i.tree)
     (so_far.acted unset) c.in_err-refused.field-0.0 c.in_err-refused.ensures.takes c.in_err-refused.ensures.asked (c.in_err-refused.ensures.met (span_of t first between) c.loop-i.invariant.keeps))
 
 pub returns-in_err-refused-clause-image : goal.returns-in_err-refused-clause-image
@@ -124,17 +124,17 @@ returns-in_err-refused-clause-asked g c = λ told.
 pub returns-in_err-refused-clause-cause : goal.returns-in_err-refused-clause-cause
 returns-in_err-refused-clause-cause g c =
     let p = err_from_is_err_and c.from_residual.result c.from_residual.ensures.1 in
-    rw (p.1, p.2) (tree_cause _ _ _ c.in_err-refused.field-0.0 c.loop-i.invariant.so_far.count c.in_err-refused.ensures.cause)
+    rw (p.1, p.2) (tree_cause (Option Refusal) _ _ _ c.in_err-refused.field-0.0 c.loop-i.invariant.so_far.count c.in_err-refused.ensures.cause)
 
 pub returns-in_err-refused-clause-failed : goal.returns-in_err-refused-clause-failed
 returns-in_err-refused-clause-failed g c = λ rose.
     let p = err_from_is_err_and c.from_residual.result c.from_residual.ensures.1 in
-    p.1 ∙ ap Err (p.2 ∙ tree_failed _ _ _ c.in_err-refused.field-0.0 c.loop-i.invariant.so_far.count c.in_err-refused.ensures.cause rose)
+    p.1 ∙ ap Err (p.2 ∙ tree_failed (Option Refusal) _ _ _ c.in_err-refused.field-0.0 c.loop-i.invariant.so_far.count c.in_err-refused.ensures.cause rose)
 
 pub returns-in_err-refused-clause-cause_shelf : goal.returns-in_err-refused-clause-cause_shelf
 returns-in_err-refused-clause-cause_shelf g c =
     let p = err_from_is_err_and c.from_residual.result c.from_residual.ensures.1 in
-    rw (p.1, p.2) (store_cause _ _ _ c.in_err-refused.field-0.0 c.loop-i.invariant.count c.in_err-refused.ensures.cause_shelf)
+    rw (p.1, p.2) (store_cause (Option Refusal) _ _ _ c.in_err-refused.field-0.0 c.loop-i.invariant.count c.in_err-refused.ensures.cause_shelf)
 
 pub returns-in-Err-clause-image : goal.returns-in-Err-clause-image
 returns-in-Err-clause-image g c = image_trans c.args.mixed.now c.loop-i.mixed c.remove.new.mixed c.loop-i.invariant.so_far.image c.remove.ensures.image
@@ -192,15 +192,21 @@ returns-in-Err-clause-stops g c = λ unset.
     (record { old = start; new = at; before = g.T.Tree.faults c.args.tree.now; after = g.T.Tree.faults c.remove.new.tree })
     (record { old = first; new = last; before = g.S.Shelf.faults c.args.shelf.now; after = g.S.Shelf.faults c.remove.new.shelf })
     t (table c.remove.new.mixed) first (extends_same first) (g.T.Tree.faults c.args.tree.now) (g.T.Tree.faults c.remove.new.tree) _ _
-    (take c.loop-i.i c.args.words.now ++ word ∷ []) (drop (c.loop-i.i + 1) c.args.words.now) (split_more c.args.words.now c.loop-i.i word is) (so_far.acted unset)
+    (take c.loop-i.i c.args.words.now ++ word ∷ []) (drop (suc c.loop-i.i) c.args.words.now) (split_more c.args.words.now c.loop-i.i word is) (so_far.acted unset)
 
 pub returns-clause-acts : goal.returns-clause-acts
 returns-clause-acts g c = λ unset. record {
   start = g.S.Shelf.history c.args.shelf.now;
   begun = extends_same (g.S.Shelf.history c.args.shelf.now);
-  acted = c.loop-i.invariant.so_far.acted unset;
+  acted =
+      subst (λ (l : List (List ℕ)). IsActed (codes "remove") (TakesAway c.args.after (span_of (table c.args.mixed.now) (g.S.Shelf.history c.args.shelf.now) (g.S.Shelf.history c.loop-i.shelf))) l
+      (record { old = g.T.Tree.history c.args.tree.now; new = g.T.Tree.history c.loop-i.tree; before = g.T.Tree.faults c.args.tree.now; after = g.T.Tree.faults c.loop-i.tree })
+      (table c.args.mixed.now) (table c.loop-i.mixed) c.loop-i.lines.items c.loop-i.mixed.changed) (take_all c.loop-i.i c.args.words.now (omega (arith, c.loop-i-test.false, c.len-i-end.ensures))) (c.loop-i.invariant.so_far.acted unset);
 }
 
 pub returns-clause-asked : goal.returns-clause-asked
 returns-clause-asked g c = λ told.
-    asks_needed _ _ _ c.loop-i.invariant.needed (asks_kept _ c.loop-i.parent c.loop-i.invariant.keeps told)
+    let first = g.S.Shelf.history c.args.shelf.now in
+    let last = g.S.Shelf.history c.loop-i.shelf in
+    let t = table c.args.mixed.now in
+    asks_needed first last (AsksStore (span_of t first last)) c.loop-i.invariant.needed (asks_kept (span_of t first last) c.loop-i.parent c.loop-i.invariant.keeps told)

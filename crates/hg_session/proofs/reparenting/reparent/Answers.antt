@@ -1,9 +1,10 @@
 -- New parents: the manifests of both, and then the table.
-use Rattle.std.proofs.Common.{Ok, Err, refl, ◌∙◌}
+use Rattle.std.proofs.Common.{refl, ◌∙◌}
+use Rattle.hg_manifest.specs.Load.{asks_of}
 use Rattle.std.proofs.lemmas.Result.{err_from_is_err_and}
-use Rattle.hg_session.proofs.Reparenting.{cause_as, front_behind, not_tree, stops_first, stops_second}
+use Rattle.hg_session.proofs.ParentLoads.{cause_as, front_behind, not_tree, stops_first, stops_second}
 use Rattle.hg_session.proofs.SoFar.{unmarked}
-use Rattle.hg_shelf.proofs.Asks.{front_longer, order_front}
+use Rattle.hg_shelf.proofs.Asks.{front_all, front_longer}
 use Rattle.hg_shelf.proofs.Histories.{extends_same, passes_trans}
 use Rattle.hg_shelf.proofs.Scenes.{goes_trans}
 use Rattle.hg_session.proofs.reparenting.reparent.Goals as goal
@@ -35,7 +36,7 @@ returns-in_err-m2-clause-stops g c =
     (stops_second c.args.p1 c.args.p2 _ c.in_ok-m1.m1
     (record { old = g.S.Shelf.history c.args.shelf.now; new = g.S.Shelf.history c.rows_of.new.shelf; before = extends_same (g.S.Shelf.history c.args.shelf.now); behind = c.in_err-m2.ensures.passes.past; answers = c.in_ok-m1.ensures.answers })
     c.in_err-m2.field-0.0
-    (record { old = g.S.Shelf.history c.rows_of.new.shelf; new = g.S.Shelf.history c.rows_of-m2.new.shelf; before = c.in_ok-m1.ensures.passes.past; behind = extends_same (g.S.Shelf.history c.rows_of-m2.new.shelf); answers = c.in_err-m2.ensures.answers }))
+    (record { old = g.S.Shelf.history c.rows_of.new.shelf; new = g.S.Shelf.history c.rows_of-2.new.shelf; before = c.in_ok-m1.ensures.passes.past; behind = extends_same (g.S.Shelf.history c.rows_of-2.new.shelf); answers = c.in_err-m2.ensures.answers }))
 
 pub returns-in_err-m2-clause-asked : goal.returns-in_err-m2-clause-asked
 returns-in_err-m2-clause-asked g c = λ told. front_behind _ _ _ _ _ (c.in_ok-m1.ensures.asked told) (c.in_err-m2.ensures.asked (c.in_ok-m1.ensures.passes.past.told ∙ told))
@@ -56,32 +57,34 @@ returns-in_err-m2-clause-passes g c = passes_trans _ _ _ c.in_ok-m1.ensures.pass
 pub returns-in_err-m2-clause-kept : goal.returns-in_err-m2-clause-kept
 returns-in_err-m2-clause-kept g c = goes_trans _ _ _ c.in_ok-m1.ensures.kept c.in_err-m2.ensures.kept
 
-pub returns-in-Err-clause-asked : goal.returns-in-Err-clause-asked
-returns-in-Err-clause-asked g c = λ told. front_behind _ _ _ _ _ (c.in_ok-m1.ensures.asked told) (order_front _ _ _ (Ok c.in_ok-m2.m2) (c.in_ok-m2.ensures.asked (c.in_ok-m1.ensures.passes.past.told ∙ told)))
+pub returns-in_err-set_rows-clause-asked : goal.returns-in_err-set_rows-clause-asked
+returns-in_err-set_rows-clause-asked g c = λ told. front_behind (asks_of c.args.p1) (asks_of c.args.p2) (g.S.Shelf.history c.args.shelf.now) (g.S.Shelf.history c.rows_of.new.shelf) (g.S.Shelf.history c.rows_of-2.new.shelf) (c.in_ok-m1.ensures.asked told)
+    (front_all (asks_of c.args.p2) (g.S.Shelf.history c.rows_of.new.shelf) (g.S.Shelf.history c.rows_of-2.new.shelf) (c.in_ok-m2.ensures.asked (c.in_ok-m1.ensures.passes.past.told ∙ told)))
 
-pub returns-in-Err-clause-passes : goal.returns-in-Err-clause-passes
-returns-in-Err-clause-passes g c = passes_trans _ _ _ c.in_ok-m1.ensures.passes c.in_ok-m2.ensures.passes
+pub returns-in_err-set_rows-clause-passes : goal.returns-in_err-set_rows-clause-passes
+returns-in_err-set_rows-clause-passes g c = passes_trans _ _ _ c.in_ok-m1.ensures.passes c.in_ok-m2.ensures.passes
 
-pub returns-in-Err-clause-kept : goal.returns-in-Err-clause-kept
-returns-in-Err-clause-kept g c = goes_trans _ _ _ c.in_ok-m1.ensures.kept c.in_ok-m2.ensures.kept
+pub returns-in_err-set_rows-clause-kept : goal.returns-in_err-set_rows-clause-kept
+returns-in_err-set_rows-clause-kept g c = goes_trans _ _ _ c.in_ok-m1.ensures.kept c.in_ok-m2.ensures.kept
 
-pub returns-in-Ok-clause-does : goal.returns-in-Ok-clause-does
-returns-in-Ok-clause-does g c = λ unset. record {
+pub returns-clause-does : goal.returns-clause-does
+returns-clause-does g c = λ unset. record {
   m1 = c.in_ok-m1.m1;
   m2 = c.in_ok-m2.m2;
   first = record { old = g.S.Shelf.history c.args.shelf.now; new = g.S.Shelf.history c.rows_of.new.shelf; before = extends_same (g.S.Shelf.history c.args.shelf.now); behind = c.in_ok-m2.ensures.passes.past; answers = c.in_ok-m1.ensures.answers };
-  second = record { old = g.S.Shelf.history c.rows_of.new.shelf; new = g.S.Shelf.history c.rows_of-m2.new.shelf; before = c.in_ok-m1.ensures.passes.past; behind = extends_same (g.S.Shelf.history c.rows_of-m2.new.shelf); answers = c.in_ok-m2.ensures.answers };
-  parents = c.in-Ok.ensures.parents;
+  second = record { old = g.S.Shelf.history c.rows_of.new.shelf; new = g.S.Shelf.history c.rows_of-2.new.shelf; before = c.in_ok-m1.ensures.passes.past; behind = extends_same (g.S.Shelf.history c.rows_of-2.new.shelf); answers = c.in_ok-m2.ensures.answers };
+  parents = c.in_ok-set_rows.ensures.parents;
   silent = c.new.ensures.items;
-  idle = λ same. c.in-Ok.ensures.changed.kept same ∙ unset;
-  same = λ is. unmarked _ _ _ _ c.in-Ok.ensures.changed is;
+  idle = λ same. c.in_ok-set_rows.ensures.changed.kept same ∙ unset;
+  same = λ is. unmarked _ _ _ _ c.in_ok-set_rows.ensures.changed is;
 }
 
-pub returns-in-Ok-clause-asked : goal.returns-in-Ok-clause-asked
-returns-in-Ok-clause-asked g c = λ told. front_behind _ _ _ _ _ (c.in_ok-m1.ensures.asked told) (order_front _ _ _ (Ok c.in_ok-m2.m2) (c.in_ok-m2.ensures.asked (c.in_ok-m1.ensures.passes.past.told ∙ told)))
+pub returns-clause-asked : goal.returns-clause-asked
+returns-clause-asked g c = λ told. front_behind (asks_of c.args.p1) (asks_of c.args.p2) (g.S.Shelf.history c.args.shelf.now) (g.S.Shelf.history c.rows_of.new.shelf) (g.S.Shelf.history c.rows_of-2.new.shelf) (c.in_ok-m1.ensures.asked told)
+    (front_all (asks_of c.args.p2) (g.S.Shelf.history c.rows_of.new.shelf) (g.S.Shelf.history c.rows_of-2.new.shelf) (c.in_ok-m2.ensures.asked (c.in_ok-m1.ensures.passes.past.told ∙ told)))
 
-pub returns-in-Ok-clause-passes : goal.returns-in-Ok-clause-passes
-returns-in-Ok-clause-passes g c = passes_trans _ _ _ c.in_ok-m1.ensures.passes c.in_ok-m2.ensures.passes
+pub returns-clause-passes : goal.returns-clause-passes
+returns-clause-passes g c = passes_trans _ _ _ c.in_ok-m1.ensures.passes c.in_ok-m2.ensures.passes
 
-pub returns-in-Ok-clause-kept : goal.returns-in-Ok-clause-kept
-returns-in-Ok-clause-kept g c = goes_trans _ _ _ c.in_ok-m1.ensures.kept c.in_ok-m2.ensures.kept
+pub returns-clause-kept : goal.returns-clause-kept
+returns-clause-kept g c = goes_trans _ _ _ c.in_ok-m1.ensures.kept c.in_ok-m2.ensures.kept

@@ -1,4 +1,4 @@
-use Rattle.hg_session.proofs.Reparenting.{by_test}
+use Rattle.hg_session.proofs.ParentLoads.{by_test}
 use Rattle.hg_session.proofs.reparenting.rows_of.Goals as goal
 
 pub returns-clause-answers : goal.returns-clause-answers

@@ -2,7 +2,6 @@
 use Rattle.std.proofs.Common.{ℕ, zero, suc, ◌≡◌, ◌+◌, ◌<◌, ◌≤◌, ◌*◌, ◌||◌, ◌⊎◌, Bool, true, false, List, [], ◌∷◌, ◌++◌, replicate, length, take, drop, Option, Some, None, Result, Err, IsTrue, codes, inl, inr, refl, sym, ap, ◌∙◌, subst, arith}
 use Rattle.std.specs.List.{AllByRecursion, list_any, slice_get}
 use Rattle.std.specs.Str.{bytes_eq}
-use Rattle.std.specs.Prelude.{MatchBool}
 use Rattle.std.proofs.lemmas.Bool.{cases_Bool}
 use Rattle.std.proofs.Math.Seq.{take-length}
 use Rattle.std.proofs.lemmas.List.{append-nil, append_assoc}
@@ -27,7 +26,7 @@ use Rattle.hg_session.proofs.SoFar.{SoFar}
 use Rattle.hg_shelf.specs.History as shelf
 use Rattle.hg_shelf.proofs.Histories as shelves
 use Rattle.hg_shelf.specs.declared.asked.Asked as shelf_asks
-use Rattle.hg_tree.specs.History.{Extends, History, Passes, us}
+use Rattle.hg_tree.specs.History.{Extends, History, Passes}
 use Rattle.hg_tree.specs.Moment.{Things, is_among}
 use Rattle.hg_tree.specs.Touched.{ChangesOnly, TouchesOnly}
 use Rattle.hg_tree.specs.declared.asked.Asked.{Asked}
@@ -108,7 +107,7 @@ module _ (after : Bool) (words : List (List ℕ)) (start mid at : History) (firs
     new = some.new;
     before = some.before;
     behind = extends_trans some.new mid at some.behind second;
-    table = some.table;
+    was = some.was;
     need = some.need;
   }
 
@@ -122,7 +121,7 @@ module _ (after : Bool) (words : List (List ℕ)) (start mid at : History) (firs
 
   module _ (word : List ℕ) (among : is_among word words ≡ true) (t : Table) where
     abbrev word_needs : NeedsRow (needs_row after word t) word mid at → NeedsSome after words whole
-    word_needs need = record { word = word; among = among; old = mid; new = at; before = first; behind = extends_same at; table = t; need = need }
+    word_needs need = record { word = word; among = among; old = mid; new = at; before = first; behind = extends_same at; was = t; need = need }
 
     word_reads : (read : ReadsWord (needs_row after word t) word mid at) (pieces : InPieces read.size (an_ask.Read word) mid.asked at.asked)
         → AllByRecursion (IsWordRead after words whole) (replicate pieces.pieces (an_ask.Read word))
@@ -212,7 +211,7 @@ asks_needed old new Asks (inr needs) asks = inr (needs, asks)
 
 -- ---- a fault at a word
 
-split_at : (words : List (List ℕ)) (i : ℕ) (word : List ℕ) → slice_get words i ≡ Some word → words ≡ take i words ++ word ∷ drop (i + 1) words
+split_at : (words : List (List ℕ)) (i : ℕ) (word : List ℕ) → slice_get words i ≡ Some word → words ≡ take i words ++ word ∷ drop (suc i) words
 split_at [] i word is = absurd (cc is)
 split_at (first ∷ words) zero word is = ap (λ (w : List ℕ). w ∷ words) (cc is)
 split_at (first ∷ words) (suc i) word is = ap (λ (l : List (List ℕ)). first ∷ l) (split_at words i word is)
@@ -255,51 +254,51 @@ module _ (after : Bool) (words : List (List ℕ)) (copy : Watched History) (file
     steps = acted.steps;
   })
 
-pub split_word : (words : List (List ℕ)) (i : ℕ) (word : List ℕ) → slice_get words i ≡ Some word → words ≡ take i words ++ (word ∷ drop (i + 1) words)
+pub split_word : (words : List (List ℕ)) (i : ℕ) (word : List ℕ) → slice_get words i ≡ Some word → words ≡ take i words ++ (word ∷ drop (suc i) words)
 split_word words i word is = split_at words i word is
 
 -- the same behind that word
-pub split_more : (words : List (List ℕ)) (i : ℕ) (word : List ℕ) → slice_get words i ≡ Some word → words ≡ (take i words ++ word ∷ []) ++ drop (i + 1) words
-split_more words i word is = split_at words i word is ∙ sym (append_assoc (take i words) (word ∷ []) (drop (i + 1) words))
+pub split_more : (words : List (List ℕ)) (i : ℕ) (word : List ℕ) → slice_get words i ≡ Some word → words ≡ (take i words ++ word ∷ []) ++ drop (suc i) words
+split_more words i word is = split_at words i word is ∙ sym (append_assoc (take i words) (word ∷ []) (drop (suc i) words))
 
 -- ---- counts
 
-op_later : {A : Type 0} (before now : ℕ) (fault : OpFault) → HasOpCause {T = A} before now (Err fault) → before ≤ now
-op_later before now an_op.TreeFailed cause = cause.0
-op_later before now fault cause = omega (arith, cause)
+op_later : (A : Type 0) (before now : ℕ) (fault : OpFault) → HasOpCause {T = A} before now (Err fault) → before ≤ now
+op_later A before now an_op.TreeFailed cause = cause.0
+op_later A before now fault cause = omega (arith, cause)
 
-op_rose : {A : Type 0} (before now : ℕ) (fault : OpFault) → HasOpCause {T = A} before now (Err fault) → fault ≡ an_op.TreeFailed → Rose before now
-op_rose {A} before now fault cause is = (subst (λ (f : OpFault). HasOpCause {T = A} before now (Err f)) is cause).1
+op_rose : (A : Type 0) (before now : ℕ) (fault : OpFault) → HasOpCause {T = A} before now (Err fault) → fault ≡ an_op.TreeFailed → Rose before now
+op_rose A before now fault cause is = (subst (λ (f : OpFault). HasOpCause {T = A} before now (Err f)) is cause).1
 
-store_later : {A : Type 0} (before now : ℕ) (fault : OpFault) → HasStoreCause {T = A} before now (Err fault) → before ≤ now
-store_later before now an_op.ShelfFailed cause = cause.0
-store_later before now fault cause = omega (arith, cause)
+store_later : (A : Type 0) (before now : ℕ) (fault : OpFault) → HasStoreCause {T = A} before now (Err fault) → before ≤ now
+store_later A before now an_op.ShelfFailed cause = cause.0
+store_later A before now fault cause = omega (arith, cause)
 
-store_rose : {A : Type 0} (before now : ℕ) (fault : OpFault) → HasStoreCause {T = A} before now (Err fault) → fault ≡ an_op.ShelfFailed → Rose before now
-store_rose {A} before now fault cause is = (subst (λ (f : OpFault). HasStoreCause {T = A} before now (Err f)) is cause).1
+store_rose : (A : Type 0) (before now : ℕ) (fault : OpFault) → HasStoreCause {T = A} before now (Err fault) → fault ≡ an_op.ShelfFailed → Rose before now
+store_rose A before now fault cause is = (subst (λ (f : OpFault). HasStoreCause {T = A} before now (Err f)) is cause).1
 
 -- of a call that ends with this fault, behind others that counted nothing
-pub tree_cause : {A B : Type 0} (first before now : ℕ) (fault : OpFault) → before ≡ first → HasOpCause {T = A} before now (Err fault) → HasCause {T = B} first now (Err fault) (λ e. e ≡ an_op.TreeFailed)
-tree_cause {A} first before now fault same cause = record {
-  later = omega (arith, same, op_later {A = A} before now fault cause);
+pub tree_cause : (A : Type 0) {B : Type 0} (first before now : ℕ) (fault : OpFault) → before ≡ first → HasOpCause {T = A} before now (Err fault) → HasCause {T = B} first now (Err fault) (λ e. e ≡ an_op.TreeFailed)
+tree_cause A first before now fault same cause = record {
+  later = omega (arith, same, op_later A before now fault cause);
   quiet = tt;
-  rose = λ is. omega (arith, same, op_rose {A = A} before now fault cause is);
+  rose = λ is. omega (arith, same, op_rose A before now fault cause is);
 }
 
-pub store_cause : {A B : Type 0} (first before now : ℕ) (fault : OpFault) → before ≡ first → HasStoreCause {T = A} before now (Err fault) → HasCause {T = B} first now (Err fault) (λ e. e ≡ an_op.ShelfFailed)
-store_cause {A} first before now fault same cause = record {
-  later = omega (arith, same, store_later {A = A} before now fault cause);
+pub store_cause : (A : Type 0) {B : Type 0} (first before now : ℕ) (fault : OpFault) → before ≡ first → HasStoreCause {T = A} before now (Err fault) → HasCause {T = B} first now (Err fault) (λ e. e ≡ an_op.ShelfFailed)
+store_cause A first before now fault same cause = record {
+  later = omega (arith, same, store_later A before now fault cause);
   quiet = tt;
-  rose = λ is. omega (arith, same, store_rose {A = A} before now fault cause is);
+  rose = λ is. omega (arith, same, store_rose A before now fault cause is);
 }
 
 -- the count of a working copy that failed rose alone
-failed_one : {A : Type 0} (before now : ℕ) (fault : OpFault) → HasOpCause {T = A} before now (Err fault) → before < now → fault ≡ an_op.TreeFailed
-failed_one before now an_op.TreeFailed cause rose = refl
-failed_one before now fault cause rose = absurd (omega (arith, cause, rose))
+failed_one : (A : Type 0) (before now : ℕ) (fault : OpFault) → HasOpCause {T = A} before now (Err fault) → before < now → fault ≡ an_op.TreeFailed
+failed_one A before now an_op.TreeFailed cause rose = refl
+failed_one A before now fault cause rose = absurd (omega (arith, cause, rose))
 
-pub tree_failed : {A : Type 0} (first before now : ℕ) (fault : OpFault) → before ≡ first → HasOpCause {T = A} before now (Err fault) → first < now → fault ≡ an_op.TreeFailed
-tree_failed {A} first before now fault same cause rose = failed_one {A = A} before now fault cause (omega (arith, same, rose))
+pub tree_failed : (A : Type 0) (first before now : ℕ) (fault : OpFault) → before ≡ first → HasOpCause {T = A} before now (Err fault) → first < now → fault ≡ an_op.TreeFailed
+tree_failed A first before now fault same cause rose = failed_one A before now fault cause (omega (arith, same, rose))
 
 -- and of a call that ends with want of memory, which counts nothing
 pub memory_cause : {B : Type 0} (before now : ℕ) (IsFailed : OpFault → Type 0) → now ≡ before → (IsFailed an_op.OutOfMemory → ⊥) → HasCause {T = B} before now (Err an_op.OutOfMemory) IsFailed

@@ -1,5 +1,5 @@
 -- New parents, from the loads of their manifests.
-use Rattle.std.proofs.Common.{ℕ, suc, ◌≡◌, ◌⊎◌, Bool, true, false, List, [], ◌∷◌, ◌++◌, take, Result, Ok, Err, refl, ap, ◌∙◌, inl, inr, arith}
+use Rattle.std.proofs.Common.{ℕ, suc, ◌≡◌, Bool, true, false, List, [], ◌∷◌, ◌++◌, take, Ok, Err, refl, ap, ◌∙◌, inl, inr, arith}
 use Rattle.std.specs.Prelude.{MatchBool}
 use Rattle.std.proofs.lemmas.List.{append_assoc}
 use Rattle.hg_base.specs.Fault.{HasCause}
@@ -8,7 +8,6 @@ use Rattle.hg_manifest.specs.Rows.{Rows}
 use Rattle.hg_manifest.specs.declared.fault.ManifestFault.{ManifestFault}
 use Rattle.hg_manifest.specs.declared.fault.ManifestFault.TheVariants as a_manifest
 use Rattle.hg_ops.specs.Cause.{of_manifest}
-use Rattle.hg_ops.specs.declared.refusal.OpFault.{OpFault}
 use Rattle.hg_ops.specs.declared.refusal.OpFault.TheVariants as an_op
 use Rattle.hg_session.specs.Call.{Watched}
 use Rattle.hg_session.specs.Manifests.{LoadsRows, StopsParents}
