@@ -1,13 +1,15 @@
 -- The cause of a fault in the table of all commands, from the stage at which a command met it; and the whole answer of a call.
 use Rattle.std.proofs.Common.{ℕ, ◌≡◌, true, false, Option, Some, None, Result, Ok, Err, IfSome, IsTrue, refl, sym, subst, inl, inr, true≢false}
 use Rattle.std.specs.Option.{MatchOption}
-use Rattle.std.specs.Prelude.{◌⊎◌}
+use Rattle.std.specs.Prelude.{IsSomeAnd, ◌⊎◌}
 use Rattle.hg_append.specs.declared.fault.EncodeFault.TheVariants as an_encode_fault
 use Rattle.hg_base.specs.Fault.{Rose}
+use Rattle.hg_entry.specs.Table.{Table}
+use Rattle.hg_listing.specs.declared.fault.StatusFault.{StatusFault}
 use Rattle.hg_listing.specs.declared.fault.StatusFault.TheVariants as a_status
 use Rattle.hg_ops.specs.declared.refusal.OpFault.{OpFault}
 use Rattle.hg_ops.specs.declared.refusal.OpFault.TheVariants as an_op_fault
-use Rattle.hg_report.specs.Cause.{of_op}
+use Rattle.hg_report.specs.Cause.{of_op, of_status}
 use Rattle.hg_report.specs.declared.fault.Fault.{Fault}
 use Rattle.hg_report.specs.declared.fault.Fault.TheVariants as a_fault
 use Rattle.hg_session.specs.Answered.{IsAnswered, IsIdle, IsUnbuilt, Ran}
@@ -19,9 +21,9 @@ use Rattle.hg_session.specs.Commands.{is_change, is_done}
 use Rattle.hg_session.specs.Crash.{published_in}
 use Rattle.hg_session.specs.Debug.{AnswersPrinting, Prints, ShowsRecord}
 use Rattle.hg_session.specs.Flags.{wanted_of}
-use Rattle.hg_session.specs.Listed.{AsksOwn, ListingCause}
+use Rattle.hg_session.specs.Listed.{AsksOwn, ListingCause, StatusCause}
 use Rattle.hg_session.specs.Load.{of_list, of_print, of_read}
-use Rattle.hg_session.specs.Loaded.{AsksRecord, MetReading}
+use Rattle.hg_session.specs.Loaded.{AsksRecord, IsLoaded, MetReading}
 use Rattle.hg_session.specs.Look.{EndsAs, IsCalm, IsLook, IsOutFault, LeavesAt, Concludes, OnlyReads, Stage, at_first, at_printing, at_saving, at_telling}
 use Rattle.hg_session.specs.Put.{IsFaultOrMemory, IsSilent, Tells}
 use Rattle.hg_session.specs.Status.{DoesStatus, RanStatus, status_look}
@@ -57,28 +59,33 @@ by_printing call fault (inl is) failed = subst (CommandCause call) (sym is) fail
 by_printing call fault (inr is) failed = subst (CommandCause call) (sym is) tt
 
 module _ (call : Call) (flags : StatusFlags) (is : call.command ≡ a_command.Status flags) where
-  by_listing : (fault : ListFault) → ListingCause call.looked (wanted_of flags) fault → CommandCause call (of_list fault)
-  by_listing (a_list.Read fault) cause = by_reading call fault cause
-  by_listing (a_list.Status a_status.OutOfMemory) cause = tt
-  by_listing (a_list.Status a_status.TreeFailed) cause = cause
-  by_listing (a_list.Status a_status.ShelfFailed) cause = cause
-  by_listing (a_list.Status (a_status.NoManifest id)) cause = inl (flags, is, cause)
-  by_listing (a_list.Status (a_status.ManifestTooLarge size)) cause = inl (flags, is, cause)
-  by_listing (a_list.Status (a_status.ManifestLine line)) cause = inl (flags, is, cause)
-  by_listing (a_list.Status (a_status.ManifestOrder line)) cause = inl (flags, is, cause)
-  by_listing (a_list.Status (a_status.NoContents id)) cause = inl (flags, is, cause)
-  by_listing (a_list.Status (a_status.RegexpTooBig line)) cause = ((flags, is, cause.0), cause.1)
-  by_listing (a_list.Status fault) cause = (flags, is, cause)
+  by_status : (table : Table) → IsLoaded call.looked.shelf table → (fault : StatusFault) → StatusCause call.looked (wanted_of flags) table fault → CommandCause call (of_status fault)
+  by_status table loaded a_status.OutOfMemory cause = tt
+  by_status table loaded a_status.TreeFailed cause = (cause, λ told. (table, loaded told))
+  by_status table loaded a_status.ShelfFailed cause = cause
+  by_status table loaded (a_status.NoManifest id) cause = inl (flags, is, table, loaded, cause)
+  by_status table loaded (a_status.ManifestTooLarge size) cause = inl (flags, is, table, loaded, cause)
+  by_status table loaded (a_status.ManifestLine line) cause = inl (flags, is, table, loaded, cause)
+  by_status table loaded (a_status.ManifestOrder line) cause = inl (flags, is, table, loaded, cause)
+  by_status table loaded (a_status.NoContents id) cause = inl (flags, is, table, loaded, cause)
+  by_status table loaded (a_status.RegexpTooBig line) cause = ((flags, is, table, loaded, cause.0), cause.1)
+  by_status table loaded fault cause = (flags, is, table, loaded, cause)
 
-  left_cause : (fault : Fault) → (stage : Stage) × LeavesAt (status_look flags call.looked) call.out call.err Tells stage fault → CommandCause call fault
-  left_cause fault (at_first, ((f, same, cause), silent, line)) = subst (CommandCause call) (sym same) (by_listing f cause)
-  left_cause fault (at_printing, (printing, ready, front, kind, line)) = by_printing call fault kind front.failed
-  left_cause fault (at_telling, (telling, ready, puts, front, same)) = subst (CommandCause call) (sym same) front.failed
-  left_cause fault (at_saving, (never, left)) = absurd never
+  by_listing : (table : Option Table) → IfSome table (IsLoaded call.looked.shelf) → (fault : ListFault) → ListingCause call.looked (wanted_of flags) table fault → CommandCause call (of_list fault)
+  by_listing table loaded (a_list.Read fault) cause = by_reading call fault cause
+  by_listing None loaded (a_list.Status fault) cause = absurd cause
+  by_listing (Some table) loaded (a_list.Status fault) cause = by_status table loaded fault cause
 
-  pub status_cause : (fault : Option Fault) → Concludes (status_look flags call.looked) call.out call.err fault → IfSome fault (CommandCause call)
-  status_cause None looks = tt
-  status_cause (Some fault) looks = left_cause fault looks.left
+  module _ (table : Option Table) (loaded : IfSome table (IsLoaded call.looked.shelf)) where
+    left_cause : (fault : Fault) → (stage : Stage) × LeavesAt (status_look flags call.looked table) call.out call.err Tells stage fault → CommandCause call fault
+    left_cause fault (at_first, ((f, same, cause), silent, line)) = subst (CommandCause call) (sym same) (by_listing table loaded f cause)
+    left_cause fault (at_printing, (printing, ready, front, kind, line)) = by_printing call fault kind front.failed
+    left_cause fault (at_telling, (telling, ready, puts, front, same)) = subst (CommandCause call) (sym same) front.failed
+    left_cause fault (at_saving, (never, left)) = absurd never
+
+    pub status_cause : (fault : Option Fault) → Concludes (status_look flags call.looked table) call.out call.err fault → IfSome fault (CommandCause call)
+    status_cause None looks = tt
+    status_cause (Some fault) looks = left_cause fault looks.left
 
 printed_cause : (call : Call) (fault : PrintFault) → Prints call.looked.shelf call.out (Err fault) → CommandCause call (of_print fault)
 printed_cause call (a_print.Read fault) prints = by_reading call fault prints.0
@@ -190,13 +197,14 @@ pub answered_status : (command : Command) (flags : StatusFlags) (looked : Looked
     → IsAnswered (record { command = command; looked = looked; saved = saved; locks = locks; out = out; err = joined mid tail bytes count }) code fault
 answered_status command flags looked saved locks out mid tail bytes count done code fault is does only none ends =
     let call : Call = record { command = command; looked = looked; saved = saved; locks = locks; out = out; err = joined mid tail bytes count } in
-    let looks : Concludes (status_look flags looked) out (joined mid tail bytes count) fault =
-    looks_by mid tail bytes count (status_look flags looked) out (a_list.Read a_read.OutOfMemory, refl, tt) (λ f never. absurd never) done code fault does.shows ends in
+    let looks : Concludes (status_look flags looked does.table) out (joined mid tail bytes count) fault =
+    looks_by mid tail bytes count (status_look flags looked does.table) out (a_list.Read a_read.OutOfMemory, refl, tt) (λ f never. absurd never) done code fault does.shows ends in
     let look : IsLook call code fault =
     look_by call code fault only none (calm_by mid tail bytes count looked out done code fault ends does.calm) ends.status in
     let ran : RanStatus flags call code fault =
-    status_by flags call does.tree only.passes fault looks does.asked (λ none. from_well mid tail bytes count (AsksOwn looked (wanted_of flags)) done code fault ends does.asked_own none) does.below code look in
-    answered_looked call code fault (subst (λ (c : Command). Ran c call code fault) (sym is) ran) look (status_cause call flags is fault looks)
+    status_by flags call does.tree only.passes does.table does.loaded fault looks does.asked
+    (λ none. from_well mid tail bytes count (IsSomeAnd does.table (AsksOwn looked (wanted_of flags))) done code fault ends does.asked_own none) does.below code look in
+    answered_looked call code fault (subst (λ (c : Command). Ran c call code fault) (sym is) ran) look (status_cause call flags is does.table does.loaded fault looks)
 
 -- the command that prints the record
 pub answered_record : (call : Call) (code : ℕ) (fault : Option Fault) → call.command ≡ a_command.DebugDirstate → ShowsRecord call.looked.shelf call.out call.err fault

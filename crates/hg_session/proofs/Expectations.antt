@@ -1,6 +1,7 @@
 -- What is expected of a status where nobody else steps, and what it did, from how it ended.
 use Rattle.std.proofs.Common.{ℕ, ◌≡◌, ◌≤◌, length, true, List, [], Option, Some, None, Ok, Err, IsTrue, IfSome, refl, sym, ◌∙◌, subst, inl, inr}
 use Rattle.std.proofs.lemmas.List.{append-nil}
+use Rattle.std.specs.Prelude.{IsSomeAnd}
 use Rattle.std.specs.Str.{IsUtf8, IsValidUpTo}
 use Rattle.hg_base.proofs.Faults.{steady_not_rose}
 use Rattle.hg_base.specs.declared.id.Id20.{Id20}
@@ -10,6 +11,7 @@ use Rattle.hg_entry.specs.Table.{Table, flat_of}
 use Rattle.hg_flat.specs.Met as flat_met
 use Rattle.hg_flat.specs.Parent.{manifest_at, parent_rows}
 use Rattle.hg_flat.specs.Patterns.{HadPatterns, ignored_at, needs_patterns}
+use Rattle.hg_listing.specs.declared.fault.StatusFault.{StatusFault}
 use Rattle.hg_listing.specs.declared.fault.StatusFault.TheVariants as a_status
 use Rattle.hg_listing.specs.declared.row.Row.{Row}
 use Rattle.hg_listing.specs.declared.row.Wanted.{Wanted}
@@ -22,6 +24,7 @@ use Rattle.hg_ignore.specs.declared.fault.IgnoreFault.{IgnoreFault}
 use Rattle.hg_ignore.specs.declared.fault.IgnoreFault.TheVariants as an_ignore
 use Rattle.hg_manifest.specs.declared.fault.ManifestFault.{ManifestFault}
 use Rattle.hg_manifest.specs.declared.fault.ManifestFault.TheVariants as a_manifest
+use Rattle.hg_report.specs.Cause.{of_status}
 use Rattle.hg_report.specs.declared.fault.Fault.{Fault}
 use Rattle.hg_shelf.specs.History as shelf
 use Rattle.hg_shelf.proofs.Histories as shelves
@@ -31,10 +34,9 @@ use Rattle.hg_tree.specs.Moment.{stat_at}
 use Rattle.hg_tree.proofs.Spans.{ours_unstepped}
 use Rattle.hg_tree.proofs.Stillness.{ours_untouched}
 use Rattle.hg_save.specs.Record.{record_in}
-use Rattle.hg_session.specs.Below.{AsksBelow}
 use Rattle.hg_session.specs.Call.{Call, Looked, Serves}
 use Rattle.hg_session.specs.Flags.{wanted_of}
-use Rattle.hg_session.specs.Listed.{AsksLittle, AsksOwn, IsAskedAt, IsListable, IsListed, IsListedFor, IsOwn, IsUntouched, ListingCause, first_parent, status_over}
+use Rattle.hg_session.specs.Listed.{AsksBelow, AsksLittle, AsksOwn, IsAskedAt, IsListable, IsListed, IsListedFor, IsOwn, IsUntouched, ListingCause, StatusCause, first_parent, status_over}
 use Rattle.hg_session.specs.Load.{of_list, of_read}
 use Rattle.hg_session.specs.Loaded.{IsLoaded, IsUnreadable}
 use Rattle.hg_session.specs.Look.{IsLook, LeavesAt, LeftBySaving, Look, Concludes, Order, Stage, at_first, at_printing, at_saving, at_telling, saves_first, saves_last}
@@ -98,13 +100,13 @@ module _ (looked : Looked) (copy : tree.Passes looked.tree.old looked.tree.new) 
     }
 
     -- and the listing is the whole
-    listed_own : (rows : List Row) → IsListedFor looked wanted rows → IsListed there (tree.now looked.tree.old) wanted rows
-    listed_own rows is = record {
-      table = is.table;
-      recorded = recorded_now is.table is.loaded;
+    listed_own : (table : Table) → IsLoaded looked.shelf table → (rows : List Row) → IsListedFor looked wanted rows table → IsListed there (tree.now looked.tree.old) wanted rows
+    listed_own table loaded rows is = record {
+      table = table;
+      recorded = recorded_now table loaded;
       full =
-          full_of (IsUntouched looked wanted is.table) (flat_of is.table) (tree.now looked.tree.old) (parent_rows there (first_parent is.table)) (ignored_at (tree.now looked.tree.old)) wanted rows
-          (ours_left is.table) is.full;
+          full_of (IsUntouched looked wanted table) (flat_of table) (tree.now looked.tree.old) (parent_rows there (first_parent table)) (ignored_at (tree.now looked.tree.old)) wanted rows
+          (ours_left table) is;
     }
 
     abbrev Expects : Option Fault → Type 0
@@ -166,77 +168,92 @@ module _ (looked : Looked) (copy : tree.Passes looked.tree.old looked.tree.new) 
     reading_expected (a_read.DataGone ids) is = is
     reading_expected a_read.Failed is = is
 
-    listing_expected : (fault : ListFault) → ListingCause looked wanted fault → Serves looked.tree → Serves looked.shelf → Expects (Some (of_list fault))
-    listing_expected (a_list.Read fault) cause p q = reading_expected fault (readings.unreadable_now looked.shelf files.past still_shelf own.shelf.told fault cause q)
-    listing_expected (a_list.Status a_status.OutOfMemory) cause p q = tt
-    listing_expected (a_list.Status a_status.TreeFailed) cause p q = absurd (steady_not_rose looked.tree.before looked.tree.after p cause.0)
-    listing_expected (a_list.Status a_status.ShelfFailed) cause p q = absurd (steady_not_rose looked.shelf.before looked.shelf.after q cause)
-    listing_expected (a_list.Status (a_status.NoManifest gone)) cause p q =
-        bad_manifest cause.table cause.loaded (cause.behind refl) cause.met.0 (a_manifest.NoManifest gone)
-        (gone_now (over cause.table) copy.past files.past still_tree still_shelf own.tree.told own.shelf.told gone cause.met.0.committed cause.met.1 cause.met.2)
-    listing_expected (a_list.Status (a_status.ManifestTooLarge size)) cause p q =
-        bad_manifest cause.table cause.loaded (cause.behind refl) cause.met.0 (a_manifest.ManifestTooLarge size)
-        (large_now (over cause.table) copy.past files.past still_tree still_shelf own.tree.told own.shelf.told size cause.met.0.committed cause.met.1 cause.met.2)
-    listing_expected (a_list.Status (a_status.ManifestLine line)) cause p q =
-        bad_manifest cause.table cause.loaded (cause.behind refl) cause.met.0 (a_manifest.ManifestLine line)
-        (read_now (over cause.table) copy.past files.past still_tree still_shelf own.tree.told own.shelf.told (Err (a_manifest.ManifestLine line)) cause.met.0.committed cause.met.1)
-    listing_expected (a_list.Status (a_status.ManifestOrder line)) cause p q =
-        bad_manifest cause.table cause.loaded (cause.behind refl) cause.met.0 (a_manifest.ManifestOrder line)
-        (read_now (over cause.table) copy.past files.past still_tree still_shelf own.tree.told own.shelf.told (Err (a_manifest.ManifestOrder line)) cause.met.0.committed cause.met.1)
-    listing_expected (a_list.Status (a_status.NoContents gone)) cause p q = lacks_contents cause.table cause.loaded (cause.behind refl) gone cause.met
-    listing_expected (a_list.Status (a_status.IgnoreTooLarge size)) cause p q =
-        bad_patterns cause.table cause.loaded cause.met.0 (an_ignore.IgnoreTooLarge size) (over_now looked.tree.old looked.tree.new copy own.tree size cause.met.1)
-    listing_expected (a_list.Status (a_status.IgnoreText at)) cause p q =
-        bad_patterns cause.table cause.loaded cause.met.0 (an_ignore.IgnoreText at) (read_so (λ text. (length text ≤ most_text) × IsValidUpTo text at) cause.met.1)
-    listing_expected (a_list.Status (a_status.BadGlob line)) cause p q = bad_patterns cause.table cause.loaded cause.met.0 (an_ignore.BadGlob line) (lines_so (an_ignore.BadGlob line) cause.met.1)
-    listing_expected (a_list.Status (a_status.BadRegexp line)) cause p q = bad_patterns cause.table cause.loaded cause.met.0 (an_ignore.BadRegexp line) (lines_so (an_ignore.BadRegexp line) cause.met.1)
-    listing_expected (a_list.Status (a_status.RegexpTooBig line)) cause p q =
-        bad_patterns cause.0.table cause.0.loaded cause.0.met.0 (an_ignore.RegexpTooBig line) (lines_so (an_ignore.RegexpTooBig line) cause.0.met.1)
-    listing_expected (a_list.Status (a_status.BadInclude line)) cause p q = bad_patterns cause.table cause.loaded cause.met.0 (an_ignore.BadInclude line) (lines_so (an_ignore.BadInclude line) cause.met.1)
+    status_expected : (table : Table) → IsLoaded looked.shelf table → (fault : StatusFault) → StatusCause looked wanted table fault → Serves looked.tree → Serves looked.shelf
+        → Expects (Some (of_status fault))
+    status_expected table loaded a_status.OutOfMemory cause p q = tt
+    status_expected table loaded a_status.TreeFailed cause p q = absurd (steady_not_rose looked.tree.before looked.tree.after p cause)
+    status_expected table loaded a_status.ShelfFailed cause p q = absurd (steady_not_rose looked.shelf.before looked.shelf.after q cause)
+    status_expected table loaded (a_status.NoManifest gone) cause p q =
+        bad_manifest table loaded (cause.behind refl) cause.met.0 (a_manifest.NoManifest gone)
+        (gone_now (over table) copy.past files.past still_tree still_shelf own.tree.told own.shelf.told gone cause.met.0.committed cause.met.1 cause.met.2)
+    status_expected table loaded (a_status.ManifestTooLarge size) cause p q =
+        bad_manifest table loaded (cause.behind refl) cause.met.0 (a_manifest.ManifestTooLarge size)
+        (large_now (over table) copy.past files.past still_tree still_shelf own.tree.told own.shelf.told size cause.met.0.committed cause.met.1 cause.met.2)
+    status_expected table loaded (a_status.ManifestLine line) cause p q =
+        bad_manifest table loaded (cause.behind refl) cause.met.0 (a_manifest.ManifestLine line)
+        (read_now (over table) copy.past files.past still_tree still_shelf own.tree.told own.shelf.told (Err (a_manifest.ManifestLine line)) cause.met.0.committed cause.met.1)
+    status_expected table loaded (a_status.ManifestOrder line) cause p q =
+        bad_manifest table loaded (cause.behind refl) cause.met.0 (a_manifest.ManifestOrder line)
+        (read_now (over table) copy.past files.past still_tree still_shelf own.tree.told own.shelf.told (Err (a_manifest.ManifestOrder line)) cause.met.0.committed cause.met.1)
+    status_expected table loaded (a_status.NoContents gone) cause p q = lacks_contents table loaded (cause.behind refl) gone cause.met
+    status_expected table loaded (a_status.IgnoreTooLarge size) cause p q =
+        bad_patterns table loaded cause.met.0 (an_ignore.IgnoreTooLarge size) (over_now looked.tree.old looked.tree.new copy own.tree size cause.met.1)
+    status_expected table loaded (a_status.IgnoreText at) cause p q =
+        bad_patterns table loaded cause.met.0 (an_ignore.IgnoreText at) (read_so (λ text. (length text ≤ most_text) × IsValidUpTo text at) cause.met.1)
+    status_expected table loaded (a_status.BadGlob line) cause p q = bad_patterns table loaded cause.met.0 (an_ignore.BadGlob line) (lines_so (an_ignore.BadGlob line) cause.met.1)
+    status_expected table loaded (a_status.BadRegexp line) cause p q = bad_patterns table loaded cause.met.0 (an_ignore.BadRegexp line) (lines_so (an_ignore.BadRegexp line) cause.met.1)
+    status_expected table loaded (a_status.RegexpTooBig line) cause p q =
+        bad_patterns table loaded cause.0.met.0 (an_ignore.RegexpTooBig line) (lines_so (an_ignore.RegexpTooBig line) cause.0.met.1)
+    status_expected table loaded (a_status.BadInclude line) cause p q = bad_patterns table loaded cause.met.0 (an_ignore.BadInclude line) (lines_so (an_ignore.BadInclude line) cause.met.1)
 
-    none_expected : IsListable looked wanted → Expects None
-    none_expected listable = record {
-      table = listable.table;
-      ready = ready_now listable.table listable.loaded listable.patterns;
-      served = λ path asked. listable.served path (ours_left listable.table path) asked;
+    listing_expected : (table : Option Table) → IfSome table (IsLoaded looked.shelf) → (fault : ListFault) → ListingCause looked wanted table fault → Serves looked.tree → Serves looked.shelf
+        → Expects (Some (of_list fault))
+    listing_expected table loaded (a_list.Read fault) cause p q = reading_expected fault (readings.unreadable_now looked.shelf files.past still_shelf own.shelf.told fault cause q)
+    listing_expected None loaded (a_list.Status fault) cause p q = absurd cause
+    listing_expected (Some table) loaded (a_list.Status fault) cause p q = status_expected table loaded fault cause p q
+
+    none_expected : (table : Option Table) → IfSome table (IsLoaded looked.shelf) → IsSomeAnd table (IsListable looked wanted) → Expects None
+    none_expected None loaded listable = absurd listable
+    none_expected (Some table) loaded listable = record {
+      table = table;
+      ready = ready_now table loaded listable.patterns;
+      served = λ path asked. listable.served path (ours_left table path) asked;
     }
 
-  text_own : (flags : StatusFlags) (text : List ℕ) → IsRowsText flags looked text → IsFullText flags there (tree.now looked.tree.old) text
-  text_own flags text is = record { rows = is.rows; listing = listed_own (wanted_of flags) is.rows is.listing; is = is.is }
+    rows_own : (table : Option Table) → IfSome table (IsLoaded looked.shelf) → (rows : List Row) → IsSomeAnd table (IsListedFor looked wanted rows) → IsListed there (tree.now looked.tree.old) wanted rows
+    rows_own None loaded rows is = absurd is
+    rows_own (Some table) loaded rows is = listed_own table loaded rows is
+
+  text_own : (flags : StatusFlags) (table : Option Table) → IfSome table (IsLoaded looked.shelf) → (text : List ℕ) → IsRowsText flags looked table text → IsFullText flags there (tree.now looked.tree.old) text
+  text_own flags table loaded text is = record { rows = is.rows; listing = rows_own (wanted_of flags) table loaded is.rows is.listing; is = is.is }
 
 -- ---- the command
 
-module _ (flags : StatusFlags) (call : Call) (copy : tree.Passes call.looked.tree.old call.looked.tree.new) (files : shelf.Passes call.looked.shelf.old call.looked.shelf.new) where
+module _ (flags : StatusFlags) (call : Call) (copy : tree.Passes call.looked.tree.old call.looked.tree.new) (files : shelf.Passes call.looked.shelf.old call.looked.shelf.new)
+    (table : Option Table) (loaded : IfSome table (IsLoaded call.looked.shelf)) where
   abbrev Expected : Option Fault → Type 0
   Expected fault = IsExpected (wanted_of flags) (shelf.now call.looked.shelf.old).files (tree.now call.looked.tree.old) fault
 
-  left_expected : IsOwn call.looked → (fault : Fault) → (stage : Stage) × LeavesAt (status_look flags call.looked) call.out call.err Tells stage fault
+  left_expected : IsOwn call.looked → (fault : Fault) → (stage : Stage) × LeavesAt (status_look flags call.looked table) call.out call.err Tells stage fault
       → Serves call.looked.tree → Serves call.looked.shelf → Serves call.out → Serves call.err → Expected (Some fault)
   left_expected own fault (at_first, ((f, is, cause), silent, line)) p q r w =
-      subst (λ (f : Fault). Expected (Some f)) (sym is) (listing_expected call.looked copy files own (wanted_of flags) f cause p q)
+      subst (λ (f : Fault). Expected (Some f)) (sym is) (listing_expected call.looked copy files own (wanted_of flags) table loaded f cause p q)
   left_expected own fault (at_printing, (printing, ready, front, kind, line)) p q r w = absurd (steady_not_rose call.out.before call.out.after r front.failed)
   left_expected own fault (at_telling, (telling, ready, puts, front, is)) p q r w = absurd (steady_not_rose call.err.before call.err.after w front.failed)
   left_expected own fault (at_saving, (never, left)) p q r w = absurd never
 
-  expected_by : (fault : Option Fault) → Concludes (status_look flags call.looked) call.out call.err fault
+  expected_by : (fault : Option Fault) → Concludes (status_look flags call.looked table) call.out call.err fault
       → IsOwn call.looked → Serves call.looked.tree → Serves call.looked.shelf → Serves call.out → Serves call.err → Expected fault
-  expected_by None looks own p q r w = none_expected call.looked copy files own (wanted_of flags) (looks.done refl).ready
+  expected_by None looks own p q r w = none_expected call.looked copy files own (wanted_of flags) table loaded (looks.done refl).ready
   expected_by (Some fault) looks own p q r w = left_expected own fault looks.left p q r w
 
-  front_own : (fault : Option Fault) → Concludes (status_look flags call.looked) call.out call.err fault → IsOwn call.looked
+  front_own : (fault : Option Fault) → Concludes (status_look flags call.looked table) call.out call.err fault → IsOwn call.looked
       → IfSome fault (λ _. LeavesFront (IsFullText flags (shelf.now call.looked.shelf.old).files (tree.now call.looked.tree.old)) call.out)
   front_own None looks own = tt
   front_own (Some fault) looks own =
-      front_by (IsRowsText flags call.looked) (IsFullText flags (shelf.now call.looked.shelf.old).files (tree.now call.looked.tree.old)) (text_own call.looked copy files own flags)
-      (status_look flags call.looked) (λ text is. is) call fault looks.left
+      front_by (IsRowsText flags call.looked table) (IsFullText flags (shelf.now call.looked.shelf.old).files (tree.now call.looked.tree.old)) (text_own call.looked copy files own flags table loaded)
+      (status_look flags call.looked table) (λ text is. is) call fault looks.left
 
-  pub status_by : (fault : Option Fault) → Concludes (status_look flags call.looked) call.out call.err fault → AsksLittle call.looked (wanted_of flags) → (fault ≡ None → AsksOwn call.looked (wanted_of flags))
-      → (IsTrue call.looked.shelf.old.told → AsksBelow call.looked (wanted_of flags)) → (code : ℕ) → IsLook call code fault → RanStatus flags call code fault
+  pub status_by : (fault : Option Fault) → Concludes (status_look flags call.looked table) call.out call.err fault → AsksLittle call.looked (wanted_of flags) table
+      → (fault ≡ None → IsSomeAnd table (AsksOwn call.looked (wanted_of flags))) → (IsTrue call.looked.shelf.old.told → AsksBelow call.looked (wanted_of flags) table) → (code : ℕ) → IsLook call code fault
+      → RanStatus flags call code fault
   status_by fault looks asked asked_own below code look = record {
+    table = table;
+    loaded = loaded;
     looks = looks;
     whole = λ none own.
         let printed = (looks.done none).printed in
-        record { text = printed.text; is = text_own call.looked copy files own flags printed.text printed.is; put = printed.put };
+        record { text = printed.text; is = text_own call.looked copy files own flags table loaded printed.text printed.is; put = printed.put };
     front = front_own fault looks;
     complete = expected_by fault looks;
     tree = copy;

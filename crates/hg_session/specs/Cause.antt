@@ -1,6 +1,7 @@
 -- Why a command met a fault: one table, a line a fault, for every command.
 use Rattle.std.specs.Prelude.{◌≡◌, ◌⊎◌, false, true}
 use Rattle.hg_base.specs.Fault.{Rose}
+use Rattle.hg_entry.specs.Table.{Table}
 use Rattle.hg_listing.specs.declared.fault.StatusFault.{StatusFault}
 use Rattle.hg_listing.specs.declared.fault.StatusFault.TheVariants as a_status
 use Rattle.hg_ops.specs.declared.refusal.OpFault.{OpFault}
@@ -12,14 +13,15 @@ use Rattle.hg_session.specs.Change.{MetLarge, MetSpent, MetStop, makes_in}
 use Rattle.hg_session.specs.Commands.{is_change, is_done}
 use Rattle.hg_session.specs.Flags.{wanted_of}
 use Rattle.hg_session.specs.Listed.{StatusMet}
-use Rattle.hg_session.specs.Loaded.{LoadMet, WasLoaded}
+use Rattle.hg_session.specs.Loaded.{IsLoaded, LoadMet, WasLoaded}
 use Rattle.hg_session.specs.declared.read_fault.ReadFault.TheVariants as a_read
 use Rattle.hg_words.specs.declared.flags.StatusFlags.{StatusFlags}
 use Rattle.hg_words.specs.declared.given.Command.TheVariants as a_command
 
--- the command is a status, whose listing met this fault
+-- the command is a status, whose listing over the table that was read met this fault
 abbrev pub MetByStatus : Call → StatusFault → Type 0
-MetByStatus call fault = (flags : StatusFlags) × (call.command ≡ a_command.Status flags) × StatusMet call.looked (wanted_of flags) fault
+MetByStatus call fault =
+    (flags : StatusFlags) × (call.command ≡ a_command.Status flags) × (table : Table) × IsLoaded call.looked.shelf table × StatusMet call.looked (wanted_of flags) table fault
 
 -- the command changes the record, and met its fault so
 abbrev pub MetByChange : Call → Type 0 → Type 0

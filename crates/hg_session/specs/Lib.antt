@@ -1,7 +1,6 @@
 pub mod Acts
 pub mod Anew
 pub mod Answered
-pub mod Below
 pub mod Call
 pub mod Cause
 pub mod Change

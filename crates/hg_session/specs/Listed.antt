@@ -1,5 +1,5 @@
 -- What a listing answers, and why.
-use Rattle.std.specs.Prelude.{ℕ, ◌≡◌, ◌⊎◌, true, List, Some, Result, Ok, IsTrue, IfErr, IfOk, OnOk}
+use Rattle.std.specs.Prelude.{ℕ, ◌≡◌, ◌⊎◌, true, List, Option, Some, Result, Ok, IsTrue, IsSomeAnd, IfErr, IfOk, IfSome, OnOk}
 use Rattle.hg_base.specs.Fault.{Rose}
 use Rattle.hg_base.specs.declared.id.Id20.{Id20}
 use Rattle.hg_entry.specs.Table.{Table, flat_of}
@@ -8,6 +8,7 @@ use Rattle.hg_listing.specs.Full.{IsFull, IsFullFor}
 use Rattle.hg_flat.specs.Met.{Met, Status}
 use Rattle.hg_flat.specs.Parent.{Asking, IsAsked, IsLeft, IsServed, asked_by, parent_rows}
 use Rattle.hg_flat.specs.Patterns.{HadPatterns, Warns, ignored_at, is_of_parent}
+use Rattle.hg_flat.specs.Stored.{AsksStore}
 use Rattle.hg_listing.specs.declared.fault.StatusFault.{StatusFault}
 use Rattle.hg_listing.specs.declared.fault.StatusFault.TheVariants as a_status
 use Rattle.hg_flat.specs.declared.listed.Listed.{Listed}
@@ -18,7 +19,7 @@ use Rattle.hg_tree.specs.History as tree
 use Rattle.hg_tree.specs.Moment.{Moment}
 use Rattle.hg_session.specs.Call.{Fails, Looked, Watched}
 use Rattle.hg_save.specs.Record.{record_in}
-use Rattle.hg_session.specs.Loaded.{IsLoaded, MetReading, WasLoaded}
+use Rattle.hg_session.specs.Loaded.{AsksRecord, IsLoaded, MetReading}
 use Rattle.hg_session.specs.declared.list_fault.ListFault.{ListFault}
 use Rattle.hg_session.specs.declared.list_fault.ListFault.TheVariants as a_list
 
@@ -48,10 +49,8 @@ IsServedFor looked wanted table =
     (path : List ℕ) → IsUntouched looked wanted table path → IsAskedAt wanted table (tree.now looked.tree.old) path
     → IsServed (shelf.now looked.shelf.old).files (first_parent table) (tree.now looked.tree.old) path
 
--- a listing met no fault: a table was loaded, the ignore patterns were read and fine where they are needed, and what was compared was there
-pub record IsListable (looked : Looked) (wanted : Wanted) : Type 0 where
-  pub table : Table
-  pub loaded : IsLoaded looked.shelf table
+-- a listing over a table met no fault: the ignore patterns were read and fine where they are needed, and what was compared was there
+pub record IsListable (looked : Looked) (wanted : Wanted) (table : Table) : Type 0 where
   pub patterns : HadPatterns wanted looked.tree.old looked.tree.new
   pub served : IsServedFor looked wanted table
 
@@ -69,31 +68,33 @@ status_over looked wanted table = record {
   shelf_new = looked.shelf.new;
 }
 
--- a status over the table that was loaded met this fault; one of the first parent was met behind patterns that were fine
-pub record StatusMet (looked : Looked) (wanted : Wanted) (fault : StatusFault) : Type 0 where
-  pub table : Table
-  pub loaded : IsLoaded looked.shelf table
+-- a status over a table met this fault; one of the first parent was met behind patterns that were fine
+pub record StatusMet (looked : Looked) (wanted : Wanted) (table : Table) (fault : StatusFault) : Type 0 where
   pub behind : is_of_parent fault ≡ true → HadPatterns wanted looked.tree.old looked.tree.new
   pub met : Met (status_over looked wanted table) fault
 
--- a device that failed, or what stood in the files or at the root; and that no earlier fault was found. Want of memory needs no reason
-abbrev pub ListingCause : Looked → Wanted → ListFault → Type 0
-ListingCause looked wanted (a_list.Read fault) = MetReading looked.shelf fault
-ListingCause looked wanted (a_list.Status a_status.OutOfMemory) = Unit {0}
-ListingCause looked wanted (a_list.Status a_status.TreeFailed) = Fails looked.tree × WasLoaded looked.shelf
-ListingCause looked wanted (a_list.Status a_status.ShelfFailed) = Fails looked.shelf
-ListingCause looked wanted (a_list.Status (a_status.RegexpTooBig line)) =
-    StatusMet looked wanted (a_status.RegexpTooBig line) × Rose looked.oversize.before looked.oversize.after
-ListingCause looked wanted (a_list.Status fault) = StatusMet looked wanted fault
+-- of a status over a table: a device that failed, or what stood in the files or at the root; and that no earlier fault was found. Want of memory needs
+-- no reason
+abbrev pub StatusCause : Looked → Wanted → Table → StatusFault → Type 0
+StatusCause looked wanted table a_status.OutOfMemory = Unit {0}
+StatusCause looked wanted table a_status.TreeFailed = Fails looked.tree
+StatusCause looked wanted table a_status.ShelfFailed = Fails looked.shelf
+StatusCause looked wanted table (a_status.RegexpTooBig line) =
+    StatusMet looked wanted table (a_status.RegexpTooBig line) × Rose looked.oversize.before looked.oversize.after
+StatusCause looked wanted table fault = StatusMet looked wanted table fault
+
+-- of a listing: the record wasn't read, or the status over the table that was
+abbrev pub ListingCause : Looked → Wanted → Option Table → ListFault → Type 0
+ListingCause looked wanted table (a_list.Read fault) = MetReading looked.shelf fault
+ListingCause looked wanted table (a_list.Status fault) = IsSomeAnd table (λ t. StatusCause looked wanted t fault)
 
 -- ---- the rows
 
--- for paths that are left alone the rows are the full listing at the start of the call, by the table that was loaded in it, what the files at
--- the start of the call have of its first parent, and the ignore patterns there
-pub record IsListedFor (looked : Looked) (wanted : Wanted) (rows : List Row) : Type 0 where
-  pub table : Table
-  pub loaded : IsLoaded looked.shelf table
-  pub full : IsFullFor (IsUntouched looked wanted table) (flat_of table) (tree.now looked.tree.old) (parent_rows (shelf.now looked.shelf.old).files (first_parent table)) (ignored_at (tree.now looked.tree.old)) wanted rows
+-- for paths that are left alone the rows are the full listing at the start of the call, by a table, what the files at the start of the call have of
+-- its first parent, and the ignore patterns there
+abbrev pub IsListedFor : Looked → Wanted → List Row → Table → Type 0
+IsListedFor looked wanted rows table =
+    IsFullFor (IsUntouched looked wanted table) (flat_of table) (tree.now looked.tree.old) (parent_rows (shelf.now looked.shelf.old).files (first_parent table)) (ignored_at (tree.now looked.tree.old)) wanted rows
 
 -- the rows are the full listing of the working copy at a moment, by the table in these files, its first parent there, and the ignore patterns of that moment
 pub record IsListed (files : shelf.Files) (moment : Moment) (wanted : Wanted) (rows : List Row) : Type 0 where
@@ -112,27 +113,38 @@ pub record IsOwn (looked : Looked) : Type 0 where
 abbrev pub AsksOver : Table → Wanted → Watched tree.History → Type 0
 AsksOver table wanted copy = AsksAll wanted (asking wanted table) (IsListedDir wanted copy.old copy.new) copy.old copy.new
 
--- it was asked nothing, or by a listing over the table that was loaded
-abbrev pub AsksLittle : Looked → Wanted → Type 0
-AsksLittle looked wanted =
-    IsTrue looked.tree.old.told → AsksNothing looked.tree.old looked.tree.new ⊎ ((table : Table) × IsLoaded looked.shelf table × AsksOver table wanted looked.tree)
+-- it was asked nothing, or by a listing over the table that was read
+abbrev pub AsksLittle : Looked → Wanted → Option Table → Type 0
+AsksLittle looked wanted table =
+    IsTrue looked.tree.old.told → AsksNothing looked.tree.old looked.tree.new ⊎ IsSomeAnd table (λ t. AsksOver t wanted looked.tree)
 
--- where nobody else steps, it was asked by a listing that read the ignore patterns exactly where they are needed and stand there
-abbrev pub AsksOwn : Looked → Wanted → Type 0
-AsksOwn looked wanted =
+-- where nobody else steps, it was asked by a listing over a table that read the ignore patterns exactly where they are needed and stand there
+abbrev pub AsksOwn : Looked → Wanted → Table → Type 0
+AsksOwn looked wanted table =
     tree.IsOurs looked.tree.old looked.tree.new
-    → (table : Table) × IsLoaded looked.shelf table
-    × AsksBehind (pattern_reads wanted (tree.now looked.tree.old)) (asking wanted table) (IsListedDir wanted looked.tree.old looked.tree.new) looked.tree.old looked.tree.new
+    → AsksBehind (pattern_reads wanted (tree.now looked.tree.old)) (asking wanted table) (IsListedDir wanted looked.tree.old looked.tree.new) looked.tree.old looked.tree.new
 
--- what a listing does: it only asks, and answers the rows and the warnings, or a fault
+-- below `.hg` the record was asked for, and behind it nothing, or what a listing over the table that was read asks of the plain store: the manifest once
+-- at most, where a path was compared, and contents that its rows of such paths name
+pub record AsksBelow (looked : Looked) (wanted : Wanted) (table : Option Table) : Type 0 where
+  pub behind : shelf.History
+  pub past : shelf.Extends behind looked.shelf.new
+  pub load : AsksRecord looked.shelf.old behind
+  pub store : (looked.shelf.new.asked ≡ behind.asked)
+      ⊎ IsSomeAnd table (λ t. AsksStore (record (status_over looked wanted t) { shelf_old = behind }))
+
+-- what a listing does: it only asks, and answers the rows and the warnings, or a fault; all by one table, where one was read in the call
 pub record ListsCopy (looked : Looked) (wanted : Wanted) (result : Result Listed ListFault) : Type 0 where
+  pub table : Option Table
+  pub loaded : IfSome table (IsLoaded looked.shelf)
   pub tree : tree.Passes looked.tree.old looked.tree.new
-  pub still : IfOk result (λ listed. IsListedFor looked wanted listed.rows)
+  pub still : IfOk result (λ listed. IsSomeAnd table (IsListedFor looked wanted listed.rows))
   pub warns : IfOk result (λ listed. Warns wanted looked.tree.old looked.tree.new listed.warnings)
-  pub listable : OnOk result (IsListable looked wanted)
-  pub cause : IfErr result (ListingCause looked wanted)
-  pub asked : AsksLittle looked wanted
-  pub asked_own : OnOk result (AsksOwn looked wanted)
+  pub listable : OnOk result (IsSomeAnd table (IsListable looked wanted))
+  pub cause : IfErr result (ListingCause looked wanted table)
+  pub asked : AsksLittle looked wanted table
+  pub asked_own : OnOk result (IsSomeAnd table (AsksOwn looked wanted))
+  pub below : IsTrue looked.shelf.old.told → AsksBelow looked wanted table
   pub calm_tree : OnOk result (looked.tree.after ≡ looked.tree.before)
   pub calm_shelf : OnOk result (looked.shelf.after ≡ looked.shelf.before)
   pub calm_regexps : OnOk result (looked.oversize.after ≡ looked.oversize.before)

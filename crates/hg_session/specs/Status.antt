@@ -1,5 +1,5 @@
 -- What a status prints, tells and answers.
-use Rattle.std.specs.Prelude.{ℕ, ◌≡◌, true, List, Option, Some, None, Result, Ok, Err, IfSome, IsTrue, OnOk}
+use Rattle.std.specs.Prelude.{ℕ, ◌≡◌, true, List, Option, Some, None, Result, Ok, Err, IfSome, IsSomeAnd, IsTrue, OnOk}
 use Rattle.hg_base.specs.declared.id.Id20.{Id20}
 use Rattle.hg_base.specs.declared.stat.Stat.{Stat}
 use Rattle.hg_compare.specs.Alike.{contents_name, is_alike}
@@ -22,12 +22,11 @@ use Rattle.hg_report.specs.Warnings.{warnings_text}
 use Rattle.hg_report.specs.declared.fault.Fault.{Fault}
 use Rattle.hg_report.specs.declared.fault.Fault.TheVariants as a_fault
 use Rattle.hg_save.specs.Record.{record_in}
-use Rattle.hg_session.specs.Below.{AsksBelow}
 use Rattle.hg_session.specs.Call.{Call, Looked, Serves, Sink, Watched}
 use Rattle.hg_session.specs.Flags.{style_of, wanted_of}
-use Rattle.hg_session.specs.Listed.{AsksLittle, AsksOwn, IsAskedAt, IsListable, IsListed, IsListedFor, IsOwn, ListingCause, first_parent}
+use Rattle.hg_session.specs.Listed.{AsksBelow, AsksLittle, AsksOwn, IsAskedAt, IsListable, IsListed, IsListedFor, IsOwn, ListingCause, first_parent}
 use Rattle.hg_session.specs.Load.{of_list}
-use Rattle.hg_session.specs.Loaded.{IsUnreadable}
+use Rattle.hg_session.specs.Loaded.{IsLoaded, IsUnreadable}
 use Rattle.hg_session.specs.Look.{IsCalm, IsLook, Look, Concludes, Shows, saves_last}
 use Rattle.hg_session.specs.Put.{LeavesFront, Puts}
 use Rattle.hg_session.specs.declared.list_fault.ListFault.{ListFault}
@@ -38,10 +37,10 @@ use Rattle.hg_words.specs.declared.flags.StatusFlags.{StatusFlags}
 
 -- ---- what is printed
 
--- the text of rows that are the full listing for paths that are left alone
-pub record IsRowsText (flags : StatusFlags) (looked : Looked) (text : List ℕ) : Type 0 where
+-- the text of rows that are the full listing for paths that are left alone, by the table that was read
+pub record IsRowsText (flags : StatusFlags) (looked : Looked) (table : Option Table) (text : List ℕ) : Type 0 where
   pub rows : List Row
-  pub listing : IsListedFor looked (wanted_of flags) rows
+  pub listing : IsSomeAnd table (IsListedFor looked (wanted_of flags) rows)
   pub is : text ≡ text_of (style_of flags) rows
 
 -- the text of what a listing warns of
@@ -60,13 +59,13 @@ pub record IsFullText (flags : StatusFlags) (files : shelf.Files) (moment : Mome
 abbrev pub OneText : Type 0
 OneText = (flags : StatusFlags) (files : shelf.Files) (moment : Moment) (a b : List ℕ) → IsFullText flags files moment a → IsFullText flags files moment b → a ≡ b
 
--- a status lists, prints the rows, and then tells the warnings
-abbrev pub status_look : StatusFlags → Looked → Look
-status_look flags looked = record {
-  Before = λ fault. (f : ListFault) × (fault ≡ of_list f) × ListingCause looked (wanted_of flags) f;
-  Ready = IsListable looked (wanted_of flags);
+-- a status lists by the table that was read, where one was, prints the rows, and then tells the warnings
+abbrev pub status_look : StatusFlags → Looked → Option Table → Look
+status_look flags looked table = record {
+  Before = λ fault. (f : ListFault) × (fault ≡ of_list f) × ListingCause looked (wanted_of flags) table f;
+  Ready = IsSomeAnd table (IsListable looked (wanted_of flags));
   Printing = Unit {0};
-  Text = IsRowsText flags looked;
+  Text = IsRowsText flags looked table;
   Telling = Unit {0};
   Told = IsWarningText (wanted_of flags) looked.tree;
   Saving = λ fault. ⊥;
@@ -135,18 +134,23 @@ IsExpected wanted files moment (Some fault) = IsUnreadable files fault
 
 -- a listing, its text and its warnings, or a fault, before its line is told
 pub record DoesStatus (flags : StatusFlags) (looked : Looked) (out err : Sink) (result : Result Unit Fault) : Type 0 where
+  pub table : Option Table
+  pub loaded : IfSome table (IsLoaded looked.shelf)
   pub tree : tree.Passes looked.tree.old looked.tree.new
-  pub shows : Shows (status_look flags looked) out err result
-  pub asked : AsksLittle looked (wanted_of flags)
-  pub asked_own : OnOk result (AsksOwn looked (wanted_of flags))
-  pub below : IsTrue looked.shelf.old.told → AsksBelow looked (wanted_of flags)
+  pub shows : Shows (status_look flags looked table) out err result
+  pub asked : AsksLittle looked (wanted_of flags) table
+  pub asked_own : OnOk result (IsSomeAnd table (AsksOwn looked (wanted_of flags)))
+  pub below : IsTrue looked.shelf.old.told → AsksBelow looked (wanted_of flags) table
   pub calm : OnOk result (IsCalm looked out err)
 
 -- what a status did that ended with this status and this fault, or with none
 pub record RanStatus (flags : StatusFlags) (call : Call) (code : ℕ) (fault : Option Fault) : Type 0 where
+  -- the table that was read in the call, where one was: all that follows speaks of this one
+  pub table : Option Table
+  pub loaded : IfSome table (IsLoaded call.looked.shelf)
   -- without a fault, the rows printed have each path that is left alone meanwhile exactly under its letter, and no two are of one path, and the
   -- warnings were told behind them; and with one, why, and what stands in both streams
-  pub looks : Concludes (status_look flags call.looked) call.out call.err fault
+  pub looks : Concludes (status_look flags call.looked table) call.out call.err fault
   -- where nobody else made a step, the rows are the full listing, and with a fault a front of its text stands there, or nothing
   pub whole : fault ≡ None → IsOwn call.looked
       → Puts (IsFullText flags (shelf.now call.looked.shelf.old).files (tree.now call.looked.tree.old)) call.out
@@ -158,10 +162,10 @@ pub record RanStatus (flags : StatusFlags) (call : Call) (code : ℕ) (fault : O
   -- nothing of the working copy is changed; it reads the ignore patterns and only paths whose bytes are compared, and lists directories only where `?`
   -- or I is wanted, each once at most; where nobody else steps visible ones alone, and without I none that is ignored
   pub tree : tree.Passes call.looked.tree.old call.looked.tree.new
-  pub asked : AsksLittle call.looked (wanted_of flags)
+  pub asked : AsksLittle call.looked (wanted_of flags) table
   -- without a fault, and where nobody else steps, the patterns are read exactly where they are needed and stand there
-  pub asked_own : fault ≡ None → AsksOwn call.looked (wanted_of flags)
+  pub asked_own : fault ≡ None → IsSomeAnd table (AsksOwn call.looked (wanted_of flags))
   -- below `.hg` it asks for the record, and then for what its comparisons need, the manifest once at most
-  pub below : IsTrue call.looked.shelf.old.told → AsksBelow call.looked (wanted_of flags)
+  pub below : IsTrue call.looked.shelf.old.told → AsksBelow call.looked (wanted_of flags) table
   -- nothing below `.hg` is changed, and no lock asked for
   pub look : IsLook call code fault

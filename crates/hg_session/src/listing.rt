@@ -1,7 +1,5 @@
 //! The rows of a status, from the dirstate and the working copy.
 
-ghost use Rattle.std.specs.Prelude.{IsTrue};
-ghost use Rattle.hg_session.specs.Below.{AsksBelow};
 ghost use Rattle.hg_session.specs.Call.{counted, saved_by, watched};
 ghost use Rattle.hg_session.specs.Listed.{ListsCopy};
 ghost use Rattle.hg_session.specs.Look.{OnlyReads};
@@ -31,14 +29,6 @@ pub(crate) fn list<T: Tree, S: Shelf, G: Regexps>(
         })
         wanted
         result }
-    ensures below { IsTrue (S.history shelf.old).told
-        → AsksBelow
-        (record {
-          tree = watched T.history T.faults tree.old tree.new;
-          shelf = watched S.history S.faults shelf.old shelf.new;
-          oversize = counted G.oversize regexps.old regexps.new;
-        })
-        wanted }
     ensures only { OnlyReads
         (watched S.history S.faults shelf.old shelf.new)
         (saved_by S.history S.images shelf.old shelf.new)

@@ -1,10 +1,11 @@
 -- The answer of a call, by its command.
-use Rattle.std.proofs.Common.{refl}
+use Rattle.std.proofs.Common.{ap, inl, inr, refl}
 use Rattle.hg_session.proofs.Caused.{answered_changed, answered_record, answered_status, answered_unbuilt}
 use Rattle.hg_session.proofs.Locked.{unwritten, unwritten_here}
 use Rattle.hg_shelf.proofs.Histories.{passes_same}
 use Rattle.hg_shelf.proofs.Scenes.{goes_same}
 use Rattle.hg_shelf.specs.Images.{course}
+use Rattle.hg_session.specs.Commands.{is_change, is_done}
 use Rattle.hg_session.proofs.choosing.command.Goals as goal
 
 pub returns-in-Status : goal.returns-in-Status
@@ -20,12 +21,21 @@ returns-in-DebugDirstate g c =
 
 pub returns-in-Add : goal.returns-in-Add
 returns-in-Add g c =
-    answered_changed _ c.change_record.result.status c.change_record.result.fault (changed_by c.in-Add.is)
+    answered_changed _ c.change_record.result.status c.change_record.result.fault (elim c.in-Add.is [
+      | inl (files, is) ↦ ap is_change is
+      | inr (inl (files, is)) ↦ ap is_change is
+      | inr (inr (inl (after, files, is))) ↦ ap is_change is
+      | inr (inr (inr (inl (source, target, is)))) ↦ ap is_change is
+      | inr (inr (inr (inr (p1, p2, is)))) ↦ ap is_change is
+    ])
     (c.change_record.ensures.ran _ _ (record { bytes = refl; count = refl }) refl) c.change_record.ensures.status
 
 pub returns-in-DebugScript : goal.returns-in-DebugScript
 returns-in-DebugScript g c =
-    answered_unbuilt _ c.failed.result.status c.failed.result.fault (unbuilt_by c.in-DebugScript.is) c.failed.ensures.fault c.failed.ensures.told
+    answered_unbuilt _ c.failed.result.status c.failed.result.fault (elim c.in-DebugScript.is [
+      | inl is ↦ ap is_done is
+      | inr (n, is) ↦ ap is_done is
+    ]) c.failed.ensures.fault c.failed.ensures.told
     (record {
       copy = record { history = refl; count = refl };
       files = refl;
