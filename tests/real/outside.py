@@ -34,7 +34,7 @@ WORDS = [
     ]),
     (aborted("argument 1 is not a node"), [["debugsetparents", "tip"], ["debugsetparents", "", "0" * 40]]),
     (aborted("argument 2 is not a node"), [["debugsetparents", "0" * 40, "0" * 39]]),
-    (aborted("not built yet"), [["debugscript"], ["debugload", "+7"]]),
+    (aborted("not built yet"), [["debugload", "+7"]]),
 ]
 
 # what is in the way, what is made of the folder (a path and its mode), the line that is printed to nobody's program

@@ -1,7 +1,7 @@
-use Rattle.std.proofs.Common.{◌≡◌, ◌∙◌, ◌+◌, ◌≤◌, Bool, true, false, rules, arith, sym, ap}
+use Rattle.std.proofs.Common.{◌≡◌, ◌∙◌, true, false, rules, arith, ap}
 use Rattle.std.specs.Prelude.{is_some, max}
 use Rattle.hg_cli.proofs.Scripting.{does_line, some_fault}
-use Rattle.hg_cli.specs.Script.{of_line, seen}
+use Rattle.hg_cli.specs.Script.{seen}
 use Rattle.hg_lines.proofs.Turning.{begins, ends, fails_with, goes_with, refuses_with, stops_with}
 use Rattle.hg_lines.specs.Script.{Reading}
 use Rattle.hg_report.specs.declared.fault.Fault.TheVariants as a_fault
