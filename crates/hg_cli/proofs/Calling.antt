@@ -6,7 +6,7 @@ use Rattle.hg_base.proofs.Runs.{says_each}
 use Rattle.hg_base.specs.Runs as base
 use Rattle.hg_base.specs.Runs.{RunsAll, RunsTo}
 use Rattle.hg_cli.proofs.Lists.{Kept, Premise, Steps, back, each, idle_steps, keeps_data, kept_first, none_before, run_steps}
-use Rattle.hg_cli.specs.Calls.{Calls, CallsSafely, DoesSafely, EachCallIsSafe, Given, IsSafeBetween, course_in}
+use Rattle.hg_cli.specs.Calls.{Calls, CallsSafely, DoesSafely, EachCallIsSafe, IsSafeBetween, devices, shelf_course}
 use Rattle.hg_cli.specs.Run.{IsRun, saved_over}
 use Rattle.hg_cli.specs.Script.{Does, DoesWords, IsStopped, Seen, Views, is_script, script_name, seen}
 use Rattle.hg_lines.specs.Script.{words_of}
@@ -63,30 +63,30 @@ module _ {T S G O E : Type 0} (views : Views T S G O E) where
   stopped_or_run false met words part code fault does = run_steps words part.looked part.saved part.locks part.out part.err code fault does
 
   words_steps : (number : ℕ) (words : List (List ℕ)) (old new : T × S × G × O × E) (code : ℕ) (fault : Option Fault) → DoesWords (seen views) number words old new code fault
-      → Steps (saved_over (course_in views) old new)
+      → Steps (saved_over (shelf_course views) old.1 new.1)
   words_steps number [] old new code fault does =
-      subst (λ (d : T × S × G × O × E). Steps (saved_over (course_in views) old d)) (sym does.0) (same_steps (course_in views old))
+      subst (λ (d : T × S × G × O × E). Steps (saved_over (shelf_course views) old.1 d.1)) (sym does.0) (same_steps (shelf_course views old.1))
   words_steps number (name ∷ words) old new code fault does =
       stopped_or_run (bytes_eq name script_name) (a_fault.ScriptNested number) (name ∷ words) (seen views old new) code fault does
 
-  turn_steps : (turn : Turn) (old new : T × S × G × O × E) (code : ℕ) (fault : Option Fault) → Does (seen views) turn old new code fault → Steps (saved_over (course_in views) old new)
+  turn_steps : (turn : Turn) (old new : T × S × G × O × E) (code : ℕ) (fault : Option Fault) → Does (seen views) turn old new code fault → Steps (saved_over (shelf_course views) old.1 new.1)
   turn_steps (Line number line) old new code fault does = words_steps number (words_of line) old new code fault does
   turn_steps (Refused met) old new code fault does =
       idle_steps (seen views old new).looked (seen views old new).saved (seen views old new).locks (seen views old new).out does.idle
 
-  module _ (first : T × S × G × O × E) where
+  module _ (first : S) where
     abbrev Before : T × S × G × O × E → Type 0
-    Before = Premise (course_in views) first
+    Before now = Premise (shelf_course views) first now.1
 
     abbrev Behind : T × S × G × O × E → Type 0
-    Behind = Kept (course_in views) first
+    Behind now = Kept (shelf_course views) first now.1
 
     turn_back : (turn : Turn) (old new : T × S × G × O × E) (code : ℕ) (fault : Option Fault) → Does (seen views) turn old new code fault → Before new → Before old
-    turn_back turn old new code fault does = back (course_in views) first old new (turn_steps turn old new code fault does)
+    turn_back turn old new code fault does = back (shelf_course views) first old.1 new.1 (turn_steps turn old new code fault does)
 
     turn_each : (turn : Turn) (old new : T × S × G × O × E) (code : ℕ) (fault : Option Fault) → Does (seen views) turn old new code fault → Before new → Behind old
         → IsSafeBetween views old new × Behind new
-    turn_each turn old new code fault does = each (course_in views) first [] old new (turn_steps turn old new code fault does)
+    turn_each turn old new code fault does = each (shelf_course views) first [] old.1 new.1 (turn_steps turn old new code fault does)
 
     script_back : (from to : Option (List ℕ)) (old new : T × S × G × O × E) (code : ℕ) (fault : Option Fault) → RunsScript (Does (seen views)) from to old new code fault → Before new → Before old
     script_back from to old new code fault ran premise =
@@ -103,7 +103,7 @@ module _ {T S G O E : Type 0} (views : Views T S G O E) where
         (IsRun words (seen views old new).looked (seen views old new).saved (seen views old new).locks (seen views old new).out (seen views old new).err code fault) → Before new → Before old
     call_back true words from to old new code fault does premise = script_back from to old new code fault does premise
     call_back false words from to old new code fault does premise =
-        back (course_in views) first old new
+        back (shelf_course views) first old.1 new.1
         (run_steps words (seen views old new).looked (seen views old new).saved (seen views old new).locks (seen views old new).out (seen views old new).err code fault does) premise
 
     call_each : (is : Bool) (words : List (List ℕ)) (from to : Option (List ℕ)) (old new : T × S × G × O × E) (code : ℕ) (fault : Option Fault)
@@ -115,14 +115,14 @@ module _ {T S G O E : Type 0} (views : Views T S G O E) where
     call_each true words from to old new code fault does premise kept = script_each from to old new code fault does premise kept
     call_each false words from to old new code fault does premise kept =
         let says =
-        each (course_in views) first words old new
+        each (shelf_course views) first words old.1 new.1
         (run_steps words (seen views old new).looked (seen views old new).saved (seen views old new).locks (seen views old new).out (seen views old new).err code fault does) premise kept in
         ((does, says.0), says.1)
 
   pub each_call_is_safe : EachCallIsSafe views
   each_call_is_safe calls first last latest premise runs =
-      let says = says_each (Calls views) (CallsSafely views) (Before first) (Behind first)
-      (λ call old new does. call_back first (is_script call.words) call.words call.from call.to old new call.code call.fault does)
-      (λ call old new does. call_each first (is_script call.words) call.words call.from call.to old new call.code call.fault does) calls first last runs premise
-      (kept_first (course_in views) first latest) in
-      (says.0, says.1.1, keeps_data (course_in views) first last premise says.1.1)
+      let says = says_each (Calls views) (CallsSafely views) (Premise (shelf_course views) first) (Kept (shelf_course views) first)
+      (λ call old new does. call_back first (is_script call.words) call.words call.from call.to (devices call.old old) (devices call.new new) call.code call.fault does)
+      (λ call old new does. call_each first (is_script call.words) call.words call.from call.to (devices call.old old) (devices call.new new) call.code call.fault does)
+      calls first last runs premise (kept_first (shelf_course views) first latest) in
+      (says.0, says.1.1, keeps_data (shelf_course views) first last premise says.1.1)

@@ -13,45 +13,61 @@ use Rattle.hg_session.specs.Crash.{IsCrashSafe}
 use Rattle.hg_shelf.specs.History.{others}
 use Rattle.hg_shelf.specs.Images.{Course, course, last_scene}
 
--- a call: its words, what the input had left before and behind it, its status and its fault
-pub record Given : Type 0 where
+-- the devices of a call other than the files below `.hg`: the working copy, what compiles regexps, standard output and the error stream
+pub record Beside (T G O E : Type 0) : Type 0 where
+  pub tree : T
+  pub regexps : G
+  pub out : O
+  pub err : E
+
+-- a call: its words, what the input had left before and behind it, the devices beside the files below `.hg` then, its status and its fault
+pub record Given (T G O E : Type 0) : Type 0 where
   pub words : List (List ℕ)
   pub from : Option (List ℕ)
   pub to : Option (List ℕ)
+  pub old : Beside T G O E
+  pub new : Beside T G O E
   pub code : ℕ
   pub fault : Option Fault
 
--- the files below `.hg`, of all devices, with what a crash may leave of them
-abbrev pub course_in : {T S G O E : Type 0} → Views T S G O E → T × S × G × O × E → Course
-course_in views devices = course (views.shelf devices.1) (views.images devices.1)
+-- all devices of a call
+abbrev pub devices : {T S G O E : Type 0} → Beside T G O E → S → T × S × G × O × E
+devices beside shelf = (beside.tree, shelf, beside.regexps, beside.out, beside.err)
+
+-- the files below `.hg` with what a crash may leave of them
+abbrev pub shelf_course : {T S G O E : Type 0} → Views T S G O E → S → Course
+shelf_course views shelf = course (views.shelf shelf) (views.images shelf)
 
 -- at each moment between two a crash leaves a record of what it might have left at the first, of what the caller published between them, once at most, or of
 -- what others published since
 abbrev pub IsSafeBetween : {T S G O E : Type 0} → Views T S G O E → T × S × G × O × E → T × S × G × O × E → Type 0
-IsSafeBetween views old new = (own : Option Table) × IsCrashSafe own (saved_over (course_in views) old new)
+IsSafeBetween views old new = (own : Option Table) × IsCrashSafe own (saved_over (shelf_course views) old.1 new.1)
 
 -- what a turn of a script does, and that it is safe
 abbrev pub DoesSafely : {T S G O E : Type 0} → Views T S G O E → Turn → T × S × G × O × E → T × S × G × O × E → ℕ → Option Fault → Type 0
 DoesSafely views turn old new code fault = Does (seen views) turn old new code fault × IsSafeBetween views old new
 
--- a call was made so
-abbrev pub Calls : {T S G O E : Type 0} → Views T S G O E → Given → T × S × G × O × E → T × S × G × O × E → Type 0
-Calls views call old new = RunsWords views call.words call.from call.to old new call.code call.fault
-
--- a call was made so, and the one command that its words are is safe; in a script each of the turns that were made is
-abbrev pub CallsSafely : {T S G O E : Type 0} → Views T S G O E → Given → T × S × G × O × E → T × S × G × O × E → Type 0
-CallsSafely views call old new =
+-- what a call over words does, and that it is safe: the one command that the words are, and in a script each of the turns that were made
+abbrev pub RunsSafely : {T S G O E : Type 0} → Views T S G O E → List (List ℕ) → Option (List ℕ) → Option (List ℕ) → T × S × G × O × E → T × S × G × O × E → ℕ → Option Fault → Type 0
+RunsSafely views words from to old new code fault =
     let part : Seen = seen views old new in
-    MatchBool (is_script call.words) (RunsScript (DoesSafely views) call.from call.to old new call.code call.fault)
-    (IsRun call.words part.looked part.saved part.locks part.out part.err call.code call.fault × IsSafeBetween views old new)
+    MatchBool (is_script words) (RunsScript (DoesSafely views) from to old new code fault)
+    (IsRun words part.looked part.saved part.locks part.out part.err code fault × IsSafeBetween views old new)
 
--- so it is of each call of every list of calls, and of each turn of their scripts, where the first files and others are as for a list of runs (`EachIsSafe`); and
--- the calls keep as one what those of such a list keep
+-- a call leads from one shelf to another
+abbrev pub Calls : {T S G O E : Type 0} → Views T S G O E → Given T G O E → S → S → Type 0
+Calls views call old new = RunsWords views call.words call.from call.to (devices call.old old) (devices call.new new) call.code call.fault
+
+abbrev pub CallsSafely : {T S G O E : Type 0} → Views T S G O E → Given T G O E → S → S → Type 0
+CallsSafely views call old new = RunsSafely views call.words call.from call.to (devices call.old old) (devices call.new new) call.code call.fault
+
+-- each call of every list of calls is safe, and each turn of their scripts, where the first files and others are as for a list of runs (`EachIsSafe`); of the
+-- other devices each call may have its own. And the calls keep as one what such a list keeps
 abbrev pub EachCallIsSafe : {T S G O E : Type 0} → Views T S G O E → Type 0
 EachCallIsSafe {T = T} {S = S} {G = G} {O = O} {E = E} views =
-    (calls : List Given) (first last : T × S × G × O × E) → IsLatest (last_scene (course_in views first)) → OthersKeep (course_in views first) (course_in views last)
+    (calls : List (Given T G O E)) (first last : S) → IsLatest (last_scene (shelf_course views first)) → OthersKeep (shelf_course views first) (shelf_course views last)
     → RunsEach (Calls views) calls first last
-    → RunsEach (CallsSafely views) calls first last × KeepsAll (course_in views first) (course_in views last)
-    × (HasData (files_at (course_in views last).history (course_in views first).history.last)
-    → KeepsFiles others (course_in views last).history (course_in views first).history.last
-    → KeepData (course_in views last).history (course_in views first).history.last)
+    → RunsEach (CallsSafely views) calls first last × KeepsAll (shelf_course views first) (shelf_course views last)
+    × (HasData (files_at (shelf_course views last).history (shelf_course views first).history.last)
+    → KeepsFiles others (shelf_course views last).history (shelf_course views first).history.last
+    → KeepData (shelf_course views last).history (shelf_course views first).history.last)
