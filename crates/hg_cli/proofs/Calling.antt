@@ -1,10 +1,10 @@
 -- What holds of each call of a list, and of each turn of a script.
-use Rattle.std.proofs.Common.{ℕ, ◌≡◌, Bool, true, false, List, [], ◌∷◌, Option, Some, None, sym, subst}
+use Rattle.std.proofs.Common.{ℕ, Bool, true, false, List, [], ◌∷◌, Option, Some, None, sym, subst}
 use Rattle.std.specs.Prelude.{max, MatchBool}
 use Rattle.std.specs.Str.{bytes_eq}
 use Rattle.hg_base.proofs.Runs.{says_each}
 use Rattle.hg_base.specs.Runs as base
-use Rattle.hg_base.specs.Runs.{RunsAll, RunsTo}
+use Rattle.hg_base.specs.Runs.{RunsAll}
 use Rattle.hg_cli.proofs.Lists.{Kept, Premise, Steps, back, each, idle_steps, keeps_data, kept_first, none_before, run_steps}
 use Rattle.hg_cli.specs.Calls.{Calls, CallsSafely, DoesSafely, EachCallIsSafe, IsSafeBetween, devices, shelf_course}
 use Rattle.hg_cli.specs.Run.{IsRun, saved_over}

@@ -38,8 +38,8 @@ devices beside shelf = (beside.tree, shelf, beside.regexps, beside.out, beside.e
 abbrev pub shelf_course : {T S G O E : Type 0} → Views T S G O E → S → Course
 shelf_course views shelf = course (views.shelf shelf) (views.images shelf)
 
--- at each moment between two a crash leaves a record of what it might have left at the first, of what the caller published between them, once at most, or of
--- what others published since
+-- at each moment between two a crash leaves a record of what it might have left at the first, of what the caller published between them, once at
+-- most, or of what others published since
 abbrev pub IsSafeBetween : {T S G O E : Type 0} → Views T S G O E → T × S × G × O × E → T × S × G × O × E → Type 0
 IsSafeBetween views old new = (own : Option Table) × IsCrashSafe own (saved_over (shelf_course views) old.1 new.1)
 
@@ -58,11 +58,12 @@ RunsSafely views words from to old new code fault =
 abbrev pub Calls : {T S G O E : Type 0} → Views T S G O E → Given T G O E → S → S → Type 0
 Calls views call old new = RunsWords views call.words call.from call.to (devices call.old old) (devices call.new new) call.code call.fault
 
+-- and does so safely
 abbrev pub CallsSafely : {T S G O E : Type 0} → Views T S G O E → Given T G O E → S → S → Type 0
 CallsSafely views call old new = RunsSafely views call.words call.from call.to (devices call.old old) (devices call.new new) call.code call.fault
 
--- each call of every list of calls is safe, and each turn of their scripts, where the first files and others are as for a list of runs (`EachIsSafe`); of the
--- other devices each call may have its own. And the calls keep as one what such a list keeps
+-- each call of every list of calls is safe, and each turn of their scripts, where the first files and others are as for a list of runs
+-- (`EachIsSafe`); of the other devices each call may have its own. And the calls keep as one what such a list keeps
 abbrev pub EachCallIsSafe : {T S G O E : Type 0} → Views T S G O E → Type 0
 EachCallIsSafe {T = T} {S = S} {G = G} {O = O} {E = E} views =
     (calls : List (Given T G O E)) (first last : S) → IsLatest (last_scene (shelf_course views first)) → OthersKeep (shelf_course views first) (shelf_course views last)
