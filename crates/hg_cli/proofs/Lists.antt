@@ -1,17 +1,21 @@
 -- What holds of each run of a list.
-use Rattle.std.proofs.Common.{ℕ, ◌≤◌, ◌<◌, ◌+◌, List, sym, ◌∙◌, subst, arith, inl, inr}
+use Rattle.std.proofs.Common.{ℕ, ◌≤◌, ◌<◌, ◌+◌, List, Option, sym, ◌∙◌, subst, arith, inl, inr}
 use Rattle.std.proofs.lemmas.Bool.{cases_lt}
 use Rattle.hg_base.proofs.Runs.{says_each}
-use Rattle.hg_cli.specs.Run.{EachIsSafe, IsSafe, KeepsAll, OthersKeep, Runs, saved_over}
+use Rattle.hg_cli.specs.Run.{EachIsSafe, IsRun, IsSafe, KeepsAll, OthersKeep, Runs, saved_over}
+use Rattle.hg_report.specs.declared.fault.Fault.{Fault}
 use Rattle.hg_save.proofs.Published.{keeps_later, orderly_same}
 use Rattle.hg_save.proofs.Spans.{keep_beside}
 use Rattle.hg_save.specs.Loads.{files_at}
-use Rattle.hg_save.specs.Others.{IsKeeping, KeepsFiles, KeepsRecords}
+use Rattle.hg_save.specs.Others.{HasData, IsKeeping, KeepData, KeepsFiles, KeepsRecords}
+use Rattle.hg_save.specs.Saved.{IsLatest}
 use Rattle.hg_session.proofs.Crashes.{crash_unwritten}
+use Rattle.hg_session.specs.Answered.{IsIdle}
+use Rattle.hg_session.specs.Call.{Count, Looked, Saved, Sink}
 use Rattle.hg_session.specs.Crash.{IsSafeFromCrashes}
 use Rattle.hg_shelf.proofs.Scenes.{only_before, only_later}
 use Rattle.hg_shelf.specs.History.{Extends, Files, History, Who, others, us}
-use Rattle.hg_shelf.specs.Images.{Course, Goes}
+use Rattle.hg_shelf.specs.Images.{Course, Goes, last_scene}
 
 -- steps that keep to how a record is published kept to it before a call
 keeps_before : (by : Who) (a b : Course) (from : ℕ) → Goes a b → KeepsRecords by b from → KeepsRecords by a from
@@ -33,52 +37,70 @@ keeps_both by a b from past first second = record {
   ];
 }
 
+-- what a call keeps whatever it was: the moments so far, and what a crash may leave
+abbrev pub Steps : Saved → Type 0
+Steps saved = Goes saved.old saved.new × IsSafeFromCrashes saved
+
+pub idle_steps : (looked : Looked) (saved : Saved) (locks : Count) (out : Sink) → IsIdle looked saved locks out → Steps saved
+idle_steps looked saved locks out idle =
+    (idle.kept, λ calm keep latest. (_, crash_unwritten saved.old saved.new idle.kept calm keep idle.unwritten latest))
+
+pub run_steps : (words : List (List ℕ)) (looked : Looked) (saved : Saved) (locks : Count) (out err : Sink) (code : ℕ) (fault : Option Fault)
+    → IsRun words looked saved locks out err code fault → Steps saved
+run_steps words looked saved locks out err code fault (inl (command, is, answered)) = (answered.kept, answered.crash)
+run_steps words looked saved locks out err code fault (inr unread) = idle_steps looked saved locks out unread.idle
+
 module _ {S : Type 0} (course_of : S → Course) (first : S) where
   abbrev start : ℕ
   start = (course_of first).history.last
 
   -- what others keep to up to a shelf
-  abbrev Premise : S → Type 0
+  abbrev pub Premise : S → Type 0
   Premise shelf = OthersKeep (course_of first) (course_of shelf)
 
-  abbrev Kept : S → Type 0
+  abbrev pub Kept : S → Type 0
   Kept shelf = (start ≤ (course_of shelf).history.last) × KeepsAll (course_of first) (course_of shelf)
 
-  run_goes : (words : List (List ℕ)) (old new : S) → Runs course_of words old new → Goes (course_of old) (course_of new)
-  run_goes words old new (looked, locks, out, err, code, fault, inl (command, is, answered)) = answered.kept
-  run_goes words old new (looked, locks, out, err, code, fault, inr unread) = unread.idle.kept
+  pub back : (old new : S) → Steps (saved_over course_of old new) → Premise new → Premise old
+  back old new steps premise = record {
+    told = sym steps.0.past.told ∙ premise.told;
+    only = only_before (course_of old) (course_of new) start steps.0 premise.only;
+    keep = keeps_before others (course_of old) (course_of new) start steps.0 premise.keep;
+  }
 
-  run_safe : (words : List (List ℕ)) (old new : S) → Runs course_of words old new → IsSafeFromCrashes (saved_over course_of old new)
-  run_safe words old new (looked, locks, out, err, code, fault, inl (command, is, answered)) = answered.crash
-  run_safe words old new (looked, locks, out, err, code, fault, inr unread) =
-      λ calm keep latest. (_, crash_unwritten (course_of old) (course_of new) unread.idle.kept calm keep unread.idle.unwritten latest)
-
-  back : (words : List (List ℕ)) (old new : S) → Runs course_of words old new → Premise new → Premise old
-  back words old new runs premise =
-      let goes = run_goes words old new runs in record {
-        told = sym goes.past.told ∙ premise.told;
-        only = only_before (course_of old) (course_of new) start goes premise.only;
-        keep = keeps_before others (course_of old) (course_of new) start goes premise.keep;
-      }
-
-  each : (words : List (List ℕ)) (old new : S) → Runs course_of words old new → Premise new → Kept old → IsSafe course_of words old new × Kept new
-  each words old new runs premise kept =
-      let goes = run_goes words old new runs in
+  pub each : (words : List (List ℕ)) (old new : S) → Steps (saved_over course_of old new) → Premise new → Kept old → IsSafe course_of words old new × Kept new
+  each words old new steps premise kept =
       let safe : IsSafe course_of words old new =
-      run_safe words old new runs
-      (record { told = sym goes.past.told ∙ premise.told; others = only_later (course_of new) start (course_of old).history.last kept.0 premise.only })
+      steps.1
+      (record { told = sym steps.0.past.told ∙ premise.told; others = only_later (course_of new) start (course_of old).history.last kept.0 premise.only })
       (keeps_later others (course_of new) start (course_of old).history.last kept.0 premise.keep) kept.1.latest in (
         safe,
-        (omega (arith, kept.0, goes.past.later), record { latest = safe.1.latest; keeping = keeps_both us (course_of old).history (course_of new).history start goes.past kept.1.keeping safe.1.keeping }),
+        (omega (arith, kept.0, steps.0.past.later), record { latest = safe.1.latest; keeping = keeps_both us (course_of old).history (course_of new).history start steps.0.past kept.1.keeping safe.1.keeping }),
       )
 
-none_before : (k last : ℕ) → last ≤ k → k < last → ⊥
+  steps_of : (words : List (List ℕ)) (old new : S) → Runs course_of words old new → Steps (saved_over course_of old new)
+  steps_of words old new (looked, locks, out, err, code, fault, run) = run_steps words looked (saved_over course_of old new) locks out err code fault run
+
+  pub back_run : (words : List (List ℕ)) (old new : S) → Runs course_of words old new → Premise new → Premise old
+  back_run words old new runs = back old new (steps_of words old new runs)
+
+  pub each_run : (words : List (List ℕ)) (old new : S) → Runs course_of words old new → Premise new → Kept old → IsSafe course_of words old new × Kept new
+  each_run words old new runs = each words old new (steps_of words old new runs)
+
+pub none_before : (k last : ℕ) → last ≤ k → k < last → ⊥
 none_before k last after before = omega (arith, after, before)
 
-pub each_is_safe : {S : Type 0} (course_of : S → Course) → EachIsSafe course_of
-each_is_safe course_of calls first last latest premise runs =
-    let says = says_each (Runs course_of) (IsSafe course_of) (Premise course_of first) (Kept course_of first) (back course_of first) (each course_of first) calls first last runs premise (omega arith, record { latest = latest; keeping = record { each = λ k after before who. absurd (none_before k (course_of first).history.last after before) } }) in (
-      says.0,
-      says.1.1,
-      λ there theirs. keep_beside (course_of last) (course_of first).history.last premise.told premise.only there says.1.1.keeping theirs,
-    )
+module _ {S : Type 0} (course_of : S → Course) where
+  -- at the start of a list nothing was done
+  pub kept_first : (first : S) → IsLatest (last_scene (course_of first)) → Kept course_of first first
+  kept_first first latest =
+      (omega arith, record { latest = latest; keeping = record { each = λ k after before who. absurd (none_before k (course_of first).history.last after before) } })
+
+  pub keeps_data : (first last : S) → Premise course_of first last → KeepsAll (course_of first) (course_of last) → HasData (files_at (course_of last).history (course_of first).history.last)
+      → KeepsFiles others (course_of last).history (course_of first).history.last → KeepData (course_of last).history (course_of first).history.last
+  keeps_data first last premise kept there theirs = keep_beside (course_of last) (course_of first).history.last premise.told premise.only there kept.keeping theirs
+
+  pub each_is_safe : EachIsSafe course_of
+  each_is_safe calls first last latest premise runs =
+      let says = says_each (Runs course_of) (IsSafe course_of) (Premise course_of first) (Kept course_of first) (back_run course_of first) (each_run course_of first) calls first last runs premise (kept_first first latest) in
+      (says.0, says.1.1, keeps_data first last premise says.1.1)
