@@ -1,2 +1,3 @@
 pub mod Lists
 pub mod Scripting
+pub mod Turns

@@ -1,7 +1,8 @@
 -- What a script does: the command of each line, one after another.
 use Rattle.std.specs.Prelude.{ℕ, ◌≡◌, Bool, true, false, List, [], ◌∷◌, codes, Option, None, Result, Ok, IfSome, MatchBool}
 use Rattle.std.specs.Str.{bytes_eq}
-use Rattle.hg_cli.specs.Run.{IsRun}
+use Rattle.hg_base.specs.Runs.{RunsEach}
+use Rattle.hg_cli.specs.Run.{IsRun, Runs}
 use Rattle.hg_lines.specs.Script.{words_of}
 use Rattle.hg_lines.specs.Turns.{RunsScript, Turn, Line, Refused}
 use Rattle.hg_lines.specs.declared.fault.LineFault.{LineFault}
@@ -12,7 +13,7 @@ use Rattle.hg_session.specs.Answered.{IsIdle}
 use Rattle.hg_session.specs.Call.{Count, Looked, Saved, Sink, counted, saved_by, watched}
 use Rattle.hg_session.specs.Put.{IsFaultOrMemory, Tells}
 use Rattle.hg_shelf.specs.History as shelf
-use Rattle.hg_shelf.specs.Images.{Images}
+use Rattle.hg_shelf.specs.Images.{Images, course}
 use Rattle.hg_tree.specs.History as tree
 use Rattle.hg_words.specs.Command.{command_of}
 use Rattle.hg_words.specs.declared.fault.WordsFault.{WordsFault}
@@ -101,3 +102,9 @@ abbrev pub RunsWords : {T S G O E : Type 0} → Views T S G O E → List (List �
 RunsWords views words from to old new code fault =
     let part : Seen = seen views old new in
     MatchBool (is_script words) (RunsScript (Does (seen views)) from to old new code fault) (IsRun words part.looked part.saved part.locks part.out part.err code fault)
+
+-- a script is a list of runs over the files below `.hg`, one for each turn that does something, so that all that holds of every list of runs holds of it
+abbrev pub EachLineIsRun : {T S G O E : Type 0} → Views T S G O E → Type 0
+EachLineIsRun {T = T} {S = S} {G = G} {O = O} {E = E} views =
+    (from to : Option (List ℕ)) (old new : T × S × G × O × E) (code : ℕ) (fault : Option Fault) → RunsScript (Does (seen views)) from to old new code fault
+    → (calls : List (List (List ℕ))) × RunsEach (Runs (λ shelf. course (views.shelf shelf) (views.images shelf))) calls old.1 new.1

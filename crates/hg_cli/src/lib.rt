@@ -5,7 +5,8 @@
 //! is carried out by `hg_session`. These are built: `status` (help topic `status`), over any dirstate (help topic
 //! `internals.dirstate-v2`), what the plain store has of its first parent and the ignore patterns of `.hgignore`; `debugdirstate`, which
 //! prints what a dirstate records; `add`, `forget`, `remove`, `copy` and `debugsetparents`, which change it. All that is promised of the program
-//! stands in the contract of `run`; that it keeps what a crash may leave over every list of runs, in that of `each_run_is_safe`.
+//! stands in the contract of `run`; that it keeps what a crash may leave over every list of runs, in that of `each_run_is_safe`, and that a script
+//! is such a list, in that of `each_line_is_a_run`.
 //!
 //! ```text
 //! let outcome = run(alloc, &words, &mut tree, &mut shelf, &mut Builds::new(), &mut input, &mut out, &mut err);
@@ -17,5 +18,5 @@ mod laws;
 mod script;
 mod top;
 
-pub use laws::each_run_is_safe;
+pub use laws::{each_line_is_a_run, each_run_is_safe};
 pub use top::run;
