@@ -102,9 +102,50 @@ const SEEN: Stamp = Stamp {
     ambiguous: true,
 };
 
-// A clean file of four bytes.
-const CLEAN: Entry = Entry {
+// A tracked file of four bytes.
+fn tracked(p1: bool, p2: bool, exec: bool) -> Entry {
+    Entry {
+        w: true,
+        p1,
+        p2,
+        exec,
+        link: false,
+        size: Some(4),
+        stamp: Some(SEEN),
+        modified: false,
+        fallback: 0,
+    }
+}
+
+// A clean one, as far as its size and its time are known.
+fn known(size: Option<u32>, stamp: Option<Stamp>) -> Entry {
+    Entry {
+        w: true,
+        p1: true,
+        p2: false,
+        exec: false,
+        link: false,
+        size,
+        stamp,
+        modified: false,
+        fallback: 0,
+    }
+}
+
+const LINK: Entry = Entry {
     w: true,
+    p1: true,
+    p2: false,
+    exec: true,
+    link: true,
+    size: Some(4),
+    stamp: Some(SEEN),
+    modified: false,
+    fallback: 0,
+};
+
+const REMOVED: Entry = Entry {
+    w: false,
     p1: true,
     p2: false,
     exec: false,
@@ -115,50 +156,29 @@ const CLEAN: Entry = Entry {
     fallback: 0,
 };
 
-const PROGRAM: Entry = Entry {
-    exec: true,
-    ..CLEAN
-};
-
-const LINK: Entry = Entry {
-    exec: true,
-    link: true,
-    ..CLEAN
-};
-
-const MERGED: Entry = Entry { p2: true, ..CLEAN };
-
-const ADDED: Entry = Entry { p1: false, ..CLEAN };
-
-const REMOVED: Entry = Entry { w: false, ..CLEAN };
-
 const MODIFIED: Entry = Entry {
+    w: true,
+    p1: true,
+    p2: false,
+    exec: false,
+    link: false,
+    size: Some(4),
+    stamp: None,
     modified: true,
-    stamp: None,
-    ..CLEAN
-};
-
-const UNSIZED: Entry = Entry {
-    size: None,
-    ..CLEAN
-};
-
-const UNTIMED: Entry = Entry {
-    stamp: None,
-    ..CLEAN
+    fallback: 0,
 };
 
 fn entry(name: &str) -> Result<Entry, Fail> {
     match name {
-        "clean" | "copied" => Ok(CLEAN),
-        "program" => Ok(PROGRAM),
+        "clean" | "copied" => Ok(tracked(true, false, false)),
+        "program" => Ok(tracked(true, false, true)),
         "link" => Ok(LINK),
-        "merged" => Ok(MERGED),
-        "added" => Ok(ADDED),
+        "merged" => Ok(tracked(true, true, false)),
+        "added" => Ok(tracked(false, false, false)),
         "removed" => Ok(REMOVED),
         "modified" => Ok(MODIFIED),
-        "unsized" => Ok(UNSIZED),
-        "untimed" => Ok(UNTIMED),
+        "unsized" => Ok(known(None, Some(SEEN))),
+        "untimed" => Ok(known(Some(4), None)),
         _ => Err(Fail::new("no entry")),
     }
 }

@@ -1,22 +1,21 @@
 -- The looks of a copy, and what is put behind them, as one course.
-use Rattle.std.proofs.Common.{ℕ, ◌≡◌, Bool, true, false, cond, ◌||◌, ◌&&◌, List, [], ◌∷◌, ◌++◌, replicate, Option, Some, None, Result, Ok, Err, refl, sym, ap, ◌∙◌, subst, true≢false, inl, inr, ◌⊎◌, arith}
+use Rattle.std.proofs.Common.{ℕ, ◌≡◌, Bool, true, false, cond, ◌||◌, ◌&&◌, List, [], ◌∷◌, ◌++◌, replicate, Option, Some, None, Result, Ok, Err, refl, sym, ap, ◌∙◌, subst, true≢false, inl, inr, arith}
 use Rattle.std.specs.Prelude.{IfOk, IsTrue, is_some, option_map, MatchOption}
 use Rattle.std.specs.Option.{option_and_then}
 use Rattle.std.specs.Str.{bytes_eq}
-use Rattle.std.proofs.lemmas.Bool.{cond-false, cond-true, false_from_ne_true, or_parts}
+use Rattle.std.proofs.lemmas.Bool.{false_from_ne_true, or_parts}
 use Rattle.hg_base.specs.PathText.{is_below, is_path}
 use Rattle.hg_base.specs.declared.stat.Stat.{Stat}
 use Rattle.hg_base.specs.declared.time.Time.{Time}
 use Rattle.hg_base.proofs.Within.{same_bytes}
-use Rattle.hg_compare.specs.Same.{InPieces, Reads}
+use Rattle.hg_compare.specs.Same.{Reads}
 use Rattle.hg_entry.specs.Steps.{is_file}
 use Rattle.hg_entry.specs.Table.{Table}
-use Rattle.hg_mixed.specs.Clash.{IsLeast, clashes}
 use Rattle.hg_mixed.specs.Held.{Held, table}
 use Rattle.hg_ops.specs.Copy.{Comes, Copies, IsExact, IsUnused, Looked, RefusesCopy, RefusesTarget, RefusesThings, Works, words_refusal}
 use Rattle.hg_ops.specs.Copying.{IsCopying, Looks, Tables}
 use Rattle.hg_ops.specs.Parts.{HasCopy}
-use Rattle.hg_ops.specs.Putting.{CanCopy, IsPutting, IsWhole}
+use Rattle.hg_ops.specs.Putting.{CanCopy, IsPutting}
 use Rattle.hg_ops.specs.Seen.{At, During, IsDirOrNone, IsTaken, Known, Was, WasStat}
 use Rattle.hg_ops.specs.Step.{is_tracked, thing_refusal}
 use Rattle.hg_ops.specs.declared.copy_refusal.CopyRefusal.{CopyRefusal}
@@ -27,8 +26,8 @@ use Rattle.hg_ops.specs.declared.refusal.Refusal.{Refusal}
 use Rattle.hg_ops.specs.declared.refusal.Refusal.TheVariants as a_refusal
 use Rattle.hg_tree.specs.declared.asked.Asked.{Asked}
 use Rattle.hg_tree.specs.declared.asked.Asked.TheVariants as an_ask
-use Rattle.hg_tree.specs.History.{History, AreFormed, IsOurs, Passes, now}
-use Rattle.hg_tree.specs.Moment.{Moment, IsFormed, bytes_at, bytes_of, is_short, is_short_thing, stat_at, stat_of}
+use Rattle.hg_tree.specs.History.{History, IsOurs, Passes, now}
+use Rattle.hg_tree.specs.Moment.{Moment, bytes_at, bytes_of, is_short, is_short_thing, stat_at, stat_of}
 use Rattle.hg_tree.specs.Own.{put_thing}
 use Rattle.hg_tree.specs.declared.thing.Placed.{Placed}
 use Rattle.hg_tree.specs.declared.thing.Thing.{Thing}
@@ -38,7 +37,7 @@ use Rattle.hg_tree.proofs.Spans.{now_same, ours_first, ours_second, passes_same,
 use Rattle.hg_tree.proofs.Touching.{changes_passes}
 use Rattle.hg_ops.proofs.Grown.{there_is}
 use Rattle.hg_ops.proofs.Moments.{was_first, was_last, was_wider}
-use Rattle.hg_ops.proofs.OwnPuts.{cuts_wider, goes_passes, goes_trans, put_wider}
+use Rattle.hg_ops.proofs.OwnPuts.{goes_passes, goes_trans, put_wider}
 
 -- ---- the words
 

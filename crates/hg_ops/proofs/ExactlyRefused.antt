@@ -1,14 +1,13 @@
 -- Where nobody else touches a word's path, nor what the first parent has of it, `remove` refuses it exactly as one moment says.
-use Rattle.std.proofs.Common.{ℕ, zero, suc, ◌≡◌, ◌⊎◌, ◌≤◌, ◌<◌, ◌+◌, ◌-◌, Bool, true, false, not, ◌&&◌, ◌||◌, cond, List, Option, Some, None, Result, Ok, Err, option_map, inl, inr, refl, sym, ap, ◌∙◌, subst, arith}
+use Rattle.std.proofs.Common.{ℕ, zero, suc, ◌≡◌, ◌⊎◌, ◌≤◌, ◌<◌, ◌+◌, ◌-◌, Bool, true, false, not, ◌&&◌, ◌||◌, cond, List, Option, Some, None, Result, Ok, option_map, inl, inr, refl, sym, ap, ◌∙◌, subst, arith}
 use Rattle.std.specs.Prelude.{IsTrue, IfSome, MatchBool, is_some}
 use Rattle.hg_base.specs.PathText.{is_path}
 use Rattle.hg_base.specs.declared.stat.Stat.{Stat}
 use Rattle.hg_base.specs.declared.time.Time.{Time}
 use Rattle.hg_compare.specs.Alike.{contents_name, is_alike}
-use Rattle.hg_compare.specs.Same.{Decides, IsOther, IsSame, StaysShown, parent_row}
-use Rattle.hg_compare.specs.Seen.{Compared, SeesNothing}
+use Rattle.hg_compare.specs.Same.{IsOther, IsSame, StaysShown, parent_row}
+use Rattle.hg_compare.specs.Seen.{SeesNothing}
 use Rattle.hg_compare.specs.Tracked.{ParentRow, is_file_or_link, is_file_or_link_thing, is_unchanged, tracked_letter}
-use Rattle.hg_compare.specs.declared.letter.Letter.{Letter}
 use Rattle.hg_compare.specs.declared.letter.Letter.TheVariants as a_letter
 use Rattle.hg_compare.specs.declared.looked.Looked.TheVariants as a_look
 use Rattle.hg_compare.proofs.Deciding.{decides}
@@ -19,7 +18,7 @@ use Rattle.hg_manifest.specs.Rows.{Rows}
 use Rattle.hg_manifest.specs.declared.fault.ManifestFault.{ManifestFault}
 use Rattle.hg_manifest.specs.declared.row.FileRow.{FileRow}
 use Rattle.hg_ops.specs.Look.{WasShown}
-use Rattle.hg_ops.specs.Parent.{IsManifest, KeepsRow, Span, manifest_at, parent_rows, row_among}
+use Rattle.hg_ops.specs.Parent.{IsManifest, KeepsRow, Span, parent_rows, row_among}
 use Rattle.hg_ops.specs.Parents.{row_at}
 use Rattle.hg_ops.specs.Remove.{IsAsRow, IsChangedFile, IsUnchangedFile, IsUnlikeRow, OthersLeave, RefusesBehind, RefusesByRow, RefusesFile, RefusesShown, Removes, compared, early_refusal, entry_refusal, first_refusal, is_added, is_by_row, is_modified, needs_row, placed_refusal, remove_refusal}
 use Rattle.hg_ops.specs.declared.refusal.Refusal.{Refusal}

@@ -4,14 +4,13 @@ use Rattle.std.specs.Option.{option_and_then}
 use Rattle.std.specs.Prelude.{IfErr, IfOk, IsTrue, MatchBool, OnErr}
 use Rattle.hg_base.specs.declared.stat.Stat.{Stat}
 use Rattle.hg_base.specs.declared.time.Time.{Time}
-use Rattle.hg_compare.specs.Alike.{is_alike}
-use Rattle.hg_compare.specs.Same.{IsOther, IsSame, Reads}
-use Rattle.hg_compare.specs.Seen.{Compared, HasOtherSize, HasPiece, HasSize, Holds, SeesNothing, SeesOther, SeesPiece}
+use Rattle.hg_compare.specs.Same.{IsOther, Reads}
+use Rattle.hg_compare.specs.Seen.{HasPiece, HasSize, SeesOther, SeesPiece}
 use Rattle.hg_compare.proofs.Counting.{pieces_none}
 use Rattle.hg_compare.proofs.Spans.{Parts, bytes_first, bytes_second, first_of, held_first, held_second, nothing_second, other_second, parts_of, second_of, shown_first}
 use Rattle.hg_entry.specs.Steps.{is_file}
 use Rattle.hg_manifest.specs.declared.row.FileRow.{FileRow}
-use Rattle.hg_ops.specs.Finding.{Finds, FindsBy, FindsByRow, FindsIn, FindsShown, FindsThere, MetBy}
+use Rattle.hg_ops.specs.Finding.{Finds, FindsBy, FindsByRow, FindsIn, FindsThere, MetBy}
 use Rattle.hg_ops.specs.Look.{WasShown}
 use Rattle.hg_ops.specs.Parent.{Span, upto}
 use Rattle.hg_ops.specs.Parents.{row_at}
@@ -24,14 +23,14 @@ use Rattle.hg_ops.proofs.Added.{shown_last}
 use Rattle.hg_shelf.specs.History as shelves
 use Rattle.hg_shelf.specs.Reads.{size_of}
 use Rattle.hg_shelf.proofs.Histories as shelf
-use Rattle.hg_tree.specs.History.{Asks, Extends, History, IsOurs, Passes, now}
+use Rattle.hg_tree.specs.History.{Asks, Extends, History, Passes, now}
 use Rattle.hg_tree.specs.Moment.{Moment, bytes_at, bytes_of, stat_at, stat_of}
 use Rattle.hg_tree.specs.declared.asked.Asked.TheVariants as an_ask
 use Rattle.hg_tree.specs.declared.asked.Asked.{Asked}
 use Rattle.hg_tree.specs.declared.thing.Placed.{Placed}
 use Rattle.hg_tree.specs.declared.thing.Thing.{Thing}
 use Rattle.hg_tree.specs.declared.thing.Thing.TheVariants as a_thing
-use Rattle.hg_tree.proofs.Spans.{ours_first, ours_unstepped, passes_same, passes_trans}
+use Rattle.hg_tree.proofs.Spans.{ours_first, ours_unstepped, passes_trans}
 
 -- ---- a comparison with a row
 

@@ -1,12 +1,10 @@
 -- A copy grows piece by piece, where nobody else steps.
 use Rattle.std.proofs.Common.{ℕ, zero, suc, ◌≡◌, ◌+◌, ◌≤◌, ◌<◌, Bool, true, false, ◌||◌, ◌&&◌, List, [], ◌∷◌, ◌++◌, length, take, drop, Option, Some, None, refl, sym, ap, ◌∙◌, subst, inl, inr, arith}
-use Rattle.std.specs.Prelude.{is_some, option_map, nat_le, ◌==◌}
-use Rattle.std.specs.List.{list_any}
+use Rattle.std.specs.Prelude.{is_some, option_map, ◌==◌}
 use Rattle.std.specs.Option.{option_and_then}
 use Rattle.std.specs.Str.{bytes_eq}
 use Rattle.std.proofs.lemmas.Bool.{cond-true, eq-eqb, le-leb, leb-true}
 use Rattle.std.proofs.lemmas.List.{length-take, length-take-le, take_all}
-use Rattle.hg_base.specs.PathText.{is_below}
 use Rattle.hg_base.specs.declared.stat.Kind.{Kind}
 use Rattle.hg_base.specs.declared.stat.Kind.TheVariants as a_kind
 use Rattle.hg_base.specs.declared.stat.Stat.{Stat}
@@ -16,7 +14,7 @@ use Rattle.hg_ops.specs.Parts.{HasCopy}
 use Rattle.hg_ops.specs.Putting.{CanCopy, IsGrown, PutsWhole, piece_of}
 use Rattle.hg_ops.specs.declared.putting.Piece.{Piece}
 use Rattle.hg_ops.specs.declared.putting.Piece.TheVariants as a_piece
-use Rattle.hg_tree.specs.Moment.{Moment, Things, bytes_at, bytes_of, is_among, is_dir, is_short_thing, stat_at, stat_of}
+use Rattle.hg_tree.specs.Moment.{Moment, Things, bytes_at, bytes_of, is_dir, is_short_thing, stat_of}
 use Rattle.hg_tree.specs.Own.{CanPut, IsClear, IsPut, StaysDir, extended, has_length, is_loose, is_puttable_at, put_thing}
 use Rattle.hg_tree.specs.Touched.{TouchesOnly}
 use Rattle.hg_tree.specs.declared.thing.Placed.{Placed}

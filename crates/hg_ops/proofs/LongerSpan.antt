@@ -1,17 +1,15 @@
 -- What `remove` did with a word holds over each longer span of the files below `.hg`.
-use Rattle.std.proofs.Common.{ℕ, ◌≡◌, ◌⊎◌, Bool, true, false, List, Option, Some, None, inl, inr}
-use Rattle.std.specs.Prelude.{IsTrue, MatchBool}
+use Rattle.std.proofs.Common.{ℕ, ◌≡◌, ◌⊎◌, Bool, List, Option, Some, None, inl, inr}
 use Rattle.hg_base.specs.declared.stat.Stat.{Stat}
-use Rattle.hg_compare.specs.Alike.{is_alike}
-use Rattle.hg_compare.specs.Same.{IsOther, IsSame}
+use Rattle.hg_compare.specs.Same.{IsSame}
 use Rattle.hg_compare.specs.Seen.{SeesNothing}
-use Rattle.hg_compare.proofs.Spans.{Parts, bytes_first, first_of, parts_of, shown_first}
+use Rattle.hg_compare.proofs.Spans.{Parts, bytes_first, parts_of, shown_first}
 use Rattle.hg_entry.specs.Steps.{is_file}
 use Rattle.hg_entry.specs.Table.{Table}
 use Rattle.hg_manifest.specs.declared.row.FileRow.{FileRow}
 use Rattle.hg_ops.specs.Parent.{Span, upto}
 use Rattle.hg_ops.specs.Parents.{row_at}
-use Rattle.hg_ops.specs.Remove.{IsAsRow, IsChangedFile, IsUnchangedFile, IsUnlikeRow, RefusesBehind, RefusesByRow, RefusesShown, Removes, SeesClean, TakesClean, compared, early_refusal, needs_row}
+use Rattle.hg_ops.specs.Remove.{IsUnlikeRow, RefusesBehind, RefusesByRow, RefusesShown, Removes, SeesClean, TakesClean, compared, early_refusal, needs_row}
 use Rattle.hg_ops.specs.declared.refusal.Refusal.{Refusal}
 use Rattle.hg_ops.specs.declared.refusal.Refusal.TheVariants as a_refusal
 use Rattle.hg_ops.proofs.FoundSpans.{is_other_first, match_map, size_first}

@@ -1,7 +1,7 @@
 -- What was so at a moment of a span, and over longer spans.
 use Rattle.std.proofs.Common.{ℕ, ◌≡◌, ◌≤◌, Bool, true, false, List, Option, Some, None, refl, sym, ap, ◌∙◌, subst, true≢false, inl, inr, arith}
 use Rattle.std.specs.Prelude.{IsTrue, is_some, option_map}
-use Rattle.hg_base.specs.PathText.{is_below, is_path, parent_of}
+use Rattle.hg_base.specs.PathText.{is_path, parent_of}
 use Rattle.hg_base.specs.declared.stat.Stat.{Stat}
 use Rattle.hg_base.specs.declared.time.Time.{Time}
 use Rattle.hg_base.proofs.Below.{below_trans}

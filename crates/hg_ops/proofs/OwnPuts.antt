@@ -1,5 +1,5 @@
 -- Steps that put parts of a source.
-use Rattle.std.proofs.Common.{ℕ, zero, suc, ◌≡◌, ◌+◌, ◌*◌, ◌≤◌, ◌<◌, Bool, true, false, List, [], ◌∷◌, length, take, Option, Some, None, Result, Ok, Err, refl, sym, ap, ◌∙◌, subst, inl, inr, ◌⊎◌, arith}
+use Rattle.std.proofs.Common.{ℕ, suc, ◌≡◌, ◌+◌, ◌≤◌, Bool, true, false, List, [], ◌∷◌, take, Some, None, refl, sym, ap, ◌∙◌, subst, inl, inr, ◌⊎◌, arith}
 use Rattle.std.specs.Prelude.{IsTrue}
 use Rattle.std.proofs.lemmas.Bool.{cases_lt}
 use Rattle.std.proofs.lemmas.List.{length-take}
@@ -8,16 +8,12 @@ use Rattle.hg_compare.specs.Pieces.{Once}
 use Rattle.hg_compare.specs.Same.{InPieces}
 use Rattle.hg_ops.specs.Parts.{CutsShort, HasPart, IsPart, PutsPart, PutsParts, WasPut}
 use Rattle.hg_ops.specs.Putting.{GoesPutting, ReadsPiece}
-use Rattle.hg_ops.specs.Seen.{Was}
 use Rattle.hg_ops.specs.declared.copy_refusal.CopyRefusal.{CopyRefusal}
 use Rattle.hg_ops.specs.declared.copy_refusal.CopyRefusal.TheVariants as a_word
-use Rattle.hg_ops.specs.declared.refusal.Refusal.{Refusal}
 use Rattle.hg_ops.specs.declared.refusal.Refusal.TheVariants as a_refusal
-use Rattle.hg_tree.specs.History.{History, AreFormed, Extends, Passes, now, us}
+use Rattle.hg_tree.specs.History.{History, AreFormed, Extends, Passes}
 use Rattle.hg_tree.specs.Moment.{Moment, bytes_at}
 use Rattle.hg_tree.specs.Own.{Acts, CannotPut, IsPut, IsPutInPart, MayPut, Puts}
-use Rattle.hg_tree.specs.Touched.{ChangesOnly}
-use Rattle.hg_tree.proofs.Histories.{extends_trans}
 use Rattle.hg_tree.proofs.Spans.{passes_trans, who_apart}
 use Rattle.hg_tree.proofs.Touching.{changes_passes, changes_trans, may_put_only, puts_only}
 use Rattle.hg_ops.proofs.Moments.{was_last, was_wider}

@@ -1,5 +1,5 @@
 -- What is put, piece by piece, is what putting all comes to.
-use Rattle.std.proofs.Common.{ℕ, zero, suc, ◌≡◌, ◌+◌, ◌*◌, ◌≤◌, ◌<◌, min, Bool, true, false, cond, List, take, drop, length, Option, Some, None, Result, Ok, Err, refl, sym, ap, ◌∙◌, subst, true≢false, inl, inr, ◌⊎◌, arith}
+use Rattle.std.proofs.Common.{ℕ, ◌≡◌, ◌+◌, ◌≤◌, ◌<◌, min, Bool, true, false, cond, List, take, drop, length, Option, Some, None, Result, Ok, Err, refl, sym, ap, ◌∙◌, subst, true≢false, inl, inr, arith}
 use Rattle.std.specs.Prelude.{IfOk, IsTrue, nat_lt}
 use Rattle.std.proofs.lemmas.Bool.{cases_lt, ltb-true}
 use Rattle.std.proofs.lemmas.List.{length-drop, length-take, take-append-le, take_all}
@@ -8,16 +8,15 @@ use Rattle.hg_base.specs.declared.stat.Kind.{Kind}
 use Rattle.hg_base.specs.declared.stat.Kind.TheVariants as a_kind
 use Rattle.hg_base.specs.declared.stat.Stat.{Stat}
 use Rattle.hg_compare.specs.Same.{InPieces, Reads}
-use Rattle.hg_compare.proofs.Counting.{IsWhole as IsWholePieces}
 use Rattle.hg_ops.specs.Parts.{WasPut}
-use Rattle.hg_ops.specs.Putting.{CanCopy, Completes, GoesPutting, IsGrown, IsPutting, IsWhole, Puts, PutsAll, PutsRest, PutsWhole, is_link_kind, piece_of}
+use Rattle.hg_ops.specs.Putting.{CanCopy, Completes, GoesPutting, IsGrown, IsPutting, Puts, PutsAll, PutsRest, PutsWhole, is_link_kind, piece_of}
 use Rattle.hg_ops.specs.declared.copy_refusal.CopyRefusal.{CopyRefusal}
 use Rattle.hg_ops.specs.declared.putting.Piece.{Piece}
 use Rattle.hg_ops.specs.declared.putting.Piece.TheVariants as a_piece
 use Rattle.hg_ops.specs.declared.refusal.OpFault.{OpFault}
 use Rattle.hg_tree.specs.declared.asked.Asked.{Asked}
 use Rattle.hg_tree.specs.declared.asked.Asked.TheVariants as an_ask
-use Rattle.hg_tree.specs.History.{History, Extends, IsOurs, Passes, now, us}
+use Rattle.hg_tree.specs.History.{History, Extends, IsOurs, Passes, now}
 use Rattle.hg_tree.specs.Moment.{Moment, bytes_at}
 use Rattle.hg_tree.specs.Own.{Acts, CanPut, CannotPut, IsPut, IsPuttable}
 use Rattle.hg_tree.proofs.Histories.{extends_same, extends_trans}

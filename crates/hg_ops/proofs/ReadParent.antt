@@ -1,7 +1,6 @@
 -- What is read of the first parent's manifest over a span of calls.
 use Rattle.std.proofs.Common.{ℕ, ◌≡◌, ◌≤◌, Bool, true, false, cond, List, [], Option, Some, None, Result, Ok, Err, refl, sym, ap, ◌∙◌, subst, arith}
 use Rattle.std.specs.Prelude.{IsTrue, IfErr, IfOk, IfSome, OnOk, MatchBool}
-use Rattle.hg_base.specs.Fault.{Rose}
 use Rattle.hg_base.specs.declared.id.Id20.{Id20}
 use Rattle.hg_base.specs.declared.stat.Stat.{Stat}
 use Rattle.hg_compare.specs.Alike.{contents_name}
@@ -22,7 +21,6 @@ use Rattle.hg_ops.specs.declared.refusal.OpFault.TheVariants as a_fault
 use Rattle.hg_shelf.specs.History as shelves
 use Rattle.hg_shelf.specs.Polite.{KeepsFile}
 use Rattle.hg_shelf.specs.Reads.{size_of}
-use Rattle.hg_shelf.proofs.Histories as shelf
 
 -- ---- moments of the shelf
 

@@ -1,40 +1,38 @@
 -- What `remove` did with what was found.
-use Rattle.std.proofs.Common.{ℕ, suc, cond, ◌≡◌, ◌≤◌, ◌⊎◌, Bool, true, false, List, [], ◌∷◌, Option, Some, None, Result, Ok, Err, inl, inr, refl, sym, ap, ◌∙◌, subst, arith}
+use Rattle.std.proofs.Common.{ℕ, suc, cond, ◌≡◌, ◌⊎◌, Bool, true, false, List, [], ◌∷◌, Option, Some, None, Result, Ok, Err, inl, inr, refl, sym, ap, ◌∙◌, subst, arith}
 use Rattle.std.proofs.lemmas.Bool.{cases_lt}
 use Rattle.std.specs.Option.{option_and_then}
-use Rattle.std.specs.Prelude.{IfErr, IfOk, IsTrue, MatchBool, OnErr, OnOk}
+use Rattle.std.specs.Prelude.{IfErr, IfOk, IsTrue, MatchBool, OnOk}
 use Rattle.hg_base.proofs.Within.{equal_bytes}
 use Rattle.hg_base.specs.PathText.{is_path, is_same_dir, parent_of}
 use Rattle.hg_base.specs.declared.stat.Stat.{Stat}
 use Rattle.hg_entry.specs.Steps.{is_file}
 use Rattle.hg_entry.specs.Table.{Table}
 use Rattle.hg_manifest.specs.declared.row.FileRow.{FileRow}
-use Rattle.hg_ops.specs.Cause.{HasOpCause}
-use Rattle.hg_ops.specs.Finding.{Finds, FindsBy, FindsByRow, FindsIn, FindsShown, FindsThere, TakesFound, refusal_of}
-use Rattle.hg_ops.specs.Parent.{AsksStore, KeepsParent, Span, upto}
+use Rattle.hg_ops.specs.Finding.{Finds, FindsByRow, FindsIn, FindsShown, TakesFound, refusal_of}
+use Rattle.hg_ops.specs.Parent.{Span, upto}
 use Rattle.hg_ops.specs.Parents.{row_at}
 use Rattle.hg_ops.specs.Look.{WasShown}
-use Rattle.hg_ops.specs.Remove.{IsChangedFile, IsGone, IsUnchangedFile, IsUnlikeRow, MetRemoving, NeedsRow, RefusesBehind, RefusesByRow, RefusesShown, Removes, SeesClean, StopsRemoving, Takes, TakesClean, WasGone, compared, early_refusal, entry_refusal, may_take, needs_row}
+use Rattle.hg_ops.specs.Remove.{IsGone, IsUnlikeRow, MetRemoving, NeedsRow, RefusesBehind, RefusesByRow, RefusesShown, Removes, SeesClean, StopsRemoving, Takes, TakesClean, WasGone, early_refusal, entry_refusal, may_take, needs_row}
 use Rattle.hg_ops.specs.Step.{IsForgotten}
 use Rattle.hg_ops.specs.declared.finding.Found.{Found}
 use Rattle.hg_ops.specs.declared.finding.Found.TheVariants as a_find
-use Rattle.hg_ops.specs.declared.parent.Parent.{Parent}
 use Rattle.hg_ops.specs.declared.refusal.OpFault.{OpFault}
 use Rattle.hg_ops.specs.declared.refusal.OpFault.TheVariants as a_fault
 use Rattle.hg_ops.specs.declared.refusal.Refusal.{Refusal}
 use Rattle.hg_ops.specs.declared.refusal.Refusal.TheVariants as a_refusal
 use Rattle.hg_ops.proofs.Added.{same_table, shown_last}
-use Rattle.hg_ops.proofs.FoundSpans.{match_map, met_longer, need_longer, reads_longer, reads_none}
+use Rattle.hg_ops.proofs.FoundSpans.{match_map}
 use Rattle.hg_shelf.specs.History as shelves
 use Rattle.hg_tree.specs.Change.{dir_of}
-use Rattle.hg_tree.specs.History.{By, Extends, History, IsOurs, Passes, now, others}
-use Rattle.hg_tree.specs.Moment.{Moment, Things, bytes_at, bytes_of, stat_at}
-use Rattle.hg_tree.specs.Own.{Acts, IsUnlink, MayUnlink, Unlinks, after_unlink}
+use Rattle.hg_tree.specs.History.{Extends, History, Passes, now}
+use Rattle.hg_tree.specs.Moment.{bytes_at, bytes_of, stat_at}
+use Rattle.hg_tree.specs.Own.{Acts, IsUnlink, MayUnlink, Unlinks}
 use Rattle.hg_tree.specs.Touched.{ChangesOnly}
 use Rattle.hg_tree.specs.declared.thing.Placed.{Placed}
 use Rattle.hg_tree.proofs.Histories.{extends_same, extends_trans}
 use Rattle.hg_tree.proofs.Spans.{passes_same, passes_trans}
-use Rattle.hg_tree.proofs.Touching.{changes_passes, changes_trans, may_unlink_only}
+use Rattle.hg_tree.proofs.Touching.{changes_passes, changes_trans}
 
 -- ---- why a word is refused
 

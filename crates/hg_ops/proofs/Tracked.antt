@@ -1,16 +1,15 @@
 -- A target is tracked as a copy.
-use Rattle.std.proofs.Common.{ℕ, ◌≡◌, Bool, true, false, cond, not, ◌&&◌, ◌||◌, List, Option, Some, None, Result, Ok, Err, refl, sym, ap, ◌∙◌, subst, true≢false, inl, inr, ◌⊎◌}
+use Rattle.std.proofs.Common.{ℕ, ◌≡◌, Bool, true, false, cond, not, ◌&&◌, ◌||◌, List, Option, Some, None, Result, Ok, Err, refl, sym, ap, ◌∙◌, subst, true≢false, inl, inr}
 use Rattle.std.specs.Prelude.{IfOk, IfSome, OnErr, OnOk, option_map}
 use Rattle.std.specs.Str.{bytes_eq}
-use Rattle.std.proofs.lemmas.Bool.{cases_Bool, cond-false}
-use Rattle.hg_base.proofs.Within.{equal_bytes, same_bytes}
+use Rattle.std.proofs.lemmas.Bool.{cond-false}
+use Rattle.hg_base.proofs.Within.{same_bytes}
 use Rattle.hg_base.specs.Within.{is_above, is_within}
 use Rattle.hg_entry.specs.Entry.{EntryData}
-use Rattle.hg_entry.specs.Steps.{tracked}
 use Rattle.hg_entry.specs.Table.{Table}
 use Rattle.hg_mixed.specs.Clash.{is_tracked_entry}
-use Rattle.hg_mixed.specs.Edits.{ArePlacedAsBefore, EndsAbove, IsFormed, IsOfSameImage, IsSame, IsUnchanged, Lends, Marks, PlacesCopy, after_copy}
-use Rattle.hg_mixed.specs.Held.{Held, is_lent, source_at, table, text_at}
+use Rattle.hg_mixed.specs.Edits.{ArePlacedAsBefore, EndsAbove, IsFormed, IsSame, IsUnchanged, Lends, Marks, PlacesCopy, after_copy}
+use Rattle.hg_mixed.specs.Held.{Held, is_lent, table}
 use Rattle.hg_mixed.specs.Shown.{shown_in}
 use Rattle.hg_mixed.proofs.Edited.{same_trans}
 use Rattle.hg_mixed.proofs.Lifted.{same_back}

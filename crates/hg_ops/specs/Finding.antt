@@ -9,7 +9,6 @@ use Rattle.hg_compare.specs.declared.looked.Looked.{Looked}
 use Rattle.hg_compare.specs.declared.looked.Looked.TheVariants as a_look
 use Rattle.hg_entry.specs.Steps.{is_file}
 use Rattle.hg_manifest.specs.Load.{Was}
-use Rattle.hg_manifest.specs.Plain.{is_null}
 use Rattle.hg_manifest.specs.Rows.{Rows}
 use Rattle.hg_manifest.specs.declared.row.FileRow.{FileRow}
 use Rattle.hg_ops.specs.Look.{WasShown}
@@ -24,7 +23,7 @@ use Rattle.hg_ops.specs.declared.refusal.OpFault.TheVariants as a_fault
 use Rattle.hg_ops.specs.declared.refusal.Refusal.{Refusal}
 use Rattle.hg_ops.specs.declared.refusal.Refusal.TheVariants as a_refusal
 use Rattle.hg_shelf.specs.History as shelf
-use Rattle.hg_tree.specs.History.{History, Extends, Passes}
+use Rattle.hg_tree.specs.History.{History, Extends}
 use Rattle.hg_tree.specs.Own.{MayUnlink}
 
 -- why a path is refused by what was found there

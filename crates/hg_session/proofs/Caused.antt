@@ -25,7 +25,7 @@ use Rattle.hg_session.specs.Listed.{AsksOwn, ListingCause, StatusCause}
 use Rattle.hg_session.specs.Load.{of_list, of_print, of_read}
 use Rattle.hg_session.specs.Loaded.{AsksRecord, IsLoaded, MetReading}
 use Rattle.hg_session.specs.Look.{EndsAs, IsCalm, IsLook, IsOutFault, LeavesAt, Concludes, OnlyReads, Stage, at_first, at_printing, at_saving, at_telling}
-use Rattle.hg_session.specs.Put.{IsFaultOrMemory, IsSilent, Tells}
+use Rattle.hg_session.specs.Put.{IsFaultOrMemory, Tells}
 use Rattle.hg_session.specs.Status.{DoesStatus, RanStatus, status_look}
 use Rattle.hg_session.specs.declared.change_fault.ChangeFault.{ChangeFault}
 use Rattle.hg_session.specs.declared.change_fault.ChangeFault.TheVariants as a_change_fault

@@ -26,7 +26,7 @@ pub record IsIdle (looked : Looked) (saved : Saved) (locks : Count) (out : Sink)
   pub regexps : looked.oversize.after ≡ looked.oversize.before
   pub silent : IsSilent out
 
--- what is done for a command that isn't built: it is answered as such, whatever else holds, and its line is told
+-- what is done for a command that isn't carried out: it is answered as not built, whatever else holds, and its line is told
 pub record IsUnbuilt (call : Call) (code : ℕ) (fault : Option Fault) : Type 0 where
   pub answered : IsFaultOrMemory fault a_fault.NotBuilt
   pub told : IfSome fault (Tells call.err)

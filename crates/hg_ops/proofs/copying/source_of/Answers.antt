@@ -1,4 +1,4 @@
-use Rattle.std.proofs.Common.{rules, Some, ap, ◌∙◌, sym}
+use Rattle.std.proofs.Common.{Some, ap, ◌∙◌, sym}
 use Rattle.hg_mixed.specs.Held.{table}
 use Rattle.hg_ops.proofs.Tracked.{source_copied}
 use Rattle.hg_ops.proofs.copying.source_of.Goals as goal

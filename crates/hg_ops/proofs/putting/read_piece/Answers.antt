@@ -1,4 +1,4 @@
-use Rattle.std.proofs.Common.{ℕ, List, Option, ap, ◌∙◌, subst, length}
+use Rattle.std.proofs.Common.{ℕ, List, Option, ap, ◌∙◌, subst}
 use Rattle.hg_base.specs.Reads.{ReadsBytes}
 use Rattle.hg_base.specs.declared.stat.Got.TheVariants as a_got
 use Rattle.hg_tree.specs.Moment.{Moment, bytes_at}
