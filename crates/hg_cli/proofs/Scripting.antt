@@ -1,15 +1,19 @@
 -- What the line of a script does where it has no words, or where there is no memory for them.
 use Rattle.std.proofs.Common.{◌≡◌, ℕ, ◌<◌, Bool, true, false, cond, List, [], ◌∷◌, length, Option, Some, None, Ok, Err, refl, sym, ap, ◌∙◌, subst, arith, eqb, inl, inr}
-use Rattle.std.specs.Prelude.{◌⊎◌, MatchBool, is_some}
+use Rattle.std.specs.Prelude.{IfSome, MatchBool, is_some, ◌⊎◌}
 use Rattle.std.specs.List.{slice_get, slice_split}
 use Rattle.std.specs.Str.{bytes_eq}
 use Rattle.std.proofs.lemmas.Bool.{eq-eqb, ne_eqb}
 use Rattle.std.proofs.lemmas.List.Splits.{length-slice_split}
 use Rattle.hg_cli.specs.Run.{IsRun}
-use Rattle.hg_cli.specs.Script.{Does, DoesWords, IsStopped, RunsWords, Seen, Views, asks, is_script, script_name, seen}
+use Rattle.hg_cli.specs.Script.{Does, DoesWords, IsStopped, RunsWords, Seen, Views, asks, is_script, of_line, script_name, seen}
 use Rattle.hg_lines.specs.Script.{words_of}
 use Rattle.hg_report.specs.declared.fault.Fault.{Fault}
 use Rattle.hg_report.specs.declared.fault.Fault.TheVariants as a_fault
+use Rattle.hg_lines.specs.declared.fault.LineFault.{LineFault}
+use Rattle.hg_lines.specs.declared.fault.LineFault.TheVariants as a_line
+use Rattle.hg_session.specs.Call.{Call}
+use Rattle.hg_session.specs.Cause.{CommandCause}
 use Rattle.hg_session.specs.Put.{IsFaultOrMemory}
 use Rattle.hg_lines.proofs.Turning.{fails_with}
 use Rattle.hg_lines.specs.Turns.{RunsScript}
@@ -51,6 +55,51 @@ where_true Q false so p = absurd (cc so)
 pub where_false : {Q : Type 0} (P : Type 0) (is : Bool) → is ≡ false → Q → MatchBool is P Q
 where_false P true so q = absurd (cc so)
 where_false P false so q = q
+
+-- ---- a failing input
+
+abbrev call_of : Command → Seen → Call
+call_of command part = record { command = command; looked = part.looked; saved = part.saved; locks = part.locks; out = part.out; err = part.err }
+
+pub not_input : (answered : Option Fault) (met : Fault) → IsFaultOrMemory answered met → (met ≡ a_fault.InFailed → ⊥) → answered ≡ Some a_fault.InFailed → ⊥
+not_input answered met (inl is) other failed =
+    let both : Some met ≡ Some a_fault.InFailed = sym is ∙ failed in
+    other (cc both)
+not_input answered met (inr is) other failed =
+    let both : Some a_fault.OutOfMemory ≡ Some a_fault.InFailed = sym is ∙ failed in
+    cc both
+
+words_other : (met : WordsFault) → cause.of_words met ≡ a_fault.InFailed → ⊥
+words_other a_words.OutOfMemory is = cc is
+words_other a_words.NoCommand is = cc is
+words_other a_words.UnknownCommand is = cc is
+words_other a_words.Usage is = cc is
+words_other (a_words.BadNode word) is = cc is
+
+-- no words of a command meet it
+pub words_own : (words : List (List ℕ)) (part : Seen) (code : ℕ) (fault : Option Fault) → IsRun words part.looked part.saved part.locks part.out part.err code fault → fault ≡ Some a_fault.InFailed → ⊥
+words_own words part code fault (inl (command, is, answered)) failed = subst (λ (f : Option Fault). IfSome f (CommandCause (call_of command part))) failed answered.cause
+words_own words part code fault (inr unread) failed = not_input fault (cause.of_words unread.met) unread.answered (words_other unread.met) failed
+
+line_by : (is : Bool) (number : ℕ) (words : List (List ℕ)) (part : Seen) (code : ℕ) (fault : Option Fault)
+    → MatchBool is (IsStopped (a_fault.ScriptNested number) part code fault) (IsRun words part.looked part.saved part.locks part.out part.err code fault) → fault ≡ Some a_fault.InFailed → ⊥
+line_by true number words part code fault stopped failed = not_input fault (a_fault.ScriptNested number) stopped.answered (λ is. cc is) failed
+line_by false number words part code fault run failed = words_own words part code fault run failed
+
+-- no line meets it
+pub line_own : {D : Type 0} (seen : D → D → Seen) (number : ℕ) (words : List (List ℕ)) (old new : D) (code : ℕ) (fault : Option Fault) → DoesWords seen number words old new code fault → fault ≡ Some a_fault.InFailed → ⊥
+line_own seen number [] old new code fault does failed =
+    let both : None ≡ Some a_fault.InFailed = sym does.2 ∙ failed in
+    cc both
+line_own seen number (name ∷ words) old new code fault does failed = line_by (bytes_eq name script_name) number (name ∷ words) (seen old new) code fault does failed
+
+-- the reading meets it where the source failed
+pub input_failed : {P : Type 0} (met : LineFault) (answered : Option Fault) → IsFaultOrMemory answered (of_line met) → (met ≡ a_line.Failed → P) → answered ≡ Some a_fault.InFailed → P
+input_failed a_line.OutOfMemory answered is so failed = absurd (not_input answered a_fault.OutOfMemory is (λ e. cc e) failed)
+input_failed a_line.Failed answered is so failed = so refl
+input_failed (a_line.Line n) answered is so failed = absurd (not_input answered (a_fault.ScriptLine n) is (λ e. cc e) failed)
+input_failed (a_line.Text n) answered is so failed = absurd (not_input answered (a_fault.ScriptText n) is (λ e. cc e) failed)
+input_failed (a_line.TooLarge size) answered is so failed = absurd (not_input answered (a_fault.ScriptTooLarge size) is (λ e. cc e) failed)
 
 -- a line's turn, by its number and its text
 pub does_line : {D : Type 0} (seen : D → D → Seen) (n number : ℕ) (text line : List ℕ) (old new : D) (code : ℕ) (fault : Option Fault) → n ≡ number → text ≡ line → DoesWords seen n (words_of text) old new code fault

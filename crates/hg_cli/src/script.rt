@@ -1,10 +1,12 @@
 //! A script: commands that are read from the input, a line each.
 
-ghost use Rattle.std.specs.Prelude.{◌≡◌};
+ghost use Rattle.std.specs.Prelude.{◌≡◌, Some};
+ghost use Rattle.hg_base.specs.Fault.{Rose};
 ghost use Rattle.hg_cli.specs.Run.{IsRun};
 ghost use Rattle.hg_cli.specs.Script.{Does, DoesWords, of_line, seen};
 ghost use Rattle.hg_lines.specs.Script as lines_are;
 ghost use Rattle.hg_lines.specs.Turns.{RunsScript};
+ghost use Rattle.hg_report.specs.declared.fault.Fault.TheVariants as a_fault;
 ghost use Rattle.hg_session.specs.Call.{counted, saved_by, watched};
 
 use hg_base::Words;
@@ -183,6 +185,7 @@ pub(crate) fn script<T: Tree, S: Shelf, G: Regexps, I: Source, O: Sink, E: Sink>
         (tree.new, shelf.new, regexps.new, out.new, err.new)
         result.status
         result.fault }
+    ensures failing { result.fault ≡ Some a_fault.InFailed → Rose (I.faults input.old) (I.faults input.new) }
 {
     let mut lines = match Lines::new(alloc) {
         Ok(lines) => lines,

@@ -1,7 +1,9 @@
 //! The top call: one command over a working copy, the files below `.hg`, and the standard streams.
 
-ghost use Rattle.std.specs.Prelude.{◌≡◌, false};
+ghost use Rattle.std.specs.Prelude.{◌≡◌, false, Some};
+ghost use Rattle.hg_base.specs.Fault.{Rose};
 ghost use Rattle.hg_cli.specs.Script.{RunsWords, is_script};
+ghost use Rattle.hg_report.specs.declared.fault.Fault.TheVariants as a_fault;
 
 use crate::script::script;
 use hg_base::Words;
@@ -52,6 +54,8 @@ pub fn run<T: Tree, S: Shelf, G: Regexps, I: Source, O: Sink, E: Sink>(
         (tree.new, shelf.new, regexps.new, out.new, err.new)
         result.status
         result.fault }
+    // The input is told to have failed only where its count of failures rose.
+    ensures failing { result.fault ≡ Some a_fault.InFailed → Rose (I.faults input.old) (I.faults input.new) }
     // Nobody looks at the input but a script.
     ensures unread { is_script words.now ≡ false → input.new ≡ input.old }
 {

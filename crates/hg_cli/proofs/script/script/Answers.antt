@@ -1,9 +1,10 @@
-use Rattle.std.proofs.Common.{◌≡◌, ◌∙◌, true, false, rules, arith, ap}
+use Rattle.std.proofs.Common.{◌≡◌, ◌∙◌, ℕ, true, false, refl, rules, arith, ap, subst}
 use Rattle.std.specs.Prelude.{is_some, max}
-use Rattle.hg_cli.proofs.Scripting.{does_line, some_fault}
+use Rattle.hg_cli.proofs.Scripting.{does_line, input_failed, line_own, not_input, some_fault}
 use Rattle.hg_cli.specs.Script.{seen}
 use Rattle.hg_lines.proofs.Turning.{begins, ends, fails_with, goes_with, refuses_with, stops_with}
-use Rattle.hg_lines.specs.Script.{Reading}
+use Rattle.hg_base.specs.Fault.{Rose}
+use Rattle.hg_lines.specs.Script.{Reading, words_of}
 use Rattle.hg_report.specs.declared.fault.Fault.TheVariants as a_fault
 use Rattle.hg_cli.proofs.script.script.Goals as goal
 
@@ -12,13 +13,14 @@ returns-in-Err g c =
     record {
       ran = fails_with _ _ _ _ _ _ _ (some_fault c.failed.result.fault a_fault.OutOfMemory c.failed.ensures.fault)
           (record { answered = c.failed.ensures.fault; told = c.failed.ensures.told; idle = search rules; status = c.failed.ensures.status });
+      failing = λ is. absurd (not_input c.failed.result.fault a_fault.OutOfMemory c.failed.ensures.fault (λ e. cc e) is);
     }
 
 pub loop-lines-init : goal.loop-lines-init
-loop-lines-init g c = record { going = rw c.in-Ok.ensures (begins _ _ _); low = omega (arith, ap (λ (r : Reading). r.before) c.in-Ok.ensures) }
+loop-lines-init g c = record { going = rw c.in-Ok.ensures (begins _ _ _); low = omega (arith, ap (λ (r : Reading). r.before) c.in-Ok.ensures); quiet = refl }
 
 pub returns-in-Ok-None : goal.returns-in-Ok-None
-returns-in-Ok-None g c = record { ran = ends _ _ _ _ _ _ _ _ _ c.loop-lines.invariant.going (rw c.in-Ok-None.field-0-is at c.in-Ok-None.ensures.reads) }
+returns-in-Ok-None g c = record { ran = ends _ _ _ _ _ _ _ _ _ c.loop-lines.invariant.going (rw c.in-Ok-None.field-0-is at c.in-Ok-None.ensures.reads); failing = λ is. cc is }
 
 pub returns-then-is_some : goal.returns-then-is_some
 returns-then-is_some g c =
@@ -41,6 +43,21 @@ returns-then-is_some g c =
             err_faults = g.E.Sink.faults;
           }))
           c.number.result _ c.as_str.result.now _ _ _ _ _ (c.number.ensures ∙ answers.number) c.as_str.ensures c.turn-done.ensures);
+      failing = λ is. absurd (line_own
+          (seen (record {
+            tree = g.T.Tree.history;
+            tree_faults = g.T.Tree.faults;
+            shelf = g.S.Shelf.history;
+            images = g.S.Shelf.images;
+            shelf_faults = g.S.Shelf.faults;
+            held = g.S.Shelf.held;
+            oversize = g.G.Regexps.oversize;
+            out = g.O.Sink.bytes;
+            out_faults = g.O.Sink.faults;
+            err = g.E.Sink.bytes;
+            err_faults = g.E.Sink.faults;
+          }))
+          c.number.result (words_of c.as_str.result.now) _ _ _ _ c.turn-done.ensures is);
     }
 
 pub loop-lines-preserved : goal.loop-lines-preserved
@@ -67,6 +84,7 @@ loop-lines-preserved g c =
           }))
           c.number.result _ c.as_str.result.now _ _ _ _ _ (c.number.ensures ∙ answers.number) c.as_str.ensures c.turn-done.ensures));
       low = answers.within;
+      quiet = c.in-Ok-Some.ensures.cause.quiet ∙ c.loop-lines.invariant.quiet;
     }
 
 pub returns-in-Err-next : goal.returns-in-Err-next
@@ -75,4 +93,5 @@ returns-in-Err-next g c =
     record {
       ran = refuses_with _ _ _ _ _ _ _ _ _ _ _ _ _ (some_fault c.failed-in-Err-next.result.fault _ answered) c.loop-lines.invariant.going c.in-Err-next.ensures.reads c.in-Err-next.ensures.answers
           (record { answered = answered; told = c.failed-in-Err-next.ensures.told; idle = search rules; status = c.failed-in-Err-next.ensures.status });
+      failing = input_failed c.in-Err-next.fault c.failed-in-Err-next.result.fault answered (λ is. subst (λ (n : ℕ). Rose n (g.I.Source.faults c.next.new.input)) c.loop-lines.invariant.quiet (c.in-Err-next.ensures.cause.rose is));
     }

@@ -1,4 +1,4 @@
-use Rattle.std.proofs.Common.{◌≤◌, ◌-◌}
+use Rattle.std.proofs.Common.{◌≡◌, ◌≤◌, ◌-◌}
 use Rattle.hg_cli.specs.Script.{Does, seen}
 use Rattle.hg_lines.proofs.Turning.{Going}
 use Rattle.hg_cli.proofs.script.script.Given as goal
@@ -29,6 +29,7 @@ invariant-loop-lines g l = record {
       l.lines
       (g.I.Source.left l.input);
   low : l.lines.before ≤ 67108864;
+  quiet : g.I.Source.faults l.input ≡ g.I.Source.faults l.initial.input;
 }
 
 abbrev pub decreases-loop-lines : goal.decreases-loop-lines
