@@ -5,6 +5,7 @@ import os
 import shutil
 
 from folder import put
+from scripts import roomy
 from worked import Data, lines_of, manifest, printed
 
 FOLDER = os.path.join(os.path.dirname(os.path.dirname(os.path.dirname(os.path.abspath(__file__)))), "crates", "hg_cases", "data")
@@ -130,7 +131,8 @@ class World:
 
     def run(self, words):
         """A run's lines as a case tells them: without the further lines, which are `main`'s."""
-        status, out, err = self.tests.run(self.root, [os.fsdecode(it) for it in words], stdin=None, input=self.input)
+        how = {"preexec_fn": roomy} if words[:1] == [b"debugscript"] else {}
+        status, out, err = self.tests.run(self.root, [os.fsdecode(it) for it in words], stdin=None, input=self.input, **how)
         told = [f"2> {it}" for it in printed(err) if not it.startswith("hgtrack: ")]
         return printed(out) + told + [f"[{status}]"] * bool(status)
 

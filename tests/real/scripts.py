@@ -1,22 +1,30 @@
-"""Scripts from standard input: beside a call for each line, from a pipe a byte at a time, 10,000 lines, what a line may have, and an input that is closed or no file."""
+"""Scripts from standard input: beside a call for each line, from a pipe a byte at a time, 10,000 lines, what a line may have, and an input that is closed or no file.
+
+A script keeps up to 64 files open that have served, so it runs with room for 128, where single commands are tested with 16."""
 
 import os
 import random
+import resource
 import subprocess
 import threading
 
 from folder import SECONDS, aborted, lay_out, lines
 
 LONGEST, MOST = 65_536, 67_108_864
+FILES = 128
 
 
-def script(tests, root, text, **how):
-    return tests.run(root, ["debugscript"], stdin=None, input=text, timeout=4 * SECONDS, **how)
+def roomy():
+    resource.setrlimit(resource.RLIMIT_NOFILE, (FILES, FILES))
+
+
+def script(tests, root, text):
+    return tests.run(root, ["debugscript"], stdin=None, input=text, timeout=4 * SECONDS, preexec_fn=roomy)
 
 
 def fed(tests, root, text):
     """A script whose bytes come one by one."""
-    ran = subprocess.Popen([tests.program, "debugscript"], cwd=root, stdin=subprocess.PIPE, stdout=subprocess.PIPE, stderr=subprocess.PIPE, bufsize=0)
+    ran = subprocess.Popen([tests.program, "debugscript"], cwd=root, stdin=subprocess.PIPE, stdout=subprocess.PIPE, stderr=subprocess.PIPE, bufsize=0, preexec_fn=roomy)
 
     def feed():
         for at in range(len(text)):
