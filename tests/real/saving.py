@@ -175,11 +175,11 @@ def failed(tests, calls, scene, root, reason, number, name):
 
 
 def is_line(err, reason):
-    """The fault's line, and the one with its reason; or those of a root that can't be looked for."""
+    """The fault's line, and the one with its reason, or with that of a root that can't be found again; or those of a root that can't be looked for."""
     rows = err.split(b"\n")
     if err == NO_WAY:
         return True
-    return len(rows) == 3 and rows[0] + b"\n" in (aborted(".hg failed"), aborted("working copy failed")) and rows[1].endswith(os.fsencode(f": {reason}"))
+    return len(rows) == 3 and rows[0] + b"\n" in (aborted(".hg failed"), aborted("working copy failed")) and rows[1].endswith((os.fsencode(f": {reason}"), b": the root has no name that serves"))
 
 
 def run_failures(tests, calls, scene, template, names):
