@@ -179,7 +179,11 @@ def is_line(err, reason):
     rows = err.split(b"\n")
     if err == NO_WAY:
         return True
-    return len(rows) == 3 and rows[0] + b"\n" in (aborted(".hg failed"), aborted("working copy failed")) and rows[1].endswith((os.fsencode(f": {reason}"), b": the root has no name that serves"))
+    if len(rows) != 3 or rows[0] + b"\n" not in (aborted(".hg failed"), aborted("working copy failed")):
+        return False
+    # (a look at the root that fails leaves it without a name to come back by, which is told where a file is to be put or taken away)
+    is_nameless = rows[0] + b"\n" == aborted("working copy failed") and rows[1].endswith(b": the root has no name that serves")
+    return is_nameless or rows[1].endswith(os.fsencode(f": {reason}"))
 
 
 def run_failures(tests, calls, scene, template, names):
