@@ -1,6 +1,6 @@
 //! Devices that note the names of the calls that are made of them.
 
-use hg_base::{Failed, Got, Kind, PathRef, Stat};
+use hg_base::{Failed, Got, Kind, PathRef, Stat, Time};
 use hg_shelf::Shelf;
 use hg_stream::Sink;
 use hg_tree::{Name, Tree, TreeFault};
@@ -103,6 +103,11 @@ impl<T: Tree + Drop> Tree for Noted<T> {
     fn read(&mut self, path: PathRef<'_>, place: u64, buf: &mut [u8]) -> Result<Got, Failed> {
         self.calls.note("read", "");
         self.device.read(path, place, buf)
+    }
+
+    fn now(&mut self) -> Result<Time, Failed> {
+        self.calls.note("now", "");
+        self.device.now()
     }
 
     fn unlink(&mut self, path: PathRef<'_>) -> Result<bool, Failed> {

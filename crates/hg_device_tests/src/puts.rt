@@ -75,12 +75,13 @@ fn take_away(tree: &mut MemTree, step: &str, answer: &mut String) -> Result<(), 
     Ok(())
 }
 
-// Another is to place a file or a directory just before a call, or to take away what stands there.
+// Another is to place a file or a directory just before a call, to take away what stands there, or to set the clock.
 fn due(alloc: Global, tree: &mut MemTree, step: &str) -> Result<(), Fail> {
     let call = number(step, 1)?;
     match word(step, 2) {
         "file" => due_file(alloc, tree, call, step),
         "dir" => due_dir(alloc, tree, call, step),
+        "clock" => due_clock(tree, call, step),
         _ => due_take(alloc, tree, call, step),
     }
 }
@@ -104,6 +105,12 @@ fn due_dir(alloc: Global, tree: &mut MemTree, call: u64, step: &str) -> Result<(
 fn due_take(alloc: Global, tree: &mut MemTree, call: u64, step: &str) -> Result<(), Fail> {
     let path = Path::of(alloc, PathRef::read(word(step, 3))?)?;
     tree.due(call, Outside::Take { path })?;
+    Ok(())
+}
+
+fn due_clock(tree: &mut MemTree, call: u64, step: &str) -> Result<(), Fail> {
+    let to = at(number(step, 3)?);
+    tree.due(call, Outside::Clock { to })?;
     Ok(())
 }
 
@@ -198,6 +205,21 @@ due 1 take d/e; due 1 file d two 7; put b file 0 x; put d/e file 0 x; stat d => 
 #[test]
 fn answers_by_what_is_due(rt: HostRuntime) -> Result<(), Fail> {
     agree::<Puts>(rt.alloc(), SAMPLE, DUE)
+}
+
+// What is put or loses a name has the time that the clock shows by then.
+const CLOCKS: &str = r"
+due 0 clock 50000; now; now => 50000 999999999 50000 999999999
+due 1 clock 50000; now; now; stat a => 43200 0 50000 999999999 File true 5 1
+due 0 clock 7; due 0 clock 8; now => 8 999999999
+due 0 clock 50000; fail 0; now; now => Failed 50000 999999999
+due 1 clock 7; put b file 0 hi; stat b; put c/b file 0 hi; stat c; stat c/b => Ok(true) File false 2 43200 Ok(true) Dir false 0 7 File false 2 7
+clock 50000; put a file 5 !; stat a; unlink d/e/f; stat d/e; stat d => Ok(true) File true 6 50000 Ok(true) Dir false 0 50000 Dir false 0 2
+";
+
+#[test]
+fn goes_by_the_clock(rt: HostRuntime) -> Result<(), Fail> {
+    agree::<Puts>(rt.alloc(), SAMPLE, CLOCKS)
 }
 
 // What is due just before a call that fails is made.

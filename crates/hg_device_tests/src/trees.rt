@@ -21,6 +21,10 @@ pub(crate) fn at(seconds: u64) -> Time {
 }
 
 // The calls, each by itself: what they promise isn't carried through a case.
+fn now(tree: &mut MemTree) -> Result<Time, Failed> {
+    tree.now()
+}
+
 fn stat(tree: &mut MemTree, path: PathRef<'_>) -> Result<Option<Stat>, Failed> {
     tree.stat(path)
 }
@@ -74,6 +78,11 @@ fn place_other(tree: &mut MemTree, step: &str) -> Result<(), Fail> {
     Ok(())
 }
 
+fn set_clock(tree: &mut MemTree, step: &str) -> Result<(), Fail> {
+    tree.set_clock(at(number(step, 1)?))?;
+    Ok(())
+}
+
 fn take(tree: &mut MemTree, path: &str) -> Result<(), Fail> {
     tree.take(PathRef::read(path)?)?;
     Ok(())
@@ -93,6 +102,20 @@ fn print_stat(stat: Stat, answer: &mut String) -> Result<(), Fail> {
     write!(answer, " {kind:?} {exec}")?;
     let (size, seconds) = (stat.size, stat.mtime.seconds);
     write!(answer, " {size} {seconds}")?;
+    Ok(())
+}
+
+// The seconds and nanoseconds of the clock.
+fn print_now(tree: &mut MemTree, answer: &mut String) -> Result<(), Fail> {
+    match now(tree) {
+        Ok(time) => print_time(time, answer),
+        Err(Failed) => Ok(answer.push_str(" Failed")?),
+    }
+}
+
+fn print_time(time: Time, answer: &mut String) -> Result<(), Fail> {
+    let (seconds, nanos) = (time.seconds, time.nanos);
+    write!(answer, " {seconds} {nanos}")?;
     Ok(())
 }
 
@@ -163,6 +186,7 @@ fn laid(alloc: Global, tree: &mut MemTree, step: &str) -> Result<(), Fail> {
         "dir" => place_dir(tree, step),
         "other" => place_other(tree, step),
         "take" => take(tree, word(step, 1)),
+        "clock" => set_clock(tree, step),
         "fail" => Ok(tree.fail_at(number(step, 1)?)?),
         _ => Err(Fail::new("no such step")),
     }
@@ -180,6 +204,7 @@ pub(crate) fn done(
         "list" => listed(alloc, tree, word(step, 1), answer),
         "read" => read_step(tree, step, answer),
         "asked" => print_asked(tree, answer),
+        "now" => print_now(tree, answer),
         _ => laid(alloc, tree, step),
     }
 }
@@ -242,6 +267,20 @@ fail 1; fail 3; stat a; stat a; stat a; list -; list a; asked => File true 5 1 F
 #[test]
 fn fails_where_it_was_told_to(rt: HostRuntime) -> Result<(), Fail> {
     agree::<Trees>(rt.alloc(), SAMPLE, FAILS)
+}
+
+// The clock stays where it was set, and leaves what stands there; a look at it is a call.
+const TELLS: &str = r"
+now; now => 43200 0 43200 0
+clock 7; now; stat a; list -; asked => 7 999999999 File true 5 1 a d list -
+clock 90000; clock 5; now; take a; now => 5 999999999 5 999999999
+fail 1; now; clock 9; now; now => 43200 0 Failed 9 999999999
+fail 0; stat a; now; asked => Failed 43200 0
+";
+
+#[test]
+fn tells_the_clock(rt: HostRuntime) -> Result<(), Fail> {
+    agree::<Trees>(rt.alloc(), SAMPLE, TELLS)
 }
 
 const READS: &str = r"

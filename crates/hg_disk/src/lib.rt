@@ -23,6 +23,7 @@ mod lock_file;
 mod look;
 mod opened;
 mod place;
+mod probe;
 mod putting;
 mod real_shelf;
 mod real_tree;

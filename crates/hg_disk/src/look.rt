@@ -60,7 +60,8 @@ fn other() -> Stat
     }
 }
 
-fn time_of(metadata: &Metadata) -> Option<Time> {
+/// The time of the last modification, where its nanoseconds make no second.
+pub(crate) fn time_of(metadata: &Metadata) -> Option<Time> {
     match u32::try_from(metadata.mtime_nsec()) {
         Ok(nanos) if nanos < 1_000_000_000 => Some(Time {
             seconds: metadata.mtime(),

@@ -14,11 +14,12 @@ use crate::contents::read_name;
 use crate::disk::is_absence;
 use crate::failure::{FirstFailure, Reason};
 use crate::look::{NO_TIME, stat_of};
+use crate::probe::{FOLDER, PROBE, lowest, probe_name};
 use crate::putting::{Made, Wanted, make_step, put_name, unlink_name};
 use crate::root::Named;
 use crate::spot::{Spot, spot_of};
 use crate::way::Way;
-use hg_base::{Failed, Got, Stat};
+use hg_base::{Failed, Got, Stat, Time};
 use std::io::ErrorKind;
 use std::rt::{Env, Files};
 use std::{env, fs, io};
@@ -169,6 +170,17 @@ impl<'a, R: Files + Env + AllocGlobal> Place<'a, R> {
             },
             Gone::Absent => Ok(Got::Absent),
             Gone::Shut => Err(self.shut(dir)),
+        }
+    }
+
+    /// The clock of the file system, by a file below `.hg` that is written; the lowest time where it can't be.
+    pub(crate) fn now(&mut self) -> Result<Time, Failed> {
+        match self.go(FOLDER)? {
+            Gone::There => match probe_name(self.rt, PROBE) {
+                Ok(time) => Ok(time),
+                Err(reason) => Err(self.failed(PROBE, reason)),
+            },
+            Gone::Absent | Gone::Shut => Ok(lowest()),
         }
     }
 

@@ -10,9 +10,10 @@ use crate::ancestors::Staying;
 use crate::disk::counted;
 use crate::entries::{list_from_root, list_there};
 use crate::place::Place;
+use crate::probe::lowest;
 use crate::putting::Wanted;
 use crate::root::Root;
-use hg_base::{Failed, Got, Kind, PathRef, Stat, risen};
+use hg_base::{Failed, Got, Kind, PathRef, Stat, Time, risen};
 use hg_tree::{Name, Tree, TreeFault};
 use std::alloc::Global;
 use std::rt::{Env, Files};
@@ -28,6 +29,10 @@ use std::rt::{Env, Files};
 ///
 /// What is put or taken away stands in the folder where the process stands by then, so that no link leads elsewhere; from a root without
 /// a name that serves, only what stands right in it is. The bytes aren't made sure on the disk.
+///
+/// Its clock is the file system's: the time of modification of `.hg/probe` once a byte was written to it. It is the lowest time there is where
+/// that can't be written: where no folder `.hg` stands in the root, there is no right or no room to write there, something else than a regular
+/// file stands there, or the root has no name that serves.
 #[derive(Drop)]
 pub struct RealTree<'a, R: Files + Env> {
     looks: Looks<'a, R>,
@@ -89,6 +94,11 @@ impl<'a, R: Files + Env + AllocGlobal> Tree for RealTree<'a, R> {
         counted(&mut self.faults, answer)
     }
 
+    fn now(&mut self) -> Result<Time, Failed> {
+        let answer = now_at(&mut self.looks);
+        counted(&mut self.faults, answer)
+    }
+
     fn unlink(&mut self, path: PathRef<'_>) -> Result<bool, Failed> {
         let answer = unlink_at(&mut self.looks, path.text);
         counted(&mut self.faults, answer)
@@ -135,6 +145,16 @@ fn read_at<R: Files + Env + AllocGlobal>(
     match looks {
         Looks::From(from) => from.read(path, place, buf),
         Looks::Staying(staying) => staying.read(path, place, buf),
+    }
+}
+
+// The clock of the file system. From a root without a name that serves nothing is written: a link that is put at `.hg` in between would be
+// followed. It has a frame of its own, as the look has.
+#[inline(never)]
+fn now_at<R: Files + Env + AllocGlobal>(looks: &mut Looks<'_, R>) -> Result<Time, Failed> {
+    match looks {
+        Looks::From(place) => place.now(),
+        Looks::Staying(_) => Ok(lowest()),
     }
 }
 

@@ -10,8 +10,8 @@ use std::os::unix::fs::{MetadataExt, OpenOptionsExt};
 use std::rt::Files;
 use std::time::{Duration, SystemTime, UNIX_EPOCH};
 
-// How new files can be used, less what the user's mask takes away: as Mercurial makes them.
-const MODE: u32 = 0o644;
+/// How new files can be used, less what the user's mask takes away: as Mercurial makes them.
+pub(crate) const MODE: u32 = 0o644;
 
 // What a name stands for whose file went away while it was opened.
 const EXCHANGED: Reason = Reason::Words("another file took its place");

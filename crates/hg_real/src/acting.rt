@@ -1,10 +1,10 @@
 //! Steps by which a tree puts something into real files and takes it away, and looks at what that left.
-use hg_base::{Failed, Kind, PathRef};
+use hg_base::{Failed, Kind, PathRef, Time};
 use hg_case_tests::{bytes, number, print, word};
 use hg_disk::RealTree;
 use hg_tree::Tree;
 use std::fs;
-use std::os::unix::fs::PermissionsExt;
+use std::os::unix::fs::{MetadataExt, PermissionsExt};
 use std::test::Fail;
 
 type Files<'a> = RealTree<'a, HostRuntime>;
@@ -31,6 +31,10 @@ fn put_link(
     bytes: &[u8],
 ) -> Result<bool, Failed> {
     tree.put(path, Kind::Link, false, place, bytes)
+}
+
+fn now(tree: &mut Files<'_>) -> Result<Time, Failed> {
+    tree.now()
 }
 
 // A file, a program or a link.
@@ -74,6 +78,31 @@ fn put_many(
 fn take_away(tree: &mut Files<'_>, step: &str, answer: &mut String) -> Result<(), Fail> {
     let done = unlink(tree, PathRef::read(word(step, 1))?);
     write!(answer, " {done:?}")?;
+    Ok(())
+}
+
+// Whether the clock isn't before the time that a file has by std, or that it is the lowest time.
+fn print_now(
+    rt: &HostRuntime,
+    tree: &mut Files<'_>,
+    path: &str,
+    answer: &mut String,
+) -> Result<(), Fail> {
+    let metadata = fs::symlink_metadata(rt, path)?;
+    let told = (metadata.mtime(), metadata.mtime_nsec());
+    match now(tree) {
+        Ok(time) => print_past(time, told, answer),
+        Err(Failed) => Ok(answer.push_str(" Failed")?),
+    }
+}
+
+fn print_past(time: Time, told: (i64, i64), answer: &mut String) -> Result<(), Fail> {
+    let (seconds, nanos) = (time.seconds, i64::from(time.nanos));
+    if seconds == i64::MIN && nanos == 0 {
+        return Ok(answer.push_str(" lowest")?);
+    }
+    let past = seconds > told.0 || (seconds == told.0 && nanos >= told.1);
+    write!(answer, " {past}")?;
     Ok(())
 }
 
@@ -130,6 +159,7 @@ pub(crate) fn acted(
         "put" => put_word(rt, tree, step, answer),
         "many" => put_many(rt, tree, step, answer),
         "take" => take_away(tree, step, answer),
+        "now" => print_now(rt, tree, word(step, 1), answer),
         "like" => print_like(rt, tree, step, answer),
         "alike" => print_alike(rt, step, answer),
         "target" => print_target(rt, word(step, 1), answer),

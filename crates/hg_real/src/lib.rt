@@ -7,6 +7,8 @@
 #[cfg(test)]
 mod acting;
 #[cfg(test)]
+mod clocks;
+#[cfg(test)]
 mod devices;
 #[cfg(test)]
 mod open_files;

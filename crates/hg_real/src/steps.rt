@@ -362,7 +362,7 @@ fn done(
         "stat" | "list" | "contents" | "times" | "later" => {
             above(rt, &mut world.tree, step, answer)
         }
-        "put" | "many" | "take" | "like" | "alike" | "target" | "told" | "home" => {
+        "put" | "many" | "take" | "now" | "like" | "alike" | "target" | "told" | "home" => {
             acted(rt, &mut world.tree, step, answer)
         }
         _ => below(&mut world.one, step, answer),

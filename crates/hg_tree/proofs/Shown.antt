@@ -15,14 +15,17 @@ pub now_is : (memory : Memory) → now (history_of memory) ≡ replayed memory.c
 now_is memory = ap (λ (l : List Change). replayed l (empty_at memory.start)) (take_all (length memory.changes) memory.changes (omega arith))
 
 -- what is kept of the fields is kept of what contracts see
-pub kept_seen : (memory : Memory) (start : Time) (changes : List Change) (shown : Things) → memory.start ≡ start → memory.changes ≡ changes → IsKept start changes shown
-    → IsKept memory.start memory.changes shown
-kept_seen memory start changes shown same_start same_changes kept =
-    subst (λ (s : Time). IsKept s memory.changes shown) (sym same_start) (subst (λ (l : List Change). IsKept start l shown) (sym same_changes) kept)
+pub kept_seen : (memory : Memory) (start : Time) (changes : List Change) (clock : Time) (shown : Things) → memory.start ≡ start → memory.changes ≡ changes
+    → IsKept start changes clock shown → IsKept memory.start memory.changes clock shown
+kept_seen memory start changes clock shown same_start same_changes kept =
+    subst (λ (s : Time). IsKept s memory.changes clock shown) (sym same_start) (subst (λ (l : List Change). IsKept start l clock shown) (sym same_changes) kept)
 
-module _ (memory : Memory) (shown : Things) (kept : IsKept memory.start memory.changes shown) where
+module _ (memory : Memory) (clock : Time) (shown : Things) (kept : IsKept memory.start memory.changes clock shown) where
   pub seen_formed : AreFormed (history_of memory)
   seen_formed = record { each = kept.formed }
+
+  pub now_clock : clock ≡ (now (history_of memory)).clock
+  now_clock = kept.time ∙ sym (ap (λ (m : Moment). m.clock) (now_is memory))
 
   pub now_shown : (now (history_of memory)).things ≡ shown
   now_shown = ap (λ (m : Moment). m.things) (now_is memory) ∙ sym (same_things shown (replayed memory.changes (empty_at memory.start)).things kept.current)
@@ -30,8 +33,8 @@ module _ (memory : Memory) (shown : Things) (kept : IsKept memory.start memory.c
   pub seen_lists : (dir : Option (List ℕ)) (names : List (List ℕ)) → AreChildren shown dir names → is_listed shown dir ≡ true → Lists dir (Some names) (now (history_of memory))
   seen_lists dir names children listed = (
     ap (λ (f : Things). is_listed f dir) now_shown ∙ listed,
-    children_names shown dir names (formed_shown memory.start memory.changes shown kept).paths children (now (history_of memory)) now_shown,
+    children_names shown dir names (formed_shown memory.start memory.changes clock shown kept).paths children (now (history_of memory)) now_shown,
   )
 
   pub seen_fit : (dir : Option (List ℕ)) (names : List (List ℕ)) → AreChildren shown dir names → AreFit dir names
-  seen_fit dir names children = children_fit shown dir names (formed_shown memory.start memory.changes shown kept).paths children
+  seen_fit dir names children = children_fit shown dir names (formed_shown memory.start memory.changes clock shown kept).paths children

@@ -47,6 +47,7 @@ after_take path things at = if bytes_eq path at || is_below path at then None el
 abbrev pub after_outside : Outside → Moment → Moment
 after_outside (a_change.Place path thing time) moment = record moment { things = after_place path thing time moment.things }
 after_outside (a_change.Take path) moment = record moment { things = after_take path moment.things }
+after_outside (a_change.Clock time) moment = record moment { clock = time }
 
 -- a change that others made
 abbrev pub by_others : Outside → Change

@@ -12,6 +12,7 @@ use Rattle.hg_tree.specs.Moment.{is_short_thing}
 abbrev pub is_short_change : Outside → Bool
 is_short_change (a_change.Place path thing time) = is_short_thing thing
 is_short_change (a_change.Take path) = true
+is_short_change (a_change.Clock time) = true
 
 abbrev pub IsShortDue : Due → Type 0
 IsShortDue due = IsTrue (is_short_change due.change)

@@ -140,7 +140,8 @@ abbrev pub LeavesOwn : Own → Result Bool Failed → Memory → Memory → Type
 LeavesOwn what (Ok done) old new = (is_due old.calls ≡ false) × (new ≡ (if done then with_own what (after_call old) else after_call old))
 LeavesOwn what (Err fault) old new = Fails old new ⊎ (new ≡ after_failure old)
 
--- what is shown now is what the changes make, and each moment so far is well formed
-pub record IsKept (start : Time) (changes : List Change) (shown : Things) : Type 0 where
+-- what is shown now, and the clock, is what the changes make, and each moment so far is well formed
+pub record IsKept (start : Time) (changes : List Change) (clock : Time) (shown : Things) : Type 0 where
+  pub time : clock ≡ (replayed changes (empty_at start)).clock
   pub current : (path : List ℕ) → shown path ≡ (replayed changes (empty_at start)).things path
   pub formed : (k : ℕ) → k ≤ length changes → IsFormed (replayed (take k changes) (empty_at start))

@@ -37,7 +37,7 @@ impl MemTree {
     {
         let path_copy = Path::of(self.alloc, path)?;
         self.changes.reserve(1)?;
-        unlink(&mut self.things, path, self.start);
+        unlink(&mut self.things, path, self.clock);
         self.changes
             .push(Change::ByUs {
                 what: Own::Unlink { path: path_copy },
@@ -95,7 +95,7 @@ impl MemTree {
             path,
             Placed {
                 thing: copy,
-                mtime: self.start,
+                mtime: self.clock,
             },
         )?;
         self.changes
@@ -117,7 +117,7 @@ impl MemTree {
         let copy = Blob::of(self.alloc, more)?;
         let path_copy = Path::of(self.alloc, path)?;
         self.changes.reserve(1)?;
-        extend(self.alloc, &mut self.things, path.text, more, self.start)?;
+        extend(self.alloc, &mut self.things, path.text, more, self.clock)?;
         self.changes
             .push(Change::ByUs {
                 what: Own::Extend {

@@ -10,7 +10,7 @@ pub enum Asked {
     List { dir: Option<Path> },
 }
 
-/// What another does to a working copy: a thing is placed, or what stands at a path is taken away.
+/// What another does to a working copy: a thing is placed, or what stands at a path is taken away; or its clock is set.
 #[derive(Debug, Drop)]
 pub enum Outside {
     Place {
@@ -20,6 +20,9 @@ pub enum Outside {
     },
     Take {
         path: Path,
+    },
+    Clock {
+        to: Time,
     },
 }
 

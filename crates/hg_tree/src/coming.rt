@@ -86,5 +86,6 @@ fn copy_of(alloc: Global, change: &Outside) -> Result<Outside, OutOfMemory>
             let path = Path::of(alloc, path.as_ref())?;
             Ok(Outside::Take { path })
         }
+        Outside::Clock { to } => Ok(Outside::Clock { to: *to }),
     }
 }

@@ -11,7 +11,7 @@ ghost use Rattle.hg_tree.specs.Own.{IsPuttable, MayPut, MayUnlink, Puts, Unlinks
 
 use crate::fault::TreeFault;
 use crate::name::Name;
-use hg_base::{Failed, Got, Kind, PathRef, Stat};
+use hg_base::{Failed, Got, Kind, PathRef, Stat, Time};
 use std::alloc::Global;
 
 /// A working copy that can be looked at, and in which files and links can be put and taken away.
@@ -64,6 +64,14 @@ pub trait Tree {
         ensures found { IsTrue (history self.old).told
             → IfOk result (λ got. ReadsBytes (bytes_at (now (history self.new)) path.entry.text.now) place buf.old buf.new got) }
         ensures fit { IfOk result (λ got. IsWithin (length buf.old) got) }
+        ensures formed { IsTrue (history self.old).told → OnOk result (AreFormed (history self.new)) }
+        ensures cause { HasCause (faults self.old) (faults self.new) result (λ e. Unit {0}) };
+
+    /// The clock: the time of what would be changed now.
+    fn now(&mut self) -> Result<Time, Failed>
+        ensures passes { Passes (history self.old) (history self.new) }
+        ensures asked { IsTrue (history self.old).told → Asks (is_ok result) [] (history self.old) (history self.new) }
+        ensures found { IsTrue (history self.old).told → IfOk result (λ time. time ≡ (now (history self.new)).clock) }
         ensures formed { IsTrue (history self.old).told → OnOk result (AreFormed (history self.new)) }
         ensures cause { HasCause (faults self.old) (faults self.new) result (λ e. Unit {0}) };
 

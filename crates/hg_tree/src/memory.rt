@@ -29,9 +29,10 @@ use std::alloc::Global;
 use std::collections::BTreeMap;
 use std::marker::Model;
 
-/// A working copy in memory. It tells its moments: an empty one, and one for each thing that was placed or taken away.
+/// A working copy in memory. It tells its moments: an empty one, and one for each change: a thing that was placed or taken away, or the clock
+/// that was set.
 ///
-/// What stands now is kept beside the list of changes, so that a look doesn't go through that list.
+/// What stands now, and the clock, is kept beside the list of changes, so that a look doesn't go through that list.
 #[derive(Debug, Drop)]
 pub struct MemTree {
     pub(crate) alloc: Global,
@@ -40,6 +41,7 @@ pub struct MemTree {
     pub(crate) due: Coming,
     pub(crate) asked: Vec<Asked>,
     pub(crate) calls: Calls,
+    pub(crate) clock: Time,
     pub(crate) things: BTreeMap<String, Placed>,
 }
 
@@ -51,7 +53,7 @@ impl Model for MemTree {
 
     ghost view = { λ m. record { start = m.start; changes = m.changes.items; due = m.due; asked = m.asked.items; calls = m.calls } };
 
-    ghost invariant = { λ m. IsKept m.start m.changes.items (get_by_text m.things) };
+    ghost invariant = { λ m. IsKept m.start m.changes.items m.clock (get_by_text m.things) };
 }
 
 impl MemTree {
@@ -68,6 +70,7 @@ impl MemTree {
             due: Coming::new(alloc),
             asked: Vec::new(alloc),
             calls: Calls::new(alloc),
+            clock,
             things: BTreeMap::new(alloc),
         })
     }
@@ -123,6 +126,21 @@ impl MemTree {
         Ok(())
     }
 
+    /// Sets the clock, also back, and leaves what stands there; or leaves all as it was.
+    pub fn set_clock(&mut self, clock: Time) -> Result<(), OutOfMemory>
+        ensures ok { OnOk result (self.new ≡ record self.old { changes = self.old.changes ++ by_others (a_change.Clock clock) ∷ [] }) }
+        ensures err { OnErr result (self.new ≡ self.old) }
+    {
+        self.changes.reserve(1)?;
+        self.clock = clock;
+        self.changes
+            .push(Change::ByOthers {
+                what: Outside::Clock { to: clock },
+            })
+            .unwrap();
+        Ok(())
+    }
+
     /// Makes the call of that number fail; calls are counted from 0.
     pub fn fail_at(&mut self, call: u64) -> Result<(), OutOfMemory>
         ensures ok { OnOk result (self.new ≡ record self.old { calls = fails_at call self.old.calls }) }
@@ -151,6 +169,7 @@ impl MemTree {
         match self.due.at(self.alloc, index, call)? {
             Some(Outside::Place { path, thing, mtime }) => self.place(path.as_ref(), thing, mtime),
             Some(Outside::Take { path }) => self.take(path.as_ref()),
+            Some(Outside::Clock { to }) => self.set_clock(to),
             None => Ok(()),
         }
     }
@@ -203,6 +222,13 @@ impl MemTree {
             Some(placed) => Some(stat_of(placed)),
             None => None,
         }
+    }
+
+    fn time(&self) -> Time
+        ensures found { result ≡ (now (history_of self.now)).clock }
+        ensures formed { AreFormed (history_of self.now) }
+    {
+        self.clock
     }
 
     pub(crate) fn bytes(&self, path: &str) -> Option<&[u8]>
@@ -380,6 +406,22 @@ impl Tree for MemTree {
             Some(bytes) => Ok(Got::Bytes(read_past(bytes, place, buf))),
             None => Ok(Got::Absent),
         }
+    }
+
+    // The clock is asked as a path is.
+    fn now(&mut self) -> Result<Time, Failed>
+        ensures passes { Passes (history_of self.old) (history_of self.new) }
+        ensures asked { Asks (is_ok result) [] (history_of self.old) (history_of self.new) }
+        ensures found { IfOk result (λ time. time ≡ (now (history_of (after_due self.old))).clock) }
+        ensures formed { OnOk result (AreFormed (history_of self.new)) }
+        ensures cause { HasCause self.old.calls.faults self.new.calls.faults result (λ e. Unit {0}) }
+        ensures due { IsTrue (is_due self.old.calls) → is_err result ≡ true }
+        ensures alone { coming self.old ≡ [] → is_err result ≡ is_due self.old.calls }
+        ensures answered { OnOk result (self.new ≡ after_call self.old) }
+        ensures failed { OnErr result (Fails self.old self.new) }
+    {
+        self.begin()?;
+        Ok(self.time())
     }
 
     // What was unlinked is a step of the caller's, behind what was due.

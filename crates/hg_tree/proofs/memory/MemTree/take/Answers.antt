@@ -12,6 +12,6 @@ use Rattle.hg_tree.proofs.memory.MemTree.take.Goals as goal
 pub invariant_of-self-2 : goal.invariant_of-self-2
 invariant_of-self-2 c =
     let log = pushed_is c.self.inside.changes.items c.reserve.new.self.items c.push.new.self.items (is_ok c.push.result) (by_others (a_change.Take c.in_ok-path_copy.path_copy)) c.push.ensures.items (ap is_ok c.unwrap.ensures) c.reserve.ensures.items in
-    subst (λ (l : List Change). IsKept c.self.inside.start l (get_by_text c.remove.new.things))
+    subst (λ (l : List Change). IsKept c.self.inside.start l c.self.inside.clock (get_by_text c.remove.new.things))
     (sym (log ∙ ap (λ (p : List ℕ). c.self.inside.changes.items ++ by_others (a_change.Take p) ∷ []) c.in_ok-path_copy.ensures))
-    (kept_taken c.self.inside.start c.self.inside.changes.items (get_by_text c.self.inside.things) c.self.invariant c.args.path.text.now (get_by_text c.remove.new.things) c.remove.ensures)
+    (kept_taken c.self.inside.start c.self.inside.changes.items c.self.inside.clock (get_by_text c.self.inside.things) c.self.invariant c.args.path.text.now (get_by_text c.remove.new.things) c.remove.ensures)
