@@ -4,6 +4,8 @@
 //! yet, then a docket beside the one that stands, which takes its place by a rename, and at last the old data file goes. Each is made
 //! sure before the next. The caller holds the lock.
 //!
+//! `still` tells whether the docket stands as it was loaded, so that what was made of the loaded table may be published.
+//!
 //! ```text
 //! let encoded = encode(alloc, &table, plan(&table))?;
 //! publish(&mut shelf, &loaded, &encoded)?;            // Err(Failed): the dirstate is as before or as after
@@ -17,6 +19,7 @@ mod load_fault;
 mod loaded;
 mod loading;
 mod saving;
+mod standing;
 mod steps;
 
 pub use laws::{data_kept, encoded_over, one_moment};
@@ -24,3 +27,4 @@ pub use load_fault::LoadFault;
 pub use loaded::Loaded;
 pub use loading::load;
 pub use saving::publish;
+pub use standing::still;

@@ -24,10 +24,10 @@ use std::alloc::Global;
 const DOCKET: &str = "dirstate";
 
 // A docket has at most so many bytes: 125, and 255 of the identifier.
-const MOST: usize = 512;
+pub const MOST: usize = 512;
 
 // One read of the docket's bytes into the buffer; it answers how many there are.
-fn read_docket<S: Shelf>(shelf: &mut S, buf: &mut [u8]) -> Result<usize, LoadFault>
+pub fn read_docket<S: Shelf>(shelf: &mut S, buf: &mut [u8]) -> Result<usize, LoadFault>
     requires { length buf.old ≡ 512 }
     ensures passes { Passes (S.history shelf.old) (S.history shelf.new) }
     ensures kept { Goes (course (S.history shelf.old) (S.images shelf.old)) (course (S.history shelf.new) (S.images shelf.new)) }
