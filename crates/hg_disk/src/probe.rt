@@ -11,6 +11,7 @@ use std::rt::Files;
 
 /// The folder of the file that is written, and its name there.
 pub(crate) const FOLDER: &str = ".hg";
+
 pub(crate) const PROBE: &str = "probe";
 
 /// The lowest time there is: none is before it.
