@@ -4,6 +4,7 @@ pub mod Kept
 pub mod Listing
 pub mod Met
 pub mod Parent
+pub mod Passed
 pub mod Patterns
 pub mod Recorded
 pub mod Shown

@@ -3,6 +3,7 @@
 ghost use Rattle.std.proofs.Props.{props};
 ghost use Rattle.hg_flat.specs.Kept.{AreAscending, HaveOwnPaths};
 
+use crate::entries::Entries;
 use crate::kept::{FlatRow, item_of};
 use hg_base::{Id20, OutOfMemory, PathRef};
 use hg_entry::Item;
@@ -82,11 +83,26 @@ impl Flat {
         self.rows.partition_point(|row| row.path.as_str() < path)
     }
 
-    /// Whether a path has an entry. Paths are mostly asked for in order, so the row at `next` is looked at first, which is made the one
-    /// behind the row that was found.
-    pub(crate) fn has(&self, path: &str, next: &mut usize) -> bool
-        ensures { result ≡ kept_of self.now path.now }
+    /// What is said of a path, where it has an entry.
+    pub fn get(&self, path: PathRef<'_>) -> Option<Item<'_>>
+        ensures { option_map shown_item result ≡ option_map shown_row (rows_of self.now path.entry.text.now) }
     {
+        let row = self.find(path.text)?;
+        Some(item_of(row))
+    }
+}
+
+impl Entries for Flat {
+    ghost use Rattle.std.specs.Prelude.{false};
+    ghost use Rattle.hg_flat.specs.Shown.{kept_of};
+
+    ghost kept = { kept_of };
+
+    // Nothing was looked at before.
+    ghost passed = { λ flat path. false };
+
+    // The row at `next` is looked at first, which is made the one behind the row that was found.
+    fn has(&self, path: &str, next: &mut usize) -> bool {
         if self.is_row_of(*next, path) {
             *next = next.saturating_add(1);
             return true;
@@ -98,11 +114,7 @@ impl Flat {
         true
     }
 
-    /// What is said of a path, where it has an entry.
-    pub fn get(&self, path: PathRef<'_>) -> Option<Item<'_>>
-        ensures { option_map shown_item result ≡ option_map shown_row (rows_of self.now path.entry.text.now) }
-    {
-        let row = self.find(path.text)?;
-        Some(item_of(row))
+    fn was_passed(&self, _path: &str, _next: &mut usize) -> bool {
+        false
     }
 }

@@ -4,7 +4,7 @@
 //! removed, `!` tracked but missing, `C` clean, `?` not tracked, `I` not tracked and ignored. The plain status looks at every tracked path and at everything
 //! that stands in the working copy, but for what is in an ignored directory where `I` isn't wanted, and compares all bytes with the first parent's, as the plain
 //! store below `.hg` has them; it trusts no recorded time. `Flat` is the map, read from an `Image` by `Flat::read`; `plain_status` gives the rows, and its
-//! contract says that they are the full listing.
+//! contract says that they are the full listing. `visit` lists what else stands in a directory, over any `Entries`.
 //!
 //! ```text
 //! let flat = Flat::read(alloc, &image)?;
@@ -17,6 +17,7 @@
 #![tactic(auto)]
 
 mod comparing;
+mod entries;
 mod flat;
 mod full;
 mod kept;
@@ -29,10 +30,12 @@ mod reading;
 mod status;
 mod untracked;
 
+pub use entries::Entries;
 pub use flat::Flat;
 pub use full::one_listing;
 pub use hg_compare::Letter;
 pub use hg_listing::{Row, Rows, StatusFault, Wanted};
 pub use kept::FlatRow;
 pub use listed::Listed;
+pub use listing::visit;
 pub use status::plain_status;

@@ -9,10 +9,10 @@ ghost use Rattle.hg_tree.specs.Still.{Untouched};
 ghost use Rattle.hg_tree.specs.Moment.{AreFit, AreNames, has_dir, is_among, is_dir, stat_at};
 ghost use Rattle.hg_listing.specs.Cause.{HasListingCause};
 ghost use Rattle.hg_flat.specs.Asked.{AsksFor, AsksNothing, IsDirAmong, IsDirFrom, IsDirIn};
-ghost use Rattle.hg_flat.specs.Listing.{Gives, HoldsFor, IsEntered, IsUnknownAmong, IsUnknownFrom, IsUnknownIn, ListsUnknown, holds_repository, shows_dir};
-ghost use Rattle.hg_flat.specs.Shown.{kept_of};
+ghost use Rattle.hg_flat.specs.Listing.{Gives, HoldsFor, IsEntered, IsUnknownAmong, IsUnknownFrom, IsUnknownIn, holds_repository, shows_dir};
+ghost use Rattle.hg_flat.specs.Passed.{ListsFormed, ListsSince};
 
-use crate::flat::Flat;
+use crate::entries::Entries;
 use crate::untracked::{add_untracked, is_ignored, leaves_out};
 use hg_base::{Kind, Path, PathRef, Stat};
 use hg_ignore::Matcher;
@@ -77,12 +77,12 @@ fn is_nested<T: Tree>(
     holds_hg(alloc, tree, dir)
 }
 
-// What stands at a path or below it.
+// What stands at a path or below it. A path that was passed isn't asked again, and nothing stands below it.
 #[cycle(listing)]
-fn look<T: Tree>(
+fn look<T: Tree, K: Entries>(
     alloc: Global,
     tree: &mut T,
-    flat: &Flat,
+    entries: &K,
     path: Path,
     matcher: &mut Matcher<'_>,
     above: bool,
@@ -94,11 +94,13 @@ fn look<T: Tree>(
     ensures passes { Passes (T.history tree.old) (T.history tree.new) }
     ensures listed { OnOk
         result
-        (ListsUnknown
-        (kept_of flat.now)
+        (ListsFormed
+        (K.kept entries.now)
+        (K.passed entries.now)
         (Gives wanted (state_asked matcher.old))
-        (Untouched (T.history tree.new) (T.history tree.old).last)
-        (IsUnknownFrom (kept_of flat.now) (now (T.history tree.old)) path)
+        (T.history tree.old)
+        (T.history tree.new)
+        (IsUnknownFrom (K.kept entries.now) (now (T.history tree.old)) path)
         rows.old.items
         rows.new.items) }
     ensures asked { IsTrue (T.history tree.old).told
@@ -106,11 +108,14 @@ fn look<T: Tree>(
     ensures same { state_asked matcher.new ≡ state_asked matcher.old }
     ensures cause { HasListingCause (T.faults tree.old) (T.faults tree.new) result }
 {
+    if entries.was_passed(path.as_str(), next) {
+        return Ok(());
+    }
     let Some(stat) = tree.stat(path.as_ref())? else {
         return Ok(());
     };
     match stat.kind {
-        Kind::File | Kind::Link => add_untracked(flat, path, matcher, above, wanted, next, rows),
+        Kind::File | Kind::Link => add_untracked(entries, path, matcher, above, wanted, next, rows),
         Kind::Dir => {
             let dir = path.as_ref();
             let ignored = is_ignored(matcher, above, dir);
@@ -120,7 +125,7 @@ fn look<T: Tree>(
             visit(
                 alloc,
                 tree,
-                flat,
+                entries,
                 Some(dir),
                 matcher,
                 ignored,
@@ -134,10 +139,10 @@ fn look<T: Tree>(
 }
 
 #[cycle(listing)]
-fn look_each<T: Tree>(
+fn look_each<T: Tree, K: Entries>(
     alloc: Global,
     tree: &mut T,
-    flat: &Flat,
+    entries: &K,
     dir: Option<PathRef<'_>>,
     names: &[Name],
     matcher: &mut Matcher<'_>,
@@ -151,11 +156,13 @@ fn look_each<T: Tree>(
     ensures passes { Passes (T.history tree.old) (T.history tree.new) }
     ensures listed { OnOk
         result
-        (ListsUnknown
-        (kept_of flat.now)
+        (ListsFormed
+        (K.kept entries.now)
+        (K.passed entries.now)
         (Gives wanted (state_asked matcher.old))
-        (Untouched (T.history tree.new) (T.history tree.old).last)
-        (IsUnknownAmong (kept_of flat.now) (now (T.history tree.old)) (option_map (λ d. d.text.now) dir.entry) names.now)
+        (T.history tree.old)
+        (T.history tree.new)
+        (IsUnknownAmong (K.kept entries.now) (now (T.history tree.old)) (option_map (λ d. d.text.now) dir.entry) names.now)
         rows.old.items
         rows.new.items) }
     ensures asked { IsTrue (T.history tree.old).told
@@ -169,7 +176,7 @@ fn look_each<T: Tree>(
     for name in names {
         let path = Path::within(alloc, dir, name.as_str())?;
         look(
-            alloc, tree, flat, path, matcher, ignored, wanted, next, rows,
+            alloc, tree, entries, path, matcher, ignored, wanted, next, rows,
         )?;
     }
     Ok(())
@@ -177,12 +184,16 @@ fn look_each<T: Tree>(
 
 /// Puts a row for each file and link without an entry that stands in the directory at any depth, where its letter is wanted; no directory is
 /// the root. A directory below the root that holds a directory `.hg` is a repository of its own, and nothing in it is listed; nor is a directory
-/// gone into that is ignored, where I isn't wanted. The search for an entry begins at `next`.
+/// gone into that is ignored, where I isn't wanted.
+///
+/// `ignored` says whether the directory is ignored, `next` where the search for an entry begins; the rows are put behind those so far, in no stated
+/// order. A path that was passed is left out without a look: since the moment `start` no directory stood there once, so that nothing stands below it as
+/// long as nobody touches what is below.
 #[cycle(listing)]
-pub(crate) fn visit<T: Tree>(
+pub fn visit<T: Tree, K: Entries>(
     alloc: Global,
     tree: &mut T,
-    flat: &Flat,
+    entries: &K,
     dir: Option<PathRef<'_>>,
     matcher: &mut Matcher<'_>,
     ignored: bool,
@@ -194,11 +205,13 @@ pub(crate) fn visit<T: Tree>(
     ensures passes { Passes (T.history tree.old) (T.history tree.new) }
     ensures listed { OnOk
         result
-        (ListsUnknown
-        (kept_of flat.now)
+        (ListsSince
+        (K.kept entries.now)
+        (K.passed entries.now)
         (Gives wanted (state_asked matcher.old))
-        (Untouched (T.history tree.new) (T.history tree.old).last)
-        (IsUnknownIn (kept_of flat.now) (now (T.history tree.old)) (option_map (λ d. d.text.now) dir.entry))
+        (T.history tree.old)
+        (T.history tree.new)
+        (IsUnknownIn (K.kept entries.now) (now (T.history tree.old)) (option_map (λ d. d.text.now) dir.entry))
         rows.old.items
         rows.new.items) }
     ensures asked { IsTrue (T.history tree.old).told
@@ -216,6 +229,6 @@ pub(crate) fn visit<T: Tree>(
         return Ok(());
     }
     look_each(
-        alloc, tree, flat, dir, &names, matcher, ignored, wanted, next, rows,
+        alloc, tree, entries, dir, &names, matcher, ignored, wanted, next, rows,
     )
 }

@@ -7,9 +7,8 @@ ghost use Rattle.hg_ignore.specs.Kept.{DirIgnored};
 ghost use Rattle.hg_ignore.specs.State.{Ignored};
 ghost use Rattle.hg_tree.specs.declared.fault.TreeFault.TheVariants as a_tree_fault;
 ghost use Rattle.hg_flat.specs.Listing.{GivesLetter, PutsUntracked};
-ghost use Rattle.hg_flat.specs.Shown.{kept_of};
 
-use crate::flat::Flat;
+use crate::entries::Entries;
 use crate::letter::wants;
 use hg_base::{Path, PathRef};
 use hg_compare::Letter;
@@ -50,8 +49,8 @@ fn untracked_letter(matcher: &mut Matcher<'_>, above: bool, path: PathRef<'_>) -
 
 /// Puts the row of a path, where its letter is wanted, unless it has an entry, for which the search begins at `next`. Whether the directory above
 /// the path is ignored is known.
-pub(crate) fn add_untracked(
-    flat: &Flat,
+pub(crate) fn add_untracked<K: Entries>(
+    entries: &K,
     path: Path,
     matcher: &mut Matcher<'_>,
     above: bool,
@@ -63,7 +62,7 @@ pub(crate) fn add_untracked(
     ensures row { OnOk
         result
         (PutsUntracked
-        (kept_of flat.now path)
+        (K.kept entries.now path)
         wanted
         (state_asked matcher.old)
         path
@@ -72,7 +71,7 @@ pub(crate) fn add_untracked(
     ensures same { state_asked matcher.new ≡ state_asked matcher.old }
     ensures cause { IfErr result (λ e. e ≡ a_tree_fault.OutOfMemory) }
 {
-    if flat.has(path.as_str(), next) {
+    if entries.has(path.as_str(), next) {
         return Ok(());
     }
     let letter = untracked_letter(matcher, above, path.as_ref());

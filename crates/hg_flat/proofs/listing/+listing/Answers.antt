@@ -5,66 +5,77 @@ use Rattle.std.specs.Prelude.{OnOk}
 use Rattle.std.proofs.lemmas.Result.{on_ok_weaker}
 use Rattle.hg_tree.specs.History.{now}
 use Rattle.hg_tree.specs.Still.{Untouched}
+use Rattle.hg_tree.proofs.Histories.{extends_same, extends_trans}
 use Rattle.hg_tree.proofs.Spans.{passes_same, passes_trans}
 use Rattle.hg_ignore.specs.Asked.{state_asked}
 use Rattle.hg_ignore.specs.State.{Ignored, Piece}
 use Rattle.hg_flat.specs.Asked.{AsksFor, IsDirAmong, IsDirFrom, IsDirIn}
-use Rattle.hg_flat.specs.Listing.{Gives, IsEntered, IsUnknownFrom, IsUnknownIn, ListsUnknown}
-use Rattle.hg_flat.specs.Shown.{kept_of}
+use Rattle.hg_flat.specs.Listing.{Gives, IsEntered, IsUnknownAmong, IsUnknownFrom, IsUnknownIn}
+use Rattle.hg_flat.specs.Passed.{ListsFormed, ListsSince}
 use Rattle.hg_flat.proofs.Asks.{asks_none, asks_nothing, asks_one, dir_asks, dir_asks_on, each_asks, each_more_asks, look_asks, plain_at, visit_asks}
 use Rattle.hg_flat.proofs.Ignoring.{above_name, entered, left_out}
 use Rattle.hg_flat.proofs.Unknowns.{among_none}
-use Rattle.hg_flat.proofs.Steps.{dir_is, each_more, look_dir, look_file, look_left, look_none, look_other, seen, these_names, visit_nested, visit_none, visit_rest}
+use Rattle.hg_flat.proofs.Steps.{dir_is, each_more, lists_formed, lists_since, look_dir, look_file, look_left, look_none, look_other, look_passed, seen, these_names, visit_nested, visit_none, visit_rest}
 use Rattle.hg_flat.proofs.listing.+listing.Goals as goal
+
+pub look-returns-then-was_passed-clause-listed : goal.look-returns-then-was_passed-clause-listed
+look-returns-then-was_passed-clause-listed g t c =
+    look_passed (g.K.Entries.kept c.args.entries.now) (g.K.Entries.passed c.args.entries.now) c.args.wanted (state_asked c.args.matcher.now) (g.T.Tree.history c.args.tree.now) c.args.path c.as_str.result.now c.args.rows.now.items c.as_str.ensures
+    (c.was_passed.ensures.kept c.if-was_passed.true) (c.was_passed.ensures.passed c.if-was_passed.true)
 
 pub look-returns-in_default-clause-listed : goal.look-returns-in_default-clause-listed
 look-returns-in_default-clause-listed g t c =
-    look_none (kept_of c.args.flat.now) c.args.wanted (state_asked c.args.matcher.now) (g.T.Tree.history c.args.tree.now) (g.T.Tree.history c.stat.new.self) c.stat.ensures.passes.past c.args.path c.in_ok-stat.field-0
+    lists_formed (g.K.Entries.kept c.args.entries.now) (g.K.Entries.passed c.args.entries.now) (Gives c.args.wanted (state_asked c.args.matcher.now)) (IsUnknownFrom (g.K.Entries.kept c.args.entries.now) (now (g.T.Tree.history c.args.tree.now)) c.args.path) (g.T.Tree.history c.args.tree.now) (g.T.Tree.history c.stat.new.self) c.stat.ensures.passes.past c.args.rows.now.items c.args.rows.now.items
+    (look_none (g.K.Entries.kept c.args.entries.now) c.args.wanted (state_asked c.args.matcher.now) (g.T.Tree.history c.args.tree.now) (g.T.Tree.history c.stat.new.self) c.stat.ensures.passes.past c.args.path c.in_ok-stat.field-0
     (λ told. seen (g.T.Tree.history c.stat.new.self) c.args.path c.as_ref.result.text.now c.in_ok-stat.field-0 (c.in_ok-stat.ensures.formed told) c.as_ref.ensures (c.in_ok-stat.ensures.found told))
-    c.args.rows.now.items c.in_default.is
+    c.args.rows.now.items c.in_default.is)
 
 pub look-returns-in-File-clause-listed : goal.look-returns-in-File-clause-listed
 look-returns-in-File-clause-listed g t c =
     on_ok_weaker c.add_untracked.result
-    (look_file (kept_of c.args.flat.now) c.args.wanted (state_asked c.args.matcher.now) (g.T.Tree.history c.args.tree.now) (g.T.Tree.history c.stat.new.self) c.stat.ensures.passes.past c.args.path c.in_ok-stat.field-0
+    (λ row.
+    lists_formed (g.K.Entries.kept c.args.entries.now) (g.K.Entries.passed c.args.entries.now) (Gives c.args.wanted (state_asked c.args.matcher.now)) (IsUnknownFrom (g.K.Entries.kept c.args.entries.now) (now (g.T.Tree.history c.args.tree.now)) c.args.path) (g.T.Tree.history c.args.tree.now) (g.T.Tree.history c.stat.new.self) c.stat.ensures.passes.past c.args.rows.now.items c.add_untracked.new.rows.items
+    (look_file (g.K.Entries.kept c.args.entries.now) c.args.wanted (state_asked c.args.matcher.now) (g.T.Tree.history c.args.tree.now) (g.T.Tree.history c.stat.new.self) c.stat.ensures.passes.past c.args.path c.in_ok-stat.field-0
     (λ told. seen (g.T.Tree.history c.stat.new.self) c.args.path c.as_ref.result.text.now c.in_ok-stat.field-0 (c.in_ok-stat.ensures.formed told) c.as_ref.ensures (c.in_ok-stat.ensures.found told))
-    c.in-Some.stat c.args.rows.now.items c.add_untracked.new.rows.items c.in-Some.is c.in-File.is)
+    c.in-Some.stat c.args.rows.now.items c.add_untracked.new.rows.items c.in-Some.is c.in-File.is row))
     c.add_untracked.ensures.row
 
 pub look-returns-then-leaves_out-clause-listed : goal.look-returns-then-leaves_out-clause-listed
 look-returns-then-leaves_out-clause-listed g t c =
     let out = left_out c.args.wanted (state_asked c.args.matcher.now) c.is_ignored-ignored.result c.leaves_out.result c.as_ref-dir.result.text.now c.is_ignored-ignored.ensures.ignored c.leaves_out.ensures c.if-leaves_out.true in
-    look_left (kept_of c.args.flat.now) c.args.wanted (state_asked c.args.matcher.now) (g.T.Tree.history c.args.tree.now) (g.T.Tree.history c.stat.new.self) c.stat.ensures.passes.past c.args.path c.in_ok-stat.field-0
+    lists_formed (g.K.Entries.kept c.args.entries.now) (g.K.Entries.passed c.args.entries.now) (Gives c.args.wanted (state_asked c.args.matcher.now)) (IsUnknownFrom (g.K.Entries.kept c.args.entries.now) (now (g.T.Tree.history c.args.tree.now)) c.args.path) (g.T.Tree.history c.args.tree.now) (g.T.Tree.history c.stat.new.self) c.stat.ensures.passes.past c.args.rows.now.items c.args.rows.now.items
+    (look_left (g.K.Entries.kept c.args.entries.now) c.args.wanted (state_asked c.args.matcher.now) (g.T.Tree.history c.args.tree.now) (g.T.Tree.history c.stat.new.self) c.stat.ensures.passes.past c.args.path c.in_ok-stat.field-0
     (λ told. seen (g.T.Tree.history c.stat.new.self) c.args.path c.as_ref.result.text.now c.in_ok-stat.field-0 (c.in_ok-stat.ensures.formed told) c.as_ref.ensures (c.in_ok-stat.ensures.found told))
-    c.args.rows.now.items out.0 (subst (Ignored (state_asked c.args.matcher.now)) c.as_ref-dir.ensures out.1)
+    c.args.rows.now.items out.0 (subst (Ignored (state_asked c.args.matcher.now)) c.as_ref-dir.ensures out.1))
 
 pub look-returns-else-leaves_out-clause-listed : goal.look-returns-else-leaves_out-clause-listed
 look-returns-else-leaves_out-clause-listed g t c =
     on_ok_weaker c.visit.result
-    (look_dir (kept_of c.args.flat.now) c.args.wanted (state_asked c.args.matcher.now) (g.T.Tree.history c.args.tree.now) (g.T.Tree.history c.stat.new.self) (g.T.Tree.history c.visit.new.tree) c.stat.ensures.passes.past
+    (look_dir (g.K.Entries.kept c.args.entries.now) (g.K.Entries.passed c.args.entries.now) c.args.wanted (state_asked c.args.matcher.now) (g.T.Tree.history c.args.tree.now) (g.T.Tree.history c.stat.new.self) (g.T.Tree.history c.visit.new.tree) c.stat.ensures.passes.past
     c.visit.ensures.passes.past c.args.path c.as_ref-dir.result.text.now c.in_ok-stat.field-0
     (λ told. seen (g.T.Tree.history c.stat.new.self) c.args.path c.as_ref.result.text.now c.in_ok-stat.field-0 (c.in_ok-stat.ensures.formed told) c.as_ref.ensures (c.in_ok-stat.ensures.found told))
     c.in-Some.stat c.args.rows.now.items c.visit.new.rows.items c.in-Some.is c.in-Dir.is c.as_ref-dir.ensures)
     (subst
     (λ (s : List Piece). OnOk c.visit.result
-    (ListsUnknown (kept_of c.args.flat.now) (Gives c.args.wanted s) (Untouched (g.T.Tree.history c.visit.new.tree) (g.T.Tree.history c.stat.new.self).last)
-    (IsUnknownIn (kept_of c.args.flat.now) (now (g.T.Tree.history c.stat.new.self)) (Some c.as_ref-dir.result.text.now)) c.args.rows.now.items c.visit.new.rows.items))
+    (ListsSince (g.K.Entries.kept c.args.entries.now) (g.K.Entries.passed c.args.entries.now) (Gives c.args.wanted s) (g.T.Tree.history c.stat.new.self) (g.T.Tree.history c.visit.new.tree)
+    (IsUnknownIn (g.K.Entries.kept c.args.entries.now) (now (g.T.Tree.history c.stat.new.self)) (Some c.as_ref-dir.result.text.now)) c.args.rows.now.items c.visit.new.rows.items))
     c.is_ignored-ignored.ensures.same c.visit.ensures.listed)
 
 pub look-returns-in-Other-clause-listed : goal.look-returns-in-Other-clause-listed
 look-returns-in-Other-clause-listed g t c =
-    look_other (kept_of c.args.flat.now) c.args.wanted (state_asked c.args.matcher.now) (g.T.Tree.history c.args.tree.now) (g.T.Tree.history c.stat.new.self) c.stat.ensures.passes.past c.args.path c.in_ok-stat.field-0
+    lists_formed (g.K.Entries.kept c.args.entries.now) (g.K.Entries.passed c.args.entries.now) (Gives c.args.wanted (state_asked c.args.matcher.now)) (IsUnknownFrom (g.K.Entries.kept c.args.entries.now) (now (g.T.Tree.history c.args.tree.now)) c.args.path) (g.T.Tree.history c.args.tree.now) (g.T.Tree.history c.stat.new.self) c.stat.ensures.passes.past c.args.rows.now.items c.args.rows.now.items
+    (look_other (g.K.Entries.kept c.args.entries.now) c.args.wanted (state_asked c.args.matcher.now) (g.T.Tree.history c.args.tree.now) (g.T.Tree.history c.stat.new.self) c.stat.ensures.passes.past c.args.path c.in_ok-stat.field-0
     (λ told. seen (g.T.Tree.history c.stat.new.self) c.args.path c.as_ref.result.text.now c.in_ok-stat.field-0 (c.in_ok-stat.ensures.formed told) c.as_ref.ensures (c.in_ok-stat.ensures.found told))
-    c.in-Some.stat c.args.rows.now.items c.in-Some.is c.in-Other.is
+    c.in-Some.stat c.args.rows.now.items c.in-Some.is c.in-Other.is)
 
 pub look_each-loop-name-preserved : goal.look_each-loop-name-preserved
 look_each-loop-name-preserved g t c = record {
   passes = passes_trans _ _ _ c.loop-name.invariant.passes c.look.ensures.passes;
   listed =
-      each_more (kept_of c.args.flat.now) c.args.wanted (state_asked c.args.matcher.now) (g.T.Tree.history c.args.tree.now) (g.T.Tree.history c.loop-name.tree) (g.T.Tree.history c.look.new.tree) c.loop-name.invariant.passes.past c.look.ensures.passes.past
+      each_more (g.K.Entries.kept c.args.entries.now) (g.K.Entries.passed c.args.entries.now) c.args.wanted (state_asked c.args.matcher.now) (g.T.Tree.history c.args.tree.now) (g.T.Tree.history c.loop-name.tree) (g.T.Tree.history c.look.new.tree) c.loop-name.invariant.passes.past c.look.ensures.passes.past
       (option_map (λ d. d.text.now) c.args.dir) c.args.names.now c.loop-name.name-index c.name-item.result c.as_str.result.now c.in_ok-path.path c.args.rows.now.items c.loop-name.rows.items c.look.new.rows.items
       c.loop-name-test.true c.name-item.is c.as_str.ensures.text c.in_ok-path.ensures c.loop-name.invariant.listed
-      (subst (λ (s : List Piece). ListsUnknown (kept_of c.args.flat.now) (Gives c.args.wanted s) (Untouched (g.T.Tree.history c.look.new.tree) (g.T.Tree.history c.loop-name.tree).last) (IsUnknownFrom (kept_of c.args.flat.now) (now (g.T.Tree.history c.loop-name.tree)) c.in_ok-path.path) c.loop-name.rows.items c.look.new.rows.items)
+      (subst (λ (s : List Piece). ListsFormed (g.K.Entries.kept c.args.entries.now) (g.K.Entries.passed c.args.entries.now) (Gives c.args.wanted s) (g.T.Tree.history c.loop-name.tree) (g.T.Tree.history c.look.new.tree) (IsUnknownFrom (g.K.Entries.kept c.args.entries.now) (now (g.T.Tree.history c.loop-name.tree)) c.in_ok-path.path) c.loop-name.rows.items c.look.new.rows.items)
       c.loop-name.invariant.same c.in_ok-look.ensures.listed);
   asked = λ told.
       each_more_asks (IsEntered c.args.wanted (state_asked c.args.matcher.now)) (g.T.Tree.history c.args.tree.now) (g.T.Tree.history c.loop-name.tree) (g.T.Tree.history c.look.new.tree) c.loop-name.invariant.passes c.look.ensures.passes.past
@@ -77,21 +88,23 @@ look_each-loop-name-preserved g t c = record {
 
 pub visit-returns-in_default-clause-listed : goal.visit-returns-in_default-clause-listed
 visit-returns-in_default-clause-listed g t c =
-    visit_none (kept_of c.args.flat.now) c.args.wanted (state_asked c.args.matcher.now) (g.T.Tree.history c.args.tree.now) (g.T.Tree.history c.list.new.self) c.list.ensures.passes.past (option_map (λ d. d.text.now) c.args.dir)
+    lists_since (g.K.Entries.kept c.args.entries.now) (g.K.Entries.passed c.args.entries.now) (Gives c.args.wanted (state_asked c.args.matcher.now)) (IsUnknownIn (g.K.Entries.kept c.args.entries.now) (now (g.T.Tree.history c.args.tree.now)) (option_map (λ d. d.text.now) c.args.dir)) (g.T.Tree.history c.args.tree.now) (g.T.Tree.history c.list.new.self) c.list.ensures.passes.past c.args.rows.now.items c.args.rows.now.items
+    (visit_none (g.K.Entries.kept c.args.entries.now) c.args.wanted (state_asked c.args.matcher.now) (g.T.Tree.history c.args.tree.now) (g.T.Tree.history c.list.new.self) c.list.ensures.passes.past (option_map (λ d. d.text.now) c.args.dir)
     (option_map (λ v. v.items) c.in_ok-names.field-0) (λ told. record { formed = c.in_ok-names.ensures.formed told; listed = c.in_ok-names.ensures.found told })
-    c.args.rows.now.items (ap (option_map (λ v. v.items)) c.in_default.is)
+    c.args.rows.now.items (ap (option_map (λ v. v.items)) c.in_default.is))
 
 pub visit-returns-then-branch-clause-listed : goal.visit-returns-then-branch-clause-listed
 visit-returns-then-branch-clause-listed g t c =
-    visit_nested (kept_of c.args.flat.now) c.args.wanted (state_asked c.args.matcher.now) (g.T.Tree.history c.args.tree.now) (g.T.Tree.history c.list.new.self) (g.T.Tree.history c.is_nested.new.tree) c.list.ensures.passes.past c.is_nested.ensures.passes.past
+    lists_since (g.K.Entries.kept c.args.entries.now) (g.K.Entries.passed c.args.entries.now) (Gives c.args.wanted (state_asked c.args.matcher.now)) (IsUnknownIn (g.K.Entries.kept c.args.entries.now) (now (g.T.Tree.history c.args.tree.now)) (option_map (λ d. d.text.now) c.args.dir)) (g.T.Tree.history c.args.tree.now) (g.T.Tree.history c.is_nested.new.tree) (extends_trans (g.T.Tree.history c.args.tree.now) (g.T.Tree.history c.list.new.self) (g.T.Tree.history c.is_nested.new.tree) c.list.ensures.passes.past c.is_nested.ensures.passes.past) c.args.rows.now.items c.args.rows.now.items
+    (visit_nested (g.K.Entries.kept c.args.entries.now) c.args.wanted (state_asked c.args.matcher.now) (g.T.Tree.history c.args.tree.now) (g.T.Tree.history c.list.new.self) (g.T.Tree.history c.is_nested.new.tree) c.list.ensures.passes.past c.is_nested.ensures.passes.past
     (option_map (λ d. d.text.now) c.args.dir) (option_map (λ v. v.items) c.in_ok-names.field-0) (λ told. record { formed = c.in_ok-names.ensures.formed told; listed = c.in_ok-names.ensures.found told })
     c.in-Some.names.items c.deref.result.now c.in_ok-is_nested.field-0 c.args.rows.now.items (ap (option_map (λ v. v.items)) c.in-Some.is) c.deref.ensures.value
-    c.in_ok-is_nested.ensures.found c.if-branch.true
+    c.in_ok-is_nested.ensures.found c.if-branch.true)
 
 pub visit-returns-clause-listed : goal.visit-returns-clause-listed
 visit-returns-clause-listed g t c =
     on_ok_weaker c.look_each.result
-    (visit_rest (kept_of c.args.flat.now) c.args.wanted (state_asked c.args.matcher.now) (g.T.Tree.history c.args.tree.now) (g.T.Tree.history c.list.new.self) (g.T.Tree.history c.is_nested.new.tree) (g.T.Tree.history c.look_each.new.tree)
+    (visit_rest (g.K.Entries.kept c.args.entries.now) (g.K.Entries.passed c.args.entries.now) c.args.wanted (state_asked c.args.matcher.now) (g.T.Tree.history c.args.tree.now) (g.T.Tree.history c.list.new.self) (g.T.Tree.history c.is_nested.new.tree) (g.T.Tree.history c.look_each.new.tree)
     c.list.ensures.passes.past c.is_nested.ensures.passes.past c.look_each.ensures.passes.past
     (option_map (λ d. d.text.now) c.args.dir) (option_map (λ v. v.items) c.in_ok-names.field-0) (λ told. record { formed = c.in_ok-names.ensures.formed told; listed = c.in_ok-names.ensures.found told })
     c.in-Some.names.items c.deref.result.now c.deref-2.result.now c.in_ok-is_nested.field-0 c.args.rows.now.items c.look_each.new.rows.items (ap (option_map (λ v. v.items)) c.in-Some.is) c.deref.ensures.value c.deref-2.ensures.value
@@ -99,6 +112,10 @@ visit-returns-clause-listed g t c =
     c.look_each.ensures.listed
 
 -- ---- what the tree is asked
+
+pub look-returns-then-was_passed-clause-asked : goal.look-returns-then-was_passed-clause-asked
+look-returns-then-was_passed-clause-asked g t c = λ told.
+    asks_none (IsDirFrom (IsEntered c.args.wanted (state_asked c.args.matcher.now)) (g.T.Tree.history c.args.tree.now) (g.T.Tree.history c.args.tree.now) c.args.path) (g.T.Tree.history c.args.tree.now) (g.T.Tree.history c.args.tree.now) refl
 
 pub look-returns-in_err-stat-clause-asked : goal.look-returns-in_err-stat-clause-asked
 look-returns-in_err-stat-clause-asked g t c = λ told.
@@ -143,7 +160,8 @@ look-returns-else-leaves_out-clause-asked g t c = λ told.
 pub look_each-loop-name-init : goal.look_each-loop-name-init
 look_each-loop-name-init g t c = record {
   passes = passes_same _;
-  listed = among_none (kept_of c.args.flat.now) (Gives c.args.wanted (state_asked c.args.matcher.now)) (Untouched (g.T.Tree.history c.args.tree.now) (g.T.Tree.history c.args.tree.now).last) (now (g.T.Tree.history c.args.tree.now)) (option_map (λ d. d.text.now) c.args.dir) c.args.rows.now.items;
+  listed = lists_formed (g.K.Entries.kept c.args.entries.now) (g.K.Entries.passed c.args.entries.now) (Gives c.args.wanted (state_asked c.args.matcher.now)) (IsUnknownAmong (g.K.Entries.kept c.args.entries.now) (now (g.T.Tree.history c.args.tree.now)) (option_map (λ d. d.text.now) c.args.dir) []) (g.T.Tree.history c.args.tree.now) (g.T.Tree.history c.args.tree.now) (extends_same (g.T.Tree.history c.args.tree.now)) c.args.rows.now.items c.args.rows.now.items
+      (among_none (g.K.Entries.kept c.args.entries.now) (Gives c.args.wanted (state_asked c.args.matcher.now)) (Untouched (g.T.Tree.history c.args.tree.now) (g.T.Tree.history c.args.tree.now).last) (now (g.T.Tree.history c.args.tree.now)) (option_map (λ d. d.text.now) c.args.dir) c.args.rows.now.items);
   asked = λ told.
       asks_none (IsDirAmong (IsEntered c.args.wanted (state_asked c.args.matcher.now)) (g.T.Tree.history c.args.tree.now) (g.T.Tree.history c.args.tree.now) (option_map (λ d. d.text.now) c.args.dir) []) (g.T.Tree.history c.args.tree.now) (g.T.Tree.history c.args.tree.now) refl;
   same = refl;
