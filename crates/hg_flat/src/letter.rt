@@ -39,7 +39,7 @@ pub fn wants(wanted: Wanted, letter: Letter) -> bool
     }
 }
 
-/// Whether a letter is asked for that takes a look at a tracked path: all but R.
+/// Whether a letter is asked for that takes a look at a tracked path: M, A, `!` or C.
 pub fn wants_tracked(wanted: Wanted) -> bool
     ensures { result ≡ wants_tracked wanted }
 {
@@ -240,8 +240,8 @@ fn put_under(
     Ok(())
 }
 
-/// Puts the row of an entry, where there is a letter and it is wanted.
-pub fn put_wanted(
+// Puts it where there is a letter and it is wanted.
+fn put_wanted(
     alloc: Global,
     kept: &FlatRow,
     letter: Option<Letter>,

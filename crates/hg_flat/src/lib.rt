@@ -35,7 +35,7 @@ pub use full::one_listing;
 pub use hg_compare::Letter;
 pub use hg_listing::{Row, Rows, StatusFault, Wanted};
 pub use kept::FlatRow;
-pub use letter::{put_wanted, wants, wants_bytes, wants_tracked};
+pub use letter::{wants, wants_bytes, wants_tracked};
 pub use listed::Listed;
 pub use parent::Parent;
 pub use patterns::{needs_patterns, read_patterns, warnings_of};
