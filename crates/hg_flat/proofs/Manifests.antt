@@ -17,8 +17,8 @@ use Rattle.hg_manifest.specs.declared.row.FileRow.{FileRow}
 use Rattle.hg_manifest.proofs.Loads.{complete}
 use Rattle.hg_compare.specs.Alike.{contents_name}
 use Rattle.hg_compare.specs.Same.{parent_row}
-use Rattle.hg_compare.specs.declared.letter.Letter.{Letter}
-use Rattle.hg_flat.specs.Course.{IsFound, IsJudged, IsManifest, LacksIn, LacksManifest, LoadsParent, MetBy, compared_letter, upto}
+use Rattle.hg_compare.specs.declared.looked.Looked.{Looked}
+use Rattle.hg_flat.specs.Course.{ComparesFound, IsComparedBy, IsFound, IsJudged, IsManifest, LacksIn, LacksManifest, LoadsParent, MetBy, compared_letter, letter_of, upto}
 use Rattle.hg_flat.specs.Met.{Status, WasRead}
 use Rattle.hg_flat.specs.Parent.{KeepsRow, manifest_at, row_among, row_of}
 use Rattle.hg_listing.specs.Cause.{of_manifest}
@@ -175,13 +175,13 @@ contents_kept s rows path passes keeps formed =
     (subst (λ (f : shelves.Files). IfSome (row_among (manifest_at f s.id) path) (λ row. KeepsFile s.shelf_new s.shelf_old.last (contents_name row.id.0))) (files_then s.shelf_old s.shelf_new passes) keeps.contents)
 
 -- the letter by a manifest is that by the parent
-pub found_letter : (s : Status) (copy later : trees.History) (old new : shelves.History) (rows : Rows) (path : List ℕ) (before : Stat) (result : Result Letter StatusFault)
+pub found_letter : (s : Status) (copy later : trees.History) (old new : shelves.History) (rows : Rows) (path : List ℕ) (before : Stat) (result : Result Looked StatusFault)
     → shelves.Passes s.shelf_old old → shelves.Passes old new → IsManifest (upto s later new) rows → KeepsRow new s.shelf_old.last s.id path
     → ((files : shelves.Files) → IsTrue old.told → IfSome (row_of rows path) (λ row. Stays old new (contents_name row.id.0) (files (contents_name row.id.0)))
-    → IfOk result (IsJudged files (row_of rows path) (trees.now copy) path))
-    → IfOk result (IsFound (shelves.now s.shelf_old).files s.id (trees.now copy) path)
+    → IfOk result (λ looked. IsJudged files (row_of rows path) (trees.now copy) path (letter_of looked)))
+    → IfOk result (λ looked. IsFound (shelves.now s.shelf_old).files s.id (trees.now copy) path (letter_of looked))
 found_letter s copy later old new rows path before (Err fault) first second is keeps judged = tt
-found_letter s copy later old new rows path before (Ok letter) first second is keeps judged = record {
+found_letter s copy later old new rows path before (Ok looked) first second is keeps judged = record {
   letter_is =
       j.letter_is
       ∙ ap (λ (r : Result Rows ManifestFault). compared_letter (option_map (λ row. parent_row row ((shelves.now s.shelf_old).files (contents_name row.id.0))) (row_among r path)) ((trees.now copy).things path)) (sym formed);
@@ -194,12 +194,33 @@ found_letter s copy later old new rows path before (Ok letter) first second is k
     formed : manifest_at (shelves.now s.shelf_old).files s.id ≡ Ok rows
     formed = manifest_then (upto s later new) rows path passes keeps is
 
-    j : IsJudged (shelves.now s.shelf_old).files (row_of rows path) (trees.now copy) path letter
+    j : IsJudged (shelves.now s.shelf_old).files (row_of rows path) (trees.now copy) path (letter_of looked)
     j =
         judged (shelves.now s.shelf_old).files (sym second.past.told ∙ keeps.told)
         (if_some_map (row_of rows path) (λ row. KeepsFile new s.shelf_old.last (contents_name row.id.0)) (λ row. Stays old new (contents_name row.id.0) ((shelves.now s.shelf_old).files (contents_name row.id.0)))
         (λ row kept. keeps_stays s.shelf_old old new (contents_name row.id.0) first second kept)
         (contents_kept (upto s later new) rows path passes keeps formed))
+
+-- what was compared with a manifest was compared with the parent
+pub found_compared : (s : Status) (copy later : trees.History) (old new : shelves.History) (rows : Rows) (path : List ℕ) (before : Stat) (looked : Looked) → shelves.Passes s.shelf_old old → shelves.Passes old new → IsManifest (upto s later new) rows
+    → KeepsRow new s.shelf_old.last s.id path → ComparesFound path copy later old new (row_of rows path) before looked → IsComparedBy (upto s later new) copy path before looked
+found_compared s copy later old new rows path before looked first second is keeps compared = record {
+  found = row_of rows path;
+  since = old;
+  told = sym second.past.told ∙ keeps.told;
+  rows = ap (λ (r : Result Rows ManifestFault). option_map (λ row. parent_row row ((shelves.now s.shelf_old).files (contents_name row.id.0))) (row_among r path)) formed;
+  stays =
+      if_some_map (row_of rows path) (λ row. KeepsFile new s.shelf_old.last (contents_name row.id.0)) (λ row. Stays old new (contents_name row.id.0) ((shelves.now s.shelf_old).files (contents_name row.id.0)))
+      (λ row kept. keeps_stays s.shelf_old old new (contents_name row.id.0) first second kept)
+      (contents_kept (upto s later new) rows path passes keeps formed);
+  compared = compared;
+}
+  where
+    passes : shelves.Passes s.shelf_old new
+    passes = shelf.passes_trans s.shelf_old old new first second
+
+    formed : manifest_at (shelves.now s.shelf_old).files s.id ≡ Ok rows
+    formed = manifest_then (upto s later new) rows path passes keeps is
 
 -- rows that have one were read, for a parent that isn't null
 pub read_some : (s : Status) (rows : Rows) (path : List ℕ) (row : FileRow) → row_of rows path ≡ Some row → IsManifest s rows → (is_null s.id.0 ≡ false) × WasRead s (Ok rows)
@@ -270,7 +291,7 @@ pub always_failed : {T E : Type 0} (r : Result T E) (P : Type 0) → P → IfErr
 always_failed (Ok x) P is = tt
 always_failed (Err e) P is = is
 
-pub ok_each : (r : Result Letter StatusFault) (A B C D E : Status → Type 0) (Q : Status → Letter → Type 0) → ((s : Status) → A s → B s → C s → D s → E s → IfOk r (Q s))
-    → IfOk r (λ letter. (s : Status) → A s → B s → C s → D s → E s → Q s letter)
-ok_each (Ok letter) A B C D E Q each = each
+pub ok_each : (r : Result Looked StatusFault) (A B C D E : Status → Type 0) (Q : Status → Looked → Type 0) → ((s : Status) → A s → B s → C s → D s → E s → IfOk r (Q s))
+    → IfOk r (λ looked. (s : Status) → A s → B s → C s → D s → E s → Q s looked)
+ok_each (Ok looked) A B C D E Q each = each
 ok_each (Err fault) A B C D E Q each = tt

@@ -1,5 +1,5 @@
 -- What a comparison met of the first parent is what the status met.
-use Rattle.std.proofs.Common.{ℕ, ◌≡◌, true, false, List, Some, sym, ◌∙◌, subst, arith}
+use Rattle.std.proofs.Common.{ℕ, ◌≡◌, false, List, Some, sym, ◌∙◌, subst, arith}
 use Rattle.std.specs.Prelude.{IsTrue}
 use Rattle.hg_base.specs.declared.stat.Stat.{Stat}
 use Rattle.hg_shelf.specs.History as shelves
@@ -7,18 +7,14 @@ use Rattle.hg_tree.specs.History as trees
 use Rattle.hg_tree.specs.Moment.{Moment, stat_at}
 use Rattle.hg_manifest.specs.Plain.{is_null}
 use Rattle.hg_compare.specs.Alike.{is_alike}
-use Rattle.hg_compare.specs.Tracked.{is_file_or_link}
 use Rattle.hg_flat.specs.Course.{MetBy, MetParent, upto}
-use Rattle.hg_flat.specs.Listing.{is_file_or_link_kind}
 use Rattle.hg_flat.specs.Met.{NeedsManifest, Shows, Status}
 use Rattle.hg_flat.specs.Parent.{IsAsked, WasAsked}
 use Rattle.hg_listing.specs.declared.fault.StatusFault.{StatusFault}
 use Rattle.hg_listing.specs.declared.fault.StatusFault.TheVariants as a_fault
-use Rattle.hg_flat.proofs.Asking.{asked_later, asked_now}
-use Rattle.hg_flat.proofs.Letters.{there_is}
 
 module _ (s : Status) (copy later : trees.History) (new : shelves.History) (path : List ℕ) (there : Stat) (first : trees.Passes s.tree_old copy) (second : trees.Passes copy later)
-    (compared : (moment : Moment) → is_file_or_link (moment.things path) ≡ true → IsAsked s.asks moment path) (kind : is_file_or_link_kind there.kind ≡ true) (shown : IsTrue copy.told → stat_at (trees.now copy) path ≡ Some there) where
+    (asked : IsTrue copy.told → IsAsked s.asks (trees.now copy) path) (was : WasAsked s.asks s.tree_old later path) (shown : IsTrue copy.told → stat_at (trees.now copy) path ≡ Some there) where
   -- the moment of the look is one of the status
   shows : (P : Moment → Type 0) → (IsTrue copy.told → P (trees.now copy)) → Shows (upto s later new) P
   shows P is = record {
@@ -28,14 +24,8 @@ module _ (s : Status) (copy later : trees.History) (new : shelves.History) (path
     so = λ told. subst P (sym (second.past.stay copy.last (omega arith))) (is (first.past.told ∙ told));
   }
 
-  stands : IsTrue copy.told → is_file_or_link ((trees.now copy).things path) ≡ true
-  stands told = there_is (trees.now copy) path there (shown told) ∙ kind
-
-  asked : WasAsked s.asks s.tree_old later path
-  asked = asked_later s.asks s.tree_old copy later path first.past (asked_now s.asks copy later path second.past compared stands)
-
   needs : is_null s.id.0 ≡ false → NeedsManifest (upto s later new)
-  needs some = record { path = path; asked = asked; committed = some }
+  needs some = record { path = path; asked = was; committed = some }
 
   pub met_compared : (fault : StatusFault) → MetBy (upto s later new) path there fault → MetParent (upto s later new) fault
   met_compared a_fault.OutOfMemory met = tt
@@ -47,7 +37,7 @@ module _ (s : Status) (copy later : trees.History) (new : shelves.History) (path
   met_compared (a_fault.ManifestOrder line) met = (needs met.0, met.1)
   met_compared (a_fault.NoContents gone) met = record {
     path = path;
-    asked = asked;
+    asked = was;
     rows = met.rows;
     read = met.read;
     row = met.row;
@@ -55,7 +45,7 @@ module _ (s : Status) (copy later : trees.History) (new : shelves.History) (path
     names = met.file.names;
     alike =
         shows (λ moment. IsAsked s.asks moment path × (stat : Stat) × (stat_at moment path ≡ Some stat) × IsTrue (is_alike met.row stat))
-        (λ told. (compared (trees.now copy) (stands told), there, shown told, met.file.alike));
+        (λ told. (asked told, there, shown told, met.file.alike));
     absent = met.file.absent;
     committed = met.committed;
   }

@@ -171,7 +171,7 @@ pub tracked_one : (S : FlatRow → Type 0) (files : shelves.Files) (id : Id20) (
 tracked_one S files id m wanted kept letter a b found put =
     (rows_under wanted kept letter, put, (rows_under wanted kept letter, [], sym (append-nil (rows_under wanted kept letter)), record { letter = letter; one = refl; found = found }, refl))
 
-tracked_trans : (S : FlatRow → Type 0) (files : shelves.Files) (id : Id20) (m : Moment) (wanted : Wanted) (xs ys : List FlatRow) (a b c : List Row) → AddsTracked S files id m wanted xs a b → AddsTracked S files id m wanted ys b c
+pub tracked_trans : (S : FlatRow → Type 0) (files : shelves.Files) (id : Id20) (m : Moment) (wanted : Wanted) (xs ys : List FlatRow) (a b c : List Row) → AddsTracked S files id m wanted xs a b → AddsTracked S files id m wanted ys b c
     → AddsTracked S files id m wanted (xs ++ ys) a c
 tracked_trans S files id m wanted xs ys a b c (more, is, put) (again, also, puts) = (
   more ++ again,
@@ -179,7 +179,7 @@ tracked_trans S files id m wanted xs ys a b c (more, is, put) (again, also, puts
   put_append (IsPutFor S files id m wanted) xs ys more again put puts,
 )
 
-alike_same : (m : Moment) (p : List ℕ) → AreAlike m m p
+pub alike_same : (m : Moment) (p : List ℕ) → AreAlike m m p
 alike_same m p = record { seen = refl; exec = refl; above = λ dir below. refl; hg = λ dir below. refl }
 
 pub tracked_more : (wanted : Wanted) (id : Id20) (old mid new : trees.History) → trees.Extends old mid → trees.Extends mid new → (files later : shelves.History) (since : ℕ) → shelves.Extends files later → since ≤ files.last → (start : shelves.Files)

@@ -1,5 +1,5 @@
 -- A status in its course: what it knows of the first parent so far, and what a comparison with it finds.
-use Rattle.std.specs.Prelude.{ℕ, ◌≡◌, ◌<◌, true, false, if◌then◌else◌, List, [], ◌++◌, Option, Some, None, Result, Ok, Err, IsTrue, MatchBool, option_map}
+use Rattle.std.specs.Prelude.{ℕ, ◌≡◌, ◌<◌, true, false, if◌then◌else◌, List, [], ◌++◌, Option, Some, None, Result, Ok, Err, IfSome, IsTrue, MatchBool, option_map}
 use Rattle.std.specs.List.{AllByRecursion}
 use Rattle.hg_base.specs.declared.id.Id20.{Id20}
 use Rattle.hg_base.specs.declared.stat.Stat.{Stat}
@@ -14,13 +14,13 @@ use Rattle.hg_ignore.specs.declared.warnings.Warning.{Warning}
 use Rattle.hg_shelf.specs.History as shelves
 use Rattle.hg_shelf.specs.declared.asked.Asked as shelf_asks
 use Rattle.hg_shelf.specs.Reads.{size_of}
-use Rattle.hg_manifest.specs.Load.{Was, asks_of}
+use Rattle.hg_manifest.specs.Load.{Stays, Was, asks_of}
 use Rattle.hg_manifest.specs.Plain.{is_null, most, plain_name}
 use Rattle.hg_manifest.specs.Rows.{Rows}
 use Rattle.hg_manifest.specs.declared.fault.ManifestFault.TheVariants as a_manifest_fault
 use Rattle.hg_manifest.specs.declared.row.FileRow.{FileRow}
 use Rattle.hg_compare.specs.Alike.{contents_name, is_alike}
-use Rattle.hg_compare.specs.Same.{parent_row}
+use Rattle.hg_compare.specs.Same.{Compares, parent_row}
 use Rattle.hg_compare.specs.Tracked.{ParentRow, is_unchanged}
 use Rattle.hg_compare.specs.declared.letter.Letter.{Letter}
 use Rattle.hg_compare.specs.declared.letter.Letter.TheVariants as a_letter
@@ -196,6 +196,27 @@ pub record IsJudged (files : shelves.Files) (found : Option FileRow) (moment : M
 pub record IsFound (files : shelves.Files) (id : Id20) (moment : Moment) (path : List ℕ) (letter : Letter) : Type 0 where
   pub letter_is : letter ≡ compared_letter (parent_rows files id path) (moment.things path)
   pub served : IsServed files id moment path
+
+-- what a comparison of a path saw, by what a manifest has of it: each at a moment of the comparison; what the manifest hasn't differs
+abbrev pub ComparesFound : List ℕ → trees.History → trees.History → shelves.History → shelves.History → Option FileRow → Stat → Looked → Type 0
+ComparesFound path copy later old new None before looked = looked ≡ a_look.Differs
+ComparesFound path copy later old new (Some row) before looked =
+    Compares
+    (record { path = path; name = contents_name row.id.0; tree_old = copy; tree_new = later; shelf_old = old; shelf_new = new })
+    row before (Ok looked)
+
+-- the contents that the first parent's rows name at the start of a status
+abbrev pub contents_then : Status → FileRow → Option (List ℕ)
+contents_then s row = (shelves.now s.shelf_old).files (contents_name row.id.0)
+
+-- a path was compared with what the first parent had of it at the start of a status, the contents of whose row stayed while it was compared
+pub record IsComparedBy (s : Status) (copy : trees.History) (path : List ℕ) (before : Stat) (looked : Looked) : Type 0 where
+  pub found : Option FileRow
+  pub since : shelves.History
+  pub told : IsTrue since.told
+  pub rows : parent_rows (shelves.now s.shelf_old).files s.id path ≡ option_map (λ row. parent_row row (contents_then s row)) found
+  pub stays : IfSome found (λ row. Stays since s.shelf_new (contents_name row.id.0) (contents_then s row))
+  pub compared : ComparesFound path copy s.tree_new since s.shelf_new found before looked
 
 -- the manifest has a row of the path, whose contents weren't there
 pub record LacksParentRow (s : Status) (path : List ℕ) (before : Stat) (gone : Id20) : Type 0 where

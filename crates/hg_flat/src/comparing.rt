@@ -10,7 +10,7 @@ ghost use Rattle.hg_shelf.specs.Images as images;
 ghost use Rattle.hg_tree.specs.History as trees;
 ghost use Rattle.hg_tree.specs.Moment.{stat_at};
 ghost use Rattle.hg_listing.specs.Cause.{HasShelfCause, HasStatusCause};
-ghost use Rattle.hg_flat.specs.Course.{Proceeds, IsFound, IsJudged, LacksIn, LoadsParent, MetBy, compared_letter, letter_of, upto};
+ghost use Rattle.hg_flat.specs.Course.{Proceeds, ComparesFound, IsComparedBy, IsFound, IsJudged, LacksIn, LoadsParent, MetBy, compared_letter, letter_of, upto};
 ghost use Rattle.hg_flat.specs.Met.{Status};
 ghost use Rattle.hg_flat.specs.Parent.{KeepsRow, WasAsked, row_of};
 ghost use Rattle.hg_flat.specs.Stored.{AsksStore, IsContents};
@@ -51,7 +51,8 @@ fn with_room(alloc: Global, manifest: Manifest) -> Result<Loaded, StatusFault>
     Ok(Loaded { manifest, room })
 }
 
-fn letter_of(looked: Looked) -> Letter
+/// The letter of a path that was compared: C, M, or `!` where it is gone.
+pub fn letter_of(looked: Looked) -> Letter
     ensures { result ≡ letter_of looked }
 {
     match looked {
@@ -61,7 +62,7 @@ fn letter_of(looked: Looked) -> Letter
     }
 }
 
-// The letter of a path by its row.
+// How a path compares with its row.
 fn letter_by_row<T: Tree, S: Shelf>(
     tree: &mut T,
     shelf: &mut S,
@@ -69,7 +70,7 @@ fn letter_by_row<T: Tree, S: Shelf>(
     row: &FileRow,
     before: &Stat,
     room: &mut Room,
-) -> Result<Letter, StatusFault>
+) -> Result<Looked, StatusFault>
     ensures tree_passes { trees.Passes (T.history tree.old) (T.history tree.new) }
     ensures shelf_passes { shelves.Passes (S.history shelf.old) (S.history shelf.new) }
     ensures kept { images.Goes (images.course (S.history shelf.old) (S.images shelf.old)) (images.course (S.history shelf.new) (S.images shelf.new)) }
@@ -79,7 +80,19 @@ fn letter_by_row<T: Tree, S: Shelf>(
         → StaysShown (T.history tree.old) (T.history tree.new) path.entry.text.now
         → Stays (S.history shelf.old) (S.history shelf.new) (contents_name row.now.id.0) (files (contents_name row.now.id.0))
         → stat_at (trees.now (T.history tree.old)) path.entry.text.now ≡ Some before.now
-        → IfOk result (IsJudged files (Some row.now) (trees.now (T.history tree.old)) path.entry.text.now) }
+        → IfOk
+        result
+        (λ looked. IsJudged files (Some row.now) (trees.now (T.history tree.old)) path.entry.text.now (letter_of looked)) }
+    ensures compared { IfOk
+        result
+        (ComparesFound
+        path.entry.text.now
+        (T.history tree.old)
+        (T.history tree.new)
+        (S.history shelf.old)
+        (S.history shelf.new)
+        (Some row.now)
+        before.now) }
     ensures lacks { IfErr result (LacksIn (S.history shelf.old) (S.history shelf.new) (Some row.now) before.now) }
     ensures asked { IsTrue (T.history tree.old).told → Reads before.now.size path.entry.text.now (T.history tree.old) (T.history tree.new) }
     ensures contents { IsTrue (S.history shelf.old).told
@@ -89,18 +102,18 @@ fn letter_by_row<T: Tree, S: Shelf>(
 {
     match same(tree, shelf, path, row, before, room) {
         Err(fault) => Err(StatusFault::from(fault)),
-        Ok(looked) => Ok(letter_of(looked)),
+        Ok(looked) => Ok(looked),
     }
 }
 
-// The letter of a path by what a manifest has of it; what it hasn't is modified.
+// How a path compares with what a manifest has of it; what it hasn't differs.
 fn letter_in<T: Tree, S: Shelf>(
     tree: &mut T,
     shelf: &mut S,
     path: PathRef<'_>,
     before: &Stat,
     loaded: &mut Loaded,
-) -> Result<Letter, StatusFault>
+) -> Result<Looked, StatusFault>
     ensures tree_passes { trees.Passes (T.history tree.old) (T.history tree.new) }
     ensures shelf_passes { shelves.Passes (S.history shelf.old) (S.history shelf.new) }
     ensures kept { images.Goes (images.course (S.history shelf.old) (S.images shelf.old)) (images.course (S.history shelf.new) (S.images shelf.new)) }
@@ -115,11 +128,22 @@ fn letter_in<T: Tree, S: Shelf>(
         → stat_at (trees.now (T.history tree.old)) path.entry.text.now ≡ Some before.now
         → IfOk
         result
-        (IsJudged
+        (λ looked. IsJudged
         files
         (row_of loaded.old.manifest path.entry.text.now)
         (trees.now (T.history tree.old))
-        path.entry.text.now) }
+        path.entry.text.now
+        (letter_of looked)) }
+    ensures compared { IfOk
+        result
+        (ComparesFound
+        path.entry.text.now
+        (T.history tree.old)
+        (T.history tree.new)
+        (S.history shelf.old)
+        (S.history shelf.new)
+        (row_of loaded.old.manifest path.entry.text.now)
+        before.now) }
     ensures lacks { IfErr
         result
         (LacksIn
@@ -137,7 +161,7 @@ fn letter_in<T: Tree, S: Shelf>(
     ensures cause_shelf { HasShelfCause (S.faults shelf.old) (S.faults shelf.new) result }
 {
     match loaded.manifest.get(path) {
-        None => Ok(Letter::M),
+        None => Ok(Looked::Differs),
         Some(row) => letter_by_row(tree, shelf, path, &row, before, &mut loaded.room),
     }
 }
@@ -150,7 +174,7 @@ fn first_letter<T: Tree, S: Shelf>(
     path: PathRef<'_>,
     before: &Stat,
     parent: &mut Parent,
-) -> Result<Letter, StatusFault>
+) -> Result<Looked, StatusFault>
     requires { parent.now.loaded ≡ None }
     ensures tree_passes { trees.Passes (T.history tree.old) (T.history tree.new) }
     ensures shelf_passes { shelves.Passes (S.history shelf.old) (S.history shelf.new) }
@@ -164,12 +188,23 @@ fn first_letter<T: Tree, S: Shelf>(
     // Where nobody touches the path and what the parent has of it, it is the letter of that.
     ensures found { IfOk
         result
-        (λ letter. (s : Status) → Proceeds (upto s (T.history tree.old) (S.history shelf.old)) parent.old
+        (λ looked. (s : Status) → Proceeds (upto s (T.history tree.old) (S.history shelf.old)) parent.old
         → IsTrue (T.history tree.old).told
         → StaysShown (T.history tree.old) (T.history tree.new) path.entry.text.now
         → KeepsRow (S.history shelf.new) s.shelf_old.last s.id path.entry.text.now
         → stat_at (trees.now (T.history tree.old)) path.entry.text.now ≡ Some before.now
-        → IsFound (shelves.now s.shelf_old).files s.id (trees.now (T.history tree.old)) path.entry.text.now letter) }
+        → IsFound (shelves.now s.shelf_old).files s.id (trees.now (T.history tree.old)) path.entry.text.now (letter_of looked)) }
+    // Whatever others do to the path, where nobody touches what the parent has of it: by which row it was compared, and what was seen.
+    ensures same { IfOk
+        result
+        (λ looked. (s : Status) → Proceeds (upto s (T.history tree.old) (S.history shelf.old)) parent.old
+        → KeepsRow (S.history shelf.new) s.shelf_old.last s.id path.entry.text.now
+        → IsComparedBy
+        (upto s (T.history tree.new) (S.history shelf.new))
+        (T.history tree.old)
+        path.entry.text.now
+        before.now
+        looked) }
     ensures met { IfErr
         result
         (λ fault. (s : Status) → Proceeds (upto s (T.history tree.old) (S.history shelf.old)) parent.old
@@ -185,20 +220,21 @@ fn first_letter<T: Tree, S: Shelf>(
     ensures cause_shelf { HasShelfCause (S.faults shelf.old) (S.faults shelf.new) result }
 {
     let mut loaded = load(alloc, shelf, &parent.id)?;
-    let letter = letter_in(tree, shelf, path, before, &mut loaded)?;
+    let looked = letter_in(tree, shelf, path, before, &mut loaded)?;
     parent.loaded = Some(loaded);
-    Ok(letter)
+    Ok(looked)
 }
 
-/// The letter of a path, C or M, by a comparison of what stands there with what the parent has of it. A look showed `before` there.
-pub(crate) fn compared_letter<T: Tree, S: Shelf>(
+/// How a path compares with what the first parent has of it, where a look showed `before` there: the same, which is C, or else, which is M; or it is gone
+/// meanwhile. At the first path that is compared in a status the manifest of the parent is loaded.
+pub fn compared_letter<T: Tree, S: Shelf>(
     alloc: Global,
     tree: &mut T,
     shelf: &mut S,
     path: PathRef<'_>,
     before: &Stat,
     parent: &mut Parent,
-) -> Result<Letter, StatusFault>
+) -> Result<Looked, StatusFault>
     ensures tree_passes { trees.Passes (T.history tree.old) (T.history tree.new) }
     ensures shelf_passes { shelves.Passes (S.history shelf.old) (S.history shelf.new) }
     ensures kept { images.Goes (images.course (S.history shelf.old) (S.images shelf.old)) (images.course (S.history shelf.new) (S.images shelf.new)) }
@@ -211,12 +247,23 @@ pub(crate) fn compared_letter<T: Tree, S: Shelf>(
     // Where nobody touches the path and what the parent has of it, it is the letter of that.
     ensures found { IfOk
         result
-        (λ letter. (s : Status) → Proceeds (upto s (T.history tree.old) (S.history shelf.old)) parent.old
+        (λ looked. (s : Status) → Proceeds (upto s (T.history tree.old) (S.history shelf.old)) parent.old
         → IsTrue (T.history tree.old).told
         → StaysShown (T.history tree.old) (T.history tree.new) path.entry.text.now
         → KeepsRow (S.history shelf.new) s.shelf_old.last s.id path.entry.text.now
         → stat_at (trees.now (T.history tree.old)) path.entry.text.now ≡ Some before.now
-        → IsFound (shelves.now s.shelf_old).files s.id (trees.now (T.history tree.old)) path.entry.text.now letter) }
+        → IsFound (shelves.now s.shelf_old).files s.id (trees.now (T.history tree.old)) path.entry.text.now (letter_of looked)) }
+    // Whatever others do to the path, where nobody touches what the parent has of it: by which row it was compared, and what was seen.
+    ensures same { IfOk
+        result
+        (λ looked. (s : Status) → Proceeds (upto s (T.history tree.old) (S.history shelf.old)) parent.old
+        → KeepsRow (S.history shelf.new) s.shelf_old.last s.id path.entry.text.now
+        → IsComparedBy
+        (upto s (T.history tree.new) (S.history shelf.new))
+        (T.history tree.old)
+        path.entry.text.now
+        before.now
+        looked) }
     ensures met { IfErr
         result
         (λ fault. (s : Status) → Proceeds (upto s (T.history tree.old) (S.history shelf.old)) parent.old

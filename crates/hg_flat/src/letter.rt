@@ -14,7 +14,7 @@ ghost use Rattle.hg_flat.specs.Met.{Status};
 ghost use Rattle.hg_flat.specs.Parent.{Asking, WasAsked};
 ghost use Rattle.hg_flat.specs.Stored.{AsksStore};
 
-use crate::comparing::compared_letter;
+use crate::comparing::{compared_letter, letter_of};
 use crate::kept::FlatRow;
 use crate::parent::Parent;
 use hg_base::{Kind, OutOfMemory, Path, Stat};
@@ -25,7 +25,7 @@ use hg_tree::Tree;
 use std::alloc::Global;
 
 /// Whether a letter is asked for.
-pub(crate) fn wants(wanted: Wanted, letter: Letter) -> bool
+pub fn wants(wanted: Wanted, letter: Letter) -> bool
     ensures { result ≡ wants wanted letter }
 {
     match letter {
@@ -39,15 +39,15 @@ pub(crate) fn wants(wanted: Wanted, letter: Letter) -> bool
     }
 }
 
-// Whether a letter is asked for that takes a look at a tracked path.
-fn wants_tracked(wanted: Wanted) -> bool
+/// Whether a letter is asked for that takes a look at a tracked path: M, A, `!` or C.
+pub fn wants_tracked(wanted: Wanted) -> bool
     ensures { result ≡ wants_tracked wanted }
 {
     wanted.m || wanted.a || wanted.d || wanted.c
 }
 
-// Whether a letter is asked for that takes a comparison.
-fn wants_bytes(wanted: Wanted) -> bool
+/// Whether a letter is asked for that takes a comparison: M or C.
+pub fn wants_bytes(wanted: Wanted) -> bool
     ensures { result ≡ wants_bytes wanted }
 {
     wanted.m || wanted.c
@@ -141,8 +141,8 @@ fn letter_there<T: Tree, S: Shelf>(
     if !wants_bytes(wanted) {
         return Ok(None);
     }
-    let letter = compared_letter(alloc, tree, shelf, kept.path.as_ref(), there, parent)?;
-    Ok(Some(letter))
+    let looked = compared_letter(alloc, tree, shelf, kept.path.as_ref(), there, parent)?;
+    Ok(Some(letter_of(looked)))
 }
 
 // The letter of a path with an entry, or none where it isn't wanted.

@@ -30,12 +30,16 @@ mod reading;
 mod status;
 mod untracked;
 
+pub use comparing::{compared_letter, letter_of};
 pub use entries::Entries;
 pub use flat::Flat;
 pub use full::one_listing;
 pub use hg_compare::Letter;
 pub use hg_listing::{Row, Rows, StatusFault, Wanted};
 pub use kept::FlatRow;
+pub use letter::{wants, wants_bytes, wants_tracked};
 pub use listed::Listed;
 pub use listing::visit;
+pub use parent::Parent;
+pub use patterns::{needs_patterns, read_patterns, warnings_of};
 pub use status::plain_status;

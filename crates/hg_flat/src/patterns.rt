@@ -12,15 +12,15 @@ use hg_listing::{StatusFault, Wanted};
 use hg_tree::Tree;
 use std::alloc::Global;
 
-// Whether letters are asked for between which patterns decide.
-fn needs_patterns(wanted: Wanted) -> bool
+/// Whether letters are asked for between which patterns decide: `?` or I.
+pub fn needs_patterns(wanted: Wanted) -> bool
     ensures { result ≡ needs_patterns wanted }
 {
     wanted.u || wanted.i
 }
 
 /// Reads the patterns where they are needed.
-pub(crate) fn read_patterns<T: Tree, G: Regexps>(
+pub fn read_patterns<T: Tree, G: Regexps>(
     alloc: Global,
     tree: &mut T,
     regexps: &mut G,
@@ -45,7 +45,7 @@ pub(crate) fn read_patterns<T: Tree, G: Regexps>(
 }
 
 /// What the reader of a status is warned of.
-pub(crate) fn warnings_of(alloc: Global, ignore: Option<Ignore>) -> Warnings
+pub fn warnings_of(alloc: Global, ignore: Option<Ignore>) -> Warnings
     ensures { result ≡ warned_of ignore }
 {
     match ignore {

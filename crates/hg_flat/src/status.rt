@@ -94,10 +94,7 @@ fn add_each<T: Tree, S: Shelf>(
     ensures cause { HasStatusCause (T.faults tree.old) (T.faults tree.new) result }
     ensures cause_shelf { HasShelfCause (S.faults shelf.old) (S.faults shelf.new) result }
 {
-    let mut parent = Parent {
-        id: *p1,
-        loaded: None,
-    };
+    let mut parent = Parent::new(p1);
     for kept in &flat.rows {
         add_tracked(alloc, tree, shelf, kept, &mut parent, wanted, rows)?;
     }

@@ -1,14 +1,15 @@
 use Rattle.std.proofs.Common.{Some, sym, subst, ◌≡◌, ◌∙◌}
 use Rattle.std.specs.Prelude.{IsTrue}
-use Rattle.std.proofs.lemmas.Result.{IfErr-weaker}
+use Rattle.std.proofs.lemmas.Result.{IfErr-weaker, IfOk-weaker}
 use Rattle.hg_compare.specs.Same.{StaysShown}
+use Rattle.hg_compare.specs.declared.looked.Looked.{Looked}
 use Rattle.hg_shelf.specs.History as shelf
 use Rattle.hg_tree.specs.History as tree
 use Rattle.hg_tree.specs.Moment.{stat_at}
-use Rattle.hg_flat.specs.Course.{Proceeds, HasAsked, IsFound, IsKeptManifest, IsManifest, LacksIn, MetBy, upto}
+use Rattle.hg_flat.specs.Course.{Proceeds, ComparesFound, HasAsked, IsComparedBy, IsFound, IsKeptManifest, IsManifest, LacksIn, MetBy, letter_of, upto}
 use Rattle.hg_flat.specs.Met.{Status}
 use Rattle.hg_flat.specs.Parent.{KeepsRow, row_of}
-use Rattle.hg_flat.proofs.Manifests.{always, always_failed, found_letter, manifest_later, met_in, ok_each}
+use Rattle.hg_flat.proofs.Manifests.{always, always_failed, found_compared, found_letter, manifest_later, met_in, ok_each}
 use Rattle.hg_flat.proofs.Going.{goes_loaded}
 use Rattle.hg_flat.proofs.Storing.{store_whole, whole_more}
 use Rattle.hg_flat.proofs.comparing.compared_letter.Goals as goal
@@ -38,7 +39,7 @@ returns-in-Some-clause-found g c =
     (λ s. StaysShown (g.T.Tree.history c.args.tree.now) (g.T.Tree.history c.letter_in.new.tree) c.args.path.text.now)
     (λ s. KeepsRow (g.S.Shelf.history c.letter_in.new.shelf) s.shelf_old.last s.id c.args.path.text.now)
     (λ s. stat_at (tree.now (g.T.Tree.history c.args.tree.now)) c.args.path.text.now ≡ Some c.args.before.now)
-    (λ s. IsFound (shelf.now s.shelf_old).files s.id (tree.now (g.T.Tree.history c.args.tree.now)) c.args.path.text.now)
+    (λ s looked. IsFound (shelf.now s.shelf_old).files s.id (tree.now (g.T.Tree.history c.args.tree.now)) c.args.path.text.now (letter_of looked))
     (λ s goes told stays keeps shown.
     found_letter s (g.T.Tree.history c.args.tree.now) (g.T.Tree.history c.letter_in.new.tree) (g.S.Shelf.history c.args.shelf.now) (g.S.Shelf.history c.letter_in.new.shelf) c.in-Some.loaded.manifest c.args.path.text.now
     c.args.before.now c.letter_in.result goes.shelf c.letter_in.ensures.shelf_passes
@@ -46,6 +47,22 @@ returns-in-Some-clause-found g c =
     c.letter_in.ensures.shelf_passes
     (subst (IsKeptManifest (upto s (g.T.Tree.history c.args.tree.now) (g.S.Shelf.history c.args.shelf.now))) c.in-Some.is goes.read))
     keeps (λ files held kept. c.letter_in.ensures.judged files told held stays kept shown))
+
+pub returns-in-Some-clause-same : goal.returns-in-Some-clause-same
+returns-in-Some-clause-same g c =
+    let copy = g.T.Tree.history c.args.tree.now in
+    let later = g.T.Tree.history c.letter_in.new.tree in
+    let old = g.S.Shelf.history c.args.shelf.now in
+    let new = g.S.Shelf.history c.letter_in.new.shelf in
+    IfOk-weaker c.letter_in.result (ComparesFound c.args.path.text.now copy later old new (row_of c.in-Some.loaded.manifest c.args.path.text.now) c.args.before.now)
+    (λ looked. (s : Status) → Proceeds (upto s copy old) c.args.parent.now → KeepsRow new s.shelf_old.last s.id c.args.path.text.now
+    → IsComparedBy (upto s later new) copy c.args.path.text.now c.args.before.now looked)
+    (λ looked compared s goes keeps.
+    found_compared s copy later old new c.in-Some.loaded.manifest c.args.path.text.now c.args.before.now looked goes.shelf c.letter_in.ensures.shelf_passes
+    (manifest_later s copy later old new c.in-Some.loaded.manifest goes.shelf c.letter_in.ensures.shelf_passes
+    (subst (IsKeptManifest (upto s copy old)) c.in-Some.is goes.read))
+    keeps compared)
+    c.letter_in.ensures.compared
 
 pub returns-in-Some-clause-met : goal.returns-in-Some-clause-met
 returns-in-Some-clause-met g c =

@@ -1,4 +1,5 @@
-use Rattle.std.proofs.Common.{List, ℕ, sym, ap, ◌∙◌, subst, arith}
+use Rattle.std.proofs.Common.{◌≡◌, true, List, ℕ, sym, ap, ◌∙◌, subst, arith}
+use Rattle.std.specs.Prelude.{IsTrue}
 use Rattle.std.proofs.lemmas.Result.{err_from_is_err_and}
 use Rattle.hg_compare.specs.Same.{Reads}
 use Rattle.hg_compare.specs.Tracked.{is_file_or_link}
@@ -20,20 +21,26 @@ returns-in-Some-clause-found g c = λ s goes shown.
     found_marked (IsLeftRow c.args.wanted s.id (g.T.Tree.history c.args.tree.now) (g.T.Tree.history c.args.tree.now).last (g.S.Shelf.history c.args.shelf.now) s.shelf_old.last) (shelves.now s.shelf_old).files s.id
     (trees.now (g.T.Tree.history c.args.tree.now)) c.args.wanted c.args.kept.now c.args.there.now c.in-Some.letter c.requires (λ meets. shown meets.own.told) (sym c.marked_letter.ensures ∙ c.in-Some.is)
 
-pub returns-in_err-letter-clause-met : goal.returns-in_err-letter-clause-met
-returns-in_err-letter-clause-met g c =
+pub returns-in_err-looked-clause-met : goal.returns-in_err-looked-clause-met
+returns-in_err-looked-clause-met g c =
     let p = err_from_is_err_and c.from_residual.result c.from_residual.ensures.1 in
+    let old = g.T.Tree.history c.args.tree.now in
+    let new = g.T.Tree.history c.compared_letter.new.tree in
+    let path = c.args.kept.now.path in
+    let plain = plain_there c.args.kept.now c.args.there.now c.requires (sym c.marked_letter.ensures ∙ c.in_default.is) in
+    let compared = compared_by c.args.wanted c.args.kept.now (sym c.wants_bytes.ensures ∙ c.if-not-wants_bytes.false) plain.1 in
     rw (p.1, p.2)
     (λ s goes agrees shown.
-    let plain = plain_there c.args.kept.now c.args.there.now c.requires (sym c.marked_letter.ensures ∙ c.in_default.is) in
-    met_compared s (g.T.Tree.history c.args.tree.now) (g.T.Tree.history c.compared_letter.new.tree) (g.S.Shelf.history c.compared_letter.new.shelf) c.args.kept.now.path c.args.there.now goes.tree
-    c.compared_letter.ensures.tree_passes
-    (asks_there c.args.wanted c.args.kept.now s.asks agrees (compared_by c.args.wanted c.args.kept.now (sym c.wants_bytes.ensures ∙ c.if-not-wants_bytes.false) plain.1)) plain.0 shown c.in_err-letter.field-0.0
-    (subst (λ (p : List ℕ). MetBy (upto s (g.T.Tree.history c.compared_letter.new.tree) (g.S.Shelf.history c.compared_letter.new.shelf)) p c.args.there.now c.in_err-letter.field-0.0) c.as_ref.ensures
-    (c.in_err-letter.ensures.met s goes)))
+    let stands : IsTrue old.told → is_file_or_link ((trees.now old).things path) ≡ true = λ told. there_is (trees.now old) path c.args.there.now (shown told) ∙ plain.0 in
+    met_compared s old new (g.S.Shelf.history c.compared_letter.new.shelf) path c.args.there.now goes.tree c.compared_letter.ensures.tree_passes
+    (λ told. asks_there c.args.wanted c.args.kept.now s.asks agrees compared (trees.now old) (stands told))
+    (asked_later s.asks s.tree_old old new path goes.tree.past (asked_now s.asks old new path c.compared_letter.ensures.tree_passes.past (asks_there c.args.wanted c.args.kept.now s.asks agrees compared) stands))
+    shown c.in_err-looked.field-0.0
+    (subst (λ (p : List ℕ). MetBy (upto s new (g.S.Shelf.history c.compared_letter.new.shelf)) p c.args.there.now c.in_err-looked.field-0.0) c.as_ref.ensures
+    (c.in_err-looked.ensures.met s goes)))
 
-pub returns-in_err-letter-clause-asked : goal.returns-in_err-letter-clause-asked
-returns-in_err-letter-clause-asked g c = λ asks agrees told shown.
+pub returns-in_err-looked-clause-asked : goal.returns-in_err-looked-clause-asked
+returns-in_err-looked-clause-asked g c = λ asks agrees told shown.
     let old = g.T.Tree.history c.args.tree.now in
     let new = g.T.Tree.history c.compared_letter.new.tree in
     let plain = plain_there c.args.kept.now c.args.there.now c.requires (sym c.marked_letter.ensures ∙ c.in_default.is) in
@@ -47,12 +54,13 @@ pub returns-clause-found : goal.returns-clause-found
 returns-clause-found g c = λ s goes shown.
     let plain = plain_there c.args.kept.now c.args.there.now c.requires (sym c.marked_letter.ensures ∙ c.in_default.is) in
     found_read (IsLeftRow c.args.wanted s.id (g.T.Tree.history c.compared_letter.new.tree) (g.T.Tree.history c.args.tree.now).last (g.S.Shelf.history c.compared_letter.new.shelf) s.shelf_old.last) (shelves.now s.shelf_old).files s.id
-    (trees.now (g.T.Tree.history c.args.tree.now)) c.args.wanted c.args.kept.now c.args.there.now c.in_ok-letter.letter c.requires
+    (trees.now (g.T.Tree.history c.args.tree.now)) c.args.wanted c.args.kept.now c.args.there.now c.letter_of.result c.requires
     (λ meets. shown (sym c.compared_letter.ensures.tree_passes.past.told ∙ meets.own.told)) (sym c.marked_letter.ensures ∙ c.in_default.is)
     (λ meets.
     let told = sym c.compared_letter.ensures.tree_passes.past.told ∙ meets.own.told in
-    subst (λ (p : List ℕ). IsFound (shelves.now s.shelf_old).files s.id (trees.now (g.T.Tree.history c.args.tree.now)) p c.in_ok-letter.letter) c.as_ref.ensures
-    (c.in_ok-letter.ensures.found s goes told
+    subst (λ (p : List ℕ). IsFound (shelves.now s.shelf_old).files s.id (trees.now (g.T.Tree.history c.args.tree.now)) p c.letter_of.result) c.as_ref.ensures
+    (subst (IsFound (shelves.now s.shelf_old).files s.id (trees.now (g.T.Tree.history c.args.tree.now)) c.as_ref.result.text.now) (sym c.letter_of.ensures)
+    (c.in_ok-looked.ensures.found s goes told
     (stays_shown (g.T.Tree.history c.args.tree.now) (g.T.Tree.history c.compared_letter.new.tree) c.as_ref.result.text.now (rw c.as_ref.ensures meets.own))
     (rw c.as_ref.ensures
     (meets.row (record {
@@ -61,7 +69,7 @@ returns-clause-found g c = λ s goes shown.
           ap (λ (m : Moment). is_file_or_link (m.things c.args.kept.now.path)) (c.compared_letter.ensures.tree_passes.past.stay (g.T.Tree.history c.args.tree.now).last (omega arith))
           ∙ there_is (trees.now (g.T.Tree.history c.args.tree.now)) c.args.kept.now.path c.args.there.now (shown told) ∙ plain.0;
     })))
-    (rw c.as_ref.ensures (shown told))))
+    (rw c.as_ref.ensures (shown told)))))
 
 pub returns-clause-asked : goal.returns-clause-asked
 returns-clause-asked g c = λ asks agrees told shown.
@@ -74,8 +82,8 @@ returns-clause-asked g c = λ asks agrees told shown.
     (λ _. there_is (trees.now old) c.args.kept.now.path c.args.there.now shown ∙ plain.0))
     (subst (λ (p : List ℕ). Reads c.args.there.now.size p old new) c.as_ref.ensures (c.compared_letter.ensures.asked told))
 
-pub returns-in_err-letter-clause-unasked : goal.returns-in_err-letter-clause-unasked
-returns-in_err-letter-clause-unasked g c = λ asks agrees shown never.
+pub returns-in_err-looked-clause-unasked : goal.returns-in_err-looked-clause-unasked
+returns-in_err-looked-clause-unasked g c = λ asks agrees shown never.
     let old = g.T.Tree.history c.args.tree.now in
     let new = g.T.Tree.history c.compared_letter.new.tree in
     let plain = plain_there c.args.kept.now c.args.there.now c.requires (sym c.marked_letter.ensures ∙ c.in_default.is) in
@@ -100,14 +108,14 @@ returns-clause-goes g c = λ s goes agrees shown.
     let new = g.T.Tree.history c.compared_letter.new.tree in
     let plain = plain_there c.args.kept.now c.args.there.now c.requires (sym c.marked_letter.ensures ∙ c.in_default.is) in
     let compared = compared_by c.args.wanted c.args.kept.now (sym c.wants_bytes.ensures ∙ c.if-not-wants_bytes.false) plain.1 in
-    c.in_ok-letter.ensures.goes s goes
+    c.in_ok-looked.ensures.goes s goes
     (subst (WasAsked s.asks s.tree_old new) (sym c.as_ref.ensures)
     (asked_later s.asks s.tree_old old new c.args.kept.now.path goes.tree.past
     (asked_now s.asks old new c.args.kept.now.path c.compared_letter.ensures.tree_passes.past (asks_there c.args.wanted c.args.kept.now s.asks agrees compared)
     (λ told. there_is (trees.now old) c.args.kept.now.path c.args.there.now (shown told) ∙ plain.0))))
 
-pub returns-in_err-letter-clause-store : goal.returns-in_err-letter-clause-store
-returns-in_err-letter-clause-store g c =
+pub returns-in_err-looked-clause-store : goal.returns-in_err-looked-clause-store
+returns-in_err-looked-clause-store g c =
     let p = err_from_is_err_and c.from_residual.result c.from_residual.ensures.1 in
     let old = g.T.Tree.history c.args.tree.now in
     let new = g.T.Tree.history c.compared_letter.new.tree in
@@ -115,7 +123,7 @@ returns-in_err-letter-clause-store g c =
     let compared = compared_by c.args.wanted c.args.kept.now (sym c.wants_bytes.ensures ∙ c.if-not-wants_bytes.false) plain.1 in
     rw p.1
     (λ s goes agrees shown told.
-    c.in_err-letter.ensures.store s goes
+    c.in_err-looked.ensures.store s goes
     (subst (WasAsked s.asks s.tree_old new) (sym c.as_ref.ensures)
     (asked_later s.asks s.tree_old old new c.args.kept.now.path goes.tree.past
     (asked_now s.asks old new c.args.kept.now.path c.compared_letter.ensures.tree_passes.past (asks_there c.args.wanted c.args.kept.now s.asks agrees compared)
