@@ -187,8 +187,8 @@ fn look_each<T: Tree, K: Entries>(
 /// gone into that is ignored, where I isn't wanted.
 ///
 /// `ignored` says whether the directory is ignored, `next` where the search for an entry begins; the rows are put behind those so far, in no stated
-/// order. A path that was passed is left out without a look: since the moment `start` no directory stood there once, so that nothing stands below it as
-/// long as nobody touches what is below.
+/// order. A path that was passed is left out without a look: at some moment no directory stood there, so nothing stands below it that nobody touched
+/// since then.
 #[cycle(listing)]
 pub fn visit<T: Tree, K: Entries>(
     alloc: Global,

@@ -1,7 +1,6 @@
 use Rattle.std.specs.Prelude.{OnOk}
 use Rattle.std.proofs.Common.{List, None, option_map, refl, subst, false, true, ◌≡◌}
 use Rattle.std.proofs.lemmas.Result.{on_ok_weaker}
-use Rattle.hg_ignore.specs.Asked.{state_asked}
 use Rattle.hg_ignore.specs.State.{Piece}
 use Rattle.hg_tree.specs.History as trees
 use Rattle.hg_tree.specs.Still.{Untouched}
