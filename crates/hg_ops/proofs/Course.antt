@@ -1,21 +1,21 @@
 -- The looks of a copy, and what is put behind them, as one course.
-use Rattle.std.proofs.Common.{ℕ, ◌≡◌, Bool, true, false, cond, ◌||◌, ◌&&◌, List, [], ◌∷◌, ◌++◌, replicate, Option, Some, None, Result, Ok, Err, refl, sym, ap, ◌∙◌, subst, true≢false, inl, inr, arith}
+use Rattle.std.proofs.Common.{ℕ, ◌≡◌, ◌≤◌, Bool, true, false, cond, ◌||◌, ◌&&◌, List, [], ◌∷◌, length, Option, Some, None, Result, Ok, Err, refl, sym, ap, ◌∙◌, subst, true≢false, inl, inr, arith}
 use Rattle.std.specs.Prelude.{IfOk, IsTrue, is_some, option_map, MatchOption}
 use Rattle.std.specs.Option.{option_and_then}
 use Rattle.std.specs.Str.{bytes_eq}
-use Rattle.std.proofs.lemmas.Bool.{false_from_ne_true, or_parts}
+use Rattle.std.proofs.lemmas.Bool.{false_from_ne_true, leb-true, or_parts}
 use Rattle.hg_base.specs.PathText.{is_below, is_path}
+use Rattle.hg_base.specs.declared.stat.Kind.TheVariants as a_kind
 use Rattle.hg_base.specs.declared.stat.Stat.{Stat}
 use Rattle.hg_base.specs.declared.time.Time.{Time}
 use Rattle.hg_base.proofs.Within.{same_bytes}
-use Rattle.hg_compare.specs.Same.{Reads}
 use Rattle.hg_entry.specs.Steps.{is_file}
 use Rattle.hg_entry.specs.Table.{Table}
 use Rattle.hg_mixed.specs.Held.{Held, table}
-use Rattle.hg_ops.specs.Copy.{Comes, Copies, IsExact, IsUnused, Looked, RefusesCopy, RefusesTarget, RefusesThings, Works, words_refusal}
+use Rattle.hg_ops.specs.Copy.{Comes, Copies, IsExact, IsUnused, Looked, RefusesCopy, RefusesSource, RefusesTarget, RefusesThings, Works, words_refusal}
 use Rattle.hg_ops.specs.Copying.{IsCopying, Looks, Tables}
 use Rattle.hg_ops.specs.Parts.{HasCopy}
-use Rattle.hg_ops.specs.Putting.{CanCopy, IsPutting}
+use Rattle.hg_ops.specs.Putting.{CanCopy, IsOnePiece, IsPutting}
 use Rattle.hg_ops.specs.Seen.{At, During, IsDirOrNone, IsTaken, Known, Was, WasStat}
 use Rattle.hg_ops.specs.Step.{is_tracked, thing_refusal}
 use Rattle.hg_ops.specs.declared.copy_refusal.CopyRefusal.{CopyRefusal}
@@ -24,8 +24,6 @@ use Rattle.hg_ops.specs.declared.copying.Look.TheVariants as a_look
 use Rattle.hg_ops.specs.declared.refusal.OpFault.{OpFault}
 use Rattle.hg_ops.specs.declared.refusal.Refusal.{Refusal}
 use Rattle.hg_ops.specs.declared.refusal.Refusal.TheVariants as a_refusal
-use Rattle.hg_tree.specs.declared.asked.Asked.{Asked}
-use Rattle.hg_tree.specs.declared.asked.Asked.TheVariants as an_ask
 use Rattle.hg_tree.specs.History.{History, IsOurs, Passes, now}
 use Rattle.hg_tree.specs.Moment.{Moment, bytes_at, bytes_of, is_short, is_short_thing, stat_at, stat_of}
 use Rattle.hg_tree.specs.Own.{put_thing}
@@ -34,10 +32,10 @@ use Rattle.hg_tree.specs.declared.thing.Thing.{Thing}
 use Rattle.hg_tree.specs.declared.thing.Thing.TheVariants as a_thing
 use Rattle.hg_tree.proofs.Histories.{extends_trans}
 use Rattle.hg_tree.proofs.Spans.{now_same, ours_first, ours_second, passes_same, passes_trans}
-use Rattle.hg_tree.proofs.Touching.{changes_passes}
-use Rattle.hg_ops.proofs.Grown.{there_is}
+use Rattle.hg_tree.proofs.Touching.{changes_passes, changes_trans}
+use Rattle.hg_ops.proofs.Grown.{some_is, there_is}
 use Rattle.hg_ops.proofs.Moments.{was_first, was_last, was_wider}
-use Rattle.hg_ops.proofs.OwnPuts.{goes_passes, goes_trans, put_wider}
+use Rattle.hg_ops.proofs.OwnPuts.{some_put}
 
 -- ---- the words
 
@@ -109,10 +107,13 @@ module _ (from to : List ℕ) (t : Table) where
     target_map (Some a_refusal.Exists) (inl is) = inl is
     target_map (Some a_refusal.Exists) (inr taken) = inr (known (IsTaken to) taken)
 
+    source_map : (refused : Option Refusal) → RefusesSource from K refused → RefusesSource from L refused
+    source_map refused source = record { shown = source.shown; by_look = source.by_look; was = known (λ moment. stat_at moment from ≡ source.shown) source.was }
+
     things_map : (refused : Option CopyRefusal) → RefusesThings from to t K refused → RefusesThings from to t L refused
-    things_map None (source, target) = (known (λ moment. thing_refusal (stat_at moment from) ≡ None) source, target_map None target)
-    things_map (Some (a_word.Source refusal)) source = known (λ moment. thing_refusal (stat_at moment from) ≡ Some refusal) source
-    things_map (Some (a_word.Target refusal)) (source, target) = (known (λ moment. thing_refusal (stat_at moment from) ≡ None) source, target_map (Some refusal) target)
+    things_map None (source, target) = (source_map None source, target_map None target)
+    things_map (Some (a_word.Source refusal)) source = source_map (Some refusal) source
+    things_map (Some (a_word.Target refusal)) (source, target) = (source_map None source, target_map (Some refusal) target)
 
     copy_map : (refused : Option CopyRefusal) → RefusesCopy from to t K refused → RefusesCopy from to t L refused
     copy_map refused = match_map (words_refusal from to t) (RefusesThings from to t K refused) (RefusesThings from to t L refused) (λ why. refused ≡ Some why) (things_map refused)
@@ -137,15 +138,15 @@ module _ (from to : List ℕ) (t : Table) where
     looks_by K refused = match_by_none (words_refusal from to t) (RefusesThings from to t K refused) (λ why. refused ≡ Some why) (words_none first second tracked)
 
     module _ (a b : History) (passes : Passes a b) (shown : Option Stat) (found : IsTrue a.told → shown ≡ stat_at (now b) from) where
-      shows : (refused : Option Refusal) → thing_refusal shown ≡ refused → During a b (λ moment. thing_refusal (stat_at moment from) ≡ refused)
-      shows refused is told = was_last a b (λ moment. thing_refusal (stat_at moment from) ≡ refused) passes.past.later (ap thing_refusal (sym (found told)) ∙ is)
+      shows : (refused : Option Refusal) → thing_refusal shown ≡ refused → RefusesSource from (During a b) refused
+      shows refused is = record { shown = shown; by_look = is; was = λ told. was_last a b (λ moment. stat_at moment from ≡ shown) passes.past.later (sym (found told)) }
 
       pub refused_source : (refusal : Refusal) → thing_refusal shown ≡ Some refusal → Looked from to t a b (Some (a_word.Source refusal))
       refused_source refusal is = record { passes = passes; refusal = looks_by (During a b) (Some (a_word.Source refusal)) (shows (Some refusal) is) }
 
       module _ (c : History) (more : Passes b c) (can : thing_refusal shown ≡ None) where
-        source_on : During a c (λ moment. thing_refusal (stat_at moment from) ≡ None)
-        source_on told = was_wider a a b c (λ moment. thing_refusal (stat_at moment from) ≡ None) (omega arith) more.past (shows None can told)
+        source_on : RefusesSource from (During a c) None
+        source_on = source_map (During a b) (During a c) (λ so was told. was_wider a a b c so (omega arith) more.past (was told)) None (shows None can)
 
         target_on : (refused : Option Refusal) → RefusesTarget to t (During b c) refused → RefusesTarget to t (During a c) refused
         target_on = target_map (During b c) (During a c) (λ so was told. was_wider a b c c so passes.past.later (passes_same c).past (was (passes.past.told ∙ told)))
@@ -193,6 +194,18 @@ module _ (from to : List ℕ) (t : Table) where
   copying_words a why is = copying_none a a (Ok (Some why)) (passes_same a) (λ told. refl) (λ some. refl) (why, refl, no_path a why is)
 
   -- ---- what can be copied
+
+  thing_small : (thing : Thing) (time : Time) → is_short_thing thing ≡ true → (stat_of thing time).kind ≡ a_kind.Link → (stat_of thing time).size ≤ 65536
+  thing_small (a_thing.File exec bytes) time short link = absurd (cc link)
+  thing_small (a_thing.Link bytes) time short link = let small = leb-true (length bytes) 4095 short in omega (arith, small)
+  thing_small a_thing.Dir time short link = absurd (cc link)
+  thing_small a_thing.Other time short link = absurd (cc link)
+
+  link_small : (there : Option Placed) (stat : Stat) → option_map (λ placed. stat_of placed.thing placed.mtime) there ≡ Some stat → is_short there ≡ true → IsOnePiece stat
+  link_small None stat shown short link = absurd (cc shown)
+  link_small (Some placed) stat shown short link =
+      let same : stat_of placed.thing placed.mtime ≡ stat = some_is (stat_of placed.thing placed.mtime) stat shown in
+      subst (λ (s : Stat). s.size ≤ 65536) same (thing_small placed.thing placed.mtime short (ap (λ (s : Stat). s.kind) same ∙ link))
 
   readable_thing : (thing : Thing) (time : Time) → is_file (stat_of thing time).kind ≡ true → (bytes : List ℕ) × (bytes_of thing ≡ Some bytes)
   readable_thing (a_thing.File exec bytes) time is = (bytes, refl)
@@ -251,22 +264,26 @@ module _ (from to : List ℕ) (t : Table) where
       told_on : IsTrue a.told → IsTrue b.told
       told_on told = looked.passes.past.told ∙ told
 
-      reads_on : (size : ℕ) → b.asked ≡ a.asked → Reads size from b c → Reads size from a c
-      reads_on size same reads = record { pieces = reads.pieces; few = reads.few; asked = reads.asked ∙ ap (λ (l : List Asked). l ++ replicate reads.pieces (an_ask.Read from)) same }
+      one_piece : IsTrue b.told → IsOnePiece stat
+      one_piece told =
+          let shows = looks.2 (sym looked.passes.past.told ∙ told) in
+          link_small ((b.at shows.0.moment).things from) stat shows.0.is ((shows.1.each shows.0.moment shows.0.upto).short from)
 
-      works : Works from to t a c
+      works : Works from to t a c result
       works = record {
         past = extends_trans a b c looked.passes.past put.past;
         copies = λ told.
-            inr (
-              stat,
-              record {
-                shown = was_wider a a b c (λ moment. stat_at moment from ≡ Some stat) (omega arith) put.past (looks.2 told).0;
-                reads = reads_on stat.size (unasked told) (put.reads (told_on told));
-                puts = (goes_trans from to stat a b c looked.passes.past put.past (goes_passes from to stat a b looked.passes) (put.goes (told_on told))).puts;
-              },
-            );
-        only = λ told. (goes_trans from to stat a b c looked.passes.past put.past (goes_passes from to stat a b looked.passes) (put.goes (told_on told))).only;
+            inr (record {
+              mid = b;
+              looked = looked;
+              unasked = unasked told;
+              stat = stat;
+              shown = (looks.2 told).0;
+              past = put.past;
+              reads = put.reads (told_on told);
+              puts = some_put from to stat b c result (put.puts one_piece) (told_on told);
+            });
+        only = λ told. changes_trans (to ∷ []) a b c put.past (changes_passes (to ∷ []) a b looked.passes) (put.only (told_on told));
         idle = λ some. absurd (true≢false (sym some ∙ ap is_some free.0));
       }
 
@@ -277,7 +294,7 @@ module _ (from to : List ℕ) (t : Table) where
         past = is.past;
         stat = stat;
         shown = λ told. (looks.2 told).0;
-        ends = λ told. put_wider from to stat a b c c 0 looked.passes.past.later (passes_same c).past (is.ends (told_on told));
+        ends = is.puts one_piece;
       }
       comes (Ok (Some refusal)) is = inr (record {
         mid = b;
@@ -285,7 +302,7 @@ module _ (from to : List ℕ) (t : Table) where
         past = is.past;
         stat = stat;
         shown = λ told. (looks.2 told).0;
-        ends = λ told. is.ends (told_on told);
+        ends = is.puts one_piece;
       })
       comes (Err fault) is = tt
 

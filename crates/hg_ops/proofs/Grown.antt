@@ -37,7 +37,7 @@ touches_trans paths a b c p q = record {
 
 -- ---- the source
 
-some_is : {A : Type 0} (a b : A) → Some a ≡ Some b → a ≡ b
+pub some_is : {A : Type 0} (a b : A) → Some a ≡ Some b → a ≡ b
 some_is {A} a b same = ap value same
   where
     value : Option A → A

@@ -1,28 +1,32 @@
 -- What is put, piece by piece, is what putting all comes to.
-use Rattle.std.proofs.Common.{ℕ, ◌≡◌, ◌+◌, ◌≤◌, ◌<◌, min, Bool, true, false, cond, List, take, drop, length, Option, Some, None, Result, Ok, Err, refl, sym, ap, ◌∙◌, subst, true≢false, inl, inr, arith}
+use Rattle.std.proofs.Common.{ℕ, suc, ◌≡◌, ◌+◌, ◌≤◌, ◌<◌, min, Bool, true, false, cond, List, [], ◌∷◌, take, drop, length, Option, Some, None, Result, Ok, Err, refl, sym, ap, ◌∙◌, subst, true≢false, inl, inr, arith}
 use Rattle.std.specs.Prelude.{IfOk, IsTrue, nat_lt}
 use Rattle.std.proofs.lemmas.Bool.{cases_lt, ltb-true}
-use Rattle.std.proofs.lemmas.List.{length-drop, length-take, take-append-le, take_all}
-use Rattle.hg_base.specs.Reads.{ReadsPast}
+use Rattle.std.proofs.lemmas.List.{append-nil, length-drop, length-take, take-append-le, take_all}
+use Rattle.hg_base.specs.Reads.{ReadsBytes, ReadsPast}
+use Rattle.hg_base.specs.declared.stat.Got.TheVariants as a_got
 use Rattle.hg_base.specs.declared.stat.Kind.{Kind}
 use Rattle.hg_base.specs.declared.stat.Kind.TheVariants as a_kind
 use Rattle.hg_base.specs.declared.stat.Stat.{Stat}
 use Rattle.hg_compare.specs.Same.{InPieces, Reads}
-use Rattle.hg_ops.specs.Parts.{WasPut}
-use Rattle.hg_ops.specs.Putting.{CanCopy, Completes, GoesPutting, IsGrown, IsPutting, Puts, PutsAll, PutsRest, PutsWhole, is_link_kind, piece_of}
+use Rattle.hg_ops.specs.Parts.{GoesUpTo, PutsPart, PutsPieces}
+use Rattle.hg_ops.specs.Putting.{CanCopy, Completes, FailsPiece, IsGrown, IsPutting, Puts, PutsOn, PutsWhole, is_link_kind, piece_of}
 use Rattle.hg_ops.specs.declared.copy_refusal.CopyRefusal.{CopyRefusal}
 use Rattle.hg_ops.specs.declared.putting.Piece.{Piece}
 use Rattle.hg_ops.specs.declared.putting.Piece.TheVariants as a_piece
 use Rattle.hg_ops.specs.declared.refusal.OpFault.{OpFault}
+use Rattle.hg_ops.specs.declared.refusal.OpFault.TheVariants as a_fault
 use Rattle.hg_tree.specs.declared.asked.Asked.{Asked}
 use Rattle.hg_tree.specs.declared.asked.Asked.TheVariants as an_ask
 use Rattle.hg_tree.specs.History.{History, Extends, IsOurs, Passes, now}
 use Rattle.hg_tree.specs.Moment.{Moment, bytes_at}
 use Rattle.hg_tree.specs.Own.{Acts, CanPut, CannotPut, IsPut, IsPuttable}
+use Rattle.hg_tree.specs.Touched.{ChangesOnly}
 use Rattle.hg_tree.proofs.Histories.{extends_same, extends_trans}
-use Rattle.hg_tree.proofs.Spans.{now_same, ours_first, ours_second, who_apart}
+use Rattle.hg_tree.proofs.Spans.{now_same, ours_first, ours_second, passes_same, who_apart}
+use Rattle.hg_tree.proofs.Touching.{changes_passes, changes_trans}
 use Rattle.hg_ops.proofs.Grown.{first_can, first_grown, grown_done, grown_piece, link_whole, size_is}
-use Rattle.hg_ops.proofs.OwnPuts.{cuts_wider, goes_trans, put_wider}
+use Rattle.hg_ops.proofs.OwnPuts.{all_ended, all_over, none_put, some_failed}
 
 -- ---- one read, and one put
 
@@ -38,10 +42,13 @@ read_whole old new bytes place n reads fits =
           ∙ ap (λ (k : ℕ). take k (drop place bytes)) all,
     )
 
-pub puts_made : (from to : List ℕ) (stat : Stat) (place : ℕ) (a c : History) (less : Bool) (piece : Piece) → piece ≡ cond less a_piece.End a_piece.More → WasPut from to stat place a a c
-    → Puts from to stat place a c piece
-puts_made from to stat place a c true piece is was = subst (Puts from to stat place a c) (sym is) (λ start. was)
-puts_made from to stat place a c false piece is was = subst (Puts from to stat place a c) (sym is) was
+-- the read of no bytes more says that the source ended where there was room for some
+pub read_end : (old new bytes : List ℕ) (place n : ℕ) → ReadsPast bytes place old new n → n < length old → length bytes ≤ place + n
+read_end old new bytes place n reads less = let count = reads.count in omega (arith, count, less)
+
+pub end_at : (there : Option (List ℕ)) (old new : List ℕ) (place n : ℕ) → ReadsBytes there place old new (a_got.Bytes n) → n < length old → GoesUpTo (place + n) there
+end_at None old new place n reads less = reads
+end_at (Some bytes) old new place n reads less = read_end old new bytes place n reads less
 
 -- ---- one put, where nobody else steps
 
@@ -104,14 +111,23 @@ link_kind a_kind.Dir is = absurd (true≢false (sym is))
 link_kind a_kind.Other is = absurd (true≢false (sym is))
 
 module _ (from to : List ℕ) (stat : Stat) (a b : History) (width : ℕ) (wide : width ≡ min stat.size 65536) (past : Extends a b) (asked : IsTrue a.told → Reads width from a b)
-    (goes : IsTrue a.told → GoesPutting from to stat a b) where
+    (only : IsTrue a.told → ChangesOnly (to ∷ []) a b) where
   reads : IsTrue a.told → Reads stat.size from a b
   reads told = record { pieces = (asked told).pieces; few = let few = (asked told).few in omega (arith, few, wide); asked = (asked told).asked }
 
-  pub putting_failed : (fault : OpFault) → IsPutting from to stat a b (Err fault)
-  putting_failed fault = record { past = past; reads = reads; goes = goes; ends = λ told. tt; whole = λ ours bytes can. tt }
+  small : width ≤ 65536
+  small = omega (arith, wide)
 
-  module _ (piece : Piece) (found : IsTrue a.told → Puts from to stat 0 a b piece)
+  pub putting_failed : (fault : OpFault) → fault ≡ a_fault.TreeFailed → (width ≤ 65536 → IsTrue a.told → FailsPiece from to stat 0 a b) → IsPutting from to stat a b (Err fault)
+  putting_failed fault is fails = record {
+    past = past;
+    reads = reads;
+    only = only;
+    puts = λ one told. some_failed from to stat a a b 0 (λ _. none_put from to stat a) (fault ≡ a_fault.TreeFailed) is (fails small) told;
+    whole = λ ours bytes can. tt;
+  }
+
+  module _ (piece : Piece) (found : width ≤ 65536 → Puts from to stat 0 width a b piece)
       (whole : IsOurs a b → (bytes : List ℕ) → bytes_at (now a) from ≡ Some bytes → 0 + width ≤ length bytes → CanPut stat.kind stat.exec 0 (piece_of bytes 0 width) to (now a).things
       → PutsWhole to stat 0 (piece_of bytes 0 width) (now a) (now b) piece) where
     first_piece : IsOurs a b → (bytes : List ℕ) → CanCopy from to stat bytes (now a) → (piece ≡ a_piece.More) × IsGrown to stat bytes (now a) width (now b)
@@ -124,8 +140,8 @@ module _ (from to : List ℕ) (stat : Stat) (a b : History) (width : ℕ) (wide 
     putting_over refusal is = record {
       past = past;
       reads = reads;
-      goes = goes;
-      ends = λ told. subst (Puts from to stat 0 a b) is (found told);
+      only = only;
+      puts = λ one. all_over from to stat a a b 0 (λ _. none_put from to stat a) width refusal (subst (Puts from to stat 0 width a b) is (found small));
       whole = λ ours bytes can. absurd (over_more (sym is ∙ (first_piece ours bytes can).0));
     }
       where
@@ -136,8 +152,8 @@ module _ (from to : List ℕ) (stat : Stat) (a b : History) (width : ℕ) (wide 
     putting_end is = record {
       past = past;
       reads = reads;
-      goes = goes;
-      ends = λ told. subst (Puts from to stat 0 a b) is (found told) refl;
+      only = only;
+      puts = λ one. all_ended from to stat a a b 0 (λ _. none_put from to stat a) width (subst (Puts from to stat 0 width a b) is (found small));
       whole = λ ours bytes can. absurd (end_more (sym is ∙ (first_piece ours bytes can).0));
     }
       where
@@ -145,12 +161,17 @@ module _ (from to : List ℕ) (stat : Stat) (a b : History) (width : ℕ) (wide 
         end_more h = absurd (cc h)
 
     module _ (is : piece ≡ a_piece.More) where
+      first_put : IsTrue a.told → PutsPieces from to stat 1 width a b
+      first_put told = (a, (refl, refl), subst (λ (n : ℕ). PutsPart from to stat 0 n a b) (omega arith) (subst (Puts from to stat 0 width a b) is (found small) told))
+
       pub putting_link : stat.kind ≡ a_kind.Link → IsPutting from to stat a b (Ok None)
       putting_link link = record {
         past = past;
         reads = reads;
-        goes = goes;
-        ends = λ told. subst (Puts from to stat 0 a b) is (found told);
+        only = only;
+        puts = λ one told.
+            let fits = one told link in
+            record { more = 0; size = width; put = record { mid = b; put = first_put told; passes = passes_same b }; all = inl (omega (arith, wide, fits)) };
         whole = λ ours bytes can.
             let size = size_is from to stat bytes (now a) can in
             let small = link_whole from to stat bytes (now a) can link in
@@ -163,23 +184,42 @@ module _ (from to : List ℕ) (stat : Stat) (a b : History) (width : ℕ) (wide 
       module _ (c : History) (more : Extends b c)
           (first : ℕ) (same : first ≡ width)
           (rest_asked : IsTrue b.told → (before : List Asked) → InPieces first (an_ask.Read from) before b.asked → InPieces stat.size (an_ask.Read from) before c.asked)
-          (rest_goes : IsTrue b.told → GoesPutting from to stat b c) where
-        ends_rest : (result : Result (Option CopyRefusal) OpFault) → (IsTrue b.told → IfOk result (PutsRest from to stat b c)) → IsTrue a.told → IfOk result (PutsAll from to stat a c)
-        ends_rest (Ok None) ends told = put_wider from to stat a a b c 0 (omega arith) more (subst (Puts from to stat 0 a b) is (found told))
-        ends_rest (Ok (Some refusal)) ends told = cuts_wider from to stat a b c c refusal past.later (extends_same c) (ends (past.told ∙ told))
-        ends_rest (Err fault) ends told = tt
-
-        pub putting_rest : stat.kind ≡ a_kind.File → (result : Result (Option CopyRefusal) OpFault) → (IsTrue b.told → IfOk result (PutsRest from to stat b c))
+          (rest_only : IsTrue b.told → ChangesOnly (to ∷ []) b c) where
+        pub putting_rest : stat.kind ≡ a_kind.File → (result : Result (Option CopyRefusal) OpFault) → PutsOn from to stat first b c result
             → (IsOurs b c → Completes from to stat first b c result) → IsPutting from to stat a c result
-        putting_rest file result ends rest = record {
+        putting_rest file result puts rest = record {
           past = extends_trans a b c past more;
           reads = λ told. rest_asked (past.told ∙ told) a.asked (subst (λ (w : ℕ). InPieces w (an_ask.Read from) a.asked b.asked) (sym same) (asked told));
-          goes = λ told. goes_trans from to stat a b c past more (goes told) (rest_goes (past.told ∙ told));
-          ends = ends_rest result ends;
+          only = λ told. changes_trans (to ∷ []) a b c more (only told) (rest_only (past.told ∙ told));
+          puts = λ one. puts a (λ told. subst (λ (w : ℕ). PutsPieces from to stat 1 w a b) (sym same) (first_put told));
           whole = λ ours bytes can.
               rest (ours_second a b c past ours) bytes (now a) can file
               (subst (λ (w : ℕ). IsGrown to stat bytes (now a) w (now b)) (sym same) (first_piece (ours_first a b c more ours) bytes can).1);
         }
+
+-- ---- what is left where no piece is asked for, or where a fault follows
+
+pub putting_none : (from to : List ℕ) (stat : Stat) (a : History) (fault : OpFault) → IsPutting from to stat a a (Err fault)
+putting_none from to stat a fault = record {
+  past = extends_same a;
+  reads = λ told. record { pieces = 0; few = omega arith; asked = sym (append-nil a.asked) };
+  only = λ told. changes_passes (to ∷ []) a a (passes_same a);
+  puts = λ one told. record { pieces = 0; size = 0; mid = a; put = (refl, refl); rest = inl (passes_same a) };
+  whole = λ ours bytes can. tt;
+}
+
+pub putting_behind : (from to : List ℕ) (stat : Stat) (a b : History) → IsPutting from to stat a b (Ok None) → (result : Result (Option CopyRefusal) OpFault) → IfOk result (λ refused. refused ≡ None)
+    → IsPutting from to stat a b result
+putting_behind from to stat a b put (Ok refused) is = subst (λ (r : Option CopyRefusal). IsPutting from to stat a b (Ok r)) (sym is) put
+putting_behind from to stat a b put (Err fault) is = record {
+  past = put.past;
+  reads = put.reads;
+  only = put.only;
+  puts = λ one told.
+      let all = put.puts one told in
+      record { pieces = suc all.more; size = all.size; mid = all.put.mid; put = all.put.put; rest = inl all.put.passes };
+  whole = λ ours bytes can. tt;
+}
 
 -- ---- a piece behind the first
 

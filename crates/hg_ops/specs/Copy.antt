@@ -1,5 +1,5 @@
 -- What `copy` makes of a table and of a working copy, by its two words (Mercurial help, copy).
-use Rattle.std.specs.Prelude.{ℕ, ◌≡◌, ◌⊎◌, Bool, true, false, not, ◌&&◌, ◌||◌, if◌then◌else◌, IsTrue, List, [], ◌∷◌, Option, Some, None, is_some, MatchOption}
+use Rattle.std.specs.Prelude.{ℕ, ◌≡◌, ◌⊎◌, Bool, true, false, not, ◌&&◌, ◌||◌, if◌then◌else◌, IsTrue, List, [], ◌∷◌, Option, Some, None, is_some, Result, Err, MatchOption}
 use Rattle.std.specs.Str.{bytes_eq}
 use Rattle.hg_base.specs.PathText.{is_path}
 use Rattle.hg_base.specs.declared.stat.Stat.{Stat}
@@ -9,7 +9,7 @@ use Rattle.hg_entry.specs.Table.{Table}
 use Rattle.hg_mixed.specs.Clash.{IsLeast, clashes}
 use Rattle.hg_mixed.specs.Edits.{ArePlacedAsBefore, IsSame, PlacesCopy, after_copy}
 use Rattle.hg_mixed.specs.Held.{Held, table}
-use Rattle.hg_ops.specs.Parts.{CutsShort, HasCopy, PutsParts, WasPut}
+use Rattle.hg_ops.specs.Parts.{HasCopy, PutsAll, PutsSome}
 use Rattle.hg_ops.specs.Seen.{At, During, IsTaken, IsVacant, Known, WasStat}
 use Rattle.hg_ops.specs.Step.{after_add, is_tracked, thing_refusal}
 use Rattle.hg_ops.specs.declared.copy_refusal.CopyRefusal.{CopyRefusal}
@@ -76,9 +76,11 @@ RefusesTarget to t Knows (Some a_refusal.Exists) = (is_tracked t to ≡ true) �
 RefusesTarget to t Knows (Some (a_refusal.Clash other)) = IsUnused to t Knows × IsLeast (clashes to t.entries) (Some other)
 RefusesTarget to t Knows (Some refusal) = ⊥
 
--- what stands at the source is refused for this, or can be copied
-abbrev pub RefusesSource : List ℕ → Known → Option Refusal → Type 0
-RefusesSource from Knows refused = Knows (λ moment. thing_refusal (stat_at moment from) ≡ refused)
+-- what stands at the source is refused for this, or can be copied: by what a look showed there
+pub record RefusesSource (from : List ℕ) (Knows : Known) (refused : Option Refusal) : Type 0 where
+  pub shown : Option Stat
+  pub by_look : thing_refusal shown ≡ refused
+  pub was : Knows (λ moment. stat_at moment from ≡ shown)
 
 -- whether two paths, of which the first is tracked, are refused, by what stands at them: the first reason that fits
 abbrev pub RefusesThings : List ℕ → List ℕ → Table → Known → Option CopyRefusal → Type 0
@@ -92,37 +94,38 @@ RefusesCopy from to t Knows refused = MatchOption (words_refusal from to t) (Ref
 
 -- ---- the working copy
 
--- the caller made no step and read nothing, or a look showed the source, and then nothing was read but the source, in no more pieces of 65,536 bytes than it had
--- by that look, and each own step put a part of it
-pub record WorksBy (from to : List ℕ) (stat : Stat) (old new : History) : Type 0 where
-  pub shown : WasStat from stat old new
-  pub reads : Reads stat.size from old new
-  pub puts : PutsParts from to stat old new
-
-pub record IsIdle (old new : History) : Type 0 where
-  pub passes : Passes old new
-  pub unasked : new.asked ≡ old.asked
-
-abbrev pub OnlyCopies : List ℕ → List ℕ → History → History → Type 0
-OnlyCopies from to old new = IsIdle old new ⊎ ((stat : Stat) × WorksBy from to stat old new)
-
--- what a copy does to a working copy, whatever it answers: it changes the target alone, and directories above it
-pub record Works (from to : List ℕ) (t : Table) (before after : History) : Type 0 where
-  pub past : Extends before after
-  pub copies : IsTrue before.told → OnlyCopies from to before after
-  pub only : IsTrue before.told → ChangesOnly (to ∷ []) before after
-  -- words that are refused without a look need none
-  pub idle : is_some (words_refusal from to t) ≡ true → after ≡ before
-
 -- the looks came to this, before any step was made
 pub record Looked (from to : List ℕ) (t : Table) (before after : History) (refused : Option CopyRefusal) : Type 0 where
   pub passes : Passes before after
   pub refusal : RefusesCopy from to t (During before after) refused
 
--- how a copy ended that the looks didn't refuse: done, the first part put at place 0, or cut short
-abbrev pub Ends : List ℕ → List ℕ → Stat → History → History → History → Option CopyRefusal → Type 0
-Ends from to stat before mid after None = IsTrue before.told → WasPut from to stat 0 before mid after
-Ends from to stat before mid after (Some refusal) = IsTrue before.told → CutsShort from to stat mid after refusal
+-- the caller made no step and read nothing
+pub record IsIdle (old new : History) : Type 0 where
+  pub passes : Passes old new
+  pub unasked : new.asked ≡ old.asked
+
+-- or the looks refused nothing, and one of them showed the source; then nothing was read but the source, in no more pieces of 65,536 bytes than it had
+-- by that look, and pieces of it were put, one behind another
+pub record WorksBy (from to : List ℕ) (t : Table) (Failed : Type 0) (old new : History) : Type 0 where
+  pub mid : History
+  pub looked : Looked from to t old mid None
+  pub unasked : mid.asked ≡ old.asked
+  pub stat : Stat
+  pub shown : WasStat from stat old mid
+  pub past : Extends mid new
+  pub reads : Reads stat.size from mid new
+  pub puts : PutsSome from to stat Failed mid new
+
+abbrev pub OnlyCopies : List ℕ → List ℕ → Table → Type 0 → History → History → Type 0
+OnlyCopies from to t Failed old new = IsIdle old new ⊎ WorksBy from to t Failed old new
+
+-- what a copy does to a working copy, whatever it answers: it changes the target alone, and directories above it
+pub record Works (from to : List ℕ) (t : Table) (before after : History) (result : Result (Option CopyRefusal) OpFault) : Type 0 where
+  pub past : Extends before after
+  pub copies : IsTrue before.told → OnlyCopies from to t (result ≡ Err a_fault.TreeFailed) before after
+  pub only : IsTrue before.told → ChangesOnly (to ∷ []) before after
+  -- words that are refused without a look need none
+  pub idle : is_some (words_refusal from to t) ≡ true → after ≡ before
 
 -- the looks didn't refuse a copy, and behind them it was done or cut short
 pub record GoesOn (from to : List ℕ) (t : Table) (before after : History) (refused : Option CopyRefusal) : Type 0 where
@@ -131,7 +134,7 @@ pub record GoesOn (from to : List ℕ) (t : Table) (before after : History) (ref
   pub past : Extends mid after
   pub stat : Stat
   pub shown : IsTrue before.told → WasStat from stat before mid
-  pub ends : Ends from to stat before mid after refused
+  pub ends : PutsAll from to stat mid after refused
 
 abbrev pub Leaves : List ℕ → List ℕ → History → History → Option CopyRefusal → Type 0
 Leaves from to before after None = HasCopy from to (now before) (now after)

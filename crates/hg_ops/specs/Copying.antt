@@ -43,6 +43,6 @@ Tables from to old new (Err fault) = LeavesOrAdds to (table old) (table new)
 
 -- what a copy comes to, but for the table behind it
 pub record IsCopying (from to : List ℕ) (t : Table) (old new : History) (result : Result (Option CopyRefusal) OpFault) : Type 0 where
-  pub works : Works from to t old new
+  pub works : Works from to t old new result
   pub comes : IfOk result (Comes from to t old new)
   pub exact : IsOurs old new → IfOk result (IsExact from to t old new)

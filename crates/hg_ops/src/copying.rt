@@ -49,7 +49,7 @@ pub fn copy<T: Tree>(
     ensures places { IfOk result (λ refused. PlacesCopied from.now to.now refused mixed.old mixed.new) }
     ensures image { IsOfSameImage mixed.old mixed.new }
     ensures err { OnErr result (LeavesOrAdds to.now (table mixed.old) (table mixed.new)) }
-    ensures worked { Works from.now to.now (table mixed.old) (T.history tree.old) (T.history tree.new) }
+    ensures worked { Works from.now to.now (table mixed.old) (T.history tree.old) (T.history tree.new) result }
     ensures cause { HasOpCause (T.faults tree.old) (T.faults tree.new) result }
     ensures kind { IfErr result IsCopyFault }
 {

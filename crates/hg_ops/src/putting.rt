@@ -1,9 +1,9 @@
 //! What stands at a path is put at another, piece by piece.
 
-ghost use Rattle.std.specs.Prelude.{◌≡◌, ◌+◌, ◌≤◌, ◌<◌, ◌⊎◌, if◌then◌else◌, IfErr, IfOk, IsTrue, List, Some, length, min, nat_lt, ℕ};
+ghost use Rattle.std.specs.Prelude.{◌≡◌, ◌+◌, ◌≤◌, ◌<◌, ◌⊎◌, ◌∷◌, [], if◌then◌else◌, IfErr, IfOk, IsTrue, List, Some, false, length, min, nat_lt, true, ℕ};
 ghost use Rattle.hg_compare.specs.Same.{InPieces, Reads};
 ghost use Rattle.hg_ops.specs.Cause.{HasOpCause};
-ghost use Rattle.hg_ops.specs.Putting.{Completes, GoesPutting, IsPutting, Puts, PutsRest, PutsWhole, ReadsPiece, ReadsWhole, is_link_kind, piece_of};
+ghost use Rattle.hg_ops.specs.Putting.{Completes, FailsPiece, IsPutting, Puts, PutsOn, PutsWhole, ReadsEnd, ReadsPiece, ReadsWhole, is_link_kind, piece_of};
 ghost use Rattle.hg_ops.specs.declared.putting.Piece.TheVariants as a_piece;
 ghost use Rattle.hg_ops.specs.declared.refusal.OpFault.TheVariants as a_fault;
 ghost use Rattle.hg_tree.specs.declared.asked.Asked.{Asked};
@@ -11,6 +11,7 @@ ghost use Rattle.hg_tree.specs.declared.asked.Asked.TheVariants as an_ask;
 ghost use Rattle.hg_tree.specs.History.{Extends, IsOurs, Passes, now};
 ghost use Rattle.hg_tree.specs.Moment.{bytes_at};
 ghost use Rattle.hg_tree.specs.Own.{CanPut, IsPuttable};
+ghost use Rattle.hg_tree.specs.Touched.{ChangesOnly};
 
 use crate::copy_refusal::CopyRefusal;
 use crate::refusal::{OpFault, Refusal};
@@ -43,6 +44,7 @@ fn read_piece<T: Tree>(
     ensures found { IfOk
         result
         (ReadsPiece from.entry.text.now place (length room.old) room.new (T.history tree.new)) }
+    ensures end { IfOk result (ReadsEnd from.entry.text.now place (length room.old) (T.history tree.new)) }
     ensures whole { IsOurs (T.history tree.old) (T.history tree.new)
         → (bytes : List ℕ) → bytes_at (now (T.history tree.old)) from.entry.text.now ≡ Some bytes
         → place + length room.old ≤ length bytes
@@ -75,10 +77,16 @@ fn put_piece<T: Tree>(
     requires some { (place ≡ 0) ⊎ (0 < length room.old) }
     ensures past { Extends (T.history tree.old) (T.history tree.new) }
     ensures asked { IsTrue (T.history tree.old).told → Reads (length room.old) from.entry.text.now (T.history tree.old) (T.history tree.new) }
-    ensures goes { IsTrue (T.history tree.old).told
-        → GoesPutting from.entry.text.now to.entry.text.now stat.now (T.history tree.old) (T.history tree.new) }
-    ensures found { IsTrue (T.history tree.old).told
-        → IfOk result (Puts from.entry.text.now to.entry.text.now stat.now place (T.history tree.old) (T.history tree.new)) }
+    ensures only { IsTrue (T.history tree.old).told → ChangesOnly (to.entry.text.now ∷ []) (T.history tree.old) (T.history tree.new) }
+    ensures found { length room.old ≤ 65536
+        → IfOk
+        result
+        (Puts from.entry.text.now to.entry.text.now stat.now place (length room.old) (T.history tree.old) (T.history tree.new)) }
+    ensures failed { length room.old ≤ 65536
+        → IfErr
+        result
+        (λ fault. IsTrue (T.history tree.old).told
+        → FailsPiece from.entry.text.now to.entry.text.now stat.now place (T.history tree.old) (T.history tree.new)) }
     ensures whole { IsOurs (T.history tree.old) (T.history tree.new)
         → (bytes : List ℕ) → bytes_at (now (T.history tree.old)) from.entry.text.now ≡ Some bytes
         → place + length room.old ≤ length bytes
@@ -93,7 +101,7 @@ fn put_piece<T: Tree>(
         Err(fault) => Err(fault),
         Ok(None) => Ok(Piece::Over(CopyRefusal::Source(Refusal::NotThere))),
         Ok(Some(n)) => {
-            if (n == 0) & (place > 0) {
+            if is_end(n, place) {
                 return Ok(Piece::End);
             }
             match tree.put(to, stat.kind, stat.exec, place, &room[..n]) {
@@ -103,6 +111,14 @@ fn put_piece<T: Tree>(
             }
         }
     }
+}
+
+// Whether a read of so many bytes says that nothing is left behind pieces that were put.
+fn is_end(n: usize, place: u64) -> bool
+    ensures end { result ≡ true → (n ≡ 0) × (0 < place) }
+    ensures more { result ≡ false → (place ≡ 0) ⊎ (0 < n) }
+{
+    (n == 0) & (place > 0)
 }
 
 // What came of a piece that was put with so many bytes.
@@ -137,10 +153,8 @@ fn put_rest<T: Tree>(
     ensures asked { IsTrue (T.history tree.old).told
         → (before : List Asked) → InPieces first (an_ask.Read from.entry.text.now) before (T.history tree.old).asked
         → InPieces stat.now.size (an_ask.Read from.entry.text.now) before (T.history tree.new).asked }
-    ensures goes { IsTrue (T.history tree.old).told
-        → GoesPutting from.entry.text.now to.entry.text.now stat.now (T.history tree.old) (T.history tree.new) }
-    ensures ends { IsTrue (T.history tree.old).told
-        → IfOk result (PutsRest from.entry.text.now to.entry.text.now stat.now (T.history tree.old) (T.history tree.new)) }
+    ensures only { IsTrue (T.history tree.old).told → ChangesOnly (to.entry.text.now ∷ []) (T.history tree.old) (T.history tree.new) }
+    ensures puts { PutsOn from.entry.text.now to.entry.text.now stat.now first (T.history tree.old) (T.history tree.new) result }
     ensures whole { IsOurs (T.history tree.old) (T.history tree.new)
         → Completes from.entry.text.now to.entry.text.now stat.now first (T.history tree.old) (T.history tree.new) result }
     ensures cause { HasOpCause (T.faults tree.old) (T.faults tree.new) result }
