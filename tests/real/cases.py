@@ -150,7 +150,7 @@ class World:
         can = self.is_runnable(words, wanted)
         answer = self.run(words) if can else None
         self.is_known &= can or not is_changing(words)
-        self.failing -= {b"out", b"err", b"regexps"}
+        self.failing -= {b"in", b"out", b"err", b"regexps"}
         self.is_due = False
         return answer
 

@@ -257,9 +257,9 @@ def run_bad_paths(tests):
         tests.compare("a bad path between others", tests.run(root, ("add", "gone", "/a", "a")), (1, b"", lines("add gone: no such file", "add /a: bad path") + further(ABSOLUTE)))
         for words, said in ((("/a", "../b"), ["copy /a: bad path"]), (("a", "../b"), ["copy ../b: bad path"]), (("", "b"), ["copy : bad path"]), (("a", "d/"), ["copy d/: bad path"])):
             kind = {"/": ABSOLUTE, ".": OUTSIDE, "d": DIRECTORY, ":": EMPTY}[said[0][5]]
-            # (of two words that are no paths both are told what to do about)
-            both = further(OUTSIDE) if words == ("/a", "../b") else b""
-            tests.compare(f"bad paths: copy {words!r}", tests.run(root, ("copy", *words)), (1, b"", lines(*said) + further(kind) + both))
+            tests.compare(f"bad paths: copy {words!r}", tests.run(root, ("copy", *words)), (1, b"", lines(*said) + further(kind)))
+        # (of a source that is no path, and of which nothing is said, nothing is said of the target either)
+        tests.compare("bad paths: copy 'd//e' '../b'", tests.run(root, ("copy", "d//e", "../b")), (1, b"", lines("copy d//e: bad path")))
         tests.compare("no path is bad", tests.run(root, ("add", "d", "a")), (1, b"", lines("add d: not a file")))
         tests.compare("a bad path, and what stands before it stopped the command", tests.run(root, ("add", "/a", "-x")), (255, b"", aborted("wrong arguments")))
 

@@ -235,6 +235,7 @@ pub(crate) fn fail(world: &mut World, device: &str, call: u64) -> Result<(), Wro
             let call = world.shelf.device.calls().saturating_add(call);
             world.shelf.device.fail_at(call)?;
         }
+        "in" => world.streams.in_fails = Some(call),
         "out" => world.streams.out_fails = Some(call),
         "err" => world.streams.err_fails = Some(call),
         "regexps" => world.streams.regexps_fail = Some(call),

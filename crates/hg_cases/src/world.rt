@@ -22,6 +22,7 @@ pub(crate) const NOON: Time = Time {
 pub(crate) struct Streams {
     pub pieces: usize,
     pub input: Vec<u8>,
+    pub in_fails: Option<u64>,
     pub out_fails: Option<u64>,
     pub err_fails: Option<u64>,
     pub regexps_fail: Option<u64>,
@@ -33,6 +34,7 @@ impl Streams {
         Streams {
             pieces: 3,
             input: Vec::new(alloc),
+            in_fails: None,
             out_fails: None,
             err_fails: None,
             regexps_fail: None,
@@ -41,6 +43,7 @@ impl Streams {
 
     // What fails fails in one run.
     fn forget(&mut self) {
+        self.in_fails = None;
         self.out_fails = None;
         self.err_fails = None;
         self.regexps_fail = None;
@@ -132,12 +135,19 @@ fn builds(fails: Option<u64>) -> Builds {
     regexps
 }
 
+fn source_of(alloc: Global, streams: &Streams) -> Result<MemSource, OutOfMemory> {
+    let mut source = MemSource::new(alloc, streams.input.as_slice(), streams.pieces.max(1))?;
+    if let Some(call) = streams.in_fails {
+        source.fail_at(call)?;
+    }
+    Ok(source)
+}
+
 fn ends_of(alloc: Global, streams: &Streams) -> Result<Ends, OutOfMemory> {
     let out = sink_of(alloc, streams.pieces, streams.out_fails)?;
     let err = sink_of(alloc, streams.pieces, streams.err_fails)?;
-    let input = MemSource::new(alloc, streams.input.as_slice(), streams.pieces.max(1))?;
     Ok(Ends {
-        input,
+        input: source_of(alloc, streams)?,
         out,
         err,
         regexps: builds(streams.regexps_fail),

@@ -1,4 +1,5 @@
 pub mod Found
 pub mod Fronts
+pub mod NoPaths
 pub mod Told
 pub mod Stopping

@@ -1,9 +1,8 @@
 -- What words become in a folder.
-use Rattle.std.proofs.Common.{ℕ, ◌≡◌, ◌≢◌, ◌<◌, List, length, map, Option, Some, Ok, refl, sym, ap, ◌∙◌, arith, subst}
+use Rattle.std.proofs.Common.{ℕ, ◌≡◌, ◌≢◌, ◌<◌, List, length, Option, Some, Ok, sym, ap, ◌∙◌, arith, subst}
 use Rattle.std.proofs.lemmas.List.{length-map}
 use Rattle.hg_words.specs.Command.{command_of}
 use Rattle.hg_words.specs.Given.{files_of, located, spelled}
-use Rattle.hg_words.specs.Told.{from_folder}
 use Rattle.hg_words.specs.declared.given.Command.{Command}
 use Rattle.hg_words.proofs.Again.{located_keeps, spelled_reads}
 use Rattle.hg_front.specs.Placed.{IsPlaced, reached, read_as}

@@ -43,6 +43,6 @@ path_advice a_mark.Outside = Some (codes "a path outside the working copy can't 
 path_advice a_mark.Directory = Some (codes "a directory isn't tracked, its files are: without a slash at the end")
 path_advice a_mark.LineBreak = None
 
--- behind the lines of refused words, where some word has the mark
+-- behind the lines of refused words, where one of those that may be refused as no paths has the mark
 abbrev pub behind_words : List (List ℕ) → Mark → Option (List ℕ)
-behind_words files mark = option_and_then (λ word. path_advice mark) (find (has mark) files)
+behind_words refusable mark = option_and_then (λ word. path_advice mark) (find (has mark) refusable)

@@ -1,10 +1,12 @@
 -- What the words of a command are in the folder where it is started.
-use Rattle.std.specs.Prelude.{ℕ, ◌≡◌, ◌<◌, Bool, false, List, [], Option, Some, None, Result, Ok, Err, length}
+use Rattle.std.specs.Prelude.{ℕ, ◌≡◌, ◌<◌, Bool, false, if◌then◌else◌, List, [], ◌∷◌, Option, Some, None, Result, Ok, Err, length}
 use Rattle.std.specs.Option.{option_map_or, unwrap_or}
+use Rattle.hg_base.specs.PathText.{is_path}
 use Rattle.hg_words.specs.Command.{command_of}
 use Rattle.hg_words.specs.Given as given
 use Rattle.hg_words.specs.declared.fault.WordsFault.{WordsFault}
 use Rattle.hg_words.specs.declared.given.Command.{Command}
+use Rattle.hg_words.specs.declared.given.Command.TheVariants as a_command
 use Rattle.hg_front.specs.declared.placing.Placed.{Placed}
 
 -- a command in a folder has its file words as the paths that they tell there; words that are none stay it
@@ -26,6 +28,14 @@ pub record HasFiles (words : List (List ℕ)) : Type 0 where
 -- the file words of what was placed, and whether it changes the record
 abbrev pub files : Placed → List (List ℕ)
 files placed = option_map_or given.files_of placed.command []
+
+-- the file words that a command refuses where they are no paths: of a copy the source alone where that is none, else the target alone
+abbrev pub refusable_of : Command → List (List ℕ)
+refusable_of (a_command.Copy source target) = (if is_path source then target else source) ∷ []
+refusable_of command = given.files_of command
+
+abbrev pub refusable : Placed → List (List ℕ)
+refusable placed = option_map_or refusable_of placed.command []
 
 abbrev pub changes : Placed → Bool
 changes placed = option_map_or given.changes placed.command false

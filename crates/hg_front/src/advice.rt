@@ -7,7 +7,7 @@ ghost use Rattle.hg_front.specs.Placed as placed_words;
 
 use crate::carrying::Ran;
 use crate::further::explain;
-use crate::marks::{Mark, first_with};
+use crate::marks::{Mark, first_refusable};
 use crate::placing::Placed;
 use hg_docket::DocketFault;
 use hg_report::Fault;
@@ -48,11 +48,11 @@ fn behind_fault<'a>(fault: &Fault, tree: Option<&'a str>, shelf: Option<&'a str>
     }
 }
 
-// What is said of words that have a mark by which they are no paths.
+// What is said of refused words that have a mark by which they are no paths.
 fn behind_words(placed: &Placed, mark: Mark) -> Option<&'static str>
-    ensures { option_map (λ text. text.now) result ≡ advices.behind_words (placed_words.files placed.now) mark }
+    ensures { option_map (λ text. text.now) result ≡ advices.behind_words (placed_words.refusable placed.now) mark }
 {
-    first_with(placed, mark)?;
+    first_refusable(placed, mark)?;
     match mark {
         Mark::Nothing => Some("an empty word is no path"),
         Mark::Absolute => {

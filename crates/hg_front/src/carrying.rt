@@ -2,8 +2,10 @@
 
 ghost use Rattle.std.specs.Prelude.{◌≡◌, false, IfErr, IfNone, IfOk, IfSome, Some};
 ghost use Rattle.std.specs.Option.{option_map};
+ghost use Rattle.hg_base.specs.Fault.{Rose};
 ghost use Rattle.hg_cli.specs.Script.{RunsWords, is_script};
 ghost use Rattle.hg_front.specs.Carried.{Begins, IsCarried};
+ghost use Rattle.hg_report.specs.declared.fault.Fault.TheVariants as a_fault;
 
 use crate::placing::{Placed, place, unreached};
 use crate::start::{stopped_inside, stopped_outside};
@@ -83,6 +85,9 @@ pub fn carry<R: Files + AllocGlobal, T: Tree, S: Shelf, G: Regexps, I: Source, O
         fault)) }
     // Else nothing is looked at, saved or put to `out`.
     ensures stopped { IfErr result (λ status. (status ≡ 255) × (tree.new ≡ tree.old) × (shelf.new ≡ shelf.old) × (out.new ≡ out.old) × (input.new ≡ input.old)) }
+    // The input is told to have failed only where its count of failures rose.
+    ensures failing { IfOk result (λ ran. ran.outcome.fault ≡ Some a_fault.InFailed → Rose (I.faults input.old) (I.faults input.new)) }
+    // Nobody looks at the input but a script.
     ensures unread { IfOk result (λ ran. is_script ran.placed.words ≡ false → input.new ≡ input.old) }
 {
     let alloc = rt.alloc();

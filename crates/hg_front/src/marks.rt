@@ -1,13 +1,15 @@
 //! What is looked for in the file words of a command.
 
-ghost use Rattle.std.specs.Prelude.{◌≡◌};
+ghost use Rattle.std.specs.Prelude.{◌≡◌, if◌then◌else◌};
 ghost use Rattle.std.specs.List.{find};
 ghost use Rattle.std.specs.Option.{option_map};
+ghost use Rattle.hg_base.specs.PathText.{is_path};
 ghost use Rattle.hg_front.specs.Marks as marks;
 ghost use Rattle.hg_front.specs.Placed as placed_words;
 ghost use Rattle.hg_words.specs.Given as given;
 
 use crate::placing::Placed;
+use hg_base::{PathRef, Text};
 use hg_words::Command;
 
 /// What a word may have.
@@ -75,6 +77,40 @@ pub(crate) fn first_with(placed: &Placed, mark: Mark) -> Option<&str>
 {
     match &placed.command {
         Some(command) => first_in(command, mark),
+        None => None,
+    }
+}
+
+// The word of a copy that is refused where it is no path: the target only where the source is one.
+#[tactic(auto, using(crate::proofs::NoPaths::refused_is_none))]
+fn refusable_of_copy<'a>(source: &'a Text, target: &'a Text) -> &'a Text
+    ensures { result.now ≡ (if is_path source.now then target.now else source.now) }
+{
+    match PathRef::read(source.as_str()) {
+        Ok(_) => target,
+        Err(_) => source,
+    }
+}
+
+// The same as `first_in`, of the file words that are refused where they are no paths.
+fn first_refusable_in(command: &Command, mark: Mark) -> Option<&str>
+    ensures { option_map (λ word. word.now) result ≡ find (marks.has mark) (placed_words.refusable_of command.now) }
+{
+    match command {
+        Command::Copy { source, target } => {
+            let word = refusable_of_copy(source, target).as_str();
+            if has(mark, word) { Some(word) } else { None }
+        }
+        _ => first_in(command, mark),
+    }
+}
+
+/// The first file word that has the mark, of those that are refused where they are no paths.
+pub(crate) fn first_refusable(placed: &Placed, mark: Mark) -> Option<&str>
+    ensures { option_map (λ word. word.now) result ≡ find (marks.has mark) (placed_words.refusable placed.now) }
+{
+    match &placed.command {
+        Some(command) => first_refusable_in(command, mark),
         None => None,
     }
 }

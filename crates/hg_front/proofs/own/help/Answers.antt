@@ -1,4 +1,4 @@
-use Rattle.std.proofs.Common.{◌≡◌, ◌++◌, ◌∙◌, ap, map, take_all}
+use Rattle.std.proofs.Common.{◌++◌, ◌∙◌, ap, map, take_all}
 use Rattle.std.specs.List.{flat_map}
 use Rattle.hg_words.specs.Help.{help_of}
 use Rattle.hg_front.specs.Words.{help_head, help_tail, row_text}

@@ -1,7 +1,6 @@
-use Rattle.std.proofs.Common.{◌≡◌, ℕ, List, Option, Some, None, option_map, refl, ap, string_bytes, rules}
-use Rattle.hg_front.specs.Guard.{Reason, refusal}
+use Rattle.std.proofs.Common.{◌≡◌, Some, None, option_map, string_bytes, rules}
+use Rattle.hg_front.specs.Guard.{refusal}
 use Rattle.hg_front.specs.Placed.{changes, files}
-use Rattle.hg_front.specs.Refusing.{Stops}
 use Rattle.hg_front.proofs.Stopping.{stops_not, stops_so}
 use Rattle.hg_front.proofs.start.stopped_by.Goals as goal
 

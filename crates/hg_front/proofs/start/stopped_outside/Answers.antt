@@ -1,4 +1,4 @@
-use Rattle.std.proofs.Common.{◌≡◌, Some, None, true, false, refl, sym, ap, ◌∙◌}
+use Rattle.std.proofs.Common.{◌≡◌, Some, true, false, refl, sym, ap, ◌∙◌}
 use Rattle.hg_front.specs.Placed.{changes}
 use Rattle.hg_front.proofs.start.stopped_outside.Goals as goal
 
