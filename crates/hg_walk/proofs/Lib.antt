@@ -1,9 +1,12 @@
 pub mod Again
+pub mod Applied
 pub mod Cached
 pub mod Growing
 pub mod Keeps
 pub mod Listed
 pub mod Noted
+pub mod OneNote
 pub mod Parts
 pub mod Vouched
+pub mod Written
 pub mod Example

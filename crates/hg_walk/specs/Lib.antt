@@ -1,8 +1,11 @@
+pub mod Applying
 pub mod EditLaws
 pub mod Keeping
 pub mod Laws
 pub mod Notes
+pub mod Noting
 pub mod Right
 pub mod Seeing
 pub mod Trust
 pub mod Worked
+pub mod Writing

@@ -12,15 +12,23 @@
 //! | right | where a time is taken for a look, it says what the look would have shown | `specs/Right.antt` |
 //! | earned | what a walk notes was seen by it | `specs/Notes.antt` |
 //!
-//! Trust is a premise on the history at the start of a call, honesty on that at its end. The functions of this crate are laws: each has an empty
-//! body, and its clause is the law.
+//! Trust is a premise on the history at the start of a call, honesty on that at its end. `Notes` is the record of what a walk notes, and `apply` writes
+//! it into a table; the other functions are laws: each has an empty body, and its clause is the law.
 #![tactic(auto)]
 
+mod applying;
+mod clean;
 mod edits;
 mod laws;
+mod notes;
+mod noting;
 
+pub use applying::apply;
+pub use clean::Clean;
 pub use edits::{caches_are_kept, times_are_kept};
 pub use laws::{
     good_with_notes, listed_is_seen, noted_is_earned, notes_are_trusted, notes_grow,
     right_in_parts, timeless_are_right, trust_stays, trusted_are_right, worked_case,
 };
+pub use notes::Notes;
+pub use noting::ListedDir;
