@@ -1,5 +1,6 @@
 pub mod Again
 pub mod Cached
+pub mod Finds
 pub mod Growing
 pub mod Keeps
 pub mod Listed

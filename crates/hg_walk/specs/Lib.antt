@@ -1,4 +1,5 @@
 pub mod EditLaws
+pub mod Finding
 pub mod Keeping
 pub mod Laws
 pub mod Notes
