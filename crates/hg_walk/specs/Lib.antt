@@ -1,5 +1,6 @@
 pub mod Applying
 pub mod EditLaws
+pub mod Finding
 pub mod Keeping
 pub mod Laws
 pub mod Notes

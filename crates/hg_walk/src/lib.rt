@@ -11,14 +11,21 @@
 //! | trusted | each recorded time that could be taken for a look was seen with what it stands for | `specs/Trust.antt` |
 //! | right | where a time is taken for a look, it says what the look would have shown | `specs/Right.antt` |
 //! | earned | what a walk notes was seen by it | `specs/Notes.antt` |
+//! | found | the letter that a path has by its entry or by a comparison, and the time that is noted of it | `specs/Finding.antt` |
 //!
-//! Trust is a premise on the history at the start of a call, honesty on that at its end. `Notes` is the record of what a walk notes, and `apply` writes
-//! it into a table; the other functions are laws: each has an empty body, and its clause is the law.
+//! Trust is a premise on the history at the start of a call, honesty on that at its end. `find` reads no file whose entry vouches for what a look
+//! shows; where it compares, it notes the time. `Notes` is the record of what a walk notes, and `apply` writes it into a table. The other functions
+//! are laws: each has an empty body, and its clause is the law.
+//!
+//! ```text
+//! find(alloc, &mut tree, &mut shelf, path, &entry, false, &stat, boundary, &mut parent)?;  // Found { letter: C, stamp: None }: its entry vouches
+//! ```
 #![tactic(auto)]
 
 mod applying;
 mod clean;
 mod edits;
+mod finding;
 mod laws;
 mod notes;
 mod noting;
@@ -26,6 +33,7 @@ mod noting;
 pub use applying::apply;
 pub use clean::Clean;
 pub use edits::{caches_are_kept, times_are_kept};
+pub use finding::{Found, find};
 pub use laws::{
     good_with_notes, listed_is_seen, noted_is_earned, notes_are_trusted, notes_grow,
     right_in_parts, timeless_are_right, trust_stays, trusted_are_right, worked_case,
