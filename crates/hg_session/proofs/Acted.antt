@@ -73,7 +73,7 @@ none_refused name (deed ∷ more) none =
 -- ---- one word more
 
 module _ (name : List ℕ) (Steps : Stepping) (mid after : History) (last : Deed) where
-  abbrev steps_more : (before : History) (deeds : List Deed) (old between new : Table) → AllSteps Steps before mid deeds old between
+  abbrev pub steps_more : (before : History) (deeds : List Deed) (old between new : Table) → AllSteps Steps before mid deeds old between
       → IsStep Steps mid after last between new → AllSteps Steps before after (deeds ++ last ∷ []) old new
   steps_more before [] old between new steps step = (
     after,
@@ -94,7 +94,7 @@ module _ (name : List ℕ) (Steps : Stepping) (mid after : History) (last : Deed
       let rest = idle_more steps.0 more steps.1 between new steps.3 step idle.1 in
       ((idle.0, rest.0), rest.1)
 
-  words_more : (deeds : List Deed) → map (λ (deed : Deed). deed.word) deeds ++ last.word ∷ [] ≡ map (λ (deed : Deed). deed.word) (deeds ++ last ∷ [])
+  pub words_more : (deeds : List Deed) → map (λ (deed : Deed). deed.word) deeds ++ last.word ∷ [] ≡ map (λ (deed : Deed). deed.word) (deeds ++ last ∷ [])
   words_more [] = refl
   words_more (deed ∷ more) = ap (λ (l : List (List ℕ)). deed.word ∷ l) (words_more more)
 

@@ -24,10 +24,10 @@ use Rattle.hg_save.specs.declared.loaded.Loaded.{Loaded}
 use Rattle.hg_save.proofs.Loads.{found_longer, last_within, tries_longer}
 use Rattle.hg_save.proofs.Published.{keeps_front}
 use Rattle.hg_save.proofs.Spans.{files_front}
-use Rattle.hg_session.specs.Acts.{AsksBehind, Makes}
+use Rattle.hg_session.specs.Acts.{AsksBehind, ChangesTree, Makes}
 use Rattle.hg_session.specs.Anew.{CanWrite, IsOpened, IsOverwritten, IsRecorded, LoadsOrRefuses, MetWriting, WritesOnly}
 use Rattle.hg_session.specs.Call.{Fails, IsLeftAlone, Watched}
-use Rattle.hg_session.specs.Change.{AsksChange, FitsFirst, IsDone, IsKept, IsMade, IsPublished, IsReadFirst, IsReadSome, IsSafeHeld, IsToBlame, IsUnwritten, IsWritten, MetChanging, up_to}
+use Rattle.hg_session.specs.Change.{AsksChange, ChangesBehind, FitsFirst, IsDone, IsKept, IsMade, IsPublished, IsReadFirst, IsReadSome, IsSafeHeld, IsToBlame, IsUnwritten, IsWritten, MetChanging, up_to}
 use Rattle.hg_session.specs.Load.{by_load}
 use Rattle.hg_session.specs.Loaded.{AsksRecord, NodesFind, Refuses}
 use Rattle.hg_session.specs.declared.change_fault.ChangeFault.{ChangeFault}
@@ -167,6 +167,11 @@ module _ (a b c : Course) (passes : Passes a.history b.history) (goes : Goes b c
   -- the working copy was looked at behind it
   pub read_some : IsReadSome (record { old = a.history; new = c.history; before = 0; after = 0 })
   read_some = λ told. (recorded, read_first told)
+
+  -- what becomes of the working copy behind it
+  pub changes_by : (command : Command) (copy : Watched tree.History) (opened : Held) (begun : IsOpened (docket_of loaded.docket.items) recorded opened) → ChangesTree command (table opened) copy
+      → ChangesBehind command copy (record { old = a.history; new = c.history; before = 0; after = 0 })
+  changes_by command copy opened begun changes = inr (recorded, read_first, subst (λ (t : Table). ChangesTree command t copy) (one_table (table opened) recorded begun.same) changes)
 
   -- what was asked for, the record first
   pub asks_by : (command : Command) (copy : Watched tree.History) (opened : Held) (begun : IsOpened (docket_of loaded.docket.items) recorded opened) (mid : History) → Extends mid b.history → c.history.asked ≡ b.history.asked

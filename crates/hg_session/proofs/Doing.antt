@@ -1,15 +1,17 @@
 -- What a command did over a table in memory, from what its words came to.
-use Rattle.std.proofs.Common.{ℕ, ◌≡◌, ◌<◌, ◌⊎◌, Bool, false, List, [], ◌++◌, Result, Ok, Err, Vec, Global, IfErr, IfOk, OnOk, IsTrue, refl, sym, subst, inl, inr, arith}
+use Rattle.std.proofs.Common.{ℕ, ◌≡◌, ◌<◌, ◌⊎◌, Bool, false, List, [], ◌++◌, Option, Result, Ok, Err, Vec, Global, IfErr, IfOk, OnOk, IsTrue, refl, sym, subst, inl, inr, arith}
 use Rattle.hg_append.specs.declared.fault.EncodeFault.{EncodeFault}
 use Rattle.hg_append.specs.declared.fault.EncodeFault.TheVariants as an_encode
-use Rattle.hg_base.specs.Fault.{HasCause}
+use Rattle.hg_base.specs.Fault.{HasCause, Rose}
 use Rattle.hg_base.specs.declared.id.Id20.{Id20}
 use Rattle.hg_entry.specs.Table.{Table}
 use Rattle.hg_manifest.specs.Load.{asks_of}
 use Rattle.hg_mixed.specs.Edits.{IsOfSameImage, IsSame}
 use Rattle.hg_mixed.specs.Held.{Held, table}
-use Rattle.hg_ops.specs.Copy.{IsCopyFault}
+use Rattle.hg_ops.specs.Cause.{HasOpCause}
+use Rattle.hg_ops.specs.Copy.{IsCopyFault, Works}
 use Rattle.hg_ops.specs.Parent.{AsksStore}
+use Rattle.hg_ops.specs.declared.copy_refusal.CopyRefusal.{CopyRefusal}
 use Rattle.hg_ops.specs.declared.refusal.OpFault.{OpFault}
 use Rattle.hg_ops.specs.declared.refusal.OpFault.TheVariants as an_op
 use Rattle.hg_ops.proofs.Added.{same_table}
@@ -17,8 +19,7 @@ use Rattle.hg_report.specs.Cause.{of_encode, of_op}
 use Rattle.hg_session.specs.Anew.{MetWriting}
 use Rattle.hg_session.specs.Change.{IsEarly, of_change}
 use Rattle.hg_session.specs.declared.change_fault.ChangeFault.{ChangeFault}
-use Rattle.hg_session.proofs.TakenWords.{takes_none_yet}
-use Rattle.hg_session.specs.Acts.{ActsOn, ChangesTree, IsActed, IsCopied, IsNothingMade, IsRemoved, IsTreeFault, NeedsSome, OnlyPuts, OnlyTakes, StopsRemoving, name, span_of, steps_of}
+use Rattle.hg_session.specs.Acts.{ActsOn, IsActed, IsCopied, IsNothingMade, IsRemoved, IsTreeFault, NeedsSome, OnlyLooks, OnlyPuts, OnlyTakes, StopsRemoving, name, span_of, steps_of}
 use Rattle.hg_session.specs.Call.{IsLeftAlone, Watched}
 use Rattle.hg_session.specs.Manifests.{IsReparented, StopsParents}
 use Rattle.hg_session.specs.declared.acting.Changing.TheVariants as a_change
@@ -26,8 +27,6 @@ use Rattle.hg_shelf.specs.Asks.{AsksFrontOf}
 use Rattle.hg_shelf.specs.History as shelf
 use Rattle.hg_shelf.proofs.Histories as shelves
 use Rattle.hg_tree.specs.History as tree
-use Rattle.hg_tree.proofs.Histories.{extends_same}
-use Rattle.hg_tree.proofs.Spans as trees
 use Rattle.hg_words.specs.declared.given.Command.{Command}
 use Rattle.hg_words.specs.declared.given.Command.TheVariants as a_command
 
@@ -75,7 +74,7 @@ module _ (copy : Watched tree.History) (h : shelf.History) (count : ℕ) (old ne
 
   pub acts_add : (command : Command) (words : List (List ℕ)) → command ≡ a_command.Add words
       → (old.changed ≡ false → IfOk result (λ lines. IsActed (name a_change.Add) (steps_of a_change.Add) words copy (table old) (table new) lines.items new.changed))
-      → ChangesTree (a_command.Add words) copy → ActsOn command copy still old new result
+      → OnlyLooks copy → ActsOn command copy still old new result
   acts_add command words is does changes = subst (λ (c : Command). ActsOn c copy still old new result) (sym is) (record {
     does = does;
     stops = λ unset. kind;
@@ -107,7 +106,7 @@ module _ (copy : Watched tree.History) (h : shelf.History) (count : ℕ) (old ne
 
   pub acts_copy : (command : Command) (source target : List ℕ) → command ≡ a_command.Copy source target
       → (old.changed ≡ false → IfOk result (λ line. IsCopied source target copy (table old) (table new) line.items new.changed))
-      → OnlyPuts source target copy → ActsOn command copy still old new result
+      → OnlyPuts source target (table old) copy → ActsOn command copy still old new result
   acts_copy command source target is does puts = subst (λ (c : Command). ActsOn c copy still old new result) (sym is) (record {
     does = does;
     stops = λ unset. kind;
@@ -126,8 +125,8 @@ module _ (copy : Watched tree.History) (h : shelf.History) (count : ℕ) (old ne
 pub acts_remove : (copy : Watched tree.History) (files : Watched shelf.History) (old new : Held) (result : Result (Vec ℕ Global) OpFault) (command : Command) (after : Bool) (words : List (List ℕ))
     → command ≡ a_command.Remove after words
     → (old.changed ≡ false → IfOk result (λ lines. IsRemoved after words copy files (table old) (table new) lines.items new.changed))
-    → (old.changed ≡ false → IfErr result (StopsRemoving after words copy files (table old))) → IsOfSameImage old new → OnlyTakes after words copy → shelf.Passes files.old files.new
-    → (IsTrue files.old.told → (files.new.asked ≡ files.old.asked) ⊎ (NeedsSome after words copy × AsksStore (span_of (table old) files.old files.new))) → HasCause copy.before copy.after result (λ e. e ≡ an_op.TreeFailed)
+    → (old.changed ≡ false → IfErr result (StopsRemoving after words copy files (table old))) → IsOfSameImage old new → OnlyTakes after words (table old) copy → shelf.Passes files.old files.new
+    → (IsTrue files.old.told → (files.new.asked ≡ files.old.asked) ⊎ (NeedsSome after words (table old) copy × AsksStore (span_of (table old) files.old files.new))) → HasCause copy.before copy.after result (λ e. e ≡ an_op.TreeFailed)
     → (copy.before < copy.after → result ≡ Err an_op.TreeFailed) → HasCause files.before files.after result (λ e. e ≡ an_op.ShelfFailed) → ActsOn command copy files old new result
 acts_remove copy files old new result command after words is does stops image takes passes asked cause failed shelf_cause = subst (λ (c : Command). ActsOn c copy files old new result) (sym is) (record {
   does = does;
@@ -196,17 +195,6 @@ module _ (h : tree.History) (count : ℕ) (files : shelf.History) (counted : ℕ
     shelf_cause = record { later = omega arith; quiet = refl; rose = tt };
   }
 
--- a tree that wasn't asked for anything is as each command may leave it
-pub changes_none : (command : Command) (h : tree.History) (count : ℕ) → ChangesTree command (record { old = h; new = h; before = count; after = count })
-changes_none (a_command.Add words) h count = record { passes = trees.passes_same h; asked = λ told. refl }
-changes_none (a_command.Remove after words) h count = takes_none_yet after words h count
-changes_none (a_command.Copy source target) h count = record {
-  past = extends_same h;
-  copies = λ told. inl (record { passes = trees.passes_same h; unasked = refl });
-  only = λ told k from upto. absurd (omega (arith, from, upto));
-}
-changes_none command h count = record { history = refl; count = refl }
-
 -- ---- faults that are met before the working copy is looked at
 
 pub op_late : {Q : Type 0} (fault : OpFault) → IsEarly (of_op fault) → Q
@@ -227,3 +215,40 @@ encode_late an_encode.IdsSpent early = absurd early
 pub writing_late : {Q : Type 0} (held : Held) (before after : ℕ) (fault : ChangeFault) → MetWriting held before after fault → IsEarly (of_change fault) → Q
 writing_late held before after fault (inl (e, is, cause, set)) early = encode_late e (subst (λ (f : ChangeFault). IsEarly (of_change f)) is early)
 writing_late held before after fault (inr (is, rose)) early = absurd (subst (λ (f : ChangeFault). IsEarly (of_change f)) is early)
+
+-- ---- the copy
+
+-- the tree failed where its fault is answered
+copy_failed : (result : Result (Option CopyRefusal) OpFault) (before after : ℕ) → HasOpCause before after result → result ≡ Err an_op.TreeFailed → Rose before after
+copy_failed (Ok refused) before after cause is = absurd (cc is)
+copy_failed (Err an_op.TreeFailed) before after cause is = cause.1
+copy_failed (Err fault) before after cause is = absurd (cc is)
+
+pub puts_of : (source target : List ℕ) (loaded : Table) (result : Result (Option CopyRefusal) OpFault) (copy : Watched tree.History) → HasOpCause copy.before copy.after result
+    → Works source target loaded copy.old copy.new result → OnlyPuts source target loaded copy
+puts_of source target loaded result copy cause works = record {
+  past = works.past;
+  copies = λ told. elim (works.copies told) [
+    | inl idle ↦ inl idle
+    | inr by ↦ inr (record {
+      mid = by.mid;
+      looked = by.looked;
+      unasked = by.unasked;
+      stat = by.stat;
+      shown = by.shown;
+      past = by.past;
+      reads = by.reads;
+      puts = record {
+        pieces = by.puts.pieces;
+        size = by.puts.size;
+        mid = by.puts.mid;
+        put = by.puts.put;
+        rest = elim by.puts.rest [
+          | inl passes ↦ inl passes
+          | inr (is, front) ↦ inr (copy_failed result copy.before copy.after cause is, front)
+        ];
+      };
+    })
+  ];
+  only = works.only;
+}

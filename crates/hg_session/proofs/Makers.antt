@@ -86,6 +86,7 @@ module _ (part whole : Watched History) (before : Extends whole.old part.old) (b
     end = is.end;
     within = extends_trans is.end part.new whole.new is.within behind;
     met = is.met;
+    stopped = is.stopped;
   })
   stopped_wide after words copy old fault (inr is) = inr (record {
     is = is.is;

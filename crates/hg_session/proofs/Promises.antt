@@ -17,9 +17,9 @@ use Rattle.hg_append.specs.declared.fault.EncodeFault.TheVariants as an_encode
 use Rattle.hg_ops.specs.declared.refusal.OpFault.{OpFault}
 use Rattle.hg_ops.specs.declared.refusal.OpFault.TheVariants as an_op
 use Rattle.hg_report.specs.Cause.{of_op}
-use Rattle.hg_session.specs.Acts.{ChangesTree, Makes}
+use Rattle.hg_session.specs.Acts.{Makes}
 use Rattle.hg_session.specs.Call.{Call, Count, Fails, IsLeftAlone, Saved, Serves, Watched}
-use Rattle.hg_session.specs.Change.{FailsOrUnwritten, Fits, FitsFirst, IsDone, IsEarly, IsLocked, IsMade, IsReadFirst, IsReadSome, IsSafe, MayFollowWriting, AsksChange, MetChanging, MetDoing, MetLocking, MetStop, NoneOurs, Stretch, id_read, makes_in, of_change, up_to}
+use Rattle.hg_session.specs.Change.{ChangesBehind, FailsOrUnwritten, Fits, FitsFirst, IsDone, IsEarly, IsLocked, IsMade, IsReadFirst, IsReadSome, IsSafe, MayFollowWriting, AsksChange, MetChanging, MetDoing, MetLocking, MetStop, NoneOurs, Stretch, id_read, makes_in, of_change, up_to}
 use Rattle.hg_session.specs.Changed.{IsChangeText, IsExpectedChange, IsMadeOf, IsStoppedFor, RanChange, change_look, status_of}
 use Rattle.hg_session.proofs.Records.{puts_none}
 use Rattle.hg_session.specs.Look.{LeavesAt, Stage, at_first, at_saving, at_telling}
@@ -176,7 +176,7 @@ not_err a_change_fault.ShelfFailed is = cc is
 -- ---- the whole command
 
 module _ (command : Command) (copy : Watched tree.History) (a b : Course) (before after : ℕ) (locks oversize : Count) (out err : Watched (Option (List ℕ)))
-    (silent : IsSilent out) (uncounted : oversize.after ≡ oversize.before) (changes : ChangesTree command copy)
+    (silent : IsSilent out) (uncounted : oversize.after ≡ oversize.before) (changes : ChangesBehind command copy (record { old = a.history; new = b.history; before = before; after = after }))
     (behind : IsLeftAlone copy ⊎ IsReadSome (record { old = a.history; new = b.history; before = before; after = after })) (asked : IsTrue a.history.told → AsksChange command copy a.history b.history) (kept : Goes a b) where
   abbrev call : Call
   call = record {

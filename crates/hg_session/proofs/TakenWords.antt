@@ -13,16 +13,19 @@ use Rattle.hg_manifest.specs.Load.{asks_of}
 use Rattle.hg_mixed.specs.Held.{Held}
 use Rattle.hg_ops.specs.Cause.{HasOpCause}
 use Rattle.hg_ops.specs.Parent.{AsksStore, HasAsked, HasStoreCause, KeepsParent, Span, upto}
+use Rattle.hg_ops.specs.Remove as one
 use Rattle.hg_ops.specs.Remove.{MetRemoving, NeedsRow, ReadsWord, Takes, may_take, needs_row}
+use Rattle.hg_ops.specs.Step.{IsForgotten}
 use Rattle.hg_ops.specs.declared.parent.Loaded.{Loaded}
 use Rattle.hg_ops.specs.declared.parent.Parent.{Parent}
 use Rattle.hg_ops.specs.declared.refusal.OpFault.{OpFault}
 use Rattle.hg_ops.specs.declared.refusal.OpFault.TheVariants as an_op
 use Rattle.hg_ops.specs.declared.refusal.Refusal.{Refusal}
-use Rattle.hg_session.specs.Acts.{IsActed, IsWordRead, NeedsSome, OnlyTakes, ReadsWords, StopsRemoving, Stepping, TakesAway, span_of}
+use Rattle.hg_session.specs.Acts.{Deed, IsActed, IsMadeInFront, IsWordRead, NeedsSome, OnlyTakes, ReadsWords, StopsRemoving, Stepping, TakesAway, forgets, span_of}
 use Rattle.hg_session.specs.Call.{Watched}
-use Rattle.hg_session.proofs.Acted.{acted_wide}
-use Rattle.hg_session.proofs.SoFar.{SoFar}
+use Rattle.hg_session.proofs.Acted.{acted_wide, steps_more, words_more}
+use Rattle.hg_session.proofs.SoFar.{SoFar, word_more}
+use Rattle.hg_ops.proofs.Added.{same_table}
 use Rattle.hg_shelf.specs.History as shelf
 use Rattle.hg_shelf.proofs.Histories as shelves
 use Rattle.hg_shelf.specs.declared.asked.Asked as shelf_asks
@@ -75,8 +78,25 @@ module _ (words : List (List ℕ)) (i : ℕ) (word : List ℕ) (is : slice_get w
   changes_more : (old new : History) → ChangesOnly (word ∷ []) old new → ChangesOnly words old new
   changes_more old new changes k from upto ours = touches_more (new.at k).things (new.at (suc k)).things (changes k from upto ours)
 
-  pub word_among : (same : bytes_eq word word ≡ true) → is_among word words ≡ true
-  word_among same = found_at (bytes_eq word) words i word is same
+-- ---- the words in front
+
+split_at : (words : List (List ℕ)) (i : ℕ) (word : List ℕ) → slice_get words i ≡ Some word → words ≡ take i words ++ word ∷ drop (suc i) words
+split_at [] i word is = absurd (cc is)
+split_at (first ∷ words) zero word is = ap (λ (w : List ℕ). w ∷ words) (cc is)
+split_at (first ∷ words) (suc i) word is = ap (λ (l : List (List ℕ)). first ∷ l) (split_at words i word is)
+
+pub front_none : (loaded : Table) (start : History) → IsMadeInFront [] loaded start start loaded
+front_none loaded start = record { deeds = []; all = refl; steps = (refl, same_table loaded) }
+
+pub front_more : (words : List (List ℕ)) (i : ℕ) (word : List ℕ) → slice_get words i ≡ Some word → (loaded was made : Table) (start mid at : History) → IsMadeInFront (take i words) loaded start mid was → Extends mid at
+    → (refused : Option Refusal) → IsForgotten word refused was made → IsMadeInFront (take (i + 1) words) loaded start at made
+front_more words i word is loaded was made start mid at front past refused forgotten =
+    let last : Deed = record { word = word; refused = refused } in
+    record {
+      deeds = front.deeds ++ last ∷ [];
+      all = sym (words_more [] forgets mid at last front.deeds) ∙ ap (λ (l : List (List ℕ)). l ++ word ∷ []) front.all ∙ sym (word_more words i word is);
+      steps = steps_more [] forgets mid at last start front.deeds loaded was made front.steps (record { past = past; made = forgotten });
+    }
 
 -- ---- the working copy
 
@@ -92,46 +112,61 @@ few_none : (pieces size : ℕ) → 65536 * pieces < size + 65536 → size ≡ 0 
 few_none zero size few none = refl
 few_none (suc pieces) size few none = absurd (omega (arith, few, none))
 
-module _ (after : Bool) (words : List (List ℕ)) (start mid at : History) (first : Extends start mid) (second : Extends mid at) (before during end : ℕ) where
+module _ (after : Bool) (words : List (List ℕ)) (loaded : Table) (start mid at : History) (first : Extends start mid) (second : Extends mid at) (before during end : ℕ) where
   abbrev part : Watched History
   part = record { old = start; new = mid; before = before; after = during }
 
   abbrev whole : Watched History
   whole = record { old = start; new = at; before = before; after = end }
 
-  abbrev needs_wide : NeedsSome after words part → NeedsSome after words whole
+  abbrev needs_wide : NeedsSome after words loaded part → NeedsSome after words loaded whole
   needs_wide some = record {
+    front = some.front;
     word = some.word;
-    among = some.among;
+    rest = some.rest;
+    all = some.all;
     old = some.old;
     new = some.new;
     before = some.before;
     behind = extends_trans some.new mid at some.behind second;
     was = some.was;
+    made = some.made;
     need = some.need;
   }
 
-  reads_both : (some more : List Asked) → AllByRecursion (IsWordRead after words part) some → AllByRecursion (IsWordRead after words whole) more → AllByRecursion (IsWordRead after words whole) (some ++ more)
+  reads_both : (some more : List Asked) → AllByRecursion (IsWordRead after words loaded part) some → AllByRecursion (IsWordRead after words loaded whole) more → AllByRecursion (IsWordRead after words loaded whole) (some ++ more)
   reads_both [] more each rest = rest
   reads_both (ask ∷ some) more each rest = ((needs_wide each.0.0, each.0.1), reads_both some more each.1 rest)
 
-  reads_many : (ask : Asked) (n : ℕ) → IsWordRead after words whole ask → AllByRecursion (IsWordRead after words whole) (replicate n ask)
+  reads_many : (ask : Asked) (n : ℕ) → IsWordRead after words loaded whole ask → AllByRecursion (IsWordRead after words loaded whole) (replicate n ask)
   reads_many ask zero is = tt
   reads_many ask (suc n) is = (is, reads_many ask n is)
 
-  module _ (word : List ℕ) (among : is_among word words ≡ true) (t : Table) where
-    abbrev word_needs : NeedsRow (needs_row after word t) word mid at → NeedsSome after words whole
-    word_needs need = record { word = word; among = among; old = mid; new = at; before = first; behind = extends_same at; was = t; need = need }
+  module _ (word : List ℕ) (i : ℕ) (is : slice_get words i ≡ Some word) (t : Table) (made : IsMadeInFront (take i words) loaded start mid t) where
+    abbrev word_needs : NeedsRow (needs_row after word t) word mid at → NeedsSome after words loaded whole
+    word_needs need = record {
+      front = take i words;
+      word = word;
+      rest = drop (suc i) words;
+      all = split_at words i word is;
+      old = mid;
+      new = at;
+      before = first;
+      behind = extends_same at;
+      was = t;
+      made = made;
+      need = need;
+    }
 
     word_reads : (read : ReadsWord (needs_row after word t) word mid at) (pieces : InPieces read.size (an_ask.Read word) mid.asked at.asked)
-        → AllByRecursion (IsWordRead after words whole) (replicate pieces.pieces (an_ask.Read word))
+        → AllByRecursion (IsWordRead after words loaded whole) (replicate pieces.pieces (an_ask.Read word))
     word_reads read pieces = elim read.needed [
       | inl none ↦
-          subst (λ (n : ℕ). AllByRecursion (IsWordRead after words whole) (replicate n (an_ask.Read word))) (sym (few_none pieces.pieces read.size pieces.few none)) tt
+          subst (λ (n : ℕ). AllByRecursion (IsWordRead after words loaded whole) (replicate n (an_ask.Read word))) (sym (few_none pieces.pieces read.size pieces.few none)) tt
       | inr need ↦ reads_many (an_ask.Read word) pieces.pieces (word_needs need.0, refl)
     ]
 
-    reads_more : (IsTrue start.told → ReadsWords after words part) → ReadsWord (needs_row after word t) word mid at → IsTrue start.told → ReadsWords after words whole
+    reads_more : (IsTrue start.told → ReadsWords after words loaded part) → ReadsWord (needs_row after word t) word mid at → IsTrue start.told → ReadsWords after words loaded whole
     reads_more reads read told =
         let was = reads told in
         let pieces = read.asked (first.told ∙ told) in
@@ -144,28 +179,28 @@ module _ (after : Bool) (words : List (List ℕ)) (start mid at : History) (firs
         }
 
     -- nothing was asked below `.hg`, or a row was needed
-    pub needed_more : (a b c : shelf.History) → (b.asked ≡ a.asked) ⊎ NeedsSome after words part → (c.asked ≡ b.asked) ⊎ NeedsRow (needs_row after word t) word mid at
-        → (c.asked ≡ a.asked) ⊎ NeedsSome after words whole
+    pub needed_more : (a b c : shelf.History) → (b.asked ≡ a.asked) ⊎ NeedsSome after words loaded part → (c.asked ≡ b.asked) ⊎ NeedsRow (needs_row after word t) word mid at
+        → (c.asked ≡ a.asked) ⊎ NeedsSome after words loaded whole
     needed_more a b c was (inr need) = inr (word_needs need)
     needed_more a b c (inr some) (inl same) = inr (needs_wide some)
     needed_more a b c (inl none) (inl same) = inl (same ∙ none)
 
 -- one word more
-pub takes_more : (after : Bool) (words : List (List ℕ)) (i : ℕ) (word : List ℕ) → slice_get words i ≡ Some word → bytes_eq word word ≡ true → (start mid at : History) (before during end : ℕ)
-    → OnlyTakes after words (record { old = start; new = mid; before = before; after = during }) → (result : Result (Option Refusal) OpFault) → Takes (may_take after result) word mid at
-    → (IsTrue mid.told → ChangesOnly (word ∷ []) mid at) → (t : Table) → ReadsWord (needs_row after word t) word mid at
-    → OnlyTakes after words (record { old = start; new = at; before = before; after = end })
-takes_more after words i word is same start mid at before during end so_far result takes touches t read =
+pub takes_more : (after : Bool) (words : List (List ℕ)) (loaded : Table) (i : ℕ) (word : List ℕ) → slice_get words i ≡ Some word → (start mid at : History) (before during end : ℕ)
+    → OnlyTakes after words loaded (record { old = start; new = mid; before = before; after = during }) → (result : Result (Option Refusal) OpFault) → Takes (may_take after result) word mid at
+    → (IsTrue mid.told → ChangesOnly (word ∷ []) mid at) → (t : Table) → IsMadeInFront (take i words) loaded start mid t → ReadsWord (needs_row after word t) word mid at
+    → OnlyTakes after words loaded (record { old = start; new = at; before = before; after = end })
+takes_more after words loaded i word is start mid at before during end so_far result takes touches t made read =
     let past = takes_extends (may_take after result) word mid at takes in
     record {
       past = extends_trans start mid at so_far.past past;
       gone = λ gone. passes_trans start mid at (so_far.gone gone) (takes_none after result word mid at takes gone);
       only = λ told. changes_trans words start mid at past (so_far.only told) (changes_more words i word is mid at (touches (so_far.past.told ∙ told)));
-      reads = reads_more after words start mid at so_far.past past before during end word (word_among words i word is same) t so_far.reads read;
+      reads = reads_more after words loaded start mid at so_far.past past before during end word i is t made so_far.reads read;
     }
 
-pub takes_none_yet : (after : Bool) (words : List (List ℕ)) (start : History) (count : ℕ) → OnlyTakes after words (record { old = start; new = start; before = count; after = count })
-takes_none_yet after words start count = record {
+pub takes_none_yet : (after : Bool) (words : List (List ℕ)) (loaded : Table) (start : History) (count : ℕ) → OnlyTakes after words loaded (record { old = start; new = start; before = count; after = count })
+takes_none_yet after words loaded start count = record {
   past = extends_same start;
   gone = λ gone. passes_same start;
   only = λ told k from upto. absurd (omega (arith, from, upto));
@@ -211,18 +246,14 @@ asks_needed old new Asks (inr needs) asks = inr (needs, asks)
 
 -- ---- a fault at a word
 
-split_at : (words : List (List ℕ)) (i : ℕ) (word : List ℕ) → slice_get words i ≡ Some word → words ≡ take i words ++ word ∷ drop (suc i) words
-split_at [] i word is = absurd (cc is)
-split_at (first ∷ words) zero word is = ap (λ (w : List ℕ). w ∷ words) (cc is)
-split_at (first ∷ words) (suc i) word is = ap (λ (l : List (List ℕ)). first ∷ l) (split_at words i word is)
-
 module _ (after : Bool) (words : List (List ℕ)) (copy : Watched History) (files : Watched shelf.History) (old between : Table) (start : shelf.History) (begun : shelf.Extends files.old start)
     (before during : ℕ) (lines : List ℕ) (changed : Bool) (front : List (List ℕ)) (rest : List (List ℕ)) (all : words ≡ front ++ rest) where
   pub stops_at : (word : List ℕ) (more : List (List ℕ)) → rest ≡ word ∷ more → (mid : History)
       → IsActed (codes "remove") (TakesAway after (span_of old start files.new)) front (record { old = copy.old; new = mid; before = before; after = during }) old between lines changed
       → (fault : OpFault) → Takes (may_take after (Err fault)) word mid copy.new → ReadsWord (needs_row after word between) word mid copy.new
-      → MetRemoving (needs_row after word between) word mid copy.new (span_of old start files.new) fault → StopsRemoving after words copy files old fault
-  stops_at word more is mid acted fault takes reads met = inl (record {
+      → MetRemoving (needs_row after word between) word mid copy.new (span_of old start files.new) fault → one.StopsRemoving after word between mid copy.new (span_of old start files.new)
+      → StopsRemoving after words copy files old fault
+  stops_at word more is mid acted fault takes reads met stopped = inl (record {
     start = start;
     begun = begun;
     deeds = acted.deeds;
@@ -238,6 +269,7 @@ module _ (after : Bool) (words : List (List ℕ)) (copy : Watched History) (file
     end = files.new;
     within = shelves.extends_same files.new;
     met = met;
+    stopped = stopped;
   })
 
   -- there was no memory for a line

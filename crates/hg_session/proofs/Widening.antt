@@ -22,7 +22,7 @@ use Rattle.hg_save.specs.Record.{data_name, id_in, reading}
 use Rattle.hg_save.specs.Saved.{IsExact, IsLatest, KeepsOthers, ReadsAsBeforeOr, name_after, used_in}
 use Rattle.hg_session.specs.Acts.{Makes}
 use Rattle.hg_session.specs.Call.{Watched}
-use Rattle.hg_session.specs.Change.{AsksChange, Fits, FitsFirst, IsDone, IsKept, IsMade, IsPublished, IsReadFirst, IsSafe, IsSafeHeld, IsUnwritten, IsToBlame, IsWritten, MetChanging, MetMade, MetStop, NoneOurs, Stretch, id_read, up_to}
+use Rattle.hg_session.specs.Change.{AsksChange, ChangesBehind, Fits, FitsFirst, IsDone, IsKept, IsMade, IsPublished, IsReadFirst, IsSafe, IsSafeHeld, IsUnwritten, IsToBlame, IsWritten, MetChanging, MetMade, MetStop, NoneOurs, Stretch, id_read, up_to}
 use Rattle.hg_session.specs.Loaded.{LoadMet, MetReading}
 use Rattle.hg_session.specs.Loaded.{IsRefused}
 use Rattle.hg_session.specs.Locks.{TakenAt}
@@ -156,6 +156,12 @@ module _ (a b c d : Course) (lock : Waits a.history b.history) (unlock : Waits c
 
   pub read_some_wide : (IsTrue b.history.told → (loaded : Table) × IsReadFirst b.history c.history loaded) → IsTrue a.history.told → (loaded : Table) × IsReadFirst a.history d.history loaded
   read_some_wide is told = let read = is (p.past.told ∙ told) in (read.0, read_wide read.0 read.1)
+
+  -- what became of the working copy behind it
+  pub changes_wide : (command : Command) (copy : Watched tree.History) → ChangesBehind command copy (record { old = b.history; new = c.history; before = 0; after = 0 })
+      → ChangesBehind command copy (record { old = a.history; new = d.history; before = 0; after = 0 })
+  changes_wide command copy (inl alone) = inl alone
+  changes_wide command copy (inr (loaded, read, changes)) = inr (loaded, λ told. read_wide loaded (read (p.past.told ∙ told)), changes)
 
   -- what was asked for, where taking the lock and giving it back ask for nothing
   pub asks_whole : (command : Command) (copy : Watched tree.History) → b.history.asked ≡ a.history.asked → d.history.asked ≡ c.history.asked → AsksChange command copy b.history c.history → AsksChange command copy a.history d.history

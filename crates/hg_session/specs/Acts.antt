@@ -10,22 +10,22 @@ use Rattle.hg_mixed.specs.Held.{Held, table}
 use Rattle.hg_ops.specs.Copy.{Copies, OnlyCopies}
 use Rattle.hg_ops.specs.Look.{Adds, Looks}
 use Rattle.hg_ops.specs.Parent.{AsksStore, Span, upto}
+use Rattle.hg_ops.specs.Remove as one
 use Rattle.hg_ops.specs.Remove.{MetRemoving, NeedsRow, ReadsWord, Removes, Takes, may_take, needs_row}
-use Rattle.hg_ops.specs.Step.{IsForget}
+use Rattle.hg_ops.specs.Step.{IsForget, IsForgotten}
 use Rattle.hg_ops.specs.declared.copy_refusal.CopyRefusal.{CopyRefusal}
 use Rattle.hg_ops.specs.declared.copy_refusal.CopyRefusal.TheVariants as a_word
 use Rattle.hg_ops.specs.declared.refusal.OpFault.{OpFault}
 use Rattle.hg_ops.specs.declared.refusal.OpFault.TheVariants as an_op_fault
 use Rattle.hg_ops.specs.declared.refusal.Refusal.{Refusal}
 use Rattle.hg_report.specs.Refusal.{refusal_line}
-use Rattle.hg_session.specs.Call.{IsLeftAlone, Watched}
+use Rattle.hg_session.specs.Call.{Fails, IsLeftAlone, Watched}
 use Rattle.hg_session.specs.Manifests.{IsReparented, StopsParents}
 use Rattle.hg_session.specs.declared.acting.Changing.{Changing}
 use Rattle.hg_session.specs.declared.acting.Changing.TheVariants as a_change
 use Rattle.hg_shelf.specs.Asks.{AsksFrontOf}
 use Rattle.hg_shelf.specs.History as shelf
 use Rattle.hg_tree.specs.History as tree
-use Rattle.hg_tree.specs.Moment.{is_among}
 use Rattle.hg_tree.specs.Touched.{ChangesOnly}
 use Rattle.hg_tree.specs.declared.asked.Asked.{Asked}
 use Rattle.hg_tree.specs.declared.asked.Asked.TheVariants as an_ask
@@ -138,6 +138,8 @@ pub record StopsAtWord (after : Bool) (words : List (List ℕ)) (copy : Watched 
   pub end : shelf.History
   pub within : shelf.Extends end files.new
   pub met : MetRemoving (needs_row after word between) word mid copy.new (span_of old start end) fault
+  -- of the working copy nothing was changed then, or a file is gone whose bytes were seen to be the first parent's
+  pub stopped : one.StopsRemoving after word between mid copy.new (span_of old start end)
 
 -- with some words it did so, and then there was no memory for a line
 pub record StopsBehind (after : Bool) (words : List (List ℕ)) (copy : Watched tree.History) (files : Watched shelf.History) (old : Table) (fault : OpFault) : Type 0 where
@@ -198,53 +200,66 @@ pub record OnlyLooks (copy : Watched tree.History) : Type 0 where
   pub passes : tree.Passes copy.old copy.new
   pub asked : IsTrue copy.old.told → copy.new.asked ≡ copy.old.asked
 
--- the first parent's row of a word was needed: by a table behind the words in front, and by a look that showed a file or a link
-pub record NeedsSome (after : Bool) (words : List (List ℕ)) (copy : Watched tree.History) : Type 0 where
+-- what words make of a table alone, whatever stands in the tree: those that aren't refused are forgotten
+abbrev pub forgets : Stepping
+forgets before after word old refused new = IsForgotten word refused old new
+
+-- these words made this of the record that was read
+pub record IsMadeInFront (words : List (List ℕ)) (loaded : Table) (old mid : tree.History) (was : Table) : Type 0 where
+  pub deeds : List Deed
+  pub all : map (λ deed. deed.word) deeds ≡ words
+  pub steps : AllSteps forgets old mid deeds loaded was
+
+-- the first parent's row of a word was needed: by the table behind the words in front, and by a look that showed a file or a link
+pub record NeedsSome (after : Bool) (words : List (List ℕ)) (loaded : Table) (copy : Watched tree.History) : Type 0 where
+  pub front : List (List ℕ)
   pub word : List ℕ
-  pub among : is_among word words ≡ true
+  pub rest : List (List ℕ)
+  pub all : words ≡ front ++ word ∷ rest
   pub old : tree.History
   pub new : tree.History
   pub before : tree.Extends copy.old old
   pub behind : tree.Extends new copy.new
   pub was : Table
+  pub made : IsMadeInFront front loaded copy.old old was
   pub need : NeedsRow (needs_row after word was) word old new
 
 -- the bytes of such a word's path were asked for
-abbrev pub IsWordRead : Bool → List (List ℕ) → Watched tree.History → Asked → Type 0
-IsWordRead after words copy ask = (some : NeedsSome after words copy) × (ask ≡ an_ask.Read some.word)
+abbrev pub IsWordRead : Bool → List (List ℕ) → Table → Watched tree.History → Asked → Type 0
+IsWordRead after words loaded copy ask = (some : NeedsSome after words loaded copy) × (ask ≡ an_ask.Read some.word)
 
 -- nothing else was asked for
-pub record ReadsWords (after : Bool) (words : List (List ℕ)) (copy : Watched tree.History) : Type 0 where
+pub record ReadsWords (after : Bool) (words : List (List ℕ)) (loaded : Table) (copy : Watched tree.History) : Type 0 where
   pub more : List Asked
   pub asked : copy.new.asked ≡ copy.old.asked ++ more
-  pub each : AllByRecursion (IsWordRead after words copy) more
+  pub each : AllByRecursion (IsWordRead after words loaded copy) more
 
 -- of the tree nothing is changed but these words, and directories above them; and nothing where they are to be gone already
-pub record OnlyTakes (after : Bool) (words : List (List ℕ)) (copy : Watched tree.History) : Type 0 where
+pub record OnlyTakes (after : Bool) (words : List (List ℕ)) (loaded : Table) (copy : Watched tree.History) : Type 0 where
   pub past : tree.Extends copy.old copy.new
   pub gone : after ≡ true → tree.Passes copy.old copy.new
   pub only : IsTrue copy.old.told → ChangesOnly words copy.old copy.new
-  pub reads : IsTrue copy.old.told → ReadsWords after words copy
+  pub reads : IsTrue copy.old.told → ReadsWords after words loaded copy
 
--- of the tree nothing is changed but the target, by parts of the source, and directories above it
-pub record OnlyPuts (source target : List ℕ) (copy : Watched tree.History) : Type 0 where
+-- of the tree nothing is changed but the target, by parts of the source behind looks that refused nothing, and directories above it
+pub record OnlyPuts (source target : List ℕ) (loaded : Table) (copy : Watched tree.History) : Type 0 where
   pub past : tree.Extends copy.old copy.new
-  pub copies : IsTrue copy.old.told → OnlyCopies source target copy.old copy.new
+  pub copies : IsTrue copy.old.told → OnlyCopies source target loaded (Fails copy) copy.old copy.new
   pub only : IsTrue copy.old.told → ChangesOnly (target ∷ []) copy.old copy.new
 
--- what becomes of the working copy, whatever is answered
-abbrev pub ChangesTree : Command → Watched tree.History → Type 0
-ChangesTree (a_command.Add words) copy = OnlyLooks copy
-ChangesTree (a_command.Remove after words) copy = OnlyTakes after words copy
-ChangesTree (a_command.Copy source target) copy = OnlyPuts source target copy
-ChangesTree command copy = IsLeftAlone copy
+-- what becomes of the working copy, whatever is answered, behind a record that was read
+abbrev pub ChangesTree : Command → Table → Watched tree.History → Type 0
+ChangesTree (a_command.Add words) loaded copy = OnlyLooks copy
+ChangesTree (a_command.Remove after words) loaded copy = OnlyTakes after words loaded copy
+ChangesTree (a_command.Copy source target) loaded copy = OnlyPuts source target loaded copy
+ChangesTree command loaded copy = IsLeftAlone copy
 
 -- ---- below `.hg`
 
 -- what is asked for there once the record was read: for `remove`, where a row of the first parent was needed, its manifest once, and contents that its rows
 -- name; for new parents their manifests, the first before the second; and else nothing
 abbrev pub AsksBehind : Command → Watched tree.History → Table → shelf.History → shelf.History → Type 0
-AsksBehind (a_command.Remove after words) copy loaded old new = (new.asked ≡ old.asked) ⊎ (NeedsSome after words copy × AsksStore (span_of loaded old new))
+AsksBehind (a_command.Remove after words) copy loaded old new = (new.asked ≡ old.asked) ⊎ (NeedsSome after words loaded copy × AsksStore (span_of loaded old new))
 AsksBehind (a_command.SetParents p1 p2) copy loaded old new = AsksFrontOf (asks_of p1 ++ asks_of p2) old new
 AsksBehind command copy loaded old new = new.asked ≡ old.asked
 
@@ -257,7 +272,7 @@ pub record ActsOn (command : Command) (copy : Watched tree.History) (files : Wat
   -- what isn't marked as changed is the same
   pub same : old.changed ≡ false → OnOk result (new.changed ≡ false → IsSame (table new) (table old))
   pub image : IsOfSameImage old new
-  pub tree : ChangesTree command copy
+  pub tree : ChangesTree command (table old) copy
   pub below : shelf.Passes files.old files.new
   pub asked : IsTrue files.old.told → AsksBehind command copy (table old) files.old files.new
   -- a device's fault comes only where its count rose; a working copy that failed is told as such

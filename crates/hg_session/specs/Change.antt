@@ -21,7 +21,7 @@ use Rattle.hg_save.specs.Loads.{files_at}
 use Rattle.hg_save.specs.Others.{KeepsFiles, KeepsRecords}
 use Rattle.hg_save.specs.Record.{data_name, docket_in, id_in, reading}
 use Rattle.hg_save.specs.Saved.{IsExact, IsLatest, IsOver, KeepsOthers, ReadsAsBeforeOr}
-use Rattle.hg_session.specs.Acts.{AsksBehind, Makes, makes_of}
+use Rattle.hg_session.specs.Acts.{AsksBehind, ChangesTree, Makes, makes_of}
 use Rattle.hg_session.specs.Call.{Call, Count, Fails, FailsTwice, IsLeftAlone, Saved, Watched}
 use Rattle.hg_session.specs.Load.{of_read}
 use Rattle.hg_session.specs.Loaded.{AsksRecord, IsRead, MetReading}
@@ -213,6 +213,11 @@ pub record MetSpent (Does : Makes) (files : Watched shelf.History) : Type 0 wher
 -- the record was read in the call, where the files are told
 abbrev pub IsReadSome : Watched shelf.History → Type 0
 IsReadSome files = IsTrue files.old.told → (loaded : Table) × IsReadFirst files.old files.new loaded
+
+-- the working copy was left alone, or a record was read, and behind it this became of it
+abbrev pub ChangesBehind : Command → Watched tree.History → Watched shelf.History → Type 0
+ChangesBehind command copy files =
+    IsLeftAlone copy ⊎ ((loaded : Table) × (IsTrue files.old.told → IsReadFirst files.old files.new loaded) × ChangesTree command loaded copy)
 
 -- the record was read in the call, and this stops what is made of it
 pub record MetStop (Does : Makes) (files : Watched shelf.History) (fault : OpFault) : Type 0 where

@@ -13,9 +13,9 @@ use Rattle.hg_report.specs.declared.fault.Fault.TheVariants as a_fault
 use Rattle.hg_save.specs.Others.{KeepsRecords}
 use Rattle.hg_save.specs.Record.{id_in, reading}
 use Rattle.hg_save.specs.Saved.{IsLatest}
-use Rattle.hg_session.specs.Acts.{ChangesTree, Makes}
+use Rattle.hg_session.specs.Acts.{Makes}
 use Rattle.hg_session.specs.Call.{Call, IsLeftAlone, Serves}
-use Rattle.hg_session.specs.Change.{AsksChange, Fits, IsDone, IsEarly, IsLocked, IsReadSome, IsSafe, IsUnwritten, MetChanging, MetLocking, Stretch, makes_in, of_change}
+use Rattle.hg_session.specs.Change.{AsksChange, ChangesBehind, Fits, IsDone, IsEarly, IsLocked, IsReadSome, IsSafe, IsUnwritten, MetChanging, MetLocking, Stretch, makes_in, of_change}
 use Rattle.hg_session.specs.Loaded.{IsUnreadable}
 use Rattle.hg_session.specs.Look.{Look, Concludes, saves_first}
 use Rattle.hg_session.specs.Put.{IsEmpty, IsFaultOrMemory, IsSilent}
@@ -135,7 +135,7 @@ pub record RanChange (call : Call) (status : ℕ) (fault : Option Fault) : Type 
   pub silent : IsSilent call.out
   pub uncounted : call.looked.oversize.after ≡ call.looked.oversize.before
   -- what becomes of the working copy, whatever was answered
-  pub copy : ChangesTree call.command call.looked.tree
+  pub copy : ChangesBehind call.command call.looked.tree call.looked.shelf
   -- it is looked at only behind a record that was read
   pub behind : IsLeftAlone call.looked.tree ⊎ IsReadSome call.looked.shelf
   pub early : IsSomeAnd fault IsEarly → IsLeftAlone call.looked.tree

@@ -7,9 +7,9 @@ ghost use Rattle.hg_image.specs.Reading.{data_reading};
 ghost use Rattle.hg_save.specs.Leads.{IsHeld};
 ghost use Rattle.hg_save.specs.Loads.{Try};
 ghost use Rattle.hg_save.specs.Saved.{Stands};
-ghost use Rattle.hg_session.specs.Acts.{ChangesTree, makes_of};
+ghost use Rattle.hg_session.specs.Acts.{makes_of};
 ghost use Rattle.hg_session.specs.Anew.{CanWrite, IsOpened, IsRecorded, LoadsOrRefuses, MetWriting, WritesOnly};
-ghost use Rattle.hg_session.specs.Change.{AsksChange, FailsOrUnwritten, IsDone, IsEarly, IsReadSome, IsSafeHeld, MetChanging, fault_of, of_change};
+ghost use Rattle.hg_session.specs.Change.{AsksChange, ChangesBehind, FailsOrUnwritten, IsDone, IsEarly, IsReadSome, IsSafeHeld, MetChanging, fault_of, of_change};
 ghost use Rattle.hg_session.specs.Loaded.{AsksRecord, NodesFind};
 ghost use Rattle.hg_ops.specs.declared.refusal.OpFault.TheVariants as an_op_fault;
 ghost use Rattle.hg_session.specs.declared.change_fault.ChangeFault.TheVariants as a_fault;
@@ -144,7 +144,10 @@ pub(crate) fn change_locked<T: Tree, S: Shelf>(
         (record { old = course (S.history shelf.old) (S.images shelf.old); new = course (S.history shelf.new) (S.images shelf.new) })
         (fault_of result) }
     ensures unwritten { IfErr result (FailsOrUnwritten (S.history shelf.old) (S.history shelf.new)) }
-    ensures copy { ChangesTree command.now (record { old = T.history tree.old; new = T.history tree.new; before = T.faults tree.old; after = T.faults tree.new }) }
+    ensures copy { ChangesBehind
+        command.now
+        (record { old = T.history tree.old; new = T.history tree.new; before = T.faults tree.old; after = T.faults tree.new })
+        (record { old = S.history shelf.old; new = S.history shelf.new; before = S.faults shelf.old; after = S.faults shelf.new }) }
     ensures failed { T.faults tree.old < T.faults tree.new → result ≡ Err (a_fault.Op an_op_fault.TreeFailed) }
     ensures behind { (tree.new ≡ tree.old)
         ⊎ IsReadSome (record { old = S.history shelf.old; new = S.history shelf.new; before = S.faults shelf.old; after = S.faults shelf.new }) }

@@ -71,6 +71,7 @@ pub(crate) fn copy_one<T: Tree>(
     ensures puts { OnlyPuts
         source.now
         target.now
+        (table mixed.old)
         (record { old = T.history tree.old; new = T.history tree.new; before = T.faults tree.old; after = T.faults tree.new }) }
     ensures kind { IfErr result IsCopyFault }
     ensures cause { HasCause (T.faults tree.old) (T.faults tree.new) result (λ e. e ≡ an_op_fault.TreeFailed) }

@@ -1,9 +1,9 @@
 //! The lock round a change of the record, and what is told of it.
 
 ghost use Rattle.std.specs.Prelude.{◌≡◌, ◌⊎◌, ◌<◌, List, Option, ℕ, IfErr, IfOk, IsTrue, MatchOption, None, OnOk, Err};
-ghost use Rattle.hg_session.specs.Acts.{ChangesTree, makes_of};
+ghost use Rattle.hg_session.specs.Acts.{makes_of};
 ghost use Rattle.hg_session.specs.Call.{Count, Sink};
-ghost use Rattle.hg_session.specs.Change.{AsksChange, FailsOrUnwritten, IsDone, IsEarly, IsLocked, IsReadSome, IsSafe, MetLocking, Stretch, fault_of, of_change, once_freed};
+ghost use Rattle.hg_session.specs.Change.{AsksChange, ChangesBehind, FailsOrUnwritten, IsDone, IsEarly, IsLocked, IsReadSome, IsSafe, MetLocking, Stretch, fault_of, of_change, once_freed};
 ghost use Rattle.hg_session.specs.Changed as changed_is;
 ghost use Rattle.hg_session.specs.Changed.{RanChange};
 ghost use Rattle.hg_session.specs.Loaded.{AsksRecord};
@@ -83,7 +83,10 @@ fn change<T: Tree, S: Shelf>(
     ensures behind { (tree.new ≡ tree.old)
         ⊎ IsReadSome (record { old = S.history shelf.old; new = S.history shelf.new; before = S.faults shelf.old; after = S.faults shelf.new }) }
     ensures early { IfErr result (λ fault. IsEarly (of_change fault) → tree.new ≡ tree.old) }
-    ensures copy { ChangesTree command.now (record { old = T.history tree.old; new = T.history tree.new; before = T.faults tree.old; after = T.faults tree.new }) }
+    ensures copy { ChangesBehind
+        command.now
+        (record { old = T.history tree.old; new = T.history tree.new; before = T.faults tree.old; after = T.faults tree.new })
+        (record { old = S.history shelf.old; new = S.history shelf.new; before = S.faults shelf.old; after = S.faults shelf.new }) }
     ensures calm_tree { OnOk result (T.faults tree.new ≡ T.faults tree.old) }
     ensures calm_shelf { OnOk result (S.faults shelf.new ≡ S.faults shelf.old) }
     ensures kept { Goes (course (S.history shelf.old) (S.images shelf.old)) (course (S.history shelf.new) (S.images shelf.new)) }

@@ -53,6 +53,7 @@ pub(crate) fn remove_words<T: Tree, S: Shelf>(
     ensures takes { OnlyTakes
         after
         words.now
+        (table mixed.old)
         (record { old = T.history tree.old; new = T.history tree.new; before = T.faults tree.old; after = T.faults tree.new }) }
     ensures passes { shelves.Passes (S.history shelf.old) (S.history shelf.new) }
     ensures kept { Goes (course (S.history shelf.old) (S.images shelf.old)) (course (S.history shelf.new) (S.images shelf.new)) }
@@ -62,6 +63,7 @@ pub(crate) fn remove_words<T: Tree, S: Shelf>(
         ⊎ (NeedsSome
         after
         words.now
+        (table mixed.old)
         (record { old = T.history tree.old; new = T.history tree.new; before = T.faults tree.old; after = T.faults tree.new })
         × AsksStore (span_of (table mixed.old) (S.history shelf.old) (S.history shelf.new))) }
     ensures cause { HasCause (T.faults tree.old) (T.faults tree.new) result (λ e. e ≡ an_op_fault.TreeFailed) }

@@ -9,8 +9,8 @@ use Rattle.hg_session.specs.Call.{Watched}
 use Rattle.hg_session.specs.declared.change_fault.ChangeFault.TheVariants as a_change_fault
 use Rattle.hg_save.proofs.Held.{held_passes, held_then}
 use Rattle.hg_session.proofs.Asking.{asks_read}
-use Rattle.hg_session.proofs.Changes.{asks_by, done_by, loads_upto, met_acting, met_opened, met_read, met_writing, read_some, safe_by, stands}
-use Rattle.hg_session.proofs.Doing.{changes_none, op_late, writing_late}
+use Rattle.hg_session.proofs.Changes.{asks_by, changes_by, done_by, loads_upto, met_acting, met_opened, met_read, met_writing, read_some, safe_by, stands}
+use Rattle.hg_session.proofs.Doing.{op_late, writing_late}
 use Rattle.hg_session.proofs.Locked.{unwritten, unwritten_unless}
 use Rattle.hg_session.proofs.Makers.{makes_wide}
 use Rattle.hg_session.specs.Change.{of_change}
@@ -34,7 +34,7 @@ returns-in_err-loaded-clause-unwritten g c =
     rw (p.1, p.2) (inr (unwritten (g.S.Shelf.history c.args.shelf.now) (g.S.Shelf.history c.read.new.shelf) c.in_err-loaded.ensures.passes))
 
 pub returns-in_err-loaded-clause-copy : goal.returns-in_err-loaded-clause-copy
-returns-in_err-loaded-clause-copy g c = changes_none c.args.command.now (g.T.Tree.history c.args.tree.now) (g.T.Tree.faults c.args.tree.now)
+returns-in_err-loaded-clause-copy g c = inl (record { history = refl; count = refl })
 
 pub returns-in_err-loaded-clause-asked : goal.returns-in_err-loaded-clause-asked
 returns-in_err-loaded-clause-asked g c = λ told. asks_read c.args.command.now _ _ _ (c.in_err-loaded.ensures.asked told)
@@ -57,7 +57,7 @@ returns-in_err-table-clause-unwritten g c =
     rw (p.1, p.2) (inr (unwritten (g.S.Shelf.history c.args.shelf.now) (g.S.Shelf.history c.read.new.shelf) c.in_ok-loaded.ensures.passes))
 
 pub returns-in_err-table-clause-copy : goal.returns-in_err-table-clause-copy
-returns-in_err-table-clause-copy g c = changes_none c.args.command.now (g.T.Tree.history c.args.tree.now) (g.T.Tree.faults c.args.tree.now)
+returns-in_err-table-clause-copy g c = inl (record { history = refl; count = refl })
 
 pub returns-in_err-table-clause-asked : goal.returns-in_err-table-clause-asked
 returns-in_err-table-clause-asked g c = λ told. asks_read c.args.command.now _ _ _ (c.in_ok-loaded.ensures.asked told)
@@ -97,7 +97,14 @@ returns-in_err-lines-clause-unwritten g c =
     (passes_trans (g.S.Shelf.history c.args.shelf.now) (g.S.Shelf.history c.read.new.shelf) (g.S.Shelf.history c.act.new.shelf) c.in_ok-loaded.ensures.passes c.in_err-lines.ensures.acts.below)))
 
 pub returns-in_err-lines-clause-copy : goal.returns-in_err-lines-clause-copy
-returns-in_err-lines-clause-copy g c = c.in_err-lines.ensures.acts.tree
+returns-in_err-lines-clause-copy g c =
+    let a : Course = course (g.S.Shelf.history c.args.shelf.now) (g.S.Shelf.images c.args.shelf.now) in
+    let b : Course = course (g.S.Shelf.history c.read.new.shelf) (g.S.Shelf.images c.read.new.shelf) in
+    let m : Course = course (g.S.Shelf.history c.act.new.shelf) (g.S.Shelf.images c.act.new.shelf) in
+    let acts = c.in_err-lines.ensures.acts in
+    changes_by a m m (passes_trans a.history b.history m.history c.in_ok-loaded.ensures.passes acts.below) (goes_same m) c.in_ok-loaded.loaded c.in_ok-loaded.ensures.whole
+    (loads_upto a.history b.history m.history c.in_ok-loaded.loaded acts.below.past c.in_ok-loaded.ensures.found) c.in_ok-table.ensures.0 c.in_ok-table.ensures.1 c.args.command.now
+    (record { old = g.T.Tree.history c.args.tree.now; new = g.T.Tree.history c.act.new.tree; before = g.T.Tree.faults c.args.tree.now; after = g.T.Tree.faults c.act.new.tree }) c.in_ok-table.table c.in_ok-table.ensures.2 acts.tree
 
 pub returns-in_err-lines-clause-failed : goal.returns-in_err-lines-clause-failed
 returns-in_err-lines-clause-failed g c = λ rose.
@@ -202,7 +209,15 @@ returns-in_err-save-clause-safe g c = λ calm.
     c.requires calm)))
 
 pub returns-in_err-save-clause-copy : goal.returns-in_err-save-clause-copy
-returns-in_err-save-clause-copy g c = c.in_ok-lines.ensures.acts.tree
+returns-in_err-save-clause-copy g c =
+    let a : Course = course (g.S.Shelf.history c.args.shelf.now) (g.S.Shelf.images c.args.shelf.now) in
+    let b : Course = course (g.S.Shelf.history c.read.new.shelf) (g.S.Shelf.images c.read.new.shelf) in
+    let m : Course = course (g.S.Shelf.history c.act.new.shelf) (g.S.Shelf.images c.act.new.shelf) in
+    let d : Course = course (g.S.Shelf.history c.save.new.shelf) (g.S.Shelf.images c.save.new.shelf) in
+    let acts = c.in_ok-lines.ensures.acts in
+    changes_by a m d (passes_trans a.history b.history m.history c.in_ok-loaded.ensures.passes acts.below) c.in_err-save.ensures.kept c.in_ok-loaded.loaded c.in_ok-loaded.ensures.whole
+    (loads_upto a.history b.history m.history c.in_ok-loaded.loaded acts.below.past c.in_ok-loaded.ensures.found) c.in_ok-table.ensures.0 c.in_ok-table.ensures.1 c.args.command.now
+    (record { old = g.T.Tree.history c.args.tree.now; new = g.T.Tree.history c.act.new.tree; before = g.T.Tree.faults c.args.tree.now; after = g.T.Tree.faults c.act.new.tree }) c.in_ok-table.table c.in_ok-table.ensures.2 acts.tree
 
 pub returns-in_err-save-clause-behind : goal.returns-in_err-save-clause-behind
 returns-in_err-save-clause-behind g c =
@@ -292,7 +307,15 @@ returns-clause-safe g c = λ calm.
     c.requires calm)))
 
 pub returns-clause-copy : goal.returns-clause-copy
-returns-clause-copy g c = c.in_ok-lines.ensures.acts.tree
+returns-clause-copy g c =
+    let a : Course = course (g.S.Shelf.history c.args.shelf.now) (g.S.Shelf.images c.args.shelf.now) in
+    let b : Course = course (g.S.Shelf.history c.read.new.shelf) (g.S.Shelf.images c.read.new.shelf) in
+    let m : Course = course (g.S.Shelf.history c.act.new.shelf) (g.S.Shelf.images c.act.new.shelf) in
+    let d : Course = course (g.S.Shelf.history c.save.new.shelf) (g.S.Shelf.images c.save.new.shelf) in
+    let acts = c.in_ok-lines.ensures.acts in
+    changes_by a m d (passes_trans a.history b.history m.history c.in_ok-loaded.ensures.passes acts.below) c.in_ok-save.ensures.kept c.in_ok-loaded.loaded c.in_ok-loaded.ensures.whole
+    (loads_upto a.history b.history m.history c.in_ok-loaded.loaded acts.below.past c.in_ok-loaded.ensures.found) c.in_ok-table.ensures.0 c.in_ok-table.ensures.1 c.args.command.now
+    (record { old = g.T.Tree.history c.args.tree.now; new = g.T.Tree.history c.act.new.tree; before = g.T.Tree.faults c.args.tree.now; after = g.T.Tree.faults c.act.new.tree }) c.in_ok-table.table c.in_ok-table.ensures.2 acts.tree
 
 pub returns-clause-behind : goal.returns-clause-behind
 returns-clause-behind g c =

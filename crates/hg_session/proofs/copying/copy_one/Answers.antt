@@ -1,6 +1,8 @@
 -- The one copy: what it makes, and the line of a refusal.
 use Rattle.std.proofs.Common.{sym, ◌∙◌}
+use Rattle.hg_mixed.specs.Held.{table}
 use Rattle.hg_session.proofs.CopyLines.{no_line}
+use Rattle.hg_session.proofs.Doing.{puts_of}
 use Rattle.hg_session.proofs.SoFar.{unmarked}
 use Rattle.hg_session.proofs.copying.copy_one.Goals as goal
 
@@ -13,3 +15,12 @@ returns-clause-does g c = λ unset. record {
   idle = λ same. c.in_ok-refused.ensures.changed.kept same ∙ unset;
   same = λ is. unmarked _ _ _ _ c.in_ok-refused.ensures.changed is;
 }
+
+pub returns-in_err-refused-clause-puts : goal.returns-in_err-refused-clause-puts
+returns-in_err-refused-clause-puts g c = puts_of c.args.source.now c.args.target.now (table c.args.mixed.now) c.copy.result _ c.copy.ensures.cause c.copy.ensures.worked
+
+pub returns-in_err-line-clause-puts : goal.returns-in_err-line-clause-puts
+returns-in_err-line-clause-puts g c = puts_of c.args.source.now c.args.target.now (table c.args.mixed.now) c.copy.result _ c.copy.ensures.cause c.copy.ensures.worked
+
+pub returns-clause-puts : goal.returns-clause-puts
+returns-clause-puts g c = puts_of c.args.source.now c.args.target.now (table c.args.mixed.now) c.copy.result _ c.copy.ensures.cause c.copy.ensures.worked

@@ -7,12 +7,11 @@ use Rattle.hg_mixed.specs.Held.{table}
 use Rattle.hg_ops.specs.Parent.{AsksStore, KeepsParent}
 use Rattle.hg_ops.specs.declared.refusal.Refusal.{Refusal}
 use Rattle.hg_session.specs.Acts.{IsActed, TakesAway, refused_line, span_of}
-use Rattle.hg_session.proofs.TakenWords.{asks_kept, asks_needed, needed_more, so_far_wide, split_more, split_word, stops_at, stops_behind, store_cause, takes_extends, takes_longer, takes_more, takes_none_yet, tree_cause, tree_failed, word_among}
+use Rattle.hg_session.proofs.TakenWords.{asks_kept, asks_needed, front_more, front_none, needed_more, so_far_wide, split_more, split_word, stops_at, stops_behind, store_cause, takes_extends, takes_longer, takes_more, takes_none_yet, tree_cause, tree_failed}
 use Rattle.hg_session.proofs.SoFar.{goes_on, goes_on_at, image_trans, none_yet}
 use Rattle.hg_shelf.proofs.Histories.{extends_same, passes_trans}
 use Rattle.hg_shelf.proofs.Scenes.{goes_same, goes_trans}
 use Rattle.hg_shelf.specs.Images.{course}
-use Rattle.hg_tree.proofs.Planting.{equal_bytes}
 use Rattle.hg_session.proofs.removing.remove_words.Goals as goal
 
 pub loop-i-init : goal.loop-i-init
@@ -23,7 +22,8 @@ loop-i-init g c = record {
   keeps =
       subst (λ (id : Id20). KeepsParent (record { id = id; old = g.S.Shelf.history c.args.shelf.now; new = g.S.Shelf.history c.args.shelf.now }) c.of-parent.result) (λ i. record { 0 = c.parents.ensures.p1 i })
       (c.of-parent.ensures (g.S.Shelf.history c.args.shelf.now));
-  takes = takes_none_yet c.args.after c.args.words.now (g.T.Tree.history c.args.tree.now) (g.T.Tree.faults c.args.tree.now);
+  front = front_none (table c.args.mixed.now) (g.T.Tree.history c.args.tree.now);
+  takes = takes_none_yet c.args.after c.args.words.now (table c.args.mixed.now) (g.T.Tree.history c.args.tree.now) (g.T.Tree.faults c.args.tree.now);
   needed = inl refl;
   kept = goes_same (course (g.S.Shelf.history c.args.shelf.now) (g.S.Shelf.images c.args.shelf.now));
   held = refl;
@@ -42,8 +42,8 @@ loop-i-preserved g c =
     let word = c.as_str-word.result.now in
     let is : slice_get c.args.words.now c.loop-i.i ≡ Some word = c.at.ensures ∙ ap Some (sym c.as_str-word.ensures) in
     let takes =
-    takes_more c.args.after c.args.words.now c.loop-i.i word is (equal_bytes word) start mid at (g.T.Tree.faults c.args.tree.now) (g.T.Tree.faults c.loop-i.tree) (g.T.Tree.faults c.remove.new.tree)
-    c.loop-i.invariant.takes c.remove.result c.remove.ensures.takes c.remove.ensures.touches (table c.loop-i.mixed) c.remove.ensures.asked in
+    takes_more c.args.after c.args.words.now (table c.args.mixed.now) c.loop-i.i word is start mid at (g.T.Tree.faults c.args.tree.now) (g.T.Tree.faults c.loop-i.tree) (g.T.Tree.faults c.remove.new.tree)
+    c.loop-i.invariant.takes c.remove.result c.remove.ensures.takes c.remove.ensures.touches (table c.loop-i.mixed) c.loop-i.invariant.front c.remove.ensures.asked in
     record {
       so_far =
           goes_on_at (codes "remove") (TakesAway c.args.after (span_of t first last)) start at c.args.words.now c.loop-i.i word c.args.mixed.now c.remove.new.mixed
@@ -57,10 +57,13 @@ loop-i-preserved g c =
           (record { end = last; within = extends_same last; removes = c.in_ok-refused.ensures.stepped (span_of t first between) c.loop-i.invariant.keeps; reads = c.remove.ensures.asked })
           c.remove.ensures.image c.in_ok-refused.ensures.changed c.in_ok-refused.ensures.cause);
       keeps = c.in_ok-refused.ensures.goes (span_of t first between) c.loop-i.invariant.keeps;
+      front =
+          front_more c.args.words.now c.loop-i.i word is t (table c.loop-i.mixed) (table c.remove.new.mixed) start mid at c.loop-i.invariant.front (takes_extends _ word mid at c.remove.ensures.takes) c.in_ok-refused.refused
+          (c.in_ok-refused.ensures.stepped (span_of t first between) c.loop-i.invariant.keeps).table;
       takes = takes;
       needed =
-          needed_more c.args.after c.args.words.now start mid at c.loop-i.invariant.takes.past (takes_extends _ word mid at c.remove.ensures.takes) (g.T.Tree.faults c.args.tree.now) (g.T.Tree.faults c.loop-i.tree) (g.T.Tree.faults c.remove.new.tree)
-          word (word_among c.args.words.now c.loop-i.i word is (equal_bytes word)) (table c.loop-i.mixed) first between last c.loop-i.invariant.needed
+          needed_more c.args.after c.args.words.now (table c.args.mixed.now) start mid at c.loop-i.invariant.takes.past (takes_extends _ word mid at c.remove.ensures.takes) (g.T.Tree.faults c.args.tree.now) (g.T.Tree.faults c.loop-i.tree) (g.T.Tree.faults c.remove.new.tree)
+          word c.loop-i.i is (table c.loop-i.mixed) c.loop-i.invariant.front first between last c.loop-i.invariant.needed
           (elim c.remove.ensures.needed [ inl same ↦ inl (ap (λ s. (g.S.Shelf.history s).asked) same) | inr need ↦ inr need ]);
       kept =
           goes_trans (course first (g.S.Shelf.images c.args.shelf.now)) (course between (g.S.Shelf.images c.loop-i.shelf)) (course last (g.S.Shelf.images c.remove.new.shelf)) c.loop-i.invariant.kept c.remove.ensures.kept;
@@ -86,7 +89,8 @@ returns-in_err-refused-clause-stops g c = λ unset.
     (record { old = first; new = last; before = g.S.Shelf.faults c.args.shelf.now; after = g.S.Shelf.faults c.remove.new.shelf })
     t (table c.loop-i.mixed) first (extends_same first) (g.T.Tree.faults c.args.tree.now) (g.T.Tree.faults c.loop-i.tree) c.loop-i.lines.items c.loop-i.mixed.changed
     (take c.loop-i.i c.args.words.now) (word ∷ drop (suc c.loop-i.i) c.args.words.now) (split_word c.args.words.now c.loop-i.i word is) word (drop (suc c.loop-i.i) c.args.words.now) refl (g.T.Tree.history c.loop-i.tree)
-    (so_far.acted unset) c.in_err-refused.field-0.0 c.in_err-refused.ensures.takes c.in_err-refused.ensures.asked (c.in_err-refused.ensures.met (span_of t first between) c.loop-i.invariant.keeps))
+    (so_far.acted unset) c.in_err-refused.field-0.0 c.in_err-refused.ensures.takes c.in_err-refused.ensures.asked (c.in_err-refused.ensures.met (span_of t first between) c.loop-i.invariant.keeps)
+    (c.in_err-refused.ensures.stopped (span_of t first between) c.loop-i.invariant.keeps))
 
 pub returns-in_err-refused-clause-image : goal.returns-in_err-refused-clause-image
 returns-in_err-refused-clause-image g c = image_trans c.args.mixed.now c.loop-i.mixed c.remove.new.mixed c.loop-i.invariant.so_far.image c.remove.ensures.image
@@ -95,9 +99,9 @@ pub returns-in_err-refused-clause-takes : goal.returns-in_err-refused-clause-tak
 returns-in_err-refused-clause-takes g c =
     let word = c.as_str-word.result.now in
     let is : slice_get c.args.words.now c.loop-i.i ≡ Some word = c.at.ensures ∙ ap Some (sym c.as_str-word.ensures) in
-    takes_more c.args.after c.args.words.now c.loop-i.i word is (equal_bytes word) (g.T.Tree.history c.args.tree.now) (g.T.Tree.history c.loop-i.tree) (g.T.Tree.history c.remove.new.tree)
+    takes_more c.args.after c.args.words.now (table c.args.mixed.now) c.loop-i.i word is (g.T.Tree.history c.args.tree.now) (g.T.Tree.history c.loop-i.tree) (g.T.Tree.history c.remove.new.tree)
     (g.T.Tree.faults c.args.tree.now) (g.T.Tree.faults c.loop-i.tree) (g.T.Tree.faults c.remove.new.tree)
-    c.loop-i.invariant.takes c.remove.result c.remove.ensures.takes c.remove.ensures.touches (table c.loop-i.mixed) c.remove.ensures.asked
+    c.loop-i.invariant.takes c.remove.result c.remove.ensures.takes c.remove.ensures.touches (table c.loop-i.mixed) c.loop-i.invariant.front c.remove.ensures.asked
 
 pub returns-in_err-refused-clause-passes : goal.returns-in_err-refused-clause-passes
 returns-in_err-refused-clause-passes g c = passes_trans _ _ _ c.loop-i.invariant.keeps.passes c.remove.ensures.shelf_passes
@@ -116,8 +120,8 @@ returns-in_err-refused-clause-asked g c = λ told.
     let word = c.as_str-word.result.now in
     let is : slice_get c.args.words.now c.loop-i.i ≡ Some word = c.at.ensures ∙ ap Some (sym c.as_str-word.ensures) in
     asks_needed first last _
-    (needed_more c.args.after c.args.words.now start mid at c.loop-i.invariant.takes.past (takes_extends _ word mid at c.remove.ensures.takes) (g.T.Tree.faults c.args.tree.now) (g.T.Tree.faults c.loop-i.tree) (g.T.Tree.faults c.remove.new.tree)
-    word (word_among c.args.words.now c.loop-i.i word is (equal_bytes word)) (table c.loop-i.mixed) first between last c.loop-i.invariant.needed
+    (needed_more c.args.after c.args.words.now (table c.args.mixed.now) start mid at c.loop-i.invariant.takes.past (takes_extends _ word mid at c.remove.ensures.takes) (g.T.Tree.faults c.args.tree.now) (g.T.Tree.faults c.loop-i.tree) (g.T.Tree.faults c.remove.new.tree)
+    word c.loop-i.i is (table c.loop-i.mixed) c.loop-i.invariant.front first between last c.loop-i.invariant.needed
     (elim c.remove.ensures.needed [ inl same ↦ inl (ap (λ s. (g.S.Shelf.history s).asked) same) | inr need ↦ inr need ]))
     (c.in_err-refused.ensures.store (span_of (table c.args.mixed.now) first between) c.loop-i.invariant.keeps told)
 
@@ -143,9 +147,9 @@ pub returns-in-Err-clause-takes : goal.returns-in-Err-clause-takes
 returns-in-Err-clause-takes g c =
     let word = c.as_str-word.result.now in
     let is : slice_get c.args.words.now c.loop-i.i ≡ Some word = c.at.ensures ∙ ap Some (sym c.as_str-word.ensures) in
-    takes_more c.args.after c.args.words.now c.loop-i.i word is (equal_bytes word) (g.T.Tree.history c.args.tree.now) (g.T.Tree.history c.loop-i.tree) (g.T.Tree.history c.remove.new.tree)
+    takes_more c.args.after c.args.words.now (table c.args.mixed.now) c.loop-i.i word is (g.T.Tree.history c.args.tree.now) (g.T.Tree.history c.loop-i.tree) (g.T.Tree.history c.remove.new.tree)
     (g.T.Tree.faults c.args.tree.now) (g.T.Tree.faults c.loop-i.tree) (g.T.Tree.faults c.remove.new.tree)
-    c.loop-i.invariant.takes c.remove.result c.remove.ensures.takes c.remove.ensures.touches (table c.loop-i.mixed) c.remove.ensures.asked
+    c.loop-i.invariant.takes c.remove.result c.remove.ensures.takes c.remove.ensures.touches (table c.loop-i.mixed) c.loop-i.invariant.front c.remove.ensures.asked
 
 pub returns-in-Err-clause-passes : goal.returns-in-Err-clause-passes
 returns-in-Err-clause-passes g c = passes_trans _ _ _ c.loop-i.invariant.keeps.passes c.remove.ensures.shelf_passes
@@ -164,8 +168,8 @@ returns-in-Err-clause-asked g c = λ told.
     let word = c.as_str-word.result.now in
     let is : slice_get c.args.words.now c.loop-i.i ≡ Some word = c.at.ensures ∙ ap Some (sym c.as_str-word.ensures) in
     asks_needed first last _
-    (needed_more c.args.after c.args.words.now start mid at c.loop-i.invariant.takes.past (takes_extends _ word mid at c.remove.ensures.takes) (g.T.Tree.faults c.args.tree.now) (g.T.Tree.faults c.loop-i.tree) (g.T.Tree.faults c.remove.new.tree)
-    word (word_among c.args.words.now c.loop-i.i word is (equal_bytes word)) (table c.loop-i.mixed) first between last c.loop-i.invariant.needed
+    (needed_more c.args.after c.args.words.now (table c.args.mixed.now) start mid at c.loop-i.invariant.takes.past (takes_extends _ word mid at c.remove.ensures.takes) (g.T.Tree.faults c.args.tree.now) (g.T.Tree.faults c.loop-i.tree) (g.T.Tree.faults c.remove.new.tree)
+    word c.loop-i.i is (table c.loop-i.mixed) c.loop-i.invariant.front first between last c.loop-i.invariant.needed
     (elim c.remove.ensures.needed [ inl same ↦ inl (ap (λ s. (g.S.Shelf.history s).asked) same) | inr need ↦ inr need ]))
     (asks_kept _ c.remove.new.parent (c.in_ok-refused.ensures.goes (span_of (table c.args.mixed.now) first between) c.loop-i.invariant.keeps) told)
 
