@@ -8,5 +8,6 @@ pub mod Noting
 pub mod Right
 pub mod Seeing
 pub mod Trust
+pub mod Walking
 pub mod Worked
 pub mod Writing

@@ -29,6 +29,8 @@ mod finding;
 mod laws;
 mod notes;
 mod noting;
+mod walked;
+mod walking;
 
 pub use applying::apply;
 pub use clean::Clean;
@@ -40,3 +42,5 @@ pub use laws::{
 };
 pub use notes::Notes;
 pub use noting::ListedDir;
+pub use walked::Walked;
+pub use walking::walk;

@@ -1,0 +1,85 @@
+-- What a walk over a record answers: which paths it compares, what it notes, and what its notes make of the record.
+use Rattle.std.specs.Prelude.{ℕ, ◌≡◌, Bool, true, false, not, ◌&&◌, IsTrue, List, [], Option, Some, None, IsSomeAnd, is_some}
+use Rattle.std.specs.List.{Contains}
+use Rattle.hg_base.specs.declared.id.Id20.{Id20}
+use Rattle.hg_base.specs.declared.stat.Stat.{Stat}
+use Rattle.hg_compare.specs.Tracked.{ParentRow, tracked_letter}
+use Rattle.hg_compare.specs.declared.letter.Letter.TheVariants as a_letter
+use Rattle.hg_entry.specs.Entry.{EntryData}
+use Rattle.hg_entry.specs.Steps.{is_file}
+use Rattle.hg_entry.specs.Table.{Table, flat_of, marks_of}
+use Rattle.hg_flat.specs.Listing.{wants_bytes}
+use Rattle.hg_flat.specs.Met.{Status}
+use Rattle.hg_flat.specs.Parent.{Asking, IsLeft, asked_by, is_plain_entry, parent_rows}
+use Rattle.hg_listing.specs.declared.row.Wanted.{Wanted}
+use Rattle.hg_mtime.specs.Stamps.{stamp_of}
+use Rattle.hg_mtime.specs.Vouching.{vouches}
+use Rattle.hg_shelf.specs.History as shelves
+use Rattle.hg_tree.specs.History as trees
+use Rattle.hg_tree.specs.Moment.{Moment, stat_at}
+use Rattle.hg_walk.specs.Notes.{CleanNote, NotesData}
+
+-- ---- which paths are compared
+
+-- an entry, where there is one, vouches for what a look shows, where it shows something
+abbrev pub vouches_for : Option EntryData → Bool → Option Stat → Bool
+vouches_for None copied shown = false
+vouches_for (Some entry) copied None = false
+vouches_for (Some entry) copied (Some stat) = vouches entry copied stat
+
+-- a record vouches for a path at a moment
+abbrev pub is_vouched_at : Table → Moment → List ℕ → Bool
+is_vouched_at table moment path = vouches_for (table.entries path) (is_some (table.sources path)) (stat_at moment path)
+
+-- the test of which paths a walk compares: by their marks, and where the record doesn't vouch
+abbrev pub asked_unvouched : Wanted → Table → Asking
+asked_unvouched wanted table moment path = asked_by wanted (flat_of table) moment path && not (is_vouched_at table moment path)
+
+-- the first parent that a record names
+abbrev pub first_id : Table → Id20
+first_id table = record { 0 = (flat_of table).p1 }
+
+-- what it has of each path, by the files below `.hg`
+abbrev pub rows_in : Table → shelves.Files → List ℕ → Option ParentRow
+rows_in table files = parent_rows files (first_id table)
+
+-- nobody touches a path from a moment on, nor what the first parent has of it where it is compared then, nor the patterns where they decide its letter
+abbrev pub IsLeftBy : Wanted → Table → trees.History → ℕ → shelves.History → ℕ → List ℕ → Type 0
+IsLeftBy wanted table copy from files since = IsLeft wanted (flat_of table) (asked_unvouched wanted table) (first_id table) copy from files since
+
+-- a walk over a record, by what both devices tell before and after it
+abbrev pub walk_status : Wanted → Table → trees.History → trees.History → shelves.History → shelves.History → Status
+walk_status wanted table tree_old tree_new shelf_old shelf_new = record {
+  wanted = wanted;
+  asks = asked_unvouched wanted table;
+  id = first_id table;
+  tree_old = tree_old;
+  tree_new = tree_new;
+  shelf_old = shelf_old;
+  shelf_new = shelf_new;
+}
+
+-- ---- what is noted
+
+-- a note is needed: the entry's marks leave the letter to the bytes, a look showed a file or a link, and the entry doesn't vouch for that
+pub record IsNeededNote (table : Table) (note : CleanNote) : Type 0 where
+  pub entry : EntryData
+  pub is : table.entries note.path ≡ Some entry
+  pub marks : IsTrue (is_plain_entry (Some (marks_of entry)) (is_some (table.sources note.path)))
+  pub kind : IsTrue (is_file note.stat.kind)
+  pub unvouched : vouches entry (is_some (table.sources note.path)) note.stat ≡ false
+
+-- only needed notes of clean paths are made
+pub record AreNeeded (table : Table) (notes : NotesData) : Type 0 where
+  pub clean : (note : CleanNote) → Contains notes.clean note → IsNeededNote table note
+  pub seen : notes.seen ≡ []
+  pub gone : notes.gone ≡ []
+  pub hash : notes.hash ≡ None
+
+-- where bytes decide letters that are wanted, a record vouches behind the walk for each path that is clean at a moment with a time that may be recorded
+-- then: the second walk reads no byte of it
+abbrev pub IsRecorded : Wanted → (List ℕ → Option ParentRow) → Table → Moment → Table → Type 0
+IsRecorded wanted rows table moment after =
+    wants_bytes wanted ≡ true → (path : List ℕ) (entry : EntryData) (stat : Stat) → table.entries path ≡ Some entry → stat_at moment path ≡ Some stat
+    → tracked_letter (rows path) (marks_of entry) (is_some (table.sources path)) (moment.things path) ≡ Some a_letter.C
+    → IsTrue (is_some (stamp_of stat.mtime moment.clock)) → is_vouched_at after moment path ≡ true

@@ -1,0 +1,131 @@
+//! A status by the record itself, which reads no file whose entry vouches for it.
+
+ghost use Rattle.std.specs.Prelude.{◌≡◌, false, true, ℕ, List, IsTrue, IfErr, IfOk, OnOk};
+ghost use Rattle.hg_entry.specs.Table.{flat_of};
+ghost use Rattle.hg_flat.specs.Asked.{AsksAll, AsksBehind, IsListedDir, pattern_reads};
+ghost use Rattle.hg_flat.specs.Met.{Met};
+ghost use Rattle.hg_flat.specs.Parent.{IsAsked, IsServed, WasAsked};
+ghost use Rattle.hg_flat.specs.Patterns.{CountsOversize, HadPatterns, Warns, ignored_at, is_of_parent, needs_patterns};
+ghost use Rattle.hg_flat.specs.Stored.{AsksStore};
+ghost use Rattle.hg_listing.specs.Cause.{HasShelfCause, HasStatusCause};
+ghost use Rattle.hg_listing.specs.Full.{IsFull, IsFullFor};
+ghost use Rattle.hg_mixed.specs.Held.{table};
+ghost use Rattle.hg_shelf.specs.History as shelves;
+ghost use Rattle.hg_shelf.specs.Images as images;
+ghost use Rattle.hg_shelf.specs.Polite.{KeepsPlain};
+ghost use Rattle.hg_tree.specs.History as trees;
+ghost use Rattle.hg_tree.specs.Honest.{IsHonest};
+ghost use Rattle.hg_walk.specs.Notes.{AreEarned, applied};
+ghost use Rattle.hg_walk.specs.Right.{AreRight};
+ghost use Rattle.hg_walk.specs.Walking.{AreNeeded, IsLeftBy, IsRecorded, asked_unvouched, first_id, rows_in, walk_status};
+
+use crate::walked::Walked;
+use hg_ignore::Regexps;
+use hg_listing::{StatusFault, Wanted};
+use hg_mixed::Mixed;
+use hg_shelf::Shelf;
+use hg_tree::Tree;
+use std::alloc::Global;
+
+/// Lists each path with a wanted letter, as `hg_flat::plain_status` does, but that a path for which its entry vouches is C and isn't read. Of each path that
+/// is compared and clean the time is noted, where the clock at the start of the walk lets it be recorded.
+pub fn walk<T: Tree, S: Shelf, G: Regexps>(
+    alloc: Global,
+    mixed: &Mixed<'_>,
+    tree: &mut T,
+    shelf: &mut S,
+    regexps: &mut G,
+    wanted: Wanted,
+) -> Result<Walked, StatusFault>
+    ensures passes { trees.Passes (T.history tree.old) (T.history tree.new) }
+    ensures passes_shelf { shelves.Passes (S.history shelf.old) (S.history shelf.new) }
+    ensures kept { images.Goes (images.course (S.history shelf.old) (S.images shelf.old)) (images.course (S.history shelf.new) (S.images shelf.new)) }
+    ensures held { S.held shelf.new ≡ S.held shelf.old }
+    // Where recorded times are right over the call, a path that is left alone has exactly its rows.
+    ensures still { AreRight (rows_in (table mixed.now) (shelves.now (S.history shelf.old)).files) (table mixed.now) (T.history tree.old) (T.history tree.new)
+        → IfOk
+        result
+        (λ walked. IsFullFor
+        (IsLeftBy wanted (table mixed.now) (T.history tree.new) (T.history tree.old).last (S.history shelf.new) (S.history shelf.old).last)
+        (flat_of (table mixed.now))
+        (trees.now (T.history tree.old))
+        (rows_in (table mixed.now) (shelves.now (S.history shelf.old)).files)
+        (ignored_at (trees.now (T.history tree.old)))
+        wanted
+        walked.rows) }
+    // Where nobody else steps and the plain store stays, the rows are the full listing.
+    ensures full { AreRight (rows_in (table mixed.now) (shelves.now (S.history shelf.old)).files) (table mixed.now) (T.history tree.old) (T.history tree.new)
+        → trees.IsOurs (T.history tree.old) (T.history tree.new)
+        → KeepsPlain (S.history shelf.new) (S.history shelf.old).last
+        → IfOk
+        result
+        (λ walked. IsFull
+        (flat_of (table mixed.now))
+        (trees.now (T.history tree.old))
+        (rows_in (table mixed.now) (shelves.now (S.history shelf.old)).files)
+        (ignored_at (trees.now (T.history tree.old)))
+        wanted
+        walked.rows) }
+    ensures warns { IfOk result (λ walked. Warns wanted (T.history tree.old) (T.history tree.new) walked.warnings) }
+    // Without a fault all that a comparison asked for was there.
+    ensures served { OnOk
+        result
+        ((path : List ℕ) → IsLeftBy wanted (table mixed.now) (T.history tree.new) (T.history tree.old).last (S.history shelf.new) (S.history shelf.old).last path
+        → IsAsked (asked_unvouched wanted (table mixed.now)) (trees.now (T.history tree.old)) path
+        → IsServed (shelves.now (S.history shelf.old)).files (first_id (table mixed.now)) (trees.now (T.history tree.old)) path) }
+    ensures met { IfErr
+        result
+        (Met (walk_status wanted (table mixed.now) (T.history tree.old) (T.history tree.new) (S.history shelf.old) (S.history shelf.new))) }
+    // A fault of the first parent comes only behind patterns that were fine.
+    ensures behind { IfErr result (λ fault. is_of_parent fault ≡ true → HadPatterns wanted (T.history tree.old) (T.history tree.new)) }
+    ensures asked { IsTrue (T.history tree.old).told
+        → AsksAll
+        wanted
+        (asked_unvouched wanted (table mixed.now))
+        (IsListedDir wanted (T.history tree.old) (T.history tree.new))
+        (T.history tree.old)
+        (T.history tree.new) }
+    ensures asked_own { trees.IsOurs (T.history tree.old) (T.history tree.new)
+        → OnOk
+        result
+        (AsksBehind
+        (pattern_reads wanted (trees.now (T.history tree.old)))
+        (asked_unvouched wanted (table mixed.now))
+        (IsListedDir wanted (T.history tree.old) (T.history tree.new))
+        (T.history tree.old)
+        (T.history tree.new)) }
+    // Where no path is compared, the files below `.hg` aren't asked.
+    ensures unasked { ((path : List ℕ) → WasAsked (asked_unvouched wanted (table mixed.now)) (T.history tree.old) (T.history tree.new) path → ⊥)
+        → shelf.new ≡ shelf.old }
+    ensures asked_store { IsTrue (S.history shelf.old).told
+        → AsksStore (walk_status wanted (table mixed.now) (T.history tree.old) (T.history tree.new) (S.history shelf.old) (S.history shelf.new)) }
+    // What is noted was seen, whatever others do in the working copy.
+    ensures earned { IsHonest (T.history tree.new)
+        → IsTrue (T.history tree.old).told
+        → KeepsPlain (S.history shelf.new) (S.history shelf.old).last
+        → IfOk
+        result
+        (λ walked. AreEarned
+        (rows_in (table mixed.now) (shelves.now (S.history shelf.old)).files)
+        (table mixed.now)
+        (T.history tree.new)
+        walked.notes) }
+    // Where nobody else steps, all is noted that a second walk needs to read no clean file again.
+    ensures recorded { trees.IsOurs (T.history tree.old) (T.history tree.new)
+        → KeepsPlain (S.history shelf.new) (S.history shelf.old).last
+        → IfOk
+        result
+        (λ walked. IsRecorded
+        wanted
+        (rows_in (table mixed.now) (shelves.now (S.history shelf.old)).files)
+        (table mixed.now)
+        (trees.now (T.history tree.old))
+        (applied walked.notes (table mixed.now))) }
+    ensures needed { IfOk result (λ walked. AreNeeded (table mixed.now) walked.notes) }
+    ensures uncompiled { needs_patterns wanted ≡ false → regexps.new ≡ regexps.old }
+    ensures cause { HasStatusCause (T.faults tree.old) (T.faults tree.new) result }
+    ensures cause_shelf { HasShelfCause (S.faults shelf.old) (S.faults shelf.new) result }
+    ensures oversize { CountsOversize (G.oversize regexps.old) (G.oversize regexps.new) result }
+{
+    Err(StatusFault::OutOfMemory)
+}
