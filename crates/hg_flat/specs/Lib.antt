@@ -3,6 +3,7 @@ pub mod Course
 pub mod Kept
 pub mod Listing
 pub mod Met
+pub mod Others
 pub mod Parent
 pub mod Passed
 pub mod Patterns

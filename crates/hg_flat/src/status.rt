@@ -20,14 +20,14 @@ ghost use Rattle.hg_flat.specs.Shown.{flat_in, kept_of};
 use crate::flat::Flat;
 use crate::letter::add_tracked;
 use crate::listed::Listed;
-use crate::listing::visit;
+use crate::others::list_others;
 use crate::parent::Parent;
-use crate::patterns::{read_patterns, warnings_of};
+use crate::patterns::read_patterns;
 use hg_base::Id20;
-use hg_ignore::{Ignore, Regexps};
-use hg_listing::{Row, Rows, StatusFault, Wanted};
+use hg_ignore::Regexps;
+use hg_listing::{Row, StatusFault, Wanted};
 use hg_shelf::Shelf;
-use hg_tree::{Tree, TreeFault};
+use hg_tree::Tree;
 use std::alloc::Global;
 
 // Looks at each path with an entry, in order.
@@ -99,57 +99,6 @@ fn add_each<T: Tree, S: Shelf>(
         add_tracked(alloc, tree, shelf, kept, &mut parent, wanted, rows)?;
     }
     Ok(())
-}
-
-// Looks at what else stands in the working copy, where that is wanted and so patterns were read.
-fn add_others<T: Tree>(
-    alloc: Global,
-    flat: &Flat,
-    ignore: Option<&Ignore>,
-    tree: &mut T,
-    wanted: Wanted,
-    rows: &mut Vec<Row>,
-) -> Result<(), TreeFault>
-    requires { is_some (option_map (λ i. i.now) ignore) ≡ needs_patterns wanted }
-    ensures passes { trees.Passes (T.history tree.old) (T.history tree.new) }
-    ensures listed { OnOk
-        result
-        (ListsUnknown
-        (kept_of flat.now)
-        (Gives wanted (pieces_of (option_map (λ i. i.now) ignore.entry)))
-        (Untouched (T.history tree.new) (T.history tree.old).last)
-        (IsUnknownIn (kept_of flat.now) (trees.now (T.history tree.old)) None)
-        rows.old.items
-        rows.new.items) }
-    ensures asked { IsTrue (T.history tree.old).told
-        → AsksFor
-        (λ dir. (needs_patterns wanted ≡ true)
-        × IsDirIn
-        (IsEntered wanted (pieces_of (option_map (λ i. i.now) ignore.entry)))
-        (T.history tree.old)
-        (T.history tree.new)
-        None
-        dir)
-        (T.history tree.old)
-        (T.history tree.new) }
-    ensures cause { HasListingCause (T.faults tree.old) (T.faults tree.new) result }
-{
-    let Some(ignore) = ignore else {
-        return Ok(());
-    };
-    let mut matcher = ignore.matcher(alloc)?;
-    let mut next = 0;
-    visit(
-        alloc,
-        tree,
-        flat,
-        None,
-        &mut matcher,
-        false,
-        wanted,
-        &mut next,
-        rows,
-    )
 }
 
 /// ListsUnknown each path with a wanted letter: first each path with an entry, in order, then, where `?` or I is wanted, everything that stands in
@@ -277,10 +226,5 @@ pub fn plain_status<T: Tree, S: Shelf, G: Regexps>(
     let ignore = read_patterns(alloc, tree, regexps, wanted)?;
     let mut rows = Vec::new(alloc);
     add_each(alloc, flat, p1, tree, shelf, wanted, &mut rows)?;
-    add_others(alloc, flat, ignore.as_ref(), tree, wanted, &mut rows)?;
-    rows.sort()?;
-    rows.dedup();
-    let rows = Rows::of(rows);
-    let warnings = warnings_of(alloc, ignore);
-    Ok(Listed { rows, warnings })
+    list_others(alloc, flat, ignore, tree, wanted, rows)
 }
