@@ -1,5 +1,6 @@
 pub mod Asked
 pub mod Course
+pub mod Judged
 pub mod Kept
 pub mod Listing
 pub mod Met
