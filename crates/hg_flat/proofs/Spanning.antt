@@ -1,9 +1,12 @@
 -- What was met of the first parent behind a read of the patterns was met in the whole status.
-use Rattle.std.proofs.Common.{ℕ, ◌≡◌, true, Some, Result, Ok, Err, IsTrue, ◌∙◌, arith}
+use Rattle.std.proofs.Common.{ℕ, ◌≡◌, true, Some, Result, Ok, Err, IsTrue, sym, ap, ◌∙◌, subst, arith}
+use Rattle.std.specs.Prelude.{IfErr, IfOk, OnOk}
 use Rattle.hg_base.specs.declared.id.Id20.{Id20}
 use Rattle.hg_base.specs.declared.stat.Stat.{Stat}
 use Rattle.hg_tree.specs.History as trees
 use Rattle.hg_tree.specs.Moment.{Moment, stat_at}
+use Rattle.hg_tree.specs.declared.fault.TreeFault.{TreeFault}
+use Rattle.hg_tree.specs.declared.fault.TreeFault.TheVariants as a_tree_fault
 use Rattle.hg_shelf.specs.History as shelves
 use Rattle.hg_manifest.specs.Rows.{Rows}
 use Rattle.hg_manifest.specs.declared.fault.ManifestFault.{ManifestFault}
@@ -11,8 +14,10 @@ use Rattle.hg_manifest.specs.declared.fault.ManifestFault.TheVariants as a_manif
 use Rattle.hg_compare.specs.Alike.{is_alike}
 use Rattle.hg_flat.specs.Course.{LacksPatterns, MetParent}
 use Rattle.hg_flat.specs.Met.{LacksContents, Met, NeedsManifest, Shows, Status, WasRead}
+use Rattle.hg_flat.specs.Others.{IsOfListing}
 use Rattle.hg_flat.specs.Parent.{Asking, IsAsked}
 use Rattle.hg_flat.specs.Patterns.{CountsOversize, is_of_parent, needs_patterns}
+use Rattle.hg_listing.specs.Cause.{of_tree}
 use Rattle.hg_listing.specs.declared.fault.StatusFault.{StatusFault}
 use Rattle.hg_listing.specs.declared.fault.StatusFault.TheVariants as a_fault
 use Rattle.hg_listing.specs.declared.row.Wanted.{Wanted}
@@ -120,3 +125,37 @@ not_parent old new (a_fault.BadGlob line) lacks is = absurd (cc is)
 not_parent old new (a_fault.BadRegexp line) lacks is = absurd (cc is)
 not_parent old new (a_fault.RegexpTooBig line) lacks is = absurd (cc is)
 not_parent old new (a_fault.BadInclude line) lacks is = absurd (cc is)
+
+-- ---- a listing behind the rest
+
+pub if_err_weaker : {X Y : Type 0} (r : Result X Y) (P Q : Y → Type 0) → ((y : Y) → P y → Q y) → IfErr r P → IfErr r Q
+if_err_weaker (Ok x) P Q weaker is = tt
+if_err_weaker (Err y) P Q weaker is = weaker y is
+
+pub if_ok_on : {X Y : Type 0} (r : Result X Y) (P : X → Type 0) (Q : Type 0) → ((x : X) → P x → Q) → IfOk r P → OnOk r Q
+if_ok_on (Ok x) P Q to is = to x is
+if_ok_on (Err y) P Q to is = tt
+
+pub met_listing : (s : Status) (fault : StatusFault) → IsOfListing fault → Met s fault
+met_listing s fault (cause, is) = subst (Met s) (sym is) (by cause)
+  where
+    by : (cause : TreeFault) → Met s (of_tree cause)
+    by a_tree_fault.OutOfMemory = tt
+    by a_tree_fault.Failed = tt
+
+-- it is none of the parent
+pub of_listing_none : (fault : StatusFault) → IsOfListing fault → is_of_parent fault ≡ true → ⊥
+of_listing_none fault (cause, is) parent = by cause (sym (ap is_of_parent is) ∙ parent)
+  where
+    by : (cause : TreeFault) → is_of_parent (of_tree cause) ≡ true → ⊥
+    by a_tree_fault.OutOfMemory same = absurd (cc same)
+    by a_tree_fault.Failed same = absurd (cc same)
+
+-- and no regexp was too big
+pub counts_listing : {T : Type 0} (result : Result T StatusFault) (before now : ℕ) → now ≡ before → IfErr result IsOfListing → CountsOversize before now result
+counts_listing (Ok listed) before now same of = same
+counts_listing (Err fault) before now same (cause, is) = subst (λ (f : StatusFault). CountsOversize before now (Err f)) (sym is) (by cause)
+  where
+    by : (cause : TreeFault) → CountsOversize before now (Err (of_tree cause))
+    by a_tree_fault.OutOfMemory = same
+    by a_tree_fault.Failed = same

@@ -1,21 +1,20 @@
 //! The plain status of a working copy.
 
-ghost use Rattle.std.specs.Prelude.{◌≡◌, true, false, ℕ, List, None, IsTrue, IfErr, IfOk, OnOk, is_some, option_map};
+ghost use Rattle.std.specs.Prelude.{◌≡◌, true, false, ℕ, List, IsTrue, IfErr, IfOk, OnOk};
 ghost use Rattle.hg_shelf.specs.History as shelves;
 ghost use Rattle.hg_shelf.specs.Images as images;
 ghost use Rattle.hg_shelf.specs.Polite.{KeepsPlain};
 ghost use Rattle.hg_tree.specs.History as trees;
-ghost use Rattle.hg_tree.specs.Still.{Untouched};
-ghost use Rattle.hg_flat.specs.Asked.{AsksAll, AsksBehind, AsksFor, AsksReads, IsDirIn, IsListedDir, pattern_reads};
-ghost use Rattle.hg_listing.specs.Cause.{HasListingCause, HasShelfCause, HasStatusCause};
-ghost use Rattle.hg_flat.specs.Course.{MetParent, pieces_of};
+ghost use Rattle.hg_flat.specs.Asked.{AsksAll, AsksBehind, AsksReads, IsListedDir, pattern_reads};
+ghost use Rattle.hg_listing.specs.Cause.{HasShelfCause, HasStatusCause};
+ghost use Rattle.hg_flat.specs.Course.{MetParent};
+ghost use Rattle.hg_flat.specs.Judged.{AddsBy, IsLeftAsked};
 ghost use Rattle.hg_listing.specs.Full.{IsFull, IsFullFor};
 ghost use Rattle.hg_flat.specs.Met.{Met};
 ghost use Rattle.hg_flat.specs.Parent.{IsAsked, IsLeft, IsServed, WasAsked, asked_by, parent_rows};
 ghost use Rattle.hg_flat.specs.Patterns.{CountsOversize, HadPatterns, Warns, ignored_at, is_of_parent, needs_patterns};
-ghost use Rattle.hg_flat.specs.Listing.{AddsTracked, Gives, IsEntered, IsLeftRow, IsUnknownIn, ListsUnknown};
 ghost use Rattle.hg_flat.specs.Stored.{AsksStore};
-ghost use Rattle.hg_flat.specs.Shown.{flat_in, kept_of};
+ghost use Rattle.hg_flat.specs.Shown.{flat_in};
 
 use crate::flat::Flat;
 use crate::letter::add_tracked;
@@ -46,9 +45,10 @@ fn add_each<T: Tree, S: Shelf>(
     ensures held { S.held shelf.new ≡ S.held shelf.old }
     ensures added { OnOk
         result
-        (AddsTracked
-        (IsLeftRow
-        wanted
+        (AddsBy
+        (asked_by wanted (flat_in flat.now))
+        (IsLeftAsked
+        (asked_by wanted (flat_in flat.now))
         p1.now
         (T.history tree.new)
         (T.history tree.old).last
