@@ -75,6 +75,22 @@ module _ (wanted : Wanted) (asks : Asking) (id : Id20) (start old new : trees.Hi
   met_whole (a_fault.RegexpTooBig line) met = absurd met
   met_whole (a_fault.BadInclude line) met = absurd met
 
+  pub parent_whole : (fault : StatusFault) → MetParent part fault → MetParent whole fault
+  parent_whole a_fault.OutOfMemory met = tt
+  parent_whole a_fault.TreeFailed met = tt
+  parent_whole a_fault.ShelfFailed met = tt
+  parent_whole (a_fault.NoManifest gone) met = met_whole (a_fault.NoManifest gone) met
+  parent_whole (a_fault.ManifestTooLarge size) met = met_whole (a_fault.ManifestTooLarge size) met
+  parent_whole (a_fault.ManifestLine line) met = met_whole (a_fault.ManifestLine line) met
+  parent_whole (a_fault.ManifestOrder line) met = met_whole (a_fault.ManifestOrder line) met
+  parent_whole (a_fault.NoContents gone) met = met_whole (a_fault.NoContents gone) met
+  parent_whole (a_fault.IgnoreTooLarge size) met = met
+  parent_whole (a_fault.IgnoreText at) met = met
+  parent_whole (a_fault.BadGlob line) met = met
+  parent_whole (a_fault.BadRegexp line) met = met
+  parent_whole (a_fault.RegexpTooBig line) met = met
+  parent_whole (a_fault.BadInclude line) met = met
+
 -- no regexp was too big
 pub counts_still : (T : Type 0) (s : Status) (fault : StatusFault) (before now : ℕ) → now ≡ before → MetParent s fault → CountsOversize {T = T} before now (Err fault)
 counts_still T s a_fault.OutOfMemory before now same met = same

@@ -11,3 +11,7 @@ pub mod Parts
 pub mod Vouched
 pub mod Written
 pub mod Example
+pub mod Rows
+pub mod Tells
+pub mod Tracks
+pub mod Walks

@@ -26,9 +26,12 @@ mod applying;
 mod clean;
 mod edits;
 mod finding;
+mod keeper;
 mod laws;
 mod notes;
 mod noting;
+mod telling;
+mod tracked;
 mod walked;
 mod walking;
 
