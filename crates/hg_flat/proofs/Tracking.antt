@@ -30,12 +30,12 @@ use Rattle.hg_flat.proofs.Moved.{letter_moved}
 
 -- ---- one entry behind another
 
-put_append : (Put : FlatRow → List Row → Type 0) (xs ys : List FlatRow) (a b : List Row) → ArePutFor Put xs a → ArePutFor Put ys b → ArePutFor Put (xs ++ ys) (a ++ b)
+pub put_append : (Put : FlatRow → List Row → Type 0) (xs ys : List FlatRow) (a b : List Row) → ArePutFor Put xs a → ArePutFor Put ys b → ArePutFor Put (xs ++ ys) (a ++ b)
 put_append Put [] ys a b first second = subst (λ (l : List Row). ArePutFor Put ys (l ++ b)) (sym first) second
 put_append Put (x ∷ xs) ys a b (own, rest, is, put, more) second =
     (own, rest ++ b, ap (λ (l : List Row). l ++ b) is ∙ append_assoc own rest b, put, put_append Put xs ys rest b more second)
 
-put_weaker : (P Q : FlatRow → List Row → Type 0) (all : List FlatRow) (rows : List Row) → ((kept : FlatRow) (own : List Row) → P kept own → Q kept own) → ArePutFor P all rows → ArePutFor Q all rows
+pub put_weaker : (P Q : FlatRow → List Row → Type 0) (all : List FlatRow) (rows : List Row) → ((kept : FlatRow) (own : List Row) → P kept own → Q kept own) → ArePutFor P all rows → ArePutFor Q all rows
 put_weaker P Q [] rows weaker is = is
 put_weaker P Q (x ∷ all) rows weaker (own, rest, is, put, more) = (own, rest, is, weaker x own put, put_weaker P Q all rest weaker more)
 

@@ -7,6 +7,7 @@ pub mod Notes
 pub mod Noting
 pub mod Right
 pub mod Seeing
+pub mod Telling
 pub mod Trust
 pub mod Walking
 pub mod Worked

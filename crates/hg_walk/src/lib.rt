@@ -29,6 +29,7 @@ mod finding;
 mod laws;
 mod notes;
 mod noting;
+mod telling;
 mod walked;
 mod walking;
 
