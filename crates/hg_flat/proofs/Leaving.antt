@@ -45,7 +45,7 @@ asks_same flat wanted k has moment = ap (λ (b : Bool). b && is_file_or_link (mo
 -- what was put for an entry by its marks was put by the test of its path
 pub added_by : (flat : Flat) (wanted : Wanted) (id : Id20) (copy : trees.History) (from : ℕ) (files : shelves.History) (since : ℕ) (start : shelves.Files) (m : Moment) (k : FlatRow) → Contains flat.rows.items k → (a b : List Row)
     → AddsTracked (IsLeftRow wanted id copy from files since) start id m wanted (k ∷ []) a b
-    → AddsBy (asked_by wanted (flat_in flat)) (IsLeftAsked (asked_by wanted (flat_in flat)) id copy from files since) start id m wanted (k ∷ []) a b
+    → AddsBy (asked_by wanted (flat_in flat)) (Unit {0}) (IsLeftAsked (asked_by wanted (flat_in flat)) id copy from files since) start id m wanted (k ∷ []) a b
 added_by flat wanted id copy from files since start m k has a b (more, is, (own, rest, parts, put, none)) =
     (more, is, (own, rest, parts, record { letter = put.letter; one = put.one; found = found put.letter put.found }, none))
   where
@@ -60,18 +60,18 @@ added_by flat wanted id copy from files since start m k has a b (more, is, (own,
         let both = and_parts (is_compared_row wanted k) (is_file_or_link (m.things k.path)) (sym (asks_same flat wanted k has m) ∙ asked) in
         record { compared = both.0; there = both.1 }
 
-    found : (letter : Option Letter) → IsLetterFor (IsLeftRow wanted id copy from files since) start id m wanted k letter → IsLetterBy asks (IsLeftAsked asks id copy from files since) start id m wanted k letter
-    found letter of = record { right = λ meets. of.right (left meets); served = λ meets asked. of.served (left meets) (by_marks asked) }
+    found : (letter : Option Letter) → IsLetterFor (IsLeftRow wanted id copy from files since) start id m wanted k letter → IsLetterBy asks (Unit {0}) (IsLeftAsked asks id copy from files since) start id m wanted k letter
+    found letter of = record { right = λ premise meets. of.right (left meets); served = λ meets asked. of.served (left meets) (by_marks asked) }
 
 -- entries so far, and the next
 pub adds_next : (asks : Asking) → AsksAlike asks → (wanted : Wanted) (id : Id20) (old mid new : trees.History) → trees.Extends old mid → trees.Extends mid new → (files later : shelves.History) (since : ℕ) → shelves.Extends files later → since ≤ files.last
     → (start : shelves.Files) (all : List FlatRow) (i : ℕ) (k : FlatRow) (a b c : List Row) → i < length all → get_or all i k ≡ k
-    → AddsBy asks (IsLeftAsked asks id mid old.last files since) start id (trees.now old) wanted (take i all) a b
-    → AddsBy asks (IsLeftAsked asks id new mid.last later since) start id (trees.now mid) wanted (k ∷ []) b c
-    → AddsBy asks (IsLeftAsked asks id new old.last later since) start id (trees.now old) wanted (take (i + 1) all) a c
+    → AddsBy asks (Unit {0}) (IsLeftAsked asks id mid old.last files since) start id (trees.now old) wanted (take i all) a b
+    → AddsBy asks (Unit {0}) (IsLeftAsked asks id new mid.last later since) start id (trees.now mid) wanted (k ∷ []) b c
+    → AddsBy asks (Unit {0}) (IsLeftAsked asks id new old.last later since) start id (trees.now old) wanted (take (i + 1) all) a c
 adds_next asks same wanted id old mid new first second files later since past within start all i k a b c below is before one =
-    subst (λ (l : List FlatRow). AddsBy asks (IsLeftAsked asks id new old.last later since) start id (trees.now old) wanted l a c) (sym (take_more all i k below ∙ ap (λ (r : FlatRow). take i all ++ r ∷ []) is))
-    (adds_more asks same wanted id old mid new first second files later since past within start (take i all) (k ∷ []) a b c before one)
+    subst (λ (l : List FlatRow). AddsBy asks (Unit {0}) (IsLeftAsked asks id new old.last later since) start id (trees.now old) wanted l a c) (sym (take_more all i k below ∙ ap (λ (r : FlatRow). take i all ++ r ∷ []) is))
+    (adds_more asks same (Unit {0}) (Unit {0}) (Unit {0}) (λ premise. premise) (λ premise. premise) wanted id old mid new first second files later since past within start (take i all) (k ∷ []) a b c before one)
 
 some_all : {A : Type 0} (o : Option A) (P : A → Type 0) → ((a : A) → P a) → IfSome o P
 some_all None P each = tt

@@ -28,7 +28,7 @@ use Rattle.hg_flat.proofs.Judging.{AsksAlike, adds_moved, left_ended}
 use Rattle.hg_flat.proofs.Refusing.{state_kept}
 use Rattle.hg_flat.proofs.Steps.{lists_later}
 
-module _ (asks : Asking) (same : AsksAlike asks) (p1 p2 : List ℕ) (rows : List FlatRow) (own : HaveOwnPaths rows) (wanted : Wanted) (id : Id20)
+module _ (asks : Asking) (same : AsksAlike asks) (Premise : Type 0) (p1 p2 : List ℕ) (rows : List FlatRow) (own : HaveOwnPaths rows) (wanted : Wanted) (id : Id20)
     (old mid later new : trees.History) (first : trees.Passes old mid) (second : trees.Passes mid later) (third : trees.Passes later new) (files : shelves.History) (since : ℕ) where
   -- the record as a map, and which paths have an entry
   abbrev pub flat : Flat
@@ -51,10 +51,10 @@ module _ (asks : Asking) (same : AsksAlike asks) (p1 p2 : List ℕ) (rows : List
     row = λ asked. left.row (subst (λ (m : Moment). IsAsked asks m path) (sym (third.past.stay old.last past.later)) asked);
   }
 
-  tracked_whole : (start : shelves.Files) (a b : List Row) → AddsBy asks (IsLeftAsked asks id later mid.last files since) start id (trees.now mid) wanted rows a b
-      → AddsBy asks Left start id (trees.now old) wanted rows a b
+  tracked_whole : (start : shelves.Files) (a b : List Row) → AddsBy asks Premise (IsLeftAsked asks id later mid.last files since) start id (trees.now mid) wanted rows a b
+      → AddsBy asks Premise Left start id (trees.now old) wanted rows a b
   tracked_whole start a b added =
-      adds_moved asks same (IsLeftAsked asks id later mid.last files since) Left start id (trees.now mid) (trees.now old) wanted rows a b
+      adds_moved asks same Premise Premise (λ premise. premise) (IsLeftAsked asks id later mid.last files since) Left start id (trees.now mid) (trees.now old) wanted rows a b
       (λ path left. left_ended asks same id old mid later first.past second.past files since path (left_then path left))
       (λ path left. alike_between old mid later path first.past second.past (left_then path left).own) added
 
@@ -69,16 +69,16 @@ module _ (asks : Asking) (same : AsksAlike asks) (p1 p2 : List ℕ) (rows : List
       state_kept old mid new first (extends_trans mid later new second.past third.past) wanted ignore kept needed
       (left.patterns needed (ap (option_map (λ (r : FlatRow). marks_of (view r.entry))) (none_is (row_at rows path) none)))
 
-  module _ (start : shelves.Files) (a d : List Row) (added : AddsBy asks (IsLeftAsked asks id later mid.last files since) start id (trees.now mid) wanted rows [] a) (ignore : Option (List Piece)) (kept : IsKeptState wanted old mid ignore)
+  module _ (start : shelves.Files) (a d : List Row) (added : AddsBy asks Premise (IsLeftAsked asks id later mid.last files since) start id (trees.now mid) wanted rows [] a) (ignore : Option (List Piece)) (kept : IsKeptState wanted old mid ignore)
       (passed : List ℕ → Bool) (are : ArePassed passed later mid.last) (others : ListsOthers keeps passed wanted (pieces_of ignore) later new a d) where
     -- of the paths that are left the rows are the full listing
-    pub whole_listing : IsFullFor Left flat (trees.now old) (parent_rows start id) (ignored_at (trees.now old)) wanted d
-    whole_listing =
-        full_for p1 p2 (row_at rows) start id (trees.now old) wanted (named rows) asks Left rows own (holds_rows rows own) a others.whole (tracked_whole start [] a added)
-        (pieces_of ignore) (state_start ignore kept) (lists_whole passed (pieces_of ignore) a others.whole are others.listed) others.sorted d others.moved others.order others.once
+    pub whole_listing : Premise → IsFullFor Left flat (trees.now old) (parent_rows start id) (ignored_at (trees.now old)) wanted d
+    whole_listing premise =
+        full_for p1 p2 (row_at rows) start id (trees.now old) wanted (named rows) asks Premise Left rows own (holds_rows rows own) a others.whole (tracked_whole start [] a added)
+        (pieces_of ignore) (state_start ignore kept) (lists_whole passed (pieces_of ignore) a others.whole are others.listed) premise others.sorted d others.moved others.order others.once
 
     -- all that a comparison of one of them asked for was there
     pub whole_served : Narrows asks wanted flat → (path : List ℕ) → Left path → IsAsked asks (trees.now old) path → IsServed start id (trees.now old) path
     whole_served =
-        served_path p1 p2 (row_at rows) start id (trees.now old) wanted (named rows) asks Left rows own (holds_rows rows own) a others.whole (tracked_whole start [] a added)
+        served_path p1 p2 (row_at rows) start id (trees.now old) wanted (named rows) asks Premise Left rows own (holds_rows rows own) a others.whole (tracked_whole start [] a added)
         (pieces_of ignore) (state_start ignore kept) (lists_whole passed (pieces_of ignore) a others.whole are others.listed)

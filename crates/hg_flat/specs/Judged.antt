@@ -17,18 +17,19 @@ pub record IsLeftAsked (asks : Asking) (id : Id20) (copy : trees.History) (from 
   pub own : Untouched copy from path
   pub row : IsAsked asks (copy.at from) path → KeepsRow files since id path
 
--- a letter that is found of an entry, or none: where its path meets S the letter at a moment, as far as it is wanted, and what a
--- comparison asks for is there
-pub record IsLetterBy (asks : Asking) (S : List ℕ → Type 0) (files : shelves.Files) (id : Id20) (moment : Moment) (wanted : Wanted) (kept : FlatRow) (letter : Option Letter) : Type 0 where
-  pub right : S kept.path → rows_under wanted kept letter ≡ rows_under wanted kept (letter_at files id moment kept)
+-- a letter that is found of an entry, or none: where its path meets S, what a comparison asks for is there, and under a premise it is the
+-- letter at a moment, as far as that is wanted
+pub record IsLetterBy (asks : Asking) (Premise : Type 0) (S : List ℕ → Type 0) (files : shelves.Files) (id : Id20) (moment : Moment) (wanted : Wanted) (kept : FlatRow) (letter : Option Letter) : Type 0 where
+  pub right : Premise → S kept.path → rows_under wanted kept letter ≡ rows_under wanted kept (letter_at files id moment kept)
   pub served : S kept.path → IsAsked asks moment kept.path → IsServed files id moment kept.path
 
 -- the rows that are put for an entry: those of a letter that is found of it
-pub record IsPutBy (asks : Asking) (S : List ℕ → Type 0) (files : shelves.Files) (id : Id20) (moment : Moment) (wanted : Wanted) (kept : FlatRow) (rows : List Row) : Type 0 where
+pub record IsPutBy (asks : Asking) (Premise : Type 0) (S : List ℕ → Type 0) (files : shelves.Files) (id : Id20) (moment : Moment) (wanted : Wanted) (kept : FlatRow) (rows : List Row) : Type 0 where
   pub letter : Option Letter
   pub one : rows ≡ rows_under wanted kept letter
-  pub found : IsLetterBy asks S files id moment wanted kept letter
+  pub found : IsLetterBy asks Premise S files id moment wanted kept letter
 
 -- such rows were put behind the rows so far, one entry behind another
-abbrev pub AddsBy : Asking → (List ℕ → Type 0) → shelves.Files → Id20 → Moment → Wanted → List FlatRow → List Row → List Row → Type 0
-AddsBy asks S files id moment wanted all old new = (more : List Row) × (new ≡ old ++ more) × ArePutFor (IsPutBy asks S files id moment wanted) all more
+abbrev pub AddsBy : Asking → Type 0 → (List ℕ → Type 0) → shelves.Files → Id20 → Moment → Wanted → List FlatRow → List Row → List Row → Type 0
+AddsBy asks Premise S files id moment wanted all old new =
+    (more : List Row) × (new ≡ old ++ more) × ArePutFor (IsPutBy asks Premise S files id moment wanted) all more

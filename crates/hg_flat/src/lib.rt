@@ -38,7 +38,7 @@ pub use full::one_listing;
 pub use hg_compare::Letter;
 pub use hg_listing::{Row, Rows, StatusFault, Wanted};
 pub use kept::FlatRow;
-pub use letter::{wants, wants_bytes, wants_tracked};
+pub use letter::{letter_by_marks, put_wanted, wants, wants_bytes, wants_tracked};
 pub use listed::Listed;
 pub use listing::visit;
 pub use others::list_others;

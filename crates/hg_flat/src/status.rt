@@ -47,6 +47,7 @@ fn add_each<T: Tree, S: Shelf>(
         result
         (AddsBy
         (asked_by wanted (flat_in flat.now))
+        (Unit {0})
         (IsLeftAsked
         (asked_by wanted (flat_in flat.now))
         p1.now

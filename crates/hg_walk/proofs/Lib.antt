@@ -8,6 +8,9 @@ pub mod Listed
 pub mod Noted
 pub mod OneNote
 pub mod Parts
+pub mod Tells
+pub mod TellsEach
+pub mod TellsNotes
 pub mod Vouched
 pub mod Written
 pub mod Example

@@ -121,9 +121,9 @@ module _ (wanted : Wanted) (held : Held) (children : List Child) (are : AreGathe
     each = λ child has. let s = shows held children are child has in record { entry = s.entry; source = s.source };
   }
 
-  added_whole : (rows : List Row) → TellsEach part children [] rows → TellsEach whole children [] rows
+  added_whole : (rows : List Row) → TellsEach (AreRight (rows_then part) t mid later) part children [] rows → TellsEach (AreRight (rows_then whole) t old later) whole children [] rows
   added_whole rows added =
-      adds_moved (asked_unvouched wanted t) (unvouched_alike wanted t) (IsLeftAsked (asked_unvouched wanted t) (first_id t) later mid.last files start.last)
+      adds_moved (asked_unvouched wanted t) (unvouched_alike wanted t) (AreRight (rows_then part) t mid later) (AreRight (rows_then whole) t old later) (right_in_second (rows_then whole) t old mid later first.past) (IsLeftAsked (asked_unvouched wanted t) (first_id t) later mid.last files start.last)
       (IsLeftAsked (asked_unvouched wanted t) (first_id t) later old.last files start.last) (shelves.now start).files (first_id t) (trees.now mid) (trees.now old) wanted (tracked_rows children) [] rows
       (left_ended (asked_unvouched wanted t) (unvouched_alike wanted t) (first_id t) old mid later first.past second.past files start.last)
       (λ path left. alike_between old mid later path first.past second.past left.own) added
@@ -138,12 +138,12 @@ module _ (wanted : Wanted) (held : Held) (children : List Child) (are : AreGathe
         (record { moment = was.moment; begun = omega (arith, was.begun, first.past.later); past = was.past; none = was.none });
   }
 
-  pub tells_whole : (marks : List Bool) (rows : List Row) → (((t : Table) → AreOf t id children → AreRight (rows_in t (shelves.now start).files) t mid later → TellsEach (walk_status wanted t mid later start files) children [] rows))
+  pub tells_whole : (marks : List Bool) (rows : List Row) → ((t : Table) → AreOf t id children → TellsEach (AreRight (rows_in t (shelves.now start).files) t mid later) (walk_status wanted t mid later start files) children [] rows)
       → MarksEach wanted mid later children [] marks → TellsAll whole t children marks rows
   tells_whole marks rows added marked = record {
     own = own_rows children are.own;
     flat = rows_flat held children are formed t.p1 t.p2 refl refl;
-    added = λ right. added_whole rows (added t of_record (right_in_second (rows_in t (shelves.now start).files) t old mid later first.past right));
+    added = added_whole rows (added t of_record);
     passed = passed_whole marks (subst (AreMarked (IsMarked wanted mid later) children) (sym marked.1) marked.2);
   }
 

@@ -9,7 +9,7 @@ use Rattle.hg_flat.specs.Parent.{IsAsked, IsLeft, IsServed, asked_by}
 use Rattle.hg_flat.specs.Patterns.{ignored_at}
 use Rattle.hg_flat.proofs.Fullness.{Narrows, full_of}
 use Rattle.hg_flat.proofs.Leaving.{left_all}
-use Rattle.hg_flat.proofs.Whole.{whole_listing}
+use Rattle.hg_flat.proofs.Whole.{whole_listing, whole_served}
 use Rattle.hg_ignore.specs.State.{Piece}
 use Rattle.hg_listing.specs.Full.{IsFull, IsFullFor}
 use Rattle.hg_listing.specs.declared.row.Row.{Row}
@@ -52,10 +52,18 @@ module _ (wanted : Wanted) (t : Table) (children : List Child) (marks : List Boo
         subst
         (λ (f : Flat). IsFullFor (IsLeft wanted f (asked_unvouched wanted t) (first_id t) new old.last files start.last) f (trees.now old) (rows_in t (shelves.now start).files) (ignored_at (trees.now old)) wanted d)
         told.flat
-        (whole_listing (asked_unvouched wanted t) (unvouched_alike wanted t) t.p1 t.p2 (tracked_rows children) told.own wanted (first_id t) old mid later new first second third files start.last
-        (shelves.now start).files rows d
-        (told.added (right_in_second (rows_in t (shelves.now start).files) t old mid later first.past (right_in_first (rows_in t (shelves.now start).files) t old later new third.past right)))
-        ignore kept (is_marked children marks) told.passed others)
+        (whole_listing (asked_unvouched wanted t) (unvouched_alike wanted t) (AreRight (rows_in t (shelves.now start).files) t mid later) t.p1 t.p2 (tracked_rows children) told.own wanted (first_id t) old mid later new first second third files start.last
+        (shelves.now start).files rows d told.added ignore kept (is_marked children marks) told.passed others
+        (right_in_second (rows_in t (shelves.now start).files) t old mid later first.past (right_in_first (rows_in t (shelves.now start).files) t old later new third.past right)))
+
+    -- all that a comparison asked for was there, whatever the times
+    pub served : (path : List ℕ) → IsLeftBy wanted t new old.last files start.last path → IsAsked (asked_unvouched wanted t) (trees.now old) path
+        → IsServed (shelves.now start).files (first_id t) (trees.now old) path
+    served path left asked =
+        whole_served (asked_unvouched wanted t) (unvouched_alike wanted t) (AreRight (rows_in t (shelves.now start).files) t mid later) t.p1 t.p2 (tracked_rows children) told.own wanted (first_id t) old mid later new first second third files start.last
+        (shelves.now start).files rows d told.added ignore kept (is_marked children marks) told.passed others
+        (subst (Narrows (asked_unvouched wanted t) wanted) (sym told.flat) (unvouched_narrows wanted t)) path
+        (subst (λ (f : Flat). IsLeft wanted f (asked_unvouched wanted t) (first_id t) new old.last files start.last path) (sym told.flat) left) asked
 
     pub full : AreRight (rows_in t (shelves.now start).files) t old new → trees.IsOurs old new → KeepsPlain files start.last
         → IsFull (flat_of t) (trees.now old) (rows_in t (shelves.now start).files) (ignored_at (trees.now old)) wanted d

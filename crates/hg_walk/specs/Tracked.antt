@@ -25,11 +25,11 @@ use Rattle.hg_walk.specs.Walking.{AreNeeded, AreNoted, IsRecorded}
 abbrev pub IsBoundary : Bool → History → Time → Type 0
 IsBoundary asked new boundary = MatchBool asked (IsTrue new.told → boundary ≡ (now new).clock) ((time : Time) → stamp_of time boundary ≡ None)
 
--- the rows of all paths of a record with an entry, where times are right, and at which of its nodes no directory stood
+-- the rows of all paths of a record with an entry, right where times are, and at which of its nodes no directory stood
 pub record TellsAll (s : Status) (t : Table) (children : List Child) (marks : List Bool) (rows : List Row) : Type 0 where
   pub own : HaveOwnPaths (tracked_rows children)
   pub flat : flat_from t.p1 t.p2 (row_at (tracked_rows children)) ≡ flat_of t
-  pub added : AreRight (rows_then s) t s.tree_old s.tree_new → TellsEach s children [] rows
+  pub added : TellsEach (AreRight (rows_then s) t s.tree_old s.tree_new) s children [] rows
   pub passed : ArePassed (is_marked children marks) s.tree_new s.tree_old.last
 
 -- what is noted of the record's times

@@ -33,9 +33,9 @@ returns-clause-still g c =
     let asks = asked_by c.args.wanted (flat_in flat) in
     IfOk-weaker c.list_others.result _ _
     (λ listed others.
-    whole_listing asks (marks_alike c.args.wanted (flat_in flat)) flat.p1.0 flat.p2.0 flat.rows.items flat.own c.args.wanted c.args.p1.now old mid later new c.read_patterns.ensures.passes c.add_each.ensures.passes c.list_others.ensures.passes files start.last
+    whole_listing asks (marks_alike c.args.wanted (flat_in flat)) (Unit {0}) flat.p1.0 flat.p2.0 flat.rows.items flat.own c.args.wanted c.args.p1.now old mid later new c.read_patterns.ensures.passes c.add_each.ensures.passes c.list_others.ensures.passes files start.last
     (shelves.now start).files c.add_each.new.rows.items listed.rows (rw c.new-rows.ensures.items at c.in_ok-add_each.ensures.added) c.in_ok-ignore.ignore c.in_ok-ignore.ensures.kept
-    (λ path. false) (passed_none (λ path. false) (λ path. refl) later mid.last c.add_each.ensures.passes.past.later) others)
+    (λ path. false) (passed_none (λ path. false) (λ path. refl) later mid.last c.add_each.ensures.passes.past.later) others tt)
     c.list_others.ensures.listed
 
 pub returns-clause-full : goal.returns-clause-full
@@ -51,7 +51,7 @@ returns-clause-full g c = λ ours keeps.
     let whole = passes_trans old mid new c.read_patterns.ensures.passes (passes_trans mid later new c.add_each.ensures.passes c.list_others.ensures.passes) in
     IfOk-weaker c.list_others.result _ _
     (λ listed is.
-    full_of (Left asks (marks_alike c.args.wanted (flat_in flat)) flat.p1.0 flat.p2.0 flat.rows.items flat.own c.args.wanted c.args.p1.now old mid later new c.read_patterns.ensures.passes c.add_each.ensures.passes c.list_others.ensures.passes files start.last)
+    full_of (Left asks (marks_alike c.args.wanted (flat_in flat)) (Unit {0}) flat.p1.0 flat.p2.0 flat.rows.items flat.own c.args.wanted c.args.p1.now old mid later new c.read_patterns.ensures.passes c.add_each.ensures.passes c.list_others.ensures.passes files start.last)
     (flat_in flat) (trees.now old) (parent_rows (shelves.now start).files c.args.p1.now) (ignored_at (trees.now old)) c.args.wanted listed.rows
     (left_all (flat_in flat) c.args.wanted asks c.args.p1.now old new whole ours files start.last keeps) is)
     (returns-clause-still g c)
@@ -68,7 +68,7 @@ returns-clause-served g c =
     let asks = asked_by c.args.wanted (flat_in flat) in
     if_ok_on c.list_others.result _ _
     (λ listed others.
-    whole_served asks (marks_alike c.args.wanted (flat_in flat)) flat.p1.0 flat.p2.0 flat.rows.items flat.own c.args.wanted c.args.p1.now old mid later new c.read_patterns.ensures.passes c.add_each.ensures.passes c.list_others.ensures.passes files start.last
+    whole_served asks (marks_alike c.args.wanted (flat_in flat)) (Unit {0}) flat.p1.0 flat.p2.0 flat.rows.items flat.own c.args.wanted c.args.p1.now old mid later new c.read_patterns.ensures.passes c.add_each.ensures.passes c.list_others.ensures.passes files start.last
     (shelves.now start).files c.add_each.new.rows.items listed.rows (rw c.new-rows.ensures.items at c.in_ok-add_each.ensures.added) c.in_ok-ignore.ignore c.in_ok-ignore.ensures.kept
     (λ path. false) (passed_none (λ path. false) (λ path. refl) later mid.last c.add_each.ensures.passes.past.later) others (λ m path asked. asked))
     c.list_others.ensures.listed
