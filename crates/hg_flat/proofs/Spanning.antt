@@ -144,10 +144,6 @@ not_parent old new (a_fault.BadInclude line) lacks is = absurd (cc is)
 
 -- ---- a listing behind the rest
 
-pub if_err_weaker : {X Y : Type 0} (r : Result X Y) (P Q : Y → Type 0) → ((y : Y) → P y → Q y) → IfErr r P → IfErr r Q
-if_err_weaker (Ok x) P Q weaker is = tt
-if_err_weaker (Err y) P Q weaker is = weaker y is
-
 pub if_ok_on : {X Y : Type 0} (r : Result X Y) (P : X → Type 0) (Q : Type 0) → ((x : X) → P x → Q) → IfOk r P → OnOk r Q
 if_ok_on (Ok x) P Q to is = to x is
 if_ok_on (Err y) P Q to is = tt
@@ -168,10 +164,10 @@ of_listing_none fault (cause, is) parent = by cause (sym (ap is_of_parent is) �
     by a_tree_fault.Failed same = absurd (cc same)
 
 -- and no regexp was too big
-pub counts_listing : {T : Type 0} (result : Result T StatusFault) (before now : ℕ) → now ≡ before → IfErr result IsOfListing → CountsOversize before now result
-counts_listing (Ok listed) before now same of = same
-counts_listing (Err fault) before now same (cause, is) = subst (λ (f : StatusFault). CountsOversize before now (Err f)) (sym is) (by cause)
+pub counts_listing : (T : Type 0) (result : Result T StatusFault) (before now : ℕ) → now ≡ before → IfErr result IsOfListing → CountsOversize {T = T} before now result
+counts_listing T (Ok listed) before now same of = same
+counts_listing T (Err fault) before now same (cause, is) = subst (λ (f : StatusFault). CountsOversize {T = T} before now (Err f)) (sym is) (by cause)
   where
-    by : (cause : TreeFault) → CountsOversize before now (Err (of_tree cause))
+    by : (cause : TreeFault) → CountsOversize {T = T} before now (Err (of_tree cause))
     by a_tree_fault.OutOfMemory = same
     by a_tree_fault.Failed = same

@@ -1,7 +1,8 @@
 -- The look at all paths of a record, over the span that begins before the clock is asked: its rows, what was passed, and what is noted.
-use Rattle.std.proofs.Common.{ℕ, ◌≡◌, ◌≤◌, ◌&&◌, ◌||◌, Bool, true, false, not, cond, List, [], ◌∷◌, ◌++◌, Option, Some, None, option_map, is_some, refl, sym, ap, ◌∙◌, subst, arith, true≢false}
-use Rattle.std.specs.Prelude.{IsTrue, MatchBool}
+use Rattle.std.proofs.Common.{ℕ, ◌≡◌, ◌≤◌, ◌&&◌, ◌||◌, Bool, true, false, not, cond, List, [], ◌∷◌, ◌++◌, Option, Some, None, Result, Ok, Err, option_map, is_some, refl, sym, ap, ◌∙◌, subst, arith, true≢false}
+use Rattle.std.specs.Prelude.{ℤ, pos, negsuc, int_lt, nat_lt, ◌==◌, IfOk, IsTrue, MatchBool}
 use Rattle.std.specs.List.{Contains, find}
+use Rattle.std.specs.Ordering.{int_eq}
 use Rattle.std.specs.Str.{bytes_eq}
 use Rattle.std.proofs.lemmas.Bool.{and_parts}
 use Rattle.std.proofs.lemmas.List.Elements.{Contains-append_left, Contains-append_right, Contains-push}
@@ -29,7 +30,7 @@ use Rattle.hg_mixed.specs.Edits.{IsFormed}
 use Rattle.hg_mixed.specs.Gathered.{AreGathered, path_of}
 use Rattle.hg_mixed.specs.Held.{Held, table}
 use Rattle.hg_mixed.specs.declared.child.Child.{Child}
-use Rattle.hg_mtime.specs.Stamps.{stamp_of}
+use Rattle.hg_mtime.specs.Stamps.{dated, stamp_of}
 use Rattle.hg_mtime.specs.Vouching.{vouches}
 use Rattle.hg_mtime.proofs.Tests.{noted_vouch}
 use Rattle.hg_shelf.specs.History as shelves
@@ -54,6 +55,26 @@ use Rattle.hg_walk.specs.Walking.{AreNeeded, AreNoted, IsRecorded, asked_unvouch
 use Rattle.hg_walk.proofs.Parts.{right_in_second}
 use Rattle.hg_walk.proofs.Rows.{marked_node, node_of, own_rows, rows_flat, shows}
 use Rattle.hg_walk.proofs.Tells.{unvouched_alike}
+
+-- ---- the boundary
+
+unless : (b : Bool) (o : Option StampData) → o ≡ None → cond b o None ≡ None
+unless true o is = is
+unless false o is = refl
+
+below_none : (seconds low : ℤ) (n : ℕ) → low ≡ negsuc n → (nanos : ℕ) (x y z : Bool) → cond ((int_lt seconds low || (int_eq seconds low && x)) && not (int_eq seconds low && y)) (dated seconds nanos z) None ≡ None
+below_none (pos m) low n is nanos x y z =
+    subst (λ (l : ℤ). cond ((int_lt (pos m) l || (int_eq (pos m) l && x)) && not (int_eq (pos m) l && y)) (dated (pos m) nanos z) None ≡ None) (sym is) refl
+below_none (negsuc m) low n is nanos x y z = unless ((int_lt (negsuc m) low || (int_eq (negsuc m) low && x)) && not (int_eq (negsuc m) low && y)) None refl
+
+-- no time that may be recorded is before one from before 1970
+pub lowest_none : (low : Time) (n : ℕ) → low.seconds ≡ negsuc n → (time : Time) → stamp_of time low ≡ None
+lowest_none low n is time = below_none time.seconds low.seconds n is time.nanos (nat_lt time.nanos low.nanos) (time.nanos == 0) (int_eq time.seconds low.seconds)
+
+-- what a call answers where a tree tells
+pub told_ok : {X Y : Type 0} (r : Result X Y) (A B : Type 0) (P : X → Type 0) → (B → A) → (A → IfOk r P) → IfOk r (λ x. B → P x)
+told_ok (Ok x) A B P back is = λ b. is (back b)
+told_ok (Err y) A B P back is = tt
 
 -- ---- a path that is clean
 

@@ -1,21 +1,21 @@
 use Rattle.std.proofs.Common.{List, [], ℕ, ◌≡◌, true, false, refl, sym, subst, ◌∙◌, arith}
-use Rattle.std.proofs.lemmas.Result.{IfOk-weaker, err_from_is_err_and}
+use Rattle.std.proofs.lemmas.Result.{IfErr-weaker, IfOk-weaker, err_from_is_err_and}
 use Rattle.hg_shelf.specs.History as shelves
 use Rattle.hg_tree.specs.History as trees
-use Rattle.hg_tree.proofs.Histories.{extends_same, extends_trans}
+use Rattle.hg_tree.proofs.Histories.{extends_same}
 use Rattle.hg_tree.proofs.Spans.{ours_first, passes_trans}
 use Rattle.hg_flat.specs.Course.{pieces_of}
-use Rattle.hg_flat.specs.Parent.{Asking, WasAsked, asked_by, parent_rows}
+use Rattle.hg_flat.specs.Parent.{asked_by, parent_rows}
 use Rattle.hg_flat.specs.Patterns.{Warns, ignored_at}
 use Rattle.hg_flat.specs.Shown.{flat_in}
 use Rattle.hg_flat.specs.declared.listed.Listed.{Listed}
-use Rattle.hg_flat.proofs.Asking.{asked_later, asked_longer}
+use Rattle.hg_flat.proofs.Asking.{never_each}
 use Rattle.hg_flat.proofs.Calls.{all_asks, asks_first, asks_second, own_asks}
 use Rattle.hg_flat.proofs.Fullness.{full_of}
 use Rattle.hg_flat.proofs.Judging.{marks_alike}
 use Rattle.hg_flat.proofs.Leaving.{left_all}
 use Rattle.hg_flat.proofs.Refusing.{had, is_kept, state_still, warns}
-use Rattle.hg_flat.proofs.Spanning.{counts_listing, counts_still, if_err_weaker, if_ok_on, met_listing, met_patterns, met_whole, not_parent, of_listing_none}
+use Rattle.hg_flat.proofs.Spanning.{counts_listing, counts_still, if_ok_on, met_listing, met_patterns, met_whole, not_parent, of_listing_none}
 use Rattle.hg_flat.proofs.Steps.{passed_none}
 use Rattle.hg_flat.proofs.Storing.{store_longer, store_none}
 use Rattle.hg_flat.proofs.Whole.{Left, whole_listing, whole_served}
@@ -92,7 +92,7 @@ returns-clause-warns g c =
 
 pub returns-clause-met : goal.returns-clause-met
 returns-clause-met g c =
-    if_err_weaker c.list_others.result _ _
+    IfErr-weaker c.list_others.result _ _
     (met_listing
     (record {
       wanted = c.args.wanted;
@@ -107,10 +107,10 @@ returns-clause-met g c =
 
 pub returns-clause-behind : goal.returns-clause-behind
 returns-clause-behind g c =
-    if_err_weaker c.list_others.result _ _ (λ fault of is. absurd (of_listing_none fault of is)) c.list_others.ensures.kind
+    IfErr-weaker c.list_others.result _ _ (λ fault of is. absurd (of_listing_none fault of is)) c.list_others.ensures.kind
 
 pub returns-clause-oversize : goal.returns-clause-oversize
-returns-clause-oversize g c = counts_listing c.list_others.result _ _ c.in_ok-ignore.ensures.oversize c.list_others.ensures.kind
+returns-clause-oversize g c = counts_listing Listed c.list_others.result _ _ c.in_ok-ignore.ensures.oversize c.list_others.ensures.kind
 
 pub returns-in_err-ignore-clause-met : goal.returns-in_err-ignore-clause-met
 returns-in_err-ignore-clause-met g c =
@@ -192,19 +192,16 @@ returns-clause-asked_own g c = λ ours.
     let mid = g.T.Tree.history c.read_patterns.new.tree in
     let later = g.T.Tree.history c.add_each.new.tree in
     let new = g.T.Tree.history c.list_others.new.tree in
+    if_ok_on c.list_others.result _ _
+    (λ listed others.
     own_asks c.args.wanted (asked_by c.args.wanted (flat_in c.args.flat.now)) (pieces_of c.in_ok-ignore.ignore) old mid later new c.read_patterns.ensures.passes c.add_each.ensures.passes c.list_others.ensures.passes
     (state_still c.args.wanted old mid c.in_ok-ignore.ignore c.in_ok-ignore.ensures.kept)
     (c.in_ok-ignore.ensures.asked_own (ours_first old mid new (passes_trans mid later new c.add_each.ensures.passes c.list_others.ensures.passes).past ours))
     (c.add_each.ensures.asked (c.read_patterns.ensures.passes.past.told ∙ ours.told))
-    (c.list_others.ensures.asked (c.add_each.ensures.passes.past.told ∙ c.read_patterns.ensures.passes.past.told ∙ ours.told))
+    (c.list_others.ensures.asked (c.add_each.ensures.passes.past.told ∙ c.read_patterns.ensures.passes.past.told ∙ ours.told)))
+    c.list_others.ensures.listed
 
 -- ---- what is asked below `.hg`
-
--- where no path is compared in a call, none is in a part of it
-never_each : (asks : Asking) (old mid later new : trees.History) → trees.Extends old mid → trees.Extends mid later → trees.Extends later new → ((path : List ℕ) → WasAsked asks old new path → ⊥)
-    → (path : List ℕ) → WasAsked asks mid later path → ⊥
-never_each asks old mid later new first second third never path was =
-    never path (asked_longer asks old later new path (extends_trans old mid later first second) third (asked_later asks old mid later path first was))
 
 pub returns-in_err-add_each-clause-unasked : goal.returns-in_err-add_each-clause-unasked
 returns-in_err-add_each-clause-unasked g c = λ never.
