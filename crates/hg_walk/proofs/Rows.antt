@@ -175,6 +175,12 @@ module _ (held : Held) (children : List Child) (are : AreGathered held (λ path.
 
 -- ---- by halving
 
+-- within a list the default says nothing
+get_or_same : (children : List Child) (at : ℕ) (d e : Child) → at < length children → get_or children at d ≡ get_or children at e
+get_or_same [] at d e below = absurd (omega (arith, below))
+get_or_same (child ∷ children) zero d e below = refl
+get_or_same (child ∷ children) (suc at) d e below = get_or_same children at d e (omega (arith, below))
+
 flipped : (a b : List ℕ) → slice_cmp nat_cmp a b ≡ Less → is_lt (slice_cmp nat_cmp b a) ≡ false
 flipped a b less = ap is_lt (nat_list_cmp_total.antisymm b a ∙ ap ordering_reverse less)
 
@@ -202,10 +208,17 @@ searched_none lent children path at same sorted parted child has is =
     ]
 
 -- what is found is a node of the path
-pub searched_place : (lent children : List Child) (path : List ℕ) (at : ℕ) (child : Child) → lent ≡ children → at < length lent → IsBinarySearchResult (λ c. slice_cmp nat_cmp (path_of c) path) lent (Ok at) → IsPlaceOf children path at
-searched_place lent children path at child same below equal = record {
+pub searched_place : (lent children : List Child) (path : List ℕ) (at : ℕ) → lent ≡ children → at < length lent → IsBinarySearchResult (λ c. slice_cmp nat_cmp (path_of c) path) lent (Ok at) → IsPlaceOf children path at
+searched_place lent children path at same below equal = record {
   within = subst (λ (l : List Child). at < length l) same below;
   is = λ d. exact_bytes (path_of (get_or children at d)) path (subst (λ (l : List Child). slice_cmp nat_cmp (path_of (get_or l at d)) path ≡ Equal) same (equal d));
+}
+
+-- a node that is known to be of the path
+pub place_at : (children : List Child) (path : List ℕ) (at : ℕ) (child : Child) → at < length children → child ≡ get_or children at child → bytes_eq (path_of child) path ≡ true → IsPlaceOf children path at
+place_at children path at child below is same = record {
+  within = below;
+  is = λ d. ap path_of (get_or_same children at d child below) ∙ ap path_of (sym is) ∙ (bytes_eq-Decides (path_of child) path).0 same;
 }
 
 -- ---- which paths have an entry, and which are marked
