@@ -1,15 +1,14 @@
 -- The rows of tracked paths by any test of which paths are compared: one entry behind another, and over longer spans.
-use Rattle.std.proofs.Common.{ℕ, ◌≡◌, ◌≤◌, ◌&&◌, Bool, true, false, List, [], ◌∷◌, ◌++◌, Option, refl, sym, ap, ◌∙◌, subst}
-use Rattle.std.specs.Prelude.{IsTrue, is_some}
+use Rattle.std.proofs.Common.{ℕ, ◌≡◌, ◌≤◌, ◌&&◌, Bool, List, [], ◌∷◌, ◌++◌, Option, refl, sym, ap, ◌∙◌, subst}
+use Rattle.std.specs.Prelude.{is_some}
 use Rattle.std.proofs.lemmas.List.{append-nil, append_assoc}
 use Rattle.hg_base.specs.declared.id.Id20.{Id20}
-use Rattle.hg_compare.specs.Tracked.{is_file_or_link}
 use Rattle.hg_compare.specs.declared.letter.Letter.{Letter}
 use Rattle.hg_entry.specs.Entry.{view}
 use Rattle.hg_entry.specs.Table.{Flat, marks_of}
 use Rattle.hg_flat.specs.Judged.{AddsBy, IsLeftAsked, IsLetterBy, IsPutBy}
 use Rattle.hg_flat.specs.Listing.{IsAskedRow, IsLetterFor, rows_under}
-use Rattle.hg_flat.specs.Parent.{Asking, IsAsked, KeepsRow, asked_by, is_compared, parent_rows}
+use Rattle.hg_flat.specs.Parent.{Asking, IsAsked, asked_by, is_compared, parent_rows}
 use Rattle.hg_flat.specs.declared.kept.FlatRow.{FlatRow}
 use Rattle.hg_flat.proofs.Alike.{file_alike}
 use Rattle.hg_flat.proofs.Moved.{letter_moved}
