@@ -1,5 +1,6 @@
 -- The nodes of a record, and the rows of those with an entry: each is what the record says of its path.
 use Rattle.std.proofs.Common.{ℕ, zero, suc, ◌≡◌, ◌<◌, ◌⊎◌, ◌||◌, ◌&&◌, Bool, true, false, List, [], ◌∷◌, ◌++◌, map, length, get_or, Option, Some, None, option_map, Ok, Err, is_some, refl, sym, ap, ◌∙◌, subst, inl, inr, arith, true≢false}
+use native.Mathlib.Numerals.{unary_clauses}
 use Rattle.std.specs.List.{AllByRecursion, Contains, IsDistinct, list_any}
 use Rattle.std.specs.List.Sorted.{IsBinarySearchResult, IsSortedBy, IsStrictlySortedBy}
 use Rattle.std.specs.Ordering.{is_lt, nat_cmp, ordering_reverse}
@@ -17,7 +18,7 @@ use Rattle.hg_entry.specs.Entry.{EntryData, view}
 use Rattle.hg_entry.specs.Table.{Table, flat_of}
 use Rattle.hg_entry.specs.declared.entry.Entry.{Entry}
 use Rattle.hg_flat.specs.Kept.{HaveOwnPaths, flat_from, row_at, shown_row}
-use Rattle.hg_flat.specs.Recorded.{Records, recorded_at}
+use Rattle.hg_flat.specs.Recorded.{Recorded, Records, recorded_at}
 use Rattle.hg_flat.specs.declared.kept.FlatRow.{FlatRow}
 use Rattle.hg_flat.proofs.Holding.{found_at, found_has}
 use Rattle.hg_flat.proofs.Recording.{flat_recorded}
@@ -147,19 +148,23 @@ module _ (held : Held) (children : List Child) (are : AreGathered held (λ path.
       let there = entry_there has.0.entry entry ((shows has.0 has.1).entry ∙ ap (table held).entries has.2 ∙ is) in
       (has.0, there.0, has.1, has.2, there.1)
 
+  abbrev said : List ℕ → EntryData → Recorded
+  said path entry = (entry, (table held).sources path)
+
   recorded_row : (path : List ℕ) (o : Option FlatRow) → row_at (tracked_rows children) path ≡ o → option_map shown_row o ≡ recorded_at (table held) path
   recorded_row path (Some row) is =
       let found = found_has (tracked_rows children) path row is in
       let from = row_from children row found.0 in
       let child = from.0 in
       let shown = shows child from.2 in
+      let shown_as : Option (List ℕ) → Recorded = λ source. (view from.1, source) in
       ap (λ (r : FlatRow). Some (shown_row r)) from.4
-      ∙ ap (λ (s : Option (List ℕ)). Some (view from.1, s)) shown.source
-      ∙ ap (option_map (λ (e : EntryData). (e, (table held).sources (path_of child)))) (sym (ap (option_map view) from.3) ∙ shown.entry)
+      ∙ ap (λ (s : Option (List ℕ)). Some (shown_as s)) shown.source
+      ∙ ap (option_map (said (path_of child))) (sym (ap (option_map view) from.3) ∙ shown.entry)
       ∙ ap (recorded_at (table held)) (sym (ap (λ (r : FlatRow). r.path) from.4) ∙ found.1)
   recorded_row path None is = none ((table held).entries path) refl
     where
-      none : (o : Option EntryData) → (table held).entries path ≡ o → None ≡ option_map (λ (e : EntryData). (e, (table held).sources path)) o
+      none : (o : Option EntryData) → (table held).entries path ≡ o → None ≡ option_map (said path) o
       none None same = refl
       none (Some entry) same =
           let node = node_of path entry same in
@@ -189,7 +194,8 @@ unfolding IsStrictlySortedBy
 in_order [] sorted k d least below = absurd (omega (arith, below))
 in_order (x ∷ []) sorted k d least below = absurd (omega (arith, below))
 in_order (x ∷ y ∷ rest) sorted zero d least below = flipped (path_of x) (path_of y) sorted.0.0
-in_order (x ∷ y ∷ rest) sorted (suc k) d least below = in_order (y ∷ rest) sorted.1 k d (omega arith) (omega (arith, below))
+in_order (x ∷ y ∷ rest) sorted (suc k) d least below =
+    let rises = in_order (y ∷ rest) sorted.1 k d (omega arith) (omega (arith, below)) in simp unary_clauses (simp unary_clauses at rises)
 
 -- what isn't found has no node
 pub searched_none : (lent children : List Child) (path : List ℕ) (at : ℕ) → lent ≡ children → AreInOrder children → IsBinarySearchResult (λ child. slice_cmp nat_cmp (path_of child) path) lent (Err at)
@@ -258,7 +264,7 @@ no_entry children path none = by (row_at (tracked_rows children) path) refl
 
 marked_here : (a b : Bool) (rest : Bool) → a ≡ true → b ≡ true → ((a && b) || rest) ≡ true
 marked_here true true rest first second = refl
-marked_here true false rest first second = second
+marked_here true false rest first second = absurd (true≢false (sym second))
 marked_here false b rest first second = absurd (true≢false (sym first))
 
 marked_later : (a rest : Bool) → rest ≡ true → (a || rest) ≡ true

@@ -20,7 +20,7 @@ use Rattle.hg_shelf.specs.Polite.{KeepsPlain}
 use Rattle.hg_tree.specs.History as trees
 use Rattle.hg_tree.specs.Honest.{IsHonest}
 use Rattle.hg_tree.specs.Moment.{Moment, stat_at}
-use Rattle.hg_tree.proofs.Faces.{honest_past}
+use Rattle.hg_tree.proofs.Faces.{past_honest}
 use Rattle.hg_tree.proofs.Histories.{extends_trans}
 use Rattle.hg_tree.proofs.Spans.{now_same, ours_first, ours_second, passes_trans}
 use Rattle.hg_tree.proofs.Stillness.{alike_between}
@@ -96,7 +96,7 @@ module _ (wanted : Wanted) (t : Table) (children : List Child) (marks : List Boo
 
     pub earned : IsHonest new → IsTrue old.told → KeepsPlain files start.last → AreEarned (rows_in t (shelves.now start).files) t new notes
     earned honest told keeps =
-        let e = all.earned (honest_past later new third.past honest) (first.past.told ∙ told) keeps in record {
+        let e = all.earned (past_honest later new third.past honest) (first.past.told ∙ told) keeps in record {
           clean = λ note has entry is. earned_on (rows_in t (shelves.now start).files) later new third.past note.path _ note.stamp (e.clean note has entry is);
           seen = λ note has. dir_on later new third.past note.dir note.stamp _ false t.nodes (e.seen note has);
           renewed = e.renewed;

@@ -1,5 +1,6 @@
 //! What a walk keeps of the nodes that it looked at.
 
+ghost use Rattle.std.proofs.Props.{props};
 ghost use Rattle.std.specs.List.{IsDistinct};
 ghost use Rattle.std.specs.Str.{bytes_eq};
 ghost use Rattle.hg_mixed.specs.Gathered.{paths_of};
@@ -13,8 +14,8 @@ use hg_mixed::Child;
 pub(crate) struct Keeper<'t> {
     children: Vec<Child<'t>>,
     passed: Vec<bool>,
-    ghost ascending: { AreInOrder children.items },
-    ghost own: { IsDistinct bytes_eq (paths_of children.items) },
+    ghost ascending: { AreInOrder children.items } by { Prim.hlevel props },
+    ghost own: { IsDistinct bytes_eq (paths_of children.items) } by { Prim.hlevel props },
 }
 
 impl<'t> Keeper<'t> {
@@ -29,7 +30,7 @@ impl<'t> Keeper<'t> {
     pub(crate) fn of(children: Vec<Child<'t>>, passed: Vec<bool>) -> Keeper<'t>
         requires ascending { AreInOrder children.items }
         requires own { IsDistinct bytes_eq (paths_of children.items) }
-        ensures children { result.children.items ≡ children.items }
+        ensures children { result.children.items ≡ children.entry.items }
         ensures passed { result.passed.items ≡ passed.items }
     {
         Keeper { children, passed }
