@@ -1,5 +1,5 @@
 -- What is told of paths of a record one behind another: their rows, and where no directory stood.
-use Rattle.std.proofs.Common.{ℕ, ◌≡◌, ◌≤◌, ◌<◌, Bool, true, false, not, zero, suc, List, [], ◌∷◌, ◌++◌, length, get_or, Option, Some, None, option_map, refl, sym, ap, ◌∙◌, subst, arith}
+use Rattle.std.proofs.Common.{ℕ, ◌≡◌, ◌≤◌, ◌<◌, Bool, true, false, not, zero, suc, List, [], ◌∷◌, ◌++◌, length, get_or, Option, Some, None, option_map, true≢false, refl, sym, ap, ◌∙◌, subst, arith}
 use Rattle.std.specs.Prelude.{IsTrue}
 use Rattle.std.proofs.lemmas.List.{append-nil, append_assoc}
 use Rattle.hg_base.specs.declared.stat.Kind.{Kind}
@@ -89,11 +89,11 @@ none_by None is = refl
 none_by (Some placed) is = absurd (cc is)
 
 not_flipped : (a b : Bool) → a ≡ not b → a ≡ true → b ≡ false
-not_flipped a true is yes = absurd (cc (is, yes))
-not_flipped a false is yes = refl
+not_flipped a true is set = absurd (true≢false (sym set ∙ is))
+not_flipped a false is set = refl
 
 flipped_not : (a b : Bool) → a ≡ not b → b ≡ false → a ≡ true
-flipped_not a b is no = is ∙ ap not no
+flipped_not a b is unset = is ∙ ap not unset
 
 -- a mark of what a look showed, behind which the call went on
 pub marked_by_look : (wanted : Wanted) (old mid new : trees.History) (child : Child) (there : Stat) (mark : Bool) → trees.Passes old mid → trees.Passes mid new → (IsTrue old.told → stat_at (trees.now mid) (path_of child) ≡ Some there)
@@ -121,11 +121,20 @@ marked_by_none wanted old new child passes shown = record {
 }
 
 -- no look was needed
-pub unmarked : (wanted : Wanted) (old new : trees.History) (child : Child) → (wants_tracked wanted ≡ true → is_tracked child.entry ≡ true → ⊥) → IsMarked wanted old new child false
+unmarked : (wanted : Wanted) (old new : trees.History) (child : Child) → (wants_tracked wanted ≡ true → is_tracked child.entry ≡ true → ⊥) → IsMarked wanted old new child false
 unmarked wanted old new child none = record {
-  none = λ told marked. absurd (cc marked);
+  none = λ told marked. absurd (true≢false (sym marked));
   looked = λ ours wants tracked bare. absurd (none wants tracked);
 }
+
+pub unmarked_bare : (wanted : Wanted) (old new : trees.History) (child : Child) → child.entry ≡ None → IsMarked wanted old new child false
+unmarked_bare wanted old new child none = unmarked wanted old new child (λ wants tracked. true≢false (sym tracked ∙ ap is_tracked none))
+
+pub unmarked_removed : (wanted : Wanted) (old new : trees.History) (child : Child) (entry : Entry) → child.entry ≡ Some entry → entry.w ≡ false → IsMarked wanted old new child false
+unmarked_removed wanted old new child entry is gone = unmarked wanted old new child (λ wants tracked. true≢false (sym tracked ∙ ap is_tracked is ∙ gone))
+
+pub unmarked_unlooked : (wanted : Wanted) (old new : trees.History) (child : Child) → wants_tracked wanted ≡ false → IsMarked wanted old new child false
+unmarked_unlooked wanted old new child none = unmarked wanted old new child (λ wants tracked. true≢false (sym wants ∙ none))
 
 -- a mark of a part of a call is one of the call
 marked_longer : (wanted : Wanted) (old mid new : trees.History) → trees.Passes old mid → trees.Extends mid new → (child : Child) (mark : Bool) → IsMarked wanted old mid child mark → IsMarked wanted old new child mark

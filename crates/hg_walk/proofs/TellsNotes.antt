@@ -11,7 +11,7 @@ use Rattle.std.proofs.lemmas.Slice.Eq.{bytes_eq-Decides}
 use Rattle.hg_base.specs.declared.stat.Kind.{Kind}
 use Rattle.hg_base.specs.declared.stat.Kind.TheVariants as a_kind
 use Rattle.hg_base.specs.declared.stat.Stat.{Stat}
-use Rattle.hg_base.specs.declared.stamp.Stamp.{Stamp}
+use Rattle.hg_base.specs.declared.time.Stamp.{Stamp}
 use Rattle.hg_base.specs.declared.time.Time.{Time}
 use Rattle.hg_compare.specs.Tracked.{is_file_or_link, is_unchanged, tracked_letter}
 use Rattle.hg_compare.specs.declared.letter.Letter.{Letter}
@@ -33,6 +33,7 @@ use Rattle.hg_mixed.specs.declared.child.Child.{Child}
 use Rattle.hg_mtime.specs.Stamps.{stamp_of}
 use Rattle.hg_mtime.specs.Vouching.{vouches}
 use Rattle.hg_shelf.specs.History as shelves
+use Rattle.hg_shelf.proofs.Histories as shelf
 use Rattle.hg_tree.specs.History as trees
 use Rattle.hg_tree.specs.Honest.{IsHonest}
 use Rattle.hg_tree.specs.Moment.{Moment, stat_at}
@@ -41,11 +42,11 @@ use Rattle.hg_tree.proofs.Spans.{now_same, ours_first, ours_second, ours_unstepp
 use Rattle.hg_tree.proofs.Stillness.{ours_untouched}
 use Rattle.hg_walk.specs.Finding.{IsEarnedBy, IsNoted, IsNotedIfClean, Look, WasClock, rows_then}
 use Rattle.hg_walk.specs.Notes.{AreClean, CleanNote, IsCleanNote, clean_at}
-use Rattle.hg_walk.specs.Telling.{AreNotesOf, IsAtChild, IsChildOf, KeepsRows, ShowsNow, WasShown, notes_of, tracked_row}
+use Rattle.hg_walk.specs.Telling.{AreNotesOf, IsAtChild, IsChildOf, KeepsRows, ShowsNow, WasShown, copied_in, notes_of, tracked_row}
 use Rattle.hg_walk.specs.Walking.{IsNeededNote, walk_status}
 use Rattle.hg_walk.specs.declared.telling.Seen.{Seen}
 use Rattle.hg_walk.proofs.Growing.{earned_on, found, only_one}
-use Rattle.hg_walk.proofs.Tells.{child_copied, child_entry, copied_in}
+use Rattle.hg_walk.proofs.Tells.{child_copied, child_entry}
 
 nothing : {A : Type 0} (x : A) → Contains [] x → ⊥
 nothing x (n, below, is) = absurd (omega (arith, below))
@@ -157,6 +158,10 @@ notes_marked s t boundary child entry there letter of is shown marked =
 
 -- ---- a path that is compared
 
+pub if_some_weaker : {A : Type 0} (o : Option A) (P Q : A → Type 0) → ((a : A) → P a → Q a) → IfSome o P → IfSome o Q
+if_some_weaker None P Q goes is = tt
+if_some_weaker (Some a) P Q goes is = goes a is
+
 file_kind : (kind : Kind) → is_file_or_link_kind kind ≡ true → is_file kind ≡ true
 file_kind a_kind.File is = refl
 file_kind a_kind.Link is = refl
@@ -183,6 +188,18 @@ module _ (wanted : Wanted) (t : Table) (start old new : trees.History) (begun fi
 
   abbrev call : Status
   call = walk_status wanted t old new begun later
+
+  abbrev own_note : Stamp → CleanNote
+  own_note st = record { path = path_of child; stat = there; stamp = stamp_view st }
+
+  needed_own : (st : Stamp) → vouches (view entry) (copied_in child) there ≡ false → IsNeededNote t (own_note st)
+  needed_own st unvouched = record {
+    entry = view entry;
+    is = child_entry t child entry come.of is;
+    marks = subst (λ (b : Bool). is_plain_entry (Some (marks_of (view entry))) b ≡ true) (child_copied t child come.of) (compared_parts wanted (tracked_row child entry) compared).1;
+    kind = file_kind there.kind kind;
+    unvouched = subst (λ (b : Bool). vouches (view entry) b there ≡ false) (child_copied t child come.of) unvouched;
+  }
 
   -- a clean path that stays is noted as the comparison says
   noted_so : (stamp : Option StampData) → IsNotedIfClean look here parent boundary stamp → trees.IsOurs old new → KeepsRows call → (other : EntryData) (stat : Stat) → IsCleanThere call t child other stat
@@ -215,38 +232,26 @@ module _ (wanted : Wanted) (t : Table) (start old new : trees.History) (begun fi
         (λ has seen clean unvouched stamped. let so = noted_so None if_clean ours keeps entry stat (has, seen, clean) unvouched in let none = so.1 in absurd (cc (none, stamped)));
   }
   notes_found (Some st) earned noted if_clean = record {
-    needed = λ note has. subst (IsNeededNote t) (only_one own note has) needed_own;
-    stamp = λ note has. subst (λ (n : CleanNote). stamp_of n.stat.mtime boundary ≡ Some n.stamp) (only_one own note has) noted.is;
+    needed = λ note has. subst (IsNeededNote t) (only_one (own_note st) note has) (needed_own st noted.unvouched);
+    stamp = λ note has. subst (λ (n : CleanNote). stamp_of n.stat.mtime boundary ≡ Some n.stamp) (only_one (own_note st) note has) noted.is;
     shown = λ told note has.
-        subst (λ (n : CleanNote). WasShown old new n.path n.stat) (only_one own note has)
+        subst (λ (n : CleanNote). WasShown old new n.path n.stat) (only_one (own_note st) note has)
         (record { at = old.last; from = omega arith; to = passes.past.later; shows = ap (λ (m : Moment). stat_at m (path_of child)) (passes.past.stay old.last (omega arith)) ∙ shown told });
     earned = λ honest told clock keeps note has.
-        subst (IsCleanNote (rows_then call) t new) (only_one own note has)
+        subst (IsCleanNote (rows_then call) t new) (only_one (own_note st) note has)
         (λ e has. earned e (record { goes = come.goes; told = told; shown = shown told }) honest (keeps (path_of child)) clock);
     recorded = λ ours keeps wants other entry stat stamp has.
         subst
         (λ (o : Child). t.entries (path_of o) ≡ Some entry → stat_at (trees.now old) (path_of o) ≡ Some stat
         → tracked_letter (rows_then call (path_of o)) (marks_of entry) (is_some (t.sources (path_of o))) ((trees.now old).things (path_of o)) ≡ Some a_letter.C
-        → vouches entry (is_some (t.sources (path_of o))) stat ≡ false → stamp_of stat.mtime boundary ≡ Some stamp → clean_at (own ∷ []) (path_of o) ≡ Some (record { path = path_of o; stat = stat; stamp = stamp }))
+        → vouches entry (is_some (t.sources (path_of o))) stat ≡ false → stamp_of stat.mtime boundary ≡ Some stamp → clean_at (own_note st ∷ []) (path_of o) ≡ Some (record { path = path_of o; stat = stat; stamp = stamp }))
         (only_one child other has)
         (λ has seen clean unvouched stamped.
         let so = noted_so (Some (stamp_view st)) if_clean ours keeps entry stat (has, seen, clean) unvouched in
         let stamps : stamp_view st ≡ stamp = some_is (stamp_view st) stamp (so.1 ∙ stamped) in
-        ap (λ (b : Bool). cond b (Some own) None) ((bytes_eq-Decides (path_of child) (path_of child)).1 refl)
+        ap (λ (b : Bool). cond b (Some (own_note st)) None) ((bytes_eq-Decides (path_of child) (path_of child)).1 refl)
         ∙ (λ i. Some (record { path = path_of child; stat = sym so.0 i; stamp = stamps i })));
   }
-    where
-      abbrev own : CleanNote
-      own = record { path = path_of child; stat = there; stamp = stamp_view st }
-
-      needed_own : IsNeededNote t own
-      needed_own = record {
-        entry = view entry;
-        is = child_entry t child entry come.of is;
-        marks = subst (λ (b : Bool). is_plain_entry (Some (marks_of (view entry))) b ≡ true) (child_copied t child come.of) (compared_parts wanted (tracked_row child entry) compared).1;
-        kind = file_kind there.kind kind;
-        unvouched = subst (λ (b : Bool). vouches (view entry) b there ≡ false) (child_copied t child come.of) noted.unvouched;
-      }
 
 -- ---- one behind others
 
@@ -315,3 +320,18 @@ module _ (wanted : Wanted) (t : Table) (old mid new : trees.History) (begun file
           (sym was.shows ∙ ap (λ (n : ℕ). stat_at (mid.at n) note.path) k ∙ ap (λ (m : Moment). stat_at m note.path) (before.past.stay old.last (omega arith)) ∙ ap (λ (p : List ℕ). stat_at (trees.now old) p) same ∙ shown) in
           let stamps : note.stamp ≡ stamp = some_is note.stamp stamp (sym (one.stamp note at.1) ∙ ap (λ (st : Stat). stamp_of st.mtime boundary) stats ∙ stamped) in
           (λ i. Some (record { path = same i; stat = stats i; stamp = stamps i }))
+
+pub notes_empty : (s : Status) (t : Table) (boundary : Time) → AreNotesOf s t boundary [] []
+notes_empty s t boundary = record {
+  needed = λ note has. absurd (nothing note has);
+  stamp = λ note has. absurd (nothing note has);
+  shown = λ told note has. absurd (nothing note has);
+  earned = λ honest told clock keeps note has. absurd (nothing note has);
+  recorded = λ ours keeps wants child entry stat stamp has. absurd (nothing child has);
+}
+
+-- what is noted behind a look is noted in the call
+pub notes_later : (wanted : Wanted) (t : Table) (old mid new : trees.History) (begun later : shelves.History) (boundary : Time) (ys : List Child) (notes : List CleanNote) → trees.Passes old mid → trees.Passes mid new
+    → begun.last ≤ later.last → AreNotesOf (walk_status wanted t mid new begun later) t boundary ys notes → AreNotesOf (walk_status wanted t old new begun later) t boundary ys notes
+notes_later wanted t old mid new begun later boundary ys notes before behind within are =
+    notes_more wanted t old mid new begun later later boundary [] ys [] notes before behind (shelf.extends_same later) within (notes_empty (walk_status wanted t old mid begun later) t boundary) are

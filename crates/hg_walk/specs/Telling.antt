@@ -1,5 +1,5 @@
 -- The pass over the paths of a record: the row of each that has an entry, where no directory stood, and what is noted of times.
-use Rattle.std.specs.Prelude.{ℕ, ◌≡◌, ◌≤◌, ⊥, Unit, Bool, true, false, IsTrue, List, [], ◌∷◌, ◌++◌, Option, Some, None, is_some}
+use Rattle.std.specs.Prelude.{ℕ, ◌≡◌, ◌≤◌, Bool, true, false, IsTrue, List, [], ◌∷◌, ◌++◌, Option, Some, None, is_some}
 use Rattle.std.specs.Option.{option_map}
 use Rattle.std.specs.List.{Contains}
 use Rattle.hg_base.specs.declared.id.Id20.{Id20}
@@ -45,6 +45,10 @@ pub record IsChildOf (t : Table) (child : Child) : Type 0 where
 pub record AreOf (t : Table) (id : Id20) (children : List Child) : Type 0 where
   pub first : id ≡ first_id t
   pub each : (child : Child) → Contains children child → IsChildOf t child
+
+-- a child has a copy source
+abbrev pub copied_in : Child → Bool
+copied_in child = is_some (option_map (λ source. source.text.now) child.source)
 
 -- the row of a child with an entry
 abbrev pub tracked_row : Child → Entry → FlatRow
