@@ -132,7 +132,11 @@ pub fn walk<T: Tree, S: Shelf, G: Regexps>(
 {
     let ignore = read_patterns(alloc, tree, regexps, wanted)?;
     let tracked = tell_all(alloc, mixed, tree, shelf, wanted)?;
-    let Tracked { keeper, rows, notes } = tracked;
+    let Tracked {
+        keeper,
+        rows,
+        notes,
+    } = tracked;
     let listed = list_others(alloc, &keeper, ignore, tree, wanted, rows)?;
     Ok(Walked {
         rows: listed.rows,
