@@ -1,8 +1,8 @@
 -- The rows of paths with an entry: one entry behind another, and over longer spans.
-use Rattle.std.proofs.Common.{ℕ, ◌≡◌, ◌+◌, ◌<◌, ◌≤◌, Bool, true, false, List, [], ◌∷◌, ◌++◌, length, take, get_or, Option, Some, None, refl, sym, ap, ◌∙◌, subst, inl, inr, arith}
+use Rattle.std.proofs.Common.{ℕ, ◌≡◌, ◌≤◌, Bool, true, false, List, [], ◌∷◌, ◌++◌, Option, Some, None, refl, sym, ap, ◌∙◌, subst, inl, inr, arith}
 use Rattle.std.specs.Prelude.{IsTrue, IfSome, is_some}
 use Rattle.std.specs.List.{Contains}
-use Rattle.std.proofs.lemmas.List.{append-nil, append_assoc, take_more}
+use Rattle.std.proofs.lemmas.List.{append-nil, append_assoc}
 use Rattle.std.proofs.lemmas.List.Elements.{Contains-append_cases, Contains-append_left, Contains-append_right, Contains-push, Contains-push_cases}
 use Rattle.hg_base.specs.declared.id.Id20.{Id20}
 use Rattle.hg_base.specs.declared.stat.Stat.{Stat}
@@ -11,7 +11,7 @@ use Rattle.hg_entry.specs.Table.{marks_of}
 use Rattle.hg_tree.specs.History as trees
 use Rattle.hg_tree.specs.Moment.{Moment}
 use Rattle.hg_tree.specs.Still.{AreAlike}
-use Rattle.hg_tree.proofs.Stillness.{alike_at, alike_between, same_kind, untouched_first, untouched_second}
+use Rattle.hg_tree.proofs.Stillness.{alike_at, same_kind, untouched_second}
 use Rattle.hg_shelf.specs.History as shelves
 use Rattle.hg_shelf.specs.Polite.{KeepsFile}
 use Rattle.hg_manifest.specs.Plain.{plain_name}
@@ -19,7 +19,7 @@ use Rattle.hg_manifest.specs.declared.row.FileRow.{FileRow}
 use Rattle.hg_compare.specs.Alike.{contents_name, is_alike}
 use Rattle.hg_compare.specs.declared.letter.Letter.{Letter}
 use Rattle.hg_listing.specs.Full.{wants}
-use Rattle.hg_flat.specs.Listing.{AddsTracked, ArePutFor, IsAskedRow, IsLeftRow, IsLetterFor, IsPutFor, row_under, rows_if, rows_under}
+use Rattle.hg_flat.specs.Listing.{AddsTracked, ArePutFor, IsLeftRow, IsLetterFor, row_under, rows_if, rows_under}
 use Rattle.hg_flat.specs.Parent.{HasContents, IsServed, KeepsRow, manifest_at, parent_rows, row_among, row_of}
 use Rattle.hg_flat.specs.declared.kept.FlatRow.{FlatRow}
 use Rattle.hg_listing.specs.declared.row.Row.{Row}

@@ -1,5 +1,5 @@
 -- A status from its parts: the rows of the paths with an entry, and those of what else stands, behind a read of the patterns.
-use Rattle.std.proofs.Common.{ℕ, ◌≡◌, ◌≤◌, Bool, false, true, List, [], Option, None, is_some, option_map, ap, sym, subst, arith}
+use Rattle.std.proofs.Common.{ℕ, ◌≡◌, Bool, false, true, List, [], Option, None, is_some, option_map, ap, sym, subst}
 use Rattle.hg_base.specs.declared.id.Id20.{Id20}
 use Rattle.hg_entry.specs.Entry.{view}
 use Rattle.hg_entry.specs.Table.{Flat, marks_of}
@@ -10,12 +10,11 @@ use Rattle.hg_listing.specs.declared.row.Wanted.{Wanted}
 use Rattle.hg_shelf.specs.History as shelves
 use Rattle.hg_tree.specs.History as trees
 use Rattle.hg_tree.specs.Moment.{Moment}
-use Rattle.hg_tree.specs.Still.{Untouched}
 use Rattle.hg_tree.proofs.Histories.{extends_trans}
 use Rattle.hg_tree.proofs.Stillness.{alike_between, untouched_first}
 use Rattle.hg_flat.specs.Course.{IsKeptState, pieces_of}
 use Rattle.hg_flat.specs.Judged.{AddsBy, IsLeftAsked}
-use Rattle.hg_flat.specs.Kept.{HaveOwnPaths, Kept, KeptRows, flat_from, row_at}
+use Rattle.hg_flat.specs.Kept.{HaveOwnPaths, Kept, flat_from, row_at}
 use Rattle.hg_flat.specs.Listing.{Gives, IsUnknownIn, ListsUnknown}
 use Rattle.hg_flat.specs.Others.{ListsOthers}
 use Rattle.hg_flat.specs.Parent.{Asking, IsAsked, IsLeft, IsServed, parent_rows}

@@ -74,14 +74,13 @@ loop-child-preserved g c =
           c.in_ok-mark.ensures.marked));
       noted =
           let before = c.loop-child.invariant.noted in
-          let own = c.in_ok-mark.ensures.noted in
-          (
-          before.0 ++ own.0,
-          own.1 ∙ (λ i. with_clean_notes own.0 (before.1 i)) ∙ (λ i. record c.args.notes.now { clean = append_assoc c.args.notes.now.clean before.0 own.0 i }),
-          λ t of.
-          subst (λ (l : List Child). AreNotesOf (walk_status c.args.wanted t old new begun later) t c.args.boundary l (before.0 ++ own.0)) (sym one_more)
-          (notes_more c.args.wanted t old mid new begun files later c.args.boundary so_far (child ∷ []) before.0 own.0 c.loop-child.invariant.passes c.tell_one.ensures.passes c.tell_one.ensures.passes_shelf.past
-          c.loop-child.invariant.passes_shelf.past.later (before.2 t of) (own.2 t old begun (record { of = of.each child has; goes = c.loop-child.invariant.goes t of }))),
+          let own = c.in_ok-mark.ensures.noted in (
+            before.0 ++ own.0,
+            own.1 ∙ (λ i. with_clean_notes own.0 (before.1 i)) ∙ (λ i. record c.args.notes.now { clean = append_assoc c.args.notes.now.clean before.0 own.0 i }),
+            λ t of.
+                subst (λ (l : List Child). AreNotesOf (walk_status c.args.wanted t old new begun later) t c.args.boundary l (before.0 ++ own.0)) (sym one_more)
+                (notes_more c.args.wanted t old mid new begun files later c.args.boundary so_far (child ∷ []) before.0 own.0 c.loop-child.invariant.passes c.tell_one.ensures.passes c.tell_one.ensures.passes_shelf.past
+                c.loop-child.invariant.passes_shelf.past.later (before.2 t of) (own.2 t old begun (record { of = of.each child has; goes = c.loop-child.invariant.goes t of }))),
           );
       asked = λ told t of.
           reads_on (asked_unvouched c.args.wanted t) old mid new c.loop-child.invariant.passes.past c.tell_one.ensures.passes.past (c.loop-child.invariant.asked told t of)

@@ -27,11 +27,10 @@ returns-in_default-clause-row g c = λ t start begun come.
 
 pub returns-in_default-clause-noted : goal.returns-in_default-clause-noted
 returns-in_default-clause-noted g c =
-    let old = g.T.Tree.history c.args.tree.now in
-    (
-    [],
-    (λ i. record c.args.notes.now { clean = sym (append-nil c.args.notes.now.clean) i }),
-    λ t start begun come. notes_bare (walk_status c.args.wanted t old old begun (g.S.Shelf.history c.args.shelf.now)) t c.args.boundary c.args.child.now come.of c.in_default.is,
+    let old = g.T.Tree.history c.args.tree.now in (
+      [],
+      (λ i. record c.args.notes.now { clean = sym (append-nil c.args.notes.now.clean) i }),
+      λ t start begun come. notes_bare (walk_status c.args.wanted t old old begun (g.S.Shelf.history c.args.shelf.now)) t c.args.boundary c.args.child.now come.of c.in_default.is,
     )
 
 pub returns-in_default-clause-marked : goal.returns-in_default-clause-marked
