@@ -63,7 +63,7 @@ def seen(root):
 
 
 # What a status may write below `.hg`: the record, and the file by which it asks the clock.
-OF_A_STATUS = re.compile(rb"/\.hg(/(dirstate(\.[0-9a-f]{16})?|probe))?")
+OF_A_STATUS = re.compile(rb"/\.hg(/(dirstate(\.[^/]*)?|probe))?")
 
 
 def kept(root):

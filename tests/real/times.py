@@ -9,7 +9,6 @@ import subprocess
 import threading
 import time
 
-from beside import Server
 from calls import ERRORS, Calls, compiled, has_gcc
 from commits import HEX, P1, PARENT, W, put_commit, put_entries
 from dirstate import written
@@ -96,8 +95,8 @@ def stamps_of(tests, root):
 class Steps:
     """A working copy that changes step by step, and what each path has shown under each time: a time that is given back goes with what it was shown with."""
 
-    def __init__(self, tests, root, server, chance):
-        self.tests, self.root, self.server, self.chance = tests, root, server, chance
+    def __init__(self, tests, root, chance):
+        self.tests, self.root, self.chance = tests, root, chance
         self.shown, self.commits, self.old = {}, 0, LONG_PAST
 
     def at(self, name):
@@ -175,7 +174,7 @@ class Steps:
         self.tests.run(self.root, ("add", self.file()))
 
     def add_all(self):
-        self.server.run("add", "-q")
+        hg(self.root, "add", "-q")
 
     def forget(self):
         self.tests.run(self.root, ("forget", self.chance.choice(NAMES)))
@@ -186,17 +185,17 @@ class Steps:
             self.tests.run(self.root, ("copy", name, other))
 
     def commit(self):
-        self.server.run("commit", "-A", "-q", "-m", "some")
-        self.commits = int(self.server.run("log", "-r", "tip", "-T", "{rev}")[1] or b"-1") + 1
+        # (where nothing has changed it ends with 1)
+        self.commits += hg(self.root, "commit", "-A", "-q", "-m", "some").returncode == 0
         self.bring()
 
     def update(self):
         if self.commits:
-            self.server.run("update", "-q", "-C", str(self.chance.randrange(self.commits)))
+            hg(self.root, "update", "-q", "-C", str(self.chance.randrange(self.commits)))
             self.bring()
 
     def revert(self):
-        self.server.run("revert", "-q", "-a", "--no-backup")
+        hg(self.root, "revert", "-q", "-a", "--no-backup")
 
     def bring(self):
         ran = export(self.root)
@@ -206,49 +205,41 @@ class Steps:
              commit, commit, update, update, revert]
 
 
-def rhg_of(tests):
-    """The command of `rhg`, and the environment in which it does all itself; nothing where it isn't there."""
-    if shutil.which("rhg") is None:
-        tests.skip("the command rhg is not installed, so its status was not asked for")
-        return None
-    put(f"{tests.room}/rhg.rc", b"[rhg]\non-unsupported = abort\n")
-    return {**os.environ, "HGRCPATH": f"{tests.room}/rhg.rc", "HGPLAIN": "1"}
-
-
 def run_steps(tests):
     """Files are written, touched, given back, committed and updated; behind each step all programs print the same, in any order."""
-    chance, rhg = random.Random(7), rhg_of(tests)
+    chance, rhg = random.Random(7), os.environ.get("HGTRACK_RHG") or shutil.which("rhg")
+    if rhg is None:
+        tests.skip("the command rhg is not installed, so its status was not asked for")
     with tests.working_copy() as root:
         init(root)
-        server = Server(root)
-        steps, wrong, kept = Steps(tests, root, server, chance), 0, 0
-        programs = {"hgtrack": lambda: tests.run(root, ("status", "-A"))[:2], "hg": lambda: server.run("status", "-A")}
+        steps, wrong, kept = Steps(tests, root, chance), 0, 0
+        programs = {"hgtrack": lambda: tests.run(root, ("status", "-A"))[:2], "hg": lambda: plain(hg(root, "status", "-A"))}
         if rhg:
-            programs["rhg"] = lambda: plain(subprocess.run(["rhg", "status", "-A"], cwd=root, env=rhg, capture_output=True, timeout=SECONDS))
-        try:
-            lay_out(root, NAMES)
-            steps.commit()
-            for number in range(STEPS):
-                step = chance.choice(Steps.KINDS)
-                step(steps)
-                steps.look()
-                order = chance.sample(sorted(programs), len(programs))
-                said = {name: programs[name]() for name in order}
-                hidden = hiding(tests, root)
-                kept += len(stamps_of(tests, root))
-                what = f"times: step {number}, {step.__name__}, asked {', '.join(order)}"
-                is_same = tests.compare(what, [said[it] for it in order], len(order) * [said["hg"]])
-                is_open = tests.compare(f"{what}: times that hide a change, and times that aren't below the clock", hidden, ([], []))
-                wrong += not (is_same and is_open)
-                if wrong > 3:
-                    return
-        finally:
-            server.end()
+            command, env = [rhg, "status", "-A", "--config", "rhg.on-unsupported=abort"], {**os.environ, "HGRCPATH": ""}
+            programs["rhg"] = lambda: plain(subprocess.run(command, cwd=root, env=env, capture_output=True, timeout=SECONDS))
+        lay_out(root, NAMES)
+        steps.commit()
+        for number in range(STEPS):
+            step = chance.choice(Steps.KINDS)
+            step(steps)
+            steps.look()
+            # (`hg` takes long to start: beside `rhg` it is asked behind each second step)
+            asked = [it for it in sorted(programs) if it != "hg" or not rhg or number % 2]
+            order = chance.sample(asked, len(asked))
+            said = {name: programs[name]() for name in order}
+            hidden = hiding(tests, root)
+            kept += len(stamps_of(tests, root))
+            what = f"times: step {number}, {step.__name__}, asked {', '.join(order)}"
+            is_same = tests.compare(what, [said[it] for it in order], len(order) * [said["rhg" if rhg else "hg"]])
+            is_open = tests.compare(f"{what}: times that hide a change, and times that aren't below the clock", hidden, ([], []))
+            wrong += not (is_same and is_open)
+            if wrong > 3:
+                return
         tests.compare(f"times: {STEPS} steps, {kept} recorded times", kept > STEPS, True)
 
 
 def plain(ran):
-    return ran.returncode, ran.stdout
+    return ran.returncode, ran.stdout or ran.stderr
 
 
 # ---- one file that is written while the program looks at it
@@ -325,7 +316,7 @@ def run_clocks(tests):
 
 # ---- what a second status reads, and what it saves
 
-MANY = [f"d{i:02}/e{j}/f{k}" for i in range(20) for j in range(5) for k in range(20)]
+MANY = [f"d{i % 5}/e{i:02}/f{k:02}" for i in range(100) for k in range(20)]
 
 
 def many_files(root, names):
@@ -396,7 +387,6 @@ def run_beside_commit(tests):
         export(root)
         put(f"{root}/b", b"other\n")
         os.utime(f"{root}/a", ns=(LONG_PAST, LONG_PAST))
-        before = record_of(root)
         hook = f"hooks.pretxncommit.wait=touch {inside}; n=0; while [ ! -e {go} ] && [ $n -lt {20 * SECONDS} ]; do sleep 0.05; n=$((n+1)); done"
         env = {**os.environ, "HGRCPATH": "", "HGPLAIN": "1"}
         at = subprocess.Popen(["hg", "commit", "-m", "two", "--config", hook, *OPTIONS], cwd=root, env=env, stdin=subprocess.DEVNULL, stdout=subprocess.PIPE, stderr=subprocess.PIPE)
@@ -404,7 +394,7 @@ def run_beside_commit(tests):
             until = time.monotonic() + SECONDS
             while not os.path.exists(inside) and at.poll() is None and time.monotonic() < until:
                 time.sleep(0.01)
-            lock = os.readlink(f"{root}/.hg/wlock")
+            before, lock = record_of(root), os.readlink(f"{root}/.hg/wlock")
             tests.compare("times: a status while hg commits", tests.run(root, ("status", "-A")), (0, lines("M b", "? c", "C a"), b""))
             tests.compare("times: and the record and the lock are as they were", (record_of(root), os.readlink(f"{root}/.hg/wlock")), (before, lock))
         finally:
@@ -452,15 +442,21 @@ def recorded(rows):
 
 
 BEFORE, AFTER = (recorded([(it, has) for it in sorted(SCENE)]) for has in (False, True))
+# The first of them has another time, and what is recorded then.
+LATER = LONG_PAST + 10**9
+AGAIN = AFTER.replace(b"%d." % (LONG_PAST // 10**9), b"%d." % (LATER // 10**9), 1)
 CLEAN = b"".join(b"C %b\n" % os.fsencode(it) for it in sorted(SCENE))
 
 
 def ends_well(tests, root):
-    """What is wrong, where something is, behind a status that was stopped: the record is one of the two, and the next status saves the times."""
+    """Which record a status left that was stopped, one of the two; and what is wrong, where something is: the next status saves the times, and one behind that another
+    time, with which all goes that was left behind."""
     now = tests.run(root, ("debugdirstate",))
-    then = tests.run(root, ("status", "-A")), tests.run(root, ("debugdirstate",)), left_of(root)
-    if now not in ((0, BEFORE, b""), (0, AFTER, b"")) or then != ((0, CLEAN, b""), (0, AFTER, b""), []):
-        return None, (now, then)
+    then = tests.run(root, ("status", "-A")), tests.run(root, ("debugdirstate",))
+    os.utime(f"{root}/{min(SCENE)}", ns=(LATER, LATER))
+    again = tests.run(root, ("status", "-A")), tests.run(root, ("debugdirstate",)), left_of(root)
+    if now not in ((0, BEFORE, b""), (0, AFTER, b"")) or then != ((0, CLEAN, b""), (0, AFTER, b"")) or again != ((0, CLEAN, b""), (0, AGAIN, b""), []):
+        return None, (now, then, again)
     return [BEFORE, AFTER].index(now[1]), None
 
 
