@@ -71,9 +71,9 @@ def kept(root):
     found, record = {}, {}
     for path, it in seen(root).items():
         below = path[len(os.fsencode(root)):]
-        if not OF_A_STATUS.fullmatch(below):
+        if not OF_A_STATUS.fullmatch(below) or it[3] is None and below != b"/.hg":
             found[path] = it
-        elif it[3] is not None and below != b"/.hg/probe":
+        elif below not in (b"/.hg", b"/.hg/probe"):
             record[os.path.basename(path)] = it[3]
     head = record.get(b"dirstate", b"")
     name = b"dirstate." + head[125:125 + head[124]] if len(head) > 125 else None
@@ -189,7 +189,7 @@ class Tests:
     def check(self, what, root, out=b"", err=b"", words=("status",), **how):
         """One case: the program prints these bytes, ends with 255 exactly where it names a fault, and changes nothing, but for the times that a status records. Where
         the folder has no folder `.hg`, it says so first."""
-        look = kept if words[0] == "status" else seen
+        look = kept if list(words[:1]) == ["status"] else seen
         before = look(root)
         said = b"" if os.path.isdir(os.path.join(root, ".hg")) else NO_HG
         answered = self.run(root, words, **how)
