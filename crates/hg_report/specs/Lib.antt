@@ -1,7 +1,6 @@
 pub mod Cause
 pub mod Debug
 pub mod Fault
-pub mod Gathered
 pub mod Refusal
 pub mod Status
 pub mod Warnings

@@ -15,7 +15,6 @@
 mod debug;
 mod fault;
 mod fault_line;
-mod gather;
 mod refusal_line;
 mod status;
 mod warnings;

@@ -8,10 +8,14 @@ use Rattle.std.specs.Cmp.Lexicographic.{slice_cmp}
 use Rattle.std.specs.Str.{bytes_eq}
 use Rattle.hg_base.specs.Within.{is_above, is_within}
 use Rattle.hg_entry.specs.Entry.{stamp_view, view}
+use Rattle.hg_entry.specs.Table.{Table}
 use Rattle.hg_mixed.specs.Children.{ChildData, IsChild}
 use Rattle.hg_mixed.specs.Held.{Held, table}
 use Rattle.hg_mixed.specs.declared.child.Child.{Child}
-use Rattle.hg_report.specs.Debug.{copy_line, is_recorded, record_line}
+
+-- a path has an entry, or is a cached directory
+abbrev pub is_recorded : Table → List ℕ → Bool
+is_recorded table path = is_some (table.entries path) || is_some (table.caches path)
 
 abbrev pub path_of : Child → List ℕ
 path_of child = child.path.text.now
@@ -28,13 +32,6 @@ pub record Shows (held : Held) (child : Child) : Type 0 where
 -- it has an entry or a cache
 abbrev pub has_line : Child → Bool
 has_line child = is_some child.entry || is_some child.cache
-
--- its lines: what is recorded of its path, and where it was copied from
-abbrev pub row_line : Child → List ℕ
-row_line row = record_line (path_of row) (option_map view row.entry) (option_map stamp_view row.cache)
-
-abbrev pub row_copy : Child → List ℕ
-row_copy row = copy_line (path_of row) (option_map (λ s. s.text.now) row.source)
 
 -- one row for each path that passes a test and has an entry or a cache
 pub record AreGathered (held : Held) (test : List ℕ → Bool) (rows : List Child) : Type 0 where

@@ -3,9 +3,9 @@ use Rattle.std.specs.Option.{option_map}
 use Rattle.std.proofs.lemmas.List.{append-nil}
 use Rattle.hg_base.specs.declared.path.PathRef.{PathRef}
 use Rattle.hg_mixed.specs.Lists.{or_root}
-use Rattle.hg_report.specs.Gathered.{path_of}
-use Rattle.hg_report.proofs.Gathering.{below_none, child_is, child_longer, child_short, left_done, left_first, left_more}
-use Rattle.hg_report.proofs.gather.+gathering.Goals as goal
+use Rattle.hg_mixed.specs.Gathered.{path_of}
+use Rattle.hg_mixed.proofs.Gathering.{below_none, child_is, child_longer, child_short, left_done, left_first, left_more}
+use Rattle.hg_mixed.proofs.gathered.+gathering.Goals as goal
 
 pub add_below-returns-then-not-child : goal.add_below-returns-then-not-child
 add_below-returns-then-not-child t c = ([], sym (append-nil c.args.rows.now.items), below_none c.args.mixed.now c.requires.formed c.args.child.now c.requires.child c.if-not-child.true)

@@ -2,8 +2,8 @@
 use Rattle.std.proofs.Common.{◌+◌, ◌-◌, ◌*◌, length}
 use Rattle.std.specs.Option.{option_map}
 use Rattle.hg_mixed.specs.Lists.{or_root}
-use Rattle.hg_report.specs.Gathered.{AreLeft, path_of}
-use Rattle.hg_report.proofs.gather.+gathering.Given as goal
+use Rattle.hg_mixed.specs.Gathered.{AreLeft, path_of}
+use Rattle.hg_mixed.proofs.gathered.+gathering.Given as goal
 
 abbrev pub decreases-add_below : goal.decreases-add_below
 decreases-add_below l = 2 * (65536 - length (path_of l.child.now)) + 1

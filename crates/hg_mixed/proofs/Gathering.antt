@@ -2,13 +2,16 @@
 use Rattle.std.proofs.Common.{ℕ, ◌≡◌, ◌<◌, ◌≤◌, Bool, true, false, not, ◌&&◌, ◌||◌, cond, ◌⊎◌, inl, inr, List, [], ◌∷◌, ◌++◌, map, length, Option, Some, None, option_map, refl, sym, ap, ◌∙◌, subst, true≢false, nat_cmp, arith}
 use Rattle.std.specs.Prelude.{is_some, MatchBool}
 use Rattle.std.specs.List.{AllByRecursion, IsDistinct, list_any}
+use Rattle.std.specs.List.Sorted.{IsPermutation}
 use Rattle.std.specs.Str.{bytes_eq}
 use Rattle.std.specs.Cmp.Lexicographic.{slice_cmp}
 use Rattle.std.specs.declared.cmp.Ordering.TheVariants.{Less}
 use Rattle.std.proofs.lemmas.Bool.{cases_Bool, and_parts, and_from, or_left, or_right, not-true, false_from_ne_true, both_ways}
 use Rattle.std.proofs.lemmas.Cmp.{nat_list_cmp_total, tied_itself}
 use Rattle.std.proofs.lemmas.List.{append_assoc, append-nil}
+use Rattle.std.proofs.lemmas.List.Elements.{All-from_recursion, recursion_from_All}
 use Rattle.std.proofs.lemmas.List.Folds.{list_any-append}
+use Rattle.std.proofs.lemmas.List.Sorted.{All-permutation, IsPermutation-map, list_any-IsPermutation}
 use Rattle.std.proofs.lemmas.Map.Keys.{sorted_head, sorted_tail}
 use Rattle.hg_base.specs.PathText.{is_below, is_path, joined, parent_of}
 use Rattle.hg_base.specs.Within.{is_above, is_within}
@@ -24,8 +27,8 @@ use Rattle.hg_mixed.specs.Edits.{IsFormed}
 use Rattle.hg_mixed.specs.Held.{Held, table}
 use Rattle.hg_mixed.specs.Lists.{or_root}
 use Rattle.hg_mixed.specs.declared.child.Child.{Child}
-use Rattle.hg_report.specs.Debug.{is_recorded}
-use Rattle.hg_report.specs.Gathered.{AreGathered, AreLeft, Gathers, Shows, has_line, is_done, is_left, path_of, paths_of}
+use Rattle.hg_mixed.specs.Gathered.{AreGathered, AreLeft, Gathers, Shows, has_line, is_done, is_left, is_recorded, path_of, paths_of}
+use Rattle.hg_mixed.proofs.Ordered.{distinct_moved}
 
 -- ---- lists
 
@@ -334,3 +337,21 @@ module _ (held : Held) where
             done_or : (a w l : Bool) → a ≡ true → not l ≡ true → ((a && not (w || l)) ≡ true) ⊎ (w ≡ true)
             done_or a true l above out = inr refl
             done_or a false l above out = inl (and_from a (not l) above out)
+
+-- ---- in order
+
+module _ (held : Held) where
+  pub gathered_moved : (test : List ℕ → Bool) (a b : List Child) → IsPermutation a b → AreGathered held test a → AreGathered held test b
+  gathered_moved test a b moved are =
+      let paths : IsPermutation (paths_of a) (paths_of b) = IsPermutation-map path_of a b moved in
+      let Sound : Child → Type 0 = λ row. (test (path_of row) ≡ true) × (is_recorded (table held) (path_of row) ≡ true) × Shows held row in
+      record {
+        own = distinct_moved (paths_of a) (paths_of b) paths are.own;
+        each = recursion_from_All Sound b (All-permutation Sound a b moved (All-from_recursion Sound a are.each));
+        all = λ p is there. sym (list_any-IsPermutation (bytes_eq p) (paths_of a) (paths_of b) paths) ∙ are.all p is there;
+      }
+
+  pub gathered_all : (test : List ℕ → Bool) (none old new : List Child) → none ≡ [] → Gathers held test none new → IsPermutation new old → AreGathered held test old
+  gathered_all test none old new empty g moved =
+      let whole : new ≡ g.0 = g.1 ∙ ap (λ (l : List Child). l ++ g.0) empty in
+      gathered_moved test new old moved (subst (AreGathered held test) (sym whole) g.2)

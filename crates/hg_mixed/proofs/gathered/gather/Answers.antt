@@ -3,10 +3,10 @@ use Rattle.std.specs.Cmp.Lexicographic.{nat_list_cmp_total, slice_cmp}
 use Rattle.std.specs.Ordering.{is_lt}
 use Rattle.std.proofs.lemmas.List.Sorted.{answers_always, ranks_by}
 use Rattle.hg_base.specs.Within.{is_above}
-use Rattle.hg_report.specs.Gathered.{path_of}
-use Rattle.hg_report.proofs.Ordered.{strict}
-use Rattle.hg_report.proofs.Recorded.{gathered_all}
-use Rattle.hg_report.proofs.gather.gather.Goals as goal
+use Rattle.hg_mixed.specs.Gathered.{path_of}
+use Rattle.hg_mixed.proofs.Ordered.{strict}
+use Rattle.hg_mixed.proofs.Gathering.{gathered_all}
+use Rattle.hg_mixed.proofs.gathered.gather.Goals as goal
 
 pub returns-clause-gathered : goal.returns-clause-gathered
 returns-clause-gathered c =

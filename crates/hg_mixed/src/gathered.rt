@@ -9,11 +9,12 @@ ghost use Rattle.hg_base.specs.Within.{is_above};
 ghost use Rattle.hg_mixed.specs.Child.{shown_child};
 ghost use Rattle.hg_mixed.specs.Children.{IsChild};
 ghost use Rattle.hg_mixed.specs.Edits.{IsFormed};
+ghost use Rattle.hg_mixed.specs.Gathered.{AreGathered, Gathers, has_line, path_of, paths_of};
 ghost use Rattle.hg_mixed.specs.Held.{table};
-ghost use Rattle.hg_report.specs.Gathered.{AreGathered, Gathers, has_line, path_of, paths_of};
 
+use crate::child::Child;
+use crate::mixed::Mixed;
 use hg_base::{OutOfMemory, PathRef};
-use hg_mixed::{Child, Mixed};
 use std::alloc::Global;
 
 fn is_recorded(child: &Child<'_>) -> bool
