@@ -63,12 +63,12 @@ adds_moved asks same Q R premise S T files id m n wanted all a b meets alike (mo
   more,
   is,
   put_weaker (IsPutBy asks Q S files id m wanted) (IsPutBy asks R T files id n wanted) all more
-  (λ kept own one. record {
-    letter = one.letter;
-    one = one.one;
-    found = letter_by_moved asks same Q R premise S T files id m n wanted kept one.letter (meets kept.path) (alike kept.path) one.found;
-  })
-  put,
+      (λ kept own one. record {
+        letter = one.letter;
+        one = one.one;
+        found = letter_by_moved asks same Q R premise S T files id m n wanted kept one.letter (meets kept.path) (alike kept.path) one.found;
+      })
+      put,
 )
 
 -- ---- the steps

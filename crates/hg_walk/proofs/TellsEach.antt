@@ -176,8 +176,8 @@ marks_more wanted old mid new first second xs child mark a b (marks, is, each) o
   marks ++ mark ∷ [],
   ap (λ (l : List Bool). l ++ mark ∷ []) is ∙ append_assoc a marks (mark ∷ []),
   one_more_mark (IsMarked wanted old new) xs marks child mark
-  (each_longer (IsMarked wanted old mid) (IsMarked wanted old new) (marked_longer wanted old mid new first second.past) xs marks each)
-  (marked_later wanted old mid new first second.past child mark own),
+      (each_longer (IsMarked wanted old mid) (IsMarked wanted old new) (marked_longer wanted old mid new first second.past) xs marks each)
+      (marked_later wanted old mid new first second.past child mark own),
 )
 
 pub marks_none : (wanted : Wanted) (old new : trees.History) (marks : List Bool) → MarksEach wanted old new [] marks marks

@@ -205,14 +205,13 @@ module _ (wanted : Wanted) (t : Table) (start old new : trees.History) (begun fi
   noted_so : (stamp : Option StampData) → IsNotedIfClean look here parent boundary stamp → trees.IsOurs old new → KeepsRows call → (other : EntryData) (stat : Stat) → IsCleanThere call t child other stat
       → vouches other (is_some (t.sources (path_of child))) stat ≡ false → (stat ≡ there) × (stamp ≡ stamp_of stat.mtime boundary)
   noted_so stamp noted ours keeps other stat clean unvouched =
-      let same : stat ≡ there = some_is stat there (sym clean.1 ∙ shown ours.told) in
-      (
-      same,
-      noted (record { goes = come.goes; told = ours.told; shown = shown ours.told }) (stays_shown old new (path_of child) (ours_untouched old new passes ours (path_of child))) (keeps (path_of child))
-      (subst (λ (e : EntryData). vouches e (copied_in child) there ≡ false) (same_entry call t child entry come.of is other clean.0)
-      (subst (λ (b : Bool). vouches other b there ≡ false) (sym (child_copied t child come.of)) (subst (λ (st : Stat). vouches other (is_some (t.sources (path_of child))) st ≡ false) same unvouched)))
-      (clean_here call t child entry come.of is other stat clean).2
-      ∙ ap (λ (st : Stat). stamp_of st.mtime boundary) (sym same),
+      let same : stat ≡ there = some_is stat there (sym clean.1 ∙ shown ours.told) in (
+        same,
+        noted (record { goes = come.goes; told = ours.told; shown = shown ours.told }) (stays_shown old new (path_of child) (ours_untouched old new passes ours (path_of child))) (keeps (path_of child))
+            (subst (λ (e : EntryData). vouches e (copied_in child) there ≡ false) (same_entry call t child entry come.of is other clean.0)
+            (subst (λ (b : Bool). vouches other b there ≡ false) (sym (child_copied t child come.of)) (subst (λ (st : Stat). vouches other (is_some (t.sources (path_of child))) st ≡ false) same unvouched)))
+            (clean_here call t child entry come.of is other stat clean).2
+            ∙ ap (λ (st : Stat). stamp_of st.mtime boundary) (sym same),
       )
 
   pub notes_found : (stamp : Option Stamp) → IfSome (option_map stamp_view stamp) (λ st. IsEarnedBy look here parent boundary st) → IfSome (option_map stamp_view stamp) (IsNoted look boundary letter)

@@ -329,17 +329,8 @@ fn tell_one<T: Tree, S: Shelf>(
     let Some(entry) = &child.entry else {
         return Ok(false);
     };
-    let told = tell_tracked(
-        alloc, child, entry, tree, shelf, parent, wanted, boundary,
-    )?;
-    put_wanted(
-        alloc,
-        child.path,
-        child.source,
-        told.letter,
-        wanted,
-        rows,
-    )?;
+    let told = tell_tracked(alloc, child, entry, tree, shelf, parent, wanted, boundary)?;
+    put_wanted(alloc, child.path, child.source, told.letter, wanted, rows)?;
     note_seen(alloc, child.path, told.seen, notes)?;
     Ok(told.passed)
 }
@@ -409,7 +400,15 @@ pub(crate) fn tell_each<T: Tree, S: Shelf>(
     let mut parent = Parent::new(p1);
     for child in children {
         let mark = tell_one(
-            alloc, child, tree, shelf, &mut parent, wanted, boundary, rows, notes,
+            alloc,
+            child,
+            tree,
+            shelf,
+            &mut parent,
+            wanted,
+            boundary,
+            rows,
+            notes,
         )?;
         passed.push(mark)?;
     }

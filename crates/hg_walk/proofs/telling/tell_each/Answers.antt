@@ -1,5 +1,4 @@
-use Rattle.std.proofs.Common.{◌≡◌, ◌<◌, ◌+◌, Bool, List, ℕ, [], ◌∷◌, ◌++◌, length, take, arith, refl, sym, ap, ◌∙◌, subst}
-use Rattle.std.specs.Prelude.{IsTrue}
+use Rattle.std.proofs.Common.{◌≡◌, ◌<◌, ◌+◌, Bool, List, [], ◌∷◌, ◌++◌, length, take, refl, sym, ap, ◌∙◌, subst}
 use Rattle.std.specs.List.{Contains}
 use Rattle.std.proofs.lemmas.List.{append-nil, append_assoc, take_all, take_more}
 use Rattle.std.proofs.lemmas.Result.{err_from_is_err_and}
@@ -11,7 +10,6 @@ use Rattle.hg_mixed.specs.declared.child.Child.{Child}
 use Rattle.hg_shelf.specs.History as shelves
 use Rattle.hg_shelf.proofs.Histories as shelf
 use Rattle.hg_shelf.proofs.Scenes.{goes_same, goes_trans}
-use Rattle.hg_tree.specs.History as trees
 use Rattle.hg_tree.proofs.Spans.{passes_same, passes_trans}
 use Rattle.hg_walk.specs.Right.{AreRight}
 use Rattle.hg_walk.specs.Telling.{AreNotesOf, MarksEach, TellsEach, with_clean_notes}
@@ -74,14 +72,13 @@ loop-child-preserved g c =
           c.in_ok-mark.ensures.marked));
       noted =
           let before = c.loop-child.invariant.noted in
-          let own = c.in_ok-mark.ensures.noted in
-          (
-          before.0 ++ own.0,
-          own.1 ∙ (λ i. with_clean_notes own.0 (before.1 i)) ∙ (λ i. record c.args.notes.now { clean = append_assoc c.args.notes.now.clean before.0 own.0 i }),
-          λ t of.
-          subst (λ (l : List Child). AreNotesOf (walk_status c.args.wanted t old new begun later) t c.args.boundary l (before.0 ++ own.0)) (sym one_more)
-          (notes_more c.args.wanted t old mid new begun files later c.args.boundary so_far (child ∷ []) before.0 own.0 c.loop-child.invariant.passes c.tell_one.ensures.passes c.tell_one.ensures.passes_shelf.past
-          c.loop-child.invariant.passes_shelf.past.later (before.2 t of) (own.2 t old begun (record { of = of.each child has; goes = c.loop-child.invariant.goes t of }))),
+          let own = c.in_ok-mark.ensures.noted in (
+            before.0 ++ own.0,
+            own.1 ∙ (λ i. with_clean_notes own.0 (before.1 i)) ∙ (λ i. record c.args.notes.now { clean = append_assoc c.args.notes.now.clean before.0 own.0 i }),
+            λ t of.
+                subst (λ (l : List Child). AreNotesOf (walk_status c.args.wanted t old new begun later) t c.args.boundary l (before.0 ++ own.0)) (sym one_more)
+                (notes_more c.args.wanted t old mid new begun files later c.args.boundary so_far (child ∷ []) before.0 own.0 c.loop-child.invariant.passes c.tell_one.ensures.passes c.tell_one.ensures.passes_shelf.past
+                c.loop-child.invariant.passes_shelf.past.later (before.2 t of) (own.2 t old begun (record { of = of.each child has; goes = c.loop-child.invariant.goes t of }))),
           );
       asked = λ told t of.
           reads_on (asked_unvouched c.args.wanted t) old mid new c.loop-child.invariant.passes.past c.tell_one.ensures.passes.past (c.loop-child.invariant.asked told t of)
