@@ -4,6 +4,7 @@ pub mod Judged
 pub mod Kept
 pub mod Listing
 pub mod Met
+pub mod Others
 pub mod Parent
 pub mod Passed
 pub mod Patterns

@@ -1,23 +1,22 @@
 use Rattle.std.specs.Prelude.{OnOk}
-use Rattle.std.proofs.Common.{List, None, option_map, refl, subst, false, true, ◌≡◌}
-use Rattle.std.proofs.lemmas.Result.{on_ok_weaker}
+use Rattle.std.proofs.Common.{List, None, option_map, refl, subst, true, ◌≡◌}
 use Rattle.hg_ignore.specs.State.{Piece}
 use Rattle.hg_tree.specs.History as trees
 use Rattle.hg_tree.specs.Still.{Untouched}
 use Rattle.hg_flat.specs.Asked.{IsDirIn}
 use Rattle.hg_flat.specs.Course.{pieces_of}
-use Rattle.hg_flat.specs.Listing.{Gives, IsEntered, IsUnknownIn, ListsUnknown}
+use Rattle.hg_flat.specs.Listing.{Gives, IsEntered, IsUnknownIn}
+use Rattle.hg_flat.specs.Passed.{ListsSince}
 use Rattle.hg_flat.specs.Patterns.{needs_patterns}
-use Rattle.hg_flat.specs.Shown.{kept_of}
 use Rattle.hg_flat.proofs.Asks.{asks_none}
 use Rattle.hg_flat.proofs.Ignoring.{lists_unneeded}
-use Rattle.hg_flat.proofs.Steps.{passed_none}
-use Rattle.hg_flat.proofs.status.add_others.Goals as goal
+use Rattle.hg_flat.proofs.others.add_others.Goals as goal
 
 pub returns-in_default-clause-listed : goal.returns-in_default-clause-listed
-returns-in_default-clause-listed g c =
+returns-in_default-clause-listed g c = λ start passed.
     let old = g.T.Tree.history c.args.tree.now in
-    lists_unneeded (kept_of c.args.flat.now) c.args.wanted (pieces_of (option_map (λ i. i.now) c.args.ignore)) (Untouched old old.last) (IsUnknownIn (kept_of c.args.flat.now) (trees.now old) None) c.args.rows.now.items
+    let kept = g.K.Entries.kept c.args.entries.now in
+    lists_unneeded kept c.args.wanted (pieces_of (option_map (λ i. i.now) c.args.ignore)) (Untouched old start) (IsUnknownIn kept (trees.now old) None) c.args.rows.now.items
     (rw c.in_default.is at c.requires)
 
 pub returns-in_default-clause-asked : goal.returns-in_default-clause-asked
@@ -30,14 +29,13 @@ returns-in_err-matcher-clause-asked g c = λ told.
     let old = g.T.Tree.history c.args.tree.now in
     asks_none (λ dir. (needs_patterns c.args.wanted ≡ true) × IsDirIn (IsEntered c.args.wanted (pieces_of (option_map (λ i. i.now) c.args.ignore))) old old None dir) old old refl
 
--- a dirstate passes nothing over
 pub returns-clause-listed : goal.returns-clause-listed
 returns-clause-listed g c =
     let old = g.T.Tree.history c.args.tree.now in
     let new = g.T.Tree.history c.visit.new.tree in
+    let kept = g.K.Entries.kept c.args.entries.now in
     rw c.in-Some.is
     (subst
     (λ (s : List Piece). OnOk c.visit.result
-    (ListsUnknown (kept_of c.args.flat.now) (Gives c.args.wanted s) (Untouched new old.last) (IsUnknownIn (kept_of c.args.flat.now) (trees.now old) None) c.args.rows.now.items c.visit.new.rows.items))
-    c.in_ok-matcher.ensures
-    (on_ok_weaker c.visit.result (λ lists. lists old.last (passed_none (λ path. false) (λ path. refl) old)) c.visit.ensures.listed))
+    (ListsSince kept (g.K.Entries.passed c.args.entries.now) (Gives c.args.wanted s) old new (IsUnknownIn kept (trees.now old) None) c.args.rows.now.items c.visit.new.rows.items))
+    c.in_ok-matcher.ensures c.visit.ensures.listed)
