@@ -1,3 +1,5 @@
 pub mod Calling
+pub mod Carried
+pub mod Counting
 pub mod Lists
 pub mod Scripting

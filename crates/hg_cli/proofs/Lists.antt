@@ -2,7 +2,7 @@
 use Rattle.std.proofs.Common.{ℕ, ◌≤◌, ◌<◌, ◌+◌, List, Option, sym, ◌∙◌, subst, arith, inl, inr}
 use Rattle.std.proofs.lemmas.Bool.{cases_lt}
 use Rattle.hg_base.proofs.Runs.{says_each}
-use Rattle.hg_cli.specs.Run.{EachIsSafe, IsRun, IsSafe, KeepsAll, OthersKeep, Runs, saved_over}
+use Rattle.hg_cli.specs.Run.{Carries, EachIsSafe, IsRun, IsSafe, KeepsAll, OthersKeep, Runs, saved_over}
 use Rattle.hg_report.specs.declared.fault.Fault.{Fault}
 use Rattle.hg_save.proofs.Published.{keeps_later, orderly_same}
 use Rattle.hg_save.proofs.Spans.{keep_beside}
@@ -16,6 +16,8 @@ use Rattle.hg_session.specs.Crash.{IsSafeFromCrashes}
 use Rattle.hg_shelf.proofs.Scenes.{only_before, only_later}
 use Rattle.hg_shelf.specs.History.{Extends, Files, History, Who, others, us}
 use Rattle.hg_shelf.specs.Images.{Course, Goes, last_scene}
+use Rattle.hg_words.specs.declared.given.Command.{Command}
+use Rattle.hg_words.specs.declared.given.Command.TheVariants as a_command
 
 -- steps that keep to how a record is published kept to it before a call
 keeps_before : (by : Who) (a b : Course) (from : ℕ) → Goes a b → KeepsRecords by b from → KeepsRecords by a from
@@ -45,9 +47,22 @@ pub idle_steps : (looked : Looked) (saved : Saved) (locks : Count) (out : Sink) 
 idle_steps looked saved locks out idle =
     (idle.kept, λ calm keep latest. (_, crash_unwritten saved.old saved.new idle.kept calm keep idle.unwritten latest))
 
+carried_steps : (command : Command) (looked : Looked) (saved : Saved) (locks : Count) (out err : Sink) (code : ℕ) (fault : Option Fault)
+    → Carries command looked saved locks out err code fault → Steps saved
+carried_steps (a_command.Status flags) looked saved locks out err code fault answered = (answered.kept, answered.crash)
+carried_steps (a_command.Add files) looked saved locks out err code fault answered = (answered.kept, answered.crash)
+carried_steps (a_command.Forget files) looked saved locks out err code fault answered = (answered.kept, answered.crash)
+carried_steps (a_command.Remove after files) looked saved locks out err code fault answered = (answered.kept, answered.crash)
+carried_steps (a_command.Copy source target) looked saved locks out err code fault answered = (answered.kept, answered.crash)
+carried_steps (a_command.SetParents p1 p2) looked saved locks out err code fault answered = (answered.kept, answered.crash)
+carried_steps a_command.DebugDirstate looked saved locks out err code fault answered = (answered.kept, answered.crash)
+carried_steps a_command.DebugScript looked saved locks out err code fault answered = (answered.kept, answered.crash)
+carried_steps (a_command.DebugLoad n) looked saved locks out err code fault loaded =
+    (loaded.untouched.kept, λ calm keep latest. (_, crash_unwritten saved.old saved.new loaded.untouched.kept calm keep loaded.untouched.unwritten latest))
+
 pub run_steps : (words : List (List ℕ)) (looked : Looked) (saved : Saved) (locks : Count) (out err : Sink) (code : ℕ) (fault : Option Fault)
     → IsRun words looked saved locks out err code fault → Steps saved
-run_steps words looked saved locks out err code fault (inl (command, is, answered)) = (answered.kept, answered.crash)
+run_steps words looked saved locks out err code fault (inl (command, is, carried)) = carried_steps command looked saved locks out err code fault carried
 run_steps words looked saved locks out err code fault (inr unread) = idle_steps looked saved locks out unread.idle
 
 module _ {S : Type 0} (course_of : S → Course) (first : S) where

@@ -5,16 +5,18 @@ use Rattle.std.specs.List.{slice_get, slice_split}
 use Rattle.std.specs.Str.{bytes_eq}
 use Rattle.std.proofs.lemmas.Bool.{eq-eqb, ne_eqb}
 use Rattle.std.proofs.lemmas.List.Splits.{length-slice_split}
-use Rattle.hg_cli.specs.Run.{IsRun}
+use Rattle.hg_cli.specs.Load.{StopsLoad}
+use Rattle.hg_cli.specs.Run.{Carries, IsRun}
 use Rattle.hg_cli.specs.Script.{Does, DoesWords, IsStopped, RunsWords, Seen, Views, asks, is_script, of_line, script_name, seen}
 use Rattle.hg_lines.specs.Script.{words_of}
 use Rattle.hg_report.specs.declared.fault.Fault.{Fault}
 use Rattle.hg_report.specs.declared.fault.Fault.TheVariants as a_fault
 use Rattle.hg_lines.specs.declared.fault.LineFault.{LineFault}
 use Rattle.hg_lines.specs.declared.fault.LineFault.TheVariants as a_line
-use Rattle.hg_session.specs.Call.{Call}
+use Rattle.hg_session.specs.Answered.{IsAnswered}
+use Rattle.hg_session.specs.Call.{Call, Sink}
 use Rattle.hg_session.specs.Cause.{CommandCause}
-use Rattle.hg_session.specs.Put.{IsFaultOrMemory}
+use Rattle.hg_session.specs.Put.{IsFaultOrMemory, Tells}
 use Rattle.hg_lines.proofs.Turning.{fails_with}
 use Rattle.hg_lines.specs.Turns.{RunsScript}
 use Rattle.hg_report.specs.Cause as cause
@@ -76,9 +78,31 @@ words_other a_words.UnknownCommand is = cc is
 words_other a_words.Usage is = cc is
 words_other (a_words.BadNode word) is = cc is
 
+-- nothing that a load meets is a failing input
+load_other : (dirs : ℕ) (out : Sink) → StopsLoad dirs out a_fault.InFailed → ⊥
+load_other dirs out (inl memory) = cc memory.0
+load_other dirs out (inr printing) = elim printing.0 [ | inl e ↦ cc e | inr e ↦ cc e ]
+
+answered_own : (command : Command) (part : Seen) (code : ℕ) (fault : Option Fault) → IsAnswered (call_of command part) code fault → fault ≡ Some a_fault.InFailed → ⊥
+answered_own command part code fault answered failed = subst (λ (f : Option Fault). IfSome f (CommandCause (call_of command part))) failed answered.cause
+
+carried_own : (command : Command) (part : Seen) (code : ℕ) (fault : Option Fault) → Carries command part.looked part.saved part.locks part.out part.err code fault
+    → fault ≡ Some a_fault.InFailed → ⊥
+carried_own (a_command.Status flags) part code fault answered = answered_own (a_command.Status flags) part code fault answered
+carried_own (a_command.Add files) part code fault answered = answered_own (a_command.Add files) part code fault answered
+carried_own (a_command.Forget files) part code fault answered = answered_own (a_command.Forget files) part code fault answered
+carried_own (a_command.Remove after files) part code fault answered = answered_own (a_command.Remove after files) part code fault answered
+carried_own (a_command.Copy source target) part code fault answered = answered_own (a_command.Copy source target) part code fault answered
+carried_own (a_command.SetParents p1 p2) part code fault answered = answered_own (a_command.SetParents p1 p2) part code fault answered
+carried_own a_command.DebugDirstate part code fault answered = answered_own a_command.DebugDirstate part code fault answered
+carried_own a_command.DebugScript part code fault answered = answered_own a_command.DebugScript part code fault answered
+carried_own (a_command.DebugLoad n) part code fault loaded failed =
+    let left = subst (λ (f : Option Fault). IfSome f (λ g. (code ≡ 255) × StopsLoad n part.out g × Tells part.err g)) failed loaded.loads.left in
+    load_other n part.out left.1
+
 -- no words of a command meet it
 pub words_own : (words : List (List ℕ)) (part : Seen) (code : ℕ) (fault : Option Fault) → IsRun words part.looked part.saved part.locks part.out part.err code fault → fault ≡ Some a_fault.InFailed → ⊥
-words_own words part code fault (inl (command, is, answered)) failed = subst (λ (f : Option Fault). IfSome f (CommandCause (call_of command part))) failed answered.cause
+words_own words part code fault (inl (command, is, carried)) failed = carried_own command part code fault carried failed
 words_own words part code fault (inr unread) failed = not_input fault (cause.of_words unread.met) unread.answered (words_other unread.met) failed
 
 line_by : (is : Bool) (number : ℕ) (words : List (List ℕ)) (part : Seen) (code : ℕ) (fault : Option Fault)

@@ -1,3 +1,5 @@
 pub mod Calls
+pub mod Lines
+pub mod Load
 pub mod Run
 pub mod Script

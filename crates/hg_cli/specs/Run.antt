@@ -2,6 +2,7 @@
 use Rattle.std.specs.Prelude.{ℕ, ◌≡◌, ◌⊎◌, List, Option, Ok, Err, IfSome, IsTrue}
 use Rattle.hg_base.specs.Runs.{RunsEach}
 use Rattle.hg_entry.specs.Table.{Table}
+use Rattle.hg_cli.specs.Load.{IsLoaded}
 use Rattle.hg_report.specs.Cause.{of_words}
 use Rattle.hg_report.specs.declared.fault.Fault.{Fault}
 use Rattle.hg_save.specs.Loads.{files_at}
@@ -18,6 +19,7 @@ use Rattle.hg_words.specs.Command.{command_of}
 use Rattle.hg_words.specs.declared.fault.WordsFault.{WordsFault}
 use Rattle.hg_words.specs.declared.fault.WordsFault.TheVariants as a_words
 use Rattle.hg_words.specs.declared.given.Command.{Command}
+use Rattle.hg_words.specs.declared.given.Command.TheVariants as a_command
 
 -- ---- one run
 
@@ -30,11 +32,16 @@ pub record IsUnread (words : List (List ℕ)) (looked : Looked) (saved : Saved) 
   pub idle : IsIdle looked saved locks out
   pub status : code ≡ 255
 
--- the words are a command, which was answered so, or they weren't read as one
+-- what a command did: a load is two statuses over a working copy in memory, and each other is answered by itself
+abbrev pub Carries : Command → Looked → Saved → Count → Sink → Sink → ℕ → Option Fault → Type 0
+Carries (a_command.DebugLoad n) looked saved locks out err code fault = IsLoaded n looked saved locks out err code fault
+Carries command looked saved locks out err code fault =
+    IsAnswered (record { command = command; looked = looked; saved = saved; locks = locks; out = out; err = err }) code fault
+
+-- the words are a command, which was carried out so, or they weren't read as one
 abbrev pub IsRun : List (List ℕ) → Looked → Saved → Count → Sink → Sink → ℕ → Option Fault → Type 0
 IsRun words looked saved locks out err code fault =
-    ((command : Command) × (command_of words ≡ Ok command)
-    × IsAnswered (record { command = command; looked = looked; saved = saved; locks = locks; out = out; err = err }) code fault)
+    ((command : Command) × (command_of words ≡ Ok command) × Carries command looked saved locks out err code fault)
     ⊎ IsUnread words looked saved locks out err code fault
 
 -- ---- lists of runs, each over the files that the one before it left

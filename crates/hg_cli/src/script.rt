@@ -9,11 +9,12 @@ ghost use Rattle.hg_lines.specs.Turns.{RunsScript};
 ghost use Rattle.hg_report.specs.declared.fault.Fault.TheVariants as a_fault;
 ghost use Rattle.hg_session.specs.Call.{counted, saved_by, watched};
 
+use crate::carrying::carry;
 use hg_base::Words;
 use hg_ignore::Regexps;
 use hg_lines::{LineFault, Lines, words_of};
 use hg_report::Fault;
-use hg_session::{Outcome, command, failed};
+use hg_session::{Outcome, failed};
 use hg_shelf::Shelf;
 use hg_stream::{Sink, Source};
 use hg_tree::Tree;
@@ -61,7 +62,7 @@ fn run_words<T: Tree, S: Shelf, G: Regexps, O: Sink, E: Sink>(
         result.fault }
 {
     match read(alloc, words) {
-        Ok(given) => command(alloc, &given, tree, shelf, regexps, out, err),
+        Ok(given) => carry(alloc, &given, tree, shelf, regexps, out, err),
         Err(fault) => failed(alloc, Fault::from(fault), err),
     }
 }

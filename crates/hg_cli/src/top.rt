@@ -5,11 +5,12 @@ ghost use Rattle.hg_base.specs.Fault.{Rose};
 ghost use Rattle.hg_cli.specs.Script.{RunsWords, is_script};
 ghost use Rattle.hg_report.specs.declared.fault.Fault.TheVariants as a_fault;
 
+use crate::carrying::carry;
 use crate::script::script;
 use hg_base::Words;
 use hg_ignore::Regexps;
 use hg_report::Fault;
-use hg_session::{Outcome, command, failed};
+use hg_session::{Outcome, failed};
 use hg_shelf::Shelf;
 use hg_stream::{Sink, Source};
 use hg_tree::Tree;
@@ -61,7 +62,7 @@ pub fn run<T: Tree, S: Shelf, G: Regexps, I: Source, O: Sink, E: Sink>(
 {
     match read(alloc, words) {
         Ok(Command::DebugScript) => script(alloc, tree, shelf, regexps, input, out, err),
-        Ok(given) => command(alloc, &given, tree, shelf, regexps, out, err),
+        Ok(given) => carry(alloc, &given, tree, shelf, regexps, out, err),
         Err(fault) => failed(alloc, Fault::from(fault), err),
     }
 }
