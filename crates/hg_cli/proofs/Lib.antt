@@ -2,4 +2,6 @@ pub mod Calling
 pub mod Carried
 pub mod Counting
 pub mod Lists
+pub mod Loading
+pub mod Paths
 pub mod Scripting

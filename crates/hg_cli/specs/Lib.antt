@@ -1,5 +1,6 @@
 pub mod Calls
 pub mod Lines
 pub mod Load
+pub mod Reading
 pub mod Run
 pub mod Script

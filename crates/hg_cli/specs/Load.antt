@@ -1,6 +1,7 @@
 -- What a load does: two statuses over a working copy that is made in memory, told by the numbers of their rows.
-use Rattle.std.specs.Prelude.{ℕ, ◌≡◌, ◌⊎◌, ◌≤◌, true, false, List, [], Option, Some, None, IfSome}
+use Rattle.std.specs.Prelude.{ℕ, ◌≡◌, ◌⊎◌, ◌≤◌, true, false, List, [], length, drop, Option, Some, None, IfSome}
 use Rattle.hg_cli.specs.Lines.{lines_with}
+use Rattle.hg_cli.specs.Reading.{count_read}
 use Rattle.hg_gen.specs.Copy.{IsCopy}
 use Rattle.hg_gen.specs.Recorded.{IsStored}
 use Rattle.hg_gen.specs.declared.making.Made.{Made}
@@ -83,11 +84,12 @@ pub record AreCounts (text : List ℕ) (counts : Counts) : Type 0 where
   pub ignored : counts.ignored ≡ lines_with 73 text
   pub clean : counts.clean ≡ lines_with 67 text
 
--- the numbers of a status over a copy
+-- the numbers of a status over a copy: of its rows, and of the different paths whose bytes it asked for
 pub record Counted (old new : Made) (counts : Counts) : Type 0 where
   pub text : List ℕ
   pub status : IsStatus old new text
   pub are : AreCounts text counts
+  pub read : counts.read ≡ count_read (drop (length old.tree.asked) new.tree.asked)
 
 -- the text of two statuses, one after another, over a working copy of so many directories
 pub record IsLoadText (dirs : ℕ) (text : List ℕ) : Type 0 where

@@ -18,6 +18,7 @@ mod carrying;
 mod laws;
 mod lines;
 mod load;
+mod reading;
 mod script;
 mod top;
 

@@ -6,16 +6,15 @@ ghost use Rattle.hg_cli.specs.Load.{AreCounts, Counted, IsLoadText, IsStatus, Lo
 ghost use Rattle.hg_session.specs.Call.{watched};
 
 use crate::lines::lines_with;
+use crate::reading::reads;
 use hg_base::OutOfMemory;
 use hg_gen::{Made, make};
 use hg_ignore::Builds;
 use hg_report::{Counts, Fault, load_text};
 use hg_session::{Outcome, command, failed};
 use hg_stream::{MemSink, Sink, put_all};
-use hg_tree::Asked;
 use hg_words::{Command, StatusFlags};
 use std::alloc::Global;
-use std::collections::BTreeSet;
 
 // The flags of a status that asks for all letters.
 fn all_letters() -> StatusFlags
@@ -36,20 +35,10 @@ fn all_letters() -> StatusFlags
     }
 }
 
-// Of how many paths the bytes were asked for.
-fn reads(alloc: Global, asked: &[Asked]) -> Result<u64, OutOfMemory> {
-    let mut paths = BTreeSet::new(alloc);
-    for ask in asked {
-        if let Asked::Read { path } = ask {
-            paths.insert(String::from_str(alloc, path.as_str())?)?;
-        }
-    }
-    Ok(paths.len() as u64)
-}
-
 // How many lines of a text are of each letter.
 fn counts_of(text: &[u8], read: u64) -> Counts
-    ensures { AreCounts text.now result }
+    ensures lines { AreCounts text.now result }
+    ensures read { result.read ≡ read }
 {
     Counts {
         modified: lines_with(text, b'M'),
