@@ -1,5 +1,5 @@
 -- The paths of which the bytes were asked for, one by one.
-use Rattle.std.proofs.Common.{ℕ, suc, ◌≡◌, ◌<◌, ◌≤◌, ◌+◌, ◌-◌, Bool, true, false, cond, not, ◌||◌, List, [], ◌∷◌, length, refl, sym, ap, ◌∙◌, subst, arith, drop, get_or, drop-cons, String}
+use Rattle.std.proofs.Common.{ℕ, zero, suc, ◌≡◌, ◌<◌, ◌≤◌, ◌+◌, ◌-◌, Bool, true, false, cond, not, ◌||◌, List, [], ◌∷◌, length, refl, sym, ap, ◌∙◌, subst, arith, drop, get_or, drop-cons, String}
 use Rattle.std.specs.BTreeSet.{BTreeSet, btree_set_len, contains_text}
 use Rattle.std.specs.Set.{is_member, unique_keys}
 use Rattle.std.specs.Str.{bytes_eq}
@@ -51,5 +51,5 @@ none_yet {Y = Y} asked paths none =
     })
 
 pub all_read : {Y : Type 0} (asked : List Asked) (at : ℕ) (paths : BTreeSet (String Y)) → at ≤ 0 → AreRead (drop at asked) paths → btree_set_len paths ≡ count_read asked
-all_read asked 0 paths end are = are.count
+all_read asked zero paths end are = are.count
 all_read asked (suc at) paths end are = absurd (omega (arith, end))

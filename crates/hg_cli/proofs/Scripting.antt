@@ -96,7 +96,7 @@ carried_own (a_command.Copy source target) part code fault answered = answered_o
 carried_own (a_command.SetParents p1 p2) part code fault answered = answered_own (a_command.SetParents p1 p2) part code fault answered
 carried_own a_command.DebugDirstate part code fault answered = answered_own a_command.DebugDirstate part code fault answered
 carried_own a_command.DebugScript part code fault answered = answered_own a_command.DebugScript part code fault answered
-carried_own (a_command.DebugLoad n) part code fault loaded failed =
+carried_own (a_command.DebugLoad n) part code fault loaded = λ failed.
     let left = subst (λ (f : Option Fault). IfSome f (λ g. (code ≡ 255) × StopsLoad n part.out g × Tells part.err g)) failed loaded.loads.left in
     load_other n part.out left.1
 

@@ -1,4 +1,4 @@
-use Rattle.std.proofs.Common.{◌∙◌, arith, refl}
+use Rattle.std.proofs.Common.{◌∙◌, arith}
 use Rattle.hg_cli.proofs.Paths.{all_read, none_yet, one_back}
 use Rattle.hg_cli.proofs.reading.reads.Goals as goal
 
@@ -9,7 +9,7 @@ pub loop-at-preserved : goal.loop-at-preserved
 loop-at-preserved c =
     record {
       below = omega (arith, c.loop-at.invariant.below);
-      are = one_back c.args.asked.now _ c.loop-at.at _ _ c.loop-at.paths c.note.new.paths (omega (arith, c.loop-at-test.true)) c.loop-at.invariant.below refl c.in_ok-note.ensures c.loop-at.invariant.are;
+      are = one_back c.args.asked.now _ c.loop-at.at c.index-asked-at.result c.index-asked-at.result c.loop-at.paths c.note.new.paths (omega (arith, c.loop-at-test.true)) c.loop-at.invariant.below c.index-asked-at.is c.in_ok-note.ensures c.loop-at.invariant.are;
     }
 
 pub returns : goal.returns

@@ -1,6 +1,10 @@
+use Rattle.hg_cli.proofs.Carried.{loadable}
 use Rattle.hg_cli.proofs.Scripting.{unread}
 use Rattle.hg_cli.proofs.top.run.Goals as goal
 use Rattle.std.proofs.Common.{rules}
+
+pub carry-requires : goal.carry-requires
+carry-requires g c = loadable c.args.words.now c.in-Ok.given c.in-Ok.ensures.ok
 
 pub returns-in-Err-clause-answered : goal.returns-in-Err-clause-answered
 returns-in-Err-clause-answered g c =
