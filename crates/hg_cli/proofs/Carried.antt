@@ -1,5 +1,5 @@
 -- What was carried out, by the command.
-use Rattle.std.proofs.Common.{ℕ, ◌≡◌, ◌≤◌, Bool, true, false, List, Option, Ok, refl}
+use Rattle.std.proofs.Common.{ℕ, ◌≡◌, List, Option, Ok, refl}
 use Rattle.hg_cli.specs.Load.{IsLoadable}
 use Rattle.hg_cli.specs.Run.{Carries}
 use Rattle.hg_report.specs.declared.fault.Fault.{Fault}

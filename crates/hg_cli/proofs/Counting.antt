@@ -1,9 +1,8 @@
 -- The lines that begin with a letter, counted byte by byte.
-use Rattle.std.proofs.Common.{ℕ, zero, suc, ◌≡◌, ◌≢◌, ◌+◌, ◌≤◌, Bool, true, false, cond, ◌&&◌, List, [], ◌∷◌, ◌++◌, length, refl, sym, ap, ◌∙◌, subst, arith, eqb, eqb-true, drop, get_or, drop-cons, add-one, ◌<◌}
+use Rattle.std.proofs.Common.{ℕ, suc, ◌≡◌, ◌≢◌, ◌+◌, ◌≤◌, Bool, true, false, cond, ◌&&◌, List, [], ◌∷◌, length, refl, sym, ap, ◌∙◌, arith, eqb, eqb-true, drop, get_or, drop-cons, add-one, ◌<◌}
 use Rattle.std.specs.List.{onto_first, slice_split}
-use Rattle.std.proofs.lemmas.Bool.{both_ways, cases_Bool}
 use Rattle.std.proofs.lemmas.List.{drop_all}
-use Rattle.hg_cli.specs.Lines.{begins_with, count_lines, lines_with}
+use Rattle.hg_cli.specs.Lines.{count_lines, lines_with}
 
 -- by whether a line begins with the next byte
 abbrev pub lines_from : Bool → ℕ → List ℕ → ℕ
@@ -40,11 +39,11 @@ module _ (letter : ℕ) (solid : letter ≢ 10) where
   one_more b text both true false end is = (omega (arith, both.0), both.0)
   one_more b text both false true end is =
       let e : count_lines letter (onto_first b (parts text)) ≡ suc (count_lines letter (rest (parts text))) =
-          first_more letter b (parts text) ∙ ap (λ (t : Bool). cond t (suc (count_lines letter (rest (parts text)))) (count_lines letter (rest (parts text)))) is in
+      first_more letter b (parts text) ∙ ap (λ (t : Bool). cond t (suc (count_lines letter (rest (parts text)))) (count_lines letter (rest (parts text)))) is in
       (omega (arith, e, both.1), both.1 ∙ ap (count_lines letter) (sym (rest_more b (parts text))))
   one_more b text both false false end is =
       let e : count_lines letter (onto_first b (parts text)) ≡ count_lines letter (rest (parts text)) =
-          first_more letter b (parts text) ∙ ap (λ (t : Bool). cond t (suc (count_lines letter (rest (parts text)))) (count_lines letter (rest (parts text)))) is in
+      first_more letter b (parts text) ∙ ap (λ (t : Bool). cond t (suc (count_lines letter (rest (parts text)))) (count_lines letter (rest (parts text)))) is in
       (omega (arith, e, both.1), both.1 ∙ ap (count_lines letter) (sym (rest_more b (parts text))))
 
   both_ways_count : (text : List ℕ) → Both text
@@ -61,7 +60,7 @@ pub step : (letter : ℕ) (begins : Bool) (text : List ℕ) (i b lines more : �
 step letter begins text i b lines more below is sum so =
     let cut : drop i text ≡ get_or text i 0 ∷ drop (i + 1) text = rw (add-one) (drop-cons text i 0 below) in
     let e : lines_from begins letter (drop i text) ≡ cond (begins && eqb b letter) 1 0 + lines_from (eqb b 10) letter (drop (i + 1) text) =
-        ap (lines_from begins letter) cut ∙ ap (λ (x : ℕ). cond (begins && eqb x letter) 1 0 + lines_from (eqb x 10) letter (drop (i + 1) text)) (sym is) in
+    ap (lines_from begins letter) cut ∙ ap (λ (x : ℕ). cond (begins && eqb x letter) 1 0 + lines_from (eqb x 10) letter (drop (i + 1) text)) (sym is) in
     omega (arith, sum, e, so)
 
 -- and no byte is left

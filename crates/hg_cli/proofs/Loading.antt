@@ -1,5 +1,5 @@
 -- What a load did, from its parts.
-use Rattle.std.proofs.Common.{ℕ, ◌≡◌, ◌≤◌, ◌+◌, Bool, List, [], Option, Some, None, length, drop, refl, sym, ap, ◌∙◌, subst, arith, inl, inr}
+use Rattle.std.proofs.Common.{ℕ, ◌≡◌, List, [], Option, Some, None, length, drop, refl, sym, ap, ◌∙◌, subst, inl, inr}
 use Rattle.std.specs.Prelude.{IfSome, min}
 use Rattle.std.proofs.lemmas.List.{drop_min}
 use Rattle.hg_cli.specs.Load.{IsLoadText, IsStatus, Loads, StopsLoad, all_letters}
@@ -18,20 +18,20 @@ use Rattle.hg_words.specs.declared.given.Command.TheVariants as a_command
 pub status_of : (old new : Made) (oversize : Count) (out err : Sink) (code : ℕ) (fault : Option Fault) (flags : StatusFlags) (text : List ℕ) → fault ≡ None → flags ≡ all_letters
     → out.old ≡ Some [] → out.new ≡ Some text
     → IsAnswered
-      (record {
-        command = a_command.Status flags;
-        looked =
-            record {
-              tree = watched trees.history_of (λ t. t.calls.faults) old.tree new.tree;
-              shelf = watched shelves.history_of (λ s. s.calls.faults) old.shelf new.shelf;
-              oversize = oversize;
-            };
-        saved = saved_by shelves.history_of shelves.images_of old.shelf new.shelf;
-        locks = counted (λ s. s.refusals) old.shelf new.shelf;
-        out = out;
-        err = err;
-      })
-      code fault
+    (record {
+      command = a_command.Status flags;
+      looked =
+          record {
+            tree = watched trees.history_of (λ t. t.calls.faults) old.tree new.tree;
+            shelf = watched shelves.history_of (λ s. s.calls.faults) old.shelf new.shelf;
+            oversize = oversize;
+          };
+      saved = saved_by shelves.history_of shelves.images_of old.shelf new.shelf;
+      locks = counted (λ s. s.refusals) old.shelf new.shelf;
+      out = out;
+      err = err;
+    })
+    code fault
     → IsStatus old new text
 status_of old new oversize out err code fault flags text none all empty printed answered =
     record { oversize = oversize; out = out; err = err; code = code; empty = empty; printed = printed; answered = rw (sym none, sym all) answered }

@@ -81,7 +81,7 @@ words_other (a_words.BadNode word) is = cc is
 -- nothing that a load meets is a failing input
 load_other : (dirs : ℕ) (out : Sink) → StopsLoad dirs out a_fault.InFailed → ⊥
 load_other dirs out (inl memory) = cc memory.0
-load_other dirs out (inr printing) = elim printing.0 [ | inl e ↦ cc e | inr e ↦ cc e ]
+load_other dirs out (inr printing) = elim printing.0 [ inl e ↦ cc e | inr e ↦ cc e ]
 
 answered_own : (command : Command) (part : Seen) (code : ℕ) (fault : Option Fault) → IsAnswered (call_of command part) code fault → fault ≡ Some a_fault.InFailed → ⊥
 answered_own command part code fault answered failed = subst (λ (f : Option Fault). IfSome f (CommandCause (call_of command part))) failed answered.cause

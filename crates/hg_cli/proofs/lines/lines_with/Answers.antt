@@ -1,4 +1,4 @@
-use Rattle.std.proofs.Common.{◌≤◌, ◌&&◌, refl, arith, eqb}
+use Rattle.std.proofs.Common.{◌≤◌, refl, arith}
 use Rattle.hg_cli.proofs.Counting.{all_counted, one_at_most, step}
 use Rattle.hg_cli.proofs.lines.lines_with.Goals as goal
 
