@@ -8,6 +8,7 @@ pub mod Crashes
 pub mod Doing
 pub mod Expectations
 pub mod Freed
+pub mod HeldNotes
 pub mod Listings
 pub mod Locked
 pub mod Locks
@@ -18,11 +19,14 @@ pub mod ParentLoads
 pub mod Parents
 pub mod Printing
 pub mod Promises
+pub mod Publishing
 pub mod Readings
 pub mod Records
 pub mod Refusals
 pub mod SameTables
+pub mod SavedNotes
 pub mod SoFar
+pub mod Standing
 pub mod TakenWords
 pub mod Texts
 pub mod Widening

@@ -60,8 +60,8 @@ fn opened<'a>(alloc: Global, loaded: &'a Loaded) -> Result<Mixed<'a>, ReadFault>
     Ok(mixed)
 }
 
-// Publishes a table that was changed over the record that it was opened from.
-fn save<S: Shelf>(
+/// Publishes a table that was changed over the record that it was opened from. The caller holds the lock.
+pub(crate) fn save<S: Shelf>(
     alloc: Global,
     shelf: &mut S,
     loaded: &Loaded,
@@ -88,6 +88,7 @@ fn save<S: Shelf>(
         (fault_of result) }
     ensures met { IfErr result (MetWriting table.now (S.faults shelf.old) (S.faults shelf.new)) }
     ensures unwritten { IfErr result (FailsOrUnwritten (S.history shelf.old) (S.history shelf.new)) }
+    ensures untouched { IfErr result (λ e. (e ≡ a_fault.ShelfFailed) ⊎ (shelf.new ≡ shelf.old)) }
     ensures calm { OnOk result (S.faults shelf.new ≡ S.faults shelf.old) }
     ensures later { S.faults shelf.old ≤ S.faults shelf.new }
     ensures kept { Goes (course (S.history shelf.old) (S.images shelf.old)) (course (S.history shelf.new) (S.images shelf.new)) }

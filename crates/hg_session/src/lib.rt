@@ -30,6 +30,8 @@ mod read_fault;
 mod reading;
 mod removing;
 mod reparenting;
+mod save_fault;
+mod saving_notes;
 
 pub use choosing::command;
 pub use ending::{Outcome, failed};
