@@ -1,5 +1,6 @@
 -- Saving what was noted with the lock round it, from what was done under the lock.
-use Rattle.std.proofs.Common.{ℕ, ◌≡◌, ◌≤◌, ◌⊎◌, List, [], ◌∷◌, Option, Some, None, Result, Ok, Err, IsTrue, refl, sym, ap, ◌∙◌, subst, inl, inr, arith}
+use Rattle.std.proofs.Common.{ℕ, ◌≡◌, ◌≤◌, ◌+◌, ◌-◌, ◌^◌, min, ◌⊎◌, List, [], ◌∷◌, ◌++◌, Option, Some, None, Result, Ok, Err, IsTrue, refl, sym, ap, ◌∙◌, subst, inl, inr, arith}
+use Rattle.std.proofs.lemmas.Bool.{cases_lt}
 use Rattle.std.proofs.lemmas.List.{append-nil}
 use Rattle.hg_base.specs.Fault.{HasCause, Rose}
 use Rattle.hg_base.specs.declared.fault.Failed.{Failed}
@@ -9,28 +10,30 @@ use Rattle.hg_save.specs.Leads.{IsHeld}
 use Rattle.hg_save.specs.Loads.{files_at}
 use Rattle.hg_save.specs.Record.{docket_in, record_in}
 use Rattle.hg_session.proofs.Freed.{rose_last, rose_twice}
-use Rattle.hg_session.proofs.Locked.{unwritten_here}
+use Rattle.hg_session.proofs.Locked.{none_front, unwritten_here, unwritten_then}
 use Rattle.hg_session.proofs.Locks.{not_returned_by, returned_by}
 use Rattle.hg_session.proofs.Makers.{IsWider, stands_later}
 use Rattle.hg_session.proofs.Standing.{keep_earlier}
 use Rattle.hg_session.proofs.Widening.{calm_within, held_stretch, kept_wide, safe_wide, unwritten_wide}
 use Rattle.hg_session.specs.Acts.{Makes}
-use Rattle.hg_session.specs.Call.{Count, Saved, Watched}
-use Rattle.hg_session.specs.Change.{IsSafe, IsSafeHeld}
-use Rattle.hg_session.specs.Locks.{NotTaken, Refused, TakenAt}
+use Rattle.hg_report.specs.declared.fault.Fault.{Fault}
+use Rattle.hg_session.specs.Call.{Count, FailsTwice, Saved, Watched}
+use Rattle.hg_session.specs.Change.{IsSafe, IsSafeHeld, IsUnwritten, Stretch}
+use Rattle.hg_session.specs.Locks.{NotReturned, NotTaken, Refused, Returned, TakenAt, came_to}
 use Rattle.hg_session.specs.Look.{OnlyReads}
 use Rattle.hg_session.specs.Saving.{AnotherStood, IsLockedToSave, IsNoted, IsNotedHeld, IsUnfit, IsUnsaved, SavesHeld, SavesNotes, noted_makes, once_saved, save_fault}
 use Rattle.hg_session.specs.declared.save_fault.SaveFault.{SaveFault}
 use Rattle.hg_session.specs.declared.save_fault.SaveFault.TheVariants as a_save
-use Rattle.hg_shelf.proofs.Histories.{passes_same}
-use Rattle.hg_shelf.proofs.Scenes.{goes_same}
+use Rattle.hg_shelf.proofs.Histories.{passes_same, passes_trans}
+use Rattle.hg_shelf.proofs.Scenes.{goes_same, goes_trans, second_part}
 use Rattle.hg_shelf.specs.Asks.{AsksFrontOf}
-use Rattle.hg_shelf.specs.History.{Files, History, Waits}
+use Rattle.hg_shelf.specs.History.{Files, History, Passes, Waits}
 use Rattle.hg_shelf.specs.Images.{Course, Goes, scene}
 use Rattle.hg_shelf.specs.Lock as locks_are
 use Rattle.hg_shelf.specs.Lock.{NotesUnlock, Unlocks}
 use Rattle.hg_shelf.specs.Polite.{Undisturbed}
 use Rattle.hg_shelf.specs.declared.asked.LockAnswer.TheVariants as an_answer
+use Rattle.hg_shelf.specs.declared.asked.LockCall.{LockCall}
 use Rattle.hg_tree.specs.History as tree
 use Rattle.hg_walk.specs.Applying.{IsBlank}
 use Rattle.hg_walk.specs.Notes.{NotesData, applied}
@@ -188,4 +191,141 @@ module _ (start : History) (recorded : Table) (notes : NotesData) (a b c d : Cou
     safe = λ calm. once_safe done freed (is.safe (calm_within a b c d lock unlock p q r taken held calm));
     locked = once_locked locks done freed counted uncounted is cause freed_cause free unlocked;
     saves = λ well. inr (inr (once_saves done freed is well));
+  }
+
+-- ---- in a longer call, whose front only asks
+
+module _ (start : History) (recorded : Table) (notes : NotesData) (a b c : Course) (asks : Passes a.history b.history) (p : Goes a b) (q : Goes b c) (before mid after held end : ℕ) (same : mid ≡ before) where
+  abbrev behind : Watched History
+  behind = record { old = b.history; new = c.history; before = mid; after = after }
+
+  abbrev all : Watched History
+  all = record { old = a.history; new = c.history; before = before; after = after }
+
+  abbrev late : Saved
+  late = record { old = b; new = c }
+
+  abbrev call : Saved
+  call = record { old = a; new = c }
+
+  abbrev locks : Count
+  locks = record { before = held; after = end }
+
+  abbrev pub stretch_front : Stretch b.history c.history → Stretch a.history c.history
+  stretch_front s = record {
+    from = s.from;
+    to = s.to;
+    start = omega (arith, s.start, p.past.later);
+    order = s.order;
+    end = s.end;
+    before = λ k from to is. elim (cases_lt k b.history.last) [
+      | inl early ↦ none_front a b c asks q k from early is
+      | inr later ↦ s.before k later to is
+    ];
+    behind = s.behind;
+    taken = λ told. let t = s.taken (p.past.told ∙ told) in record { behind = t.behind; locks = t.locks ∙ ap (λ (l : List LockCall). l ++ came_to an_answer.Taken s.from ∷ t.behind) asks.locks; later = t.later };
+    held = λ told. s.held (p.past.told ∙ told);
+  }
+
+  unwritten_front : IsUnwritten b.history c.history → IsUnwritten a.history c.history
+  unwritten_front none = unwritten_then a b c asks q none
+
+  safe_front : (fault : Option Fault) → IsSafe (noted_makes (record behind { old = start }) recorded notes) late fault → IsSafe (noted_makes (record all { old = start }) recorded notes) call fault
+  safe_front fault (inl none) = inl (unwritten_front none)
+  safe_front fault (inr (may, is)) = inr (may, record { stretch = stretch_front is.stretch; is = is.is })
+
+  noted_front : IsNotedHeld start recorded notes late → IsNotedHeld start recorded notes call
+  noted_front is calm =
+      let n = is (second_part a b c p calm) in (
+        stretch_front n.0,
+        elim n.1 [
+          | inl why ↦ inl (why.0, unwritten_front why.1)
+          | inr kept ↦ inr (record {
+            found = kept.found;
+            is = kept.is;
+            shown = kept.shown;
+            left = elim kept.left [ inl each ↦ inl each | inr none ↦ inr (none.0, unwritten_front none.1) ];
+            gone = elim kept.gone [ inl gone ↦ inl gone | inr none ↦ inr (unwritten_front none) ];
+            bytes = elim kept.bytes [ inl bytes ↦ inl bytes | inr none ↦ inr (unwritten_front none) ];
+          })
+        ],
+      )
+
+  only_front : OnlyReads behind late locks → OnlyReads all call locks
+  only_front only = record { passes = passes_trans a.history b.history c.history asks only.passes; kept = goes_trans a b c p only.kept; held = only.held }
+
+  rose_front : Rose mid after → Rose before after
+  rose_front rose = subst (λ (n : ℕ). Rose n after) same rose
+
+  refused_front : Refused b.history c.history → Refused a.history c.history
+  refused_front is = record { at = is.at; locks = is.locks ∙ ap (λ (l : List LockCall). l ++ came_to an_answer.Refused is.at ∷ []) asks.locks }
+
+  not_taken_front : NotTaken b.history c.history → NotTaken a.history c.history
+  not_taken_front is = record {
+    at = is.at;
+    locks = elim is.locks [ inl noted ↦ inl (noted ∙ ap (λ (l : List LockCall). l ++ came_to an_answer.NotTaken is.at ∷ []) asks.locks) | inr none ↦ inr (none ∙ asks.locks) ];
+  }
+
+  returned_front : Returned b.history c.history → Returned a.history c.history
+  returned_front is = record {
+    from = is.from;
+    back = is.back;
+    order = is.order;
+    locks = is.locks ∙ ap (λ (l : List LockCall). l ++ came_to an_answer.Taken is.from ∷ came_to an_answer.GivenBack is.back ∷ []) asks.locks;
+  }
+
+  not_returned_front : NotReturned b.history c.history → NotReturned a.history c.history
+  not_returned_front is = record {
+    from = is.from;
+    back = is.back;
+    order = is.order;
+    locks =
+        elim is.locks [
+          | inl noted ↦ inl (noted ∙ ap (λ (l : List LockCall). l ++ came_to an_answer.Taken is.from ∷ came_to an_answer.NotGivenBack is.back ∷ []) asks.locks)
+          | inr once ↦ inr (once ∙ ap (λ (l : List LockCall). l ++ came_to an_answer.Taken is.from ∷ []) asks.locks)
+        ];
+  }
+
+  twice_front : FailsTwice behind → FailsTwice all
+  twice_front fails = subst (λ (n : ℕ). min (n + 2) (2 ^ 64 - 1) ≤ after) same fails
+
+  locked_front : (fault : Option Fault) → IsLockedToSave start behind late locks recorded notes fault → IsLockedToSave start all call locks recorded notes fault
+  locked_front fault (inl (blank, only)) = inl (blank, only_front only)
+  locked_front fault (inr (inl was)) = inr (inl (record {
+    told = λ told. refused_front (was.told (p.past.told ∙ told));
+    ours = was.ours ∙ asks.ours;
+    counted = was.counted;
+    unwritten = unwritten_front was.unwritten;
+    answer = was.answer;
+  }))
+  locked_front fault (inr (inr (inl was))) = inr (inr (inl (record {
+    told = λ told. not_taken_front (was.told (p.past.told ∙ told));
+    ours = was.ours ∙ asks.ours;
+    uncounted = was.uncounted;
+    failed = rose_front was.failed;
+    unwritten = unwritten_front was.unwritten;
+    answer = was.answer;
+  })))
+  locked_front fault (inr (inr (inr (inl was)))) = inr (inr (inr (inl (record { told = λ told. returned_front (was.told (p.past.told ∙ told)); ours = was.ours; uncounted = was.uncounted }))))
+  locked_front fault (inr (inr (inr (inr was)))) = inr (inr (inr (inr (record {
+    told = λ told. not_returned_front (was.told (p.past.told ∙ told));
+    uncounted = was.uncounted;
+    failed = rose_front was.failed;
+    first =
+        elim was.first [
+          | inl of_shelf ↦ inl (of_shelf.0, elim of_shelf.1 [ inl noted ↦ inl (noted_front noted) | inr twice ↦ inr (twice_front twice) ])
+          | inr memory ↦ inr memory
+        ];
+  }))))
+
+  pub saves_front : (fault : Option Fault) → SavesNotes start behind late locks recorded notes fault → SavesNotes start all call locks recorded notes fault
+  saves_front fault is = record {
+    idle = λ blank. let idle = is.idle blank in (only_front idle.0, idle.1);
+    safe = λ calm. safe_front fault (is.safe (second_part a b c p calm));
+    locked = locked_front fault is.locked;
+    saves = λ well. elim (is.saves well) [
+      | inl blank ↦ inl blank
+      | inr (inl rose) ↦ inr (inl rose)
+      | inr (inr noted) ↦ inr (inr (noted_front noted))
+    ];
   }
