@@ -12,6 +12,7 @@ pub mod HeldNotes
 pub mod Listings
 pub mod Locked
 pub mod Locks
+pub mod Longer
 pub mod Looks
 pub mod Makers
 pub mod Overs
@@ -25,8 +26,11 @@ pub mod Records
 pub mod Refusals
 pub mod SameTables
 pub mod SavedNotes
+pub mod Saves
 pub mod SoFar
+pub mod Stages
 pub mod Standing
+pub mod Statuses
 pub mod TakenWords
 pub mod Texts
 pub mod Widening

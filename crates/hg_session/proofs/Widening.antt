@@ -81,7 +81,7 @@ tries_earlier old mid new tries later t = record {
   gone = t.gone;
 }
 
-ids_longer : (old mid new : History) (tries : List Try) → Extends mid new → AllByRecursion (IsTry old mid) tries → map (id_by new) tries ≡ map (id_by mid) tries
+pub ids_longer : (old mid new : History) (tries : List Try) → Extends mid new → AllByRecursion (IsTry old mid) tries → map (id_by new) tries ≡ map (id_by mid) tries
 ids_longer old mid new [] past within = refl
 ids_longer old mid new (one ∷ more) past within = λ i. id_in ((past.stay one.docket within.0.docket.to).shown i) ∷ ids_longer old mid new more past within.1 i
 
