@@ -8,6 +8,11 @@ pub mod Crashes
 pub mod Doing
 pub mod Expectations
 pub mod Freed
+pub mod GoodCalls
+pub mod GoodParents
+pub mod GoodParts
+pub mod GoodStays
+pub mod GoodTables
 pub mod HeldNotes
 pub mod Listings
 pub mod Locked

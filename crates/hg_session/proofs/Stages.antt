@@ -178,6 +178,7 @@ module _ (flags : StatusFlags) (looked : Looked) (saved : Saved) (locks : Count)
       always : {P : Type 0} (r : Result Unit Fault) → P → OnOk r P
       always (Ok u) has = has
       always (Err f) has = tt
+
       on_ok : {P Q : Type 0} (r : Result Unit Fault) → (P → Q) → OnOk r P → OnOk r Q
       on_ok (Ok u) move has = move has
       on_ok (Err f) move has = tt

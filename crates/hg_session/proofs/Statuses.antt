@@ -39,6 +39,7 @@ saves_memory files saved locks table notes fault is = record {
   where
     told_memory : IsFaultOrMemory (Some fault) a_fault.ShelfFailed → IsFaultOrMemory (Some a_fault.OutOfMemory) a_fault.ShelfFailed
     told_memory either = inr refl
+
     locked_memory : (t : Option Table) → IsLockedLast files saved locks t notes (Some fault) → IsLockedLast files saved locks t notes (Some a_fault.OutOfMemory)
     locked_memory None only = only
     locked_memory (Some t) (inl uncalled) = inl uncalled

@@ -9,6 +9,8 @@ pub mod Commands
 pub mod Crash
 pub mod Debug
 pub mod Flags
+pub mod Good
+pub mod GoodLaws
 pub mod Listed
 pub mod Load
 pub mod Loaded

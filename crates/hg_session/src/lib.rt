@@ -21,6 +21,7 @@ mod copying;
 mod debug;
 mod ending;
 mod flags;
+mod good;
 mod locking;
 mod looking;
 mod print_fault;
@@ -34,4 +35,5 @@ mod saving_notes;
 
 pub use choosing::command;
 pub use ending::{Outcome, failed};
+pub use good::{good_is_kept, good_is_made};
 pub use printed::{one_record, one_text};
