@@ -1,5 +1,4 @@
-use Rattle.std.proofs.Common.{◌≡◌, ◌<◌, ◌+◌, Bool, List, ℕ, [], ◌∷◌, ◌++◌, length, take, arith, refl, sym, ap, ◌∙◌, subst}
-use Rattle.std.specs.Prelude.{IsTrue}
+use Rattle.std.proofs.Common.{◌≡◌, ◌<◌, ◌+◌, Bool, List, [], ◌∷◌, ◌++◌, length, take, refl, sym, ap, ◌∙◌, subst}
 use Rattle.std.specs.List.{Contains}
 use Rattle.std.proofs.lemmas.List.{append-nil, append_assoc, take_all, take_more}
 use Rattle.std.proofs.lemmas.Result.{err_from_is_err_and}
@@ -11,7 +10,6 @@ use Rattle.hg_mixed.specs.declared.child.Child.{Child}
 use Rattle.hg_shelf.specs.History as shelves
 use Rattle.hg_shelf.proofs.Histories as shelf
 use Rattle.hg_shelf.proofs.Scenes.{goes_same, goes_trans}
-use Rattle.hg_tree.specs.History as trees
 use Rattle.hg_tree.proofs.Spans.{passes_same, passes_trans}
 use Rattle.hg_walk.specs.Right.{AreRight}
 use Rattle.hg_walk.specs.Telling.{AreNotesOf, MarksEach, TellsEach, with_clean_notes}

@@ -1,13 +1,10 @@
-use Rattle.std.proofs.Common.{◌≡◌, List, ℕ, [], ◌∷◌, None, Some, refl, sym, ap, ◌∙◌}
-use Rattle.std.specs.Prelude.{IsTrue}
+use Rattle.std.proofs.Common.{[], refl, sym}
 use Rattle.std.proofs.lemmas.List.{append-nil}
 use Rattle.std.proofs.lemmas.Result.{err_from_is_err_and}
 use Rattle.hg_shelf.specs.History as shelves
-use Rattle.hg_tree.specs.History as trees
 use Rattle.hg_flat.specs.Parent.{WasAsked}
 use Rattle.hg_flat.proofs.Asks.{reads_none}
 use Rattle.hg_flat.proofs.Going.{goes_store}
-use Rattle.hg_walk.specs.Notes.{CleanNote}
 use Rattle.hg_walk.specs.Right.{AreRight}
 use Rattle.hg_walk.specs.Telling.{notes_of, tracked_row}
 use Rattle.hg_walk.specs.Walking.{asked_unvouched, rows_in, walk_status}

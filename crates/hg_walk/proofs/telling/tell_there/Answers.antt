@@ -1,11 +1,9 @@
-use Rattle.std.proofs.Common.{◌≡◌, List, ℕ, None, Some, option_map, refl, sym, ap, ◌∙◌}
-use Rattle.std.specs.Prelude.{IsTrue}
+use Rattle.std.proofs.Common.{List, ℕ, None, Some, option_map, refl, sym, ap, ◌∙◌}
 use Rattle.std.proofs.lemmas.Result.{err_from_is_err_and}
 use Rattle.hg_entry.specs.Entry.{stamp_view}
 use Rattle.hg_shelf.specs.History as shelves
 use Rattle.hg_tree.specs.History as trees
 use Rattle.hg_flat.specs.Judged.{IsLeftAsked}
-use Rattle.hg_flat.specs.Listing.{is_compared_row, is_file_or_link_kind, marked_letter}
 use Rattle.hg_flat.specs.Parent.{WasAsked}
 use Rattle.hg_flat.proofs.Asking.{asked_later}
 use Rattle.hg_flat.proofs.Asks.{reads_none}

@@ -1,5 +1,4 @@
-use Rattle.std.proofs.Common.{◌≡◌, List, ℕ, [], ◌∷◌, None, Some, arith, refl, sym, ap, ◌∙◌}
-use Rattle.std.specs.Prelude.{IsTrue}
+use Rattle.std.proofs.Common.{List, ℕ, [], ◌∷◌, None, Some, arith, refl, sym, ◌∙◌}
 use Rattle.std.proofs.lemmas.Result.{IfErr-weaker, IfOk-weaker, err_from_is_err_and, on_ok_weaker}
 use Rattle.hg_shelf.specs.History as shelves
 use Rattle.hg_shelf.proofs.Histories as shelf
@@ -14,7 +13,7 @@ use Rattle.hg_flat.proofs.Going.{goes_on, goes_store}
 use Rattle.hg_flat.proofs.Judging.{letter_by}
 use Rattle.hg_flat.proofs.Letters.{found_gone, found_removed, found_unwanted}
 use Rattle.hg_walk.specs.Right.{AreRight}
-use Rattle.hg_walk.specs.Telling.{AreNotesOf, IsAtChild, IsLetterOf, notes_of, tracked_row}
+use Rattle.hg_walk.specs.Telling.{notes_of, tracked_row}
 use Rattle.hg_walk.specs.Walking.{asked_unvouched, rows_in, walk_status}
 use Rattle.hg_walk.proofs.Tells.{asked_row, letter_later}
 use Rattle.hg_walk.proofs.TellsEach.{marked_by_look, marked_by_none, unmarked_removed, unmarked_unlooked}
