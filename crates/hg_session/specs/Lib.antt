@@ -16,4 +16,5 @@ pub mod Locks
 pub mod Look
 pub mod Manifests
 pub mod Put
+pub mod Saving
 pub mod Status
