@@ -2,7 +2,7 @@
 """Times the built program against C loops that make the same system calls, and against other programs:
 python3 bench/bench.py [PROGRAM] [PART ..] [rhg=PROGRAM] [before=PROGRAM].
 
-PROGRAM is build/hgtrack where it isn't named. The parts are listing, tracked, compared, peers, deep, opening, placing, editing, encoding, manifests,
+PROGRAM is build/hgtrack where it isn't named. The parts are listing, tracked, compared, remembered, peers, deep, opening, placing, editing, encoding, manifests,
 patterns, saving, adding, removing, moving and scripting; all where none is named. `rhg` is
 Mercurial's program of that name, which is looked for in PATH otherwise, and `before` an earlier hgtrack, which is timed beside this one. Every time
 is the least of some runs, taken in turn with what it is compared with, or of saving the median. The status is 0 exactly where each figure is within its limit.
@@ -14,6 +14,7 @@ import shutil
 import subprocess
 import sys
 import tempfile
+import time
 from statistics import median
 from string import ascii_letters
 
@@ -197,6 +198,101 @@ def put_new(path, content):
     os.makedirs(os.path.dirname(path), exist_ok=True)
     with open(path, "wb") as file:
         file.write(content)
+
+
+def committed(bench, root, paths, contents):
+    """A repository of Mercurial's with a commit of these files, whose parent is in the plain store too. Answers the commit."""
+    for path in paths:
+        put_new(f"{root}/{path}", contents[path])
+    for words in (["init"], ["add", "-q"], ["commit", "-q", "-m", "all"]):
+        subprocess.run(["hg", *words], cwd=root, env=bench.env, check=True, stdin=subprocess.DEVNULL)
+    node = subprocess.run(["hg", "log", "-r", ".", "-T", "{node}"], cwd=root, env=bench.env, check=True, stdout=subprocess.PIPE).stdout.decode()
+    ids = {path.encode(): hashlib.sha1(path.encode()).hexdigest() for path in paths}
+    for path in paths:
+        put_new(f"{root}/.hg/plain/f-{ids[path.encode()]}", contents[path])
+    put_new(f"{root}/.hg/plain/m-{node}", manifest_of(ids))
+    return node
+
+
+def count_of(bench, command, folder, call):
+    """How many calls of one kind a run makes, by strace; none where that isn't there."""
+    strace, told = shutil.which("strace"), f"{bench.room}/strace"
+    if strace is None:
+        return None
+    subprocess.run([strace, "-f", "-c", "-e", f"trace={call}", "-o", told, *command], cwd=folder, stdin=subprocess.DEVNULL, stdout=subprocess.DEVNULL, check=True, env=bench.env)
+    # (a line `100.00 SECONDS PER_CALL CALLS [ERRORS] CALL`)
+    with open(told, encoding="utf-8") as file:
+        rows = [line.split() for line in file if line.rstrip().endswith(f" {call}")]
+    return int(rows[0][3]) if rows else 0
+
+
+def remembered(bench):
+    """A status of clean files of a commit whose times are recorded, beside the programs that a user would take else; and one that records them."""
+    if shutil.which("hg") is None:
+        print("| hg | it isn't installed, so nothing was committed | | |")
+        return
+    root, other = f"{bench.room}/remembered", f"{bench.room}/remembered-git"
+    paths = in_directories(MANY)
+    contents = {path: b"%s\n" % path.encode() * 3 for path in paths}
+    node = committed(bench, root, paths, contents)
+    # (a time in the very second of the clock counts for less)
+    time.sleep(1.5)
+    found = {name: bench.others.get(name) or shutil.which(name) for name in ("rhg", "git", "hg")}
+    runs = {"hgtrack": ([bench.program, "status"], root)}
+    runs |= {name: ([os.path.abspath(found[name]), "status"], root) for name in ("rhg", "hg") if found[name]}
+    if found["git"]:
+        for path in paths:
+            put_new(f"{other}/{path}", contents[path])
+        for words in (["init", "-q"], ["add", "-A"], ["-c", "user.name=b", "-c", "user.email=b@b", "commit", "-q", "-m", "all"]):
+            subprocess.run([found["git"], *words], cwd=other, env=bench.env, check=True, stdin=subprocess.DEVNULL)
+        runs["git"] = ([found["git"], "-c", "core.preloadIndex=false", "status", "--porcelain"], other)
+    for name, (words, at) in runs.items():
+        said = subprocess.run(words, cwd=at, env=bench.env, check=True, stdout=subprocess.PIPE).stdout
+        if said:
+            sys.exit(f"{name} prints {said[:200]!r} of a clean working copy")
+    figures = dict(zip(runs, bench.least(*runs.values())))
+    own, memory = figures["hgtrack"]
+    print(f"| `status` of {MANY:,} clean files of a commit whose times are recorded, beside others in turn | {own:.3f} s | | |")
+    for name in ("rhg", "git", "hg"):
+        if name in figures:
+            seconds, most = figures[name]
+            print(f"| {name}{', one thread' if name == 'rhg' else ''} | {seconds:.3f} s, {most:.1f} MB | | |")
+        else:
+            print(f"| {name} | it isn't installed, and wasn't named | | |")
+    if "rhg" in figures:
+        bench.tell("its time over rhg's", own / figures["rhg"][0], 1.6)
+    bench.tell("its peak memory", memory, 32, " MB")
+    looks, opens = (count_of(bench, [bench.program, "status"], root, it) for it in ("statx", "openat"))
+    if looks is not None:
+        bench.tell("its calls of statx a file", looks / MANY, 1.2)
+        print(f"| its calls of openat a directory | {opens / (MANY // IN_EACH):.2f} | | |")
+    recording(bench, root, paths, node)
+    shutil.rmtree(root)
+    shutil.rmtree(other, ignore_errors=True)
+
+
+def recording(bench, root, paths, node):
+    """A status that compares all files and records their times, and one that compares them alone, since another has the lock."""
+    names = [it.encode() for it in paths]
+    record = written(names, WDIR_TRACKED | P1_TRACKED, p1=bytes.fromhex(node))
+    lock, taken = f"{root}/.hg/wlock", {False: [], True: []}
+    for _ in range(RUNS):
+        for is_locked, its in taken.items():
+            for name in os.listdir(f"{root}/.hg"):
+                if name.startswith("dirstate"):
+                    os.remove(f"{root}/.hg/{name}")
+            put_record(root, *record)
+            if is_locked:
+                os.symlink("another:1", lock)
+            its.append(bench.once([bench.program, "status"], root)[0])
+            if is_locked:
+                os.remove(lock)
+    with_times = subprocess.run([bench.program, "debugdirstate"], cwd=root, stdin=subprocess.DEVNULL, stdout=subprocess.PIPE, check=True).stdout
+    if with_times.count(b" - - - ") == 0:
+        sys.exit("a status recorded times while another had the lock")
+    both = [min(its) for its in taken.values()]
+    print(f"| `status` of {MANY:,} clean files, all bytes compared, that records their times | {both[0]:.3f} s; without recording {both[1]:.3f} s | | |")
+    bench.tell("what it takes to record them", both[0] - both[1], 0.6, " s")
 
 
 def compare(bench, what, figures, most, megabytes, growth=13):
@@ -621,6 +717,7 @@ PARTS = {
     "listing": listing,
     "tracked": tracked,
     "compared": compared,
+    "remembered": remembered,
     "peers": peers,
     "deep": deep,
     "opening": opening,

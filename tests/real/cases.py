@@ -1,10 +1,11 @@
 """The worked cases of crates/hg_cases/data over real folders, but for those that have a device fail, another write or hold the lock meanwhile, that ask which calls
-were made or what a crash leaves, and that name a file by `./`, which the program leaves out before; it prints how many ran and how many were left out."""
+were made or what a crash leaves, that tell a time within the clock's own second, and that name a file by `./`, which the program leaves out before; it prints how
+many ran and how many were left out. A clock can't be set there: a thing of a time below the case's clock has that time, long past, and any other one a time to come."""
 
 import os
 import shutil
 
-from folder import put
+from folder import TO_COME, put
 from scripts import roomy
 from worked import Data, lines_of, manifest, printed
 
@@ -12,11 +13,22 @@ FOLDER = os.path.join(os.path.dirname(os.path.dirname(os.path.dirname(os.path.ab
 # Each answer of this file is wrong on purpose.
 WRONG = "differs.txt"
 LAID = {"file", "files", "exec", "link", "dir", "other"}
+# The clock, and the time of things, where a case says neither.
+NOON = (43_200, 0)
 
 
 def is_changing(words):
     """Whether words may change the record, so that it is unknown where they were left out."""
     return words[:1] in ([b"add"], [b"forget"], [b"remove"], [b"copy"], [b"debugsetparents"], [b"debugscript"])
+
+
+def time_of(text):
+    seconds, nanos = text.split(b".")
+    return int(seconds), int(nanos)
+
+
+def nanoseconds(time):
+    return time[0] * 10**9 + time[1]
 
 
 class World:
@@ -31,6 +43,7 @@ class World:
         shutil.rmtree(self.root)
         os.makedirs(f"{self.root}/.hg")
         self.data, self.failing, self.is_due, self.is_held, self.is_known, self.input = Data(), set(), False, False, True, b""
+        self.time, self.clock, self.times = NOON, NOON, {}
 
     def at(self, name):
         return os.path.join(self.root, os.fsdecode(name))
@@ -63,6 +76,19 @@ class World:
         else:
             put(self.at(name), content)
             os.chmod(self.at(name), 0o755 if word == "exec" else 0o644)
+        self.times[name] = self.time
+        self.give_time(name)
+
+    def give_time(self, name):
+        """Gives a thing its time, or one to come where the clock isn't above that."""
+        when = nanoseconds(self.times[name]) if self.times[name] < self.clock else TO_COME
+        os.utime(self.at(name), ns=(when, when), follow_symlinks=False)
+
+    def set_clock(self, clock):
+        self.clock = clock
+        for name in self.times:
+            if os.path.lexists(self.at(name)) and os.lstat(self.at(name)).st_mtime_ns == TO_COME:
+                self.give_time(name)
 
     def below(self, name):
         return self.at(b".hg/" + name)
@@ -96,6 +122,10 @@ class World:
             self.lay(word, rest[0], b"".join(rest[1:]) if rest[1:] else b"b")
         elif word == "take":
             self.take(rest[0])
+        elif word == "time":
+            self.time = time_of(rest[0])
+        elif word == "clock":
+            self.set_clock(time_of(rest[0]))
         elif word == "data":
             self.data.put(b"".join(rest))
         elif word == "node":
@@ -142,14 +172,19 @@ class World:
         is_met |= "[255]" in wanted and not any(it.startswith("2>") for it in wanted)
         is_met |= b"regexps" in self.failing
         is_told = is_changing(words) and any(it.startswith(b"./") for it in words)
-        return self.is_known and not self.is_due and not is_told and not (self.failing and is_met) and not (self.is_held and is_changing(words))
+        is_close = any(it < self.clock and it[0] == self.clock[0] for it in self.times.values())
+        return self.is_known and not self.is_due and not is_told and not (self.failing and is_met) and not (self.is_held and self.may_save(words)) and not is_close
+
+    def may_save(self, words):
+        """Whether words may save a record: a status does where it records a time."""
+        return is_changing(words) or words[:1] == [b"status"] and any(it < self.clock for it in self.times.values())
 
     def ran(self, words, wanted):
         """Runs words where that can be. Answers what they print, and nothing where they are left out."""
         self.data.end()
         can = self.is_runnable(words, wanted)
         answer = self.run(words) if can else None
-        self.is_known &= can or not is_changing(words)
+        self.is_known &= can or not self.may_save(words)
         self.failing -= {b"in", b"out", b"err", b"regexps"}
         self.is_due = False
         return answer

@@ -13,7 +13,8 @@ IDENTIFIER = b"0" * 16
 
 # Bits of a node's flags.
 WDIR_TRACKED, P1_TRACKED, P2_INFO = 1 << 0, 1 << 1, 1 << 2
-EXPECTED_STATE_IS_MODIFIED, HAS_MODE_AND_SIZE, HAS_MTIME = 1 << 9, 1 << 10, 1 << 11
+MODE_EXEC_PERM, MODE_IS_SYMLINK = 1 << 3, 1 << 4
+EXPECTED_STATE_IS_MODIFIED, HAS_MODE_AND_SIZE, HAS_MTIME, MTIME_SECOND_AMBIGUOUS = 1 << 9, 1 << 10, 1 << 11, 1 << 12
 DIRECTORY, ALL_UNKNOWN_RECORDED = 1 << 13, 1 << 14
 
 # marker, first parent, second parent, root start, root count, entries, copies, unreachable, unused, ignore hash, used, length
@@ -35,6 +36,23 @@ def docket(used, root, p1=NULL, p2=NULL, identifier=IDENTIFIER, counts=(0, 0, 0)
 def record(start, length, base=0, copy=(0, 0), children=(0, 0), below=(0, 0), flags=WDIR_TRACKED, size=0, seconds=0, nanos=0):
     """One node: the place and the length of its path, and the place of its last component within the path."""
     return NODE.pack(start, length, base, *copy, *children, *below, flags, size, seconds, nanos)
+
+
+# What a status may change of an entry: size, mode and time, and the mark that it was seen changed.
+OF_A_STATUS = MODE_EXEC_PERM | MODE_IS_SYMLINK | EXPECTED_STATE_IS_MODIFIED | HAS_MODE_AND_SIZE | HAS_MTIME | MTIME_SECOND_AMBIGUOUS
+
+
+def marks_of(head, data):
+    """What no status changes of a record: the parents, and each path's marks and copy source. Of a docket that names no nodes there are none."""
+    _, p1, _, p2, _, start, count, *_ = DOCKET.unpack(head[:DOCKET.size])
+    found, lists = {}, [(start, count)]
+    while lists:
+        start, count = lists.pop()
+        for at in range(start, start + count * NODE.size, NODE.size):
+            path, length, _, copy, copied, children, number, _, _, flags, *_ = NODE.unpack_from(data, at)
+            lists.append((children, number))
+            found[data[path:path + length]] = flags & ~OF_A_STATUS, data[copy:copy + copied]
+    return p1, p2, {path: it for path, it in found.items() if it[0]}
 
 
 class Node:

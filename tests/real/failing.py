@@ -4,7 +4,7 @@ import os
 
 from calls import ERRORS, Calls, has_gcc
 from commits import lay_out_letters
-from folder import aborted, lay_out
+from folder import aborted, lay_out, put_off
 from saving import NO_WAY
 
 # What the calls have to have among them.
@@ -27,6 +27,8 @@ def run(tests):
         lay_out(root, ["d/u", "d/e/w", "d/e/f/x.o", "k -> gone", "o.o", "p |"])
         with open(f"{root}/.hgignore", "wb") as file:
             file.write(b"syntax: glob\n*.o\n")
+        # (a file whose time is recorded isn't read any more)
+        put_off(root)
         whole = tests.run(root, WORDS)
         tests.compare("a status of all", (whole[0], whole[2], b"I d/e/f/x.o\n" in whole[1], b"C y\n" in whole[1]), (0, b"", True, True))
         names = calls.listed(root, WORDS)[1]

@@ -1,14 +1,20 @@
 """Lays out working copies in temporary folders, runs the program in them, and compares what it did with what it should have done."""
 
 import os
+import re
 import resource
 import shutil
 import stat
+import struct
 import subprocess
 import tempfile
 from contextlib import contextmanager
 
+from dirstate import marks_of
+
 SECONDS = 60
+# A time that no clock has reached.
+TO_COME = (2**31 - 2) * 10**9
 NOBODY = 65534
 
 
@@ -54,6 +60,35 @@ def seen(root):
                     content = file.read()
             found[path] = (it.st_mode, it.st_size, it.st_mtime_ns, content)
     return found
+
+
+# What a status may write below `.hg`: the record, and the file by which it asks the clock.
+OF_A_STATUS = re.compile(rb"/\.hg(/(dirstate(\.[^/]*)?|probe))?")
+
+
+def kept(root):
+    """What a status leaves as it is of what stands below a folder: all but the probe and sizes, modes and times of the record."""
+    found, record = {}, {}
+    for path, it in seen(root).items():
+        below = path[len(os.fsencode(root)):]
+        if not OF_A_STATUS.fullmatch(below) or it[3] is None and below != b"/.hg":
+            found[path] = it
+        elif below not in (b"/.hg", b"/.hg/probe"):
+            record[os.path.basename(path)] = it[3]
+    head = record.get(b"dirstate", b"")
+    name = b"dirstate." + head[125:125 + head[124]] if len(head) > 125 else None
+    try:
+        return found, marks_of(head, record[name])
+    except (KeyError, struct.error, IndexError):
+        # (no record that is whole, which no status writes anew)
+        return found, record
+
+
+def put_off(root):
+    """Gives all that stands below a folder a time to come, which no status records."""
+    for at, folders, files in os.walk(os.fsencode(root)):
+        for name in folders + files:
+            os.utime(os.path.join(at, name), ns=(TO_COME, TO_COME), follow_symlinks=False)
 
 
 def as_nobody():
@@ -152,12 +187,13 @@ class Tests:
         return False
 
     def check(self, what, root, out=b"", err=b"", words=("status",), **how):
-        """One case: the program prints these bytes, ends with 255 exactly where it names a fault, and changes nothing. Where the folder has no
-        folder `.hg`, it says so first."""
-        before = seen(root)
+        """One case: the program prints these bytes, ends with 255 exactly where it names a fault, and changes nothing, but for the times that a status records. Where
+        the folder has no folder `.hg`, it says so first."""
+        look = kept if list(words[:1]) == ["status"] else seen
+        before = look(root)
         said = b"" if os.path.isdir(os.path.join(root, ".hg")) else NO_HG
         answered = self.run(root, words, **how)
-        if self.compare(what, answered, (255 if err else 0, out, said + err)) and seen(root) != before:
+        if self.compare(what, answered, (255 if err else 0, out, said + err)) and look(root) != before:
             self.passed -= 1
             self.failed += 1
             print(f"FAILED {what}\n  the folder was changed")

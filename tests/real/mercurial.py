@@ -84,6 +84,8 @@ def run_commit(tests):
         tests.compare("hg: added before the commit", tests.run(root), (0, lines("A a"), b""))
         hg(root, "commit", "-m", "first")
         node = hg(root, "log", "-r", ".", "-T", "{node}").stdout.decode()
+        # (a file that shows the time which hg recorded isn't compared)
+        os.utime(f"{root}/a", (0, 0))
         tests.compare("hg: after a commit", tests.run(root), (255, b"", aborted(f"no manifest {node}")))
         tests.compare("hg: after a commit, without comparing", tests.run(root, ("status", "-a", "-r", "-d", "-u")), (0, b"", b""))
 

@@ -23,7 +23,7 @@ def shelf(name, reason="permission denied"):
     return aborted(".hg failed") + because(name, reason)
 
 
-# words that are no command, and commands that aren't built, each with its line
+# words that are no command, each with its line
 WORDS = [
     (aborted("no command"), [[]]),
     (aborted("unknown command"), [["stat"], ["-m", "status"], ["--", "status"], [""], ["Status"], ["status "], ["debugstate"], ["help"], ["-h"], ["-V"], ["--help", "status"], ["--version", "--version"], ["s" * 100_000]]),
@@ -34,7 +34,6 @@ WORDS = [
     ]),
     (aborted("argument 1 is not a node"), [["debugsetparents", "tip"], ["debugsetparents", "", "0" * 40]]),
     (aborted("argument 2 is not a node"), [["debugsetparents", "0" * 40, "0" * 39]]),
-    (aborted("not built yet"), [["debugload", "+7"]]),
 ]
 
 # what is in the way, what is made of the folder (a path and its mode), the line that is printed to nobody's program

@@ -2,7 +2,7 @@
 """Black-box tests of the built program over real folders: python3 tests/real/run.py [PROGRAM] [PART ..].
 
 PROGRAM is build/hgtrack where it isn't named. The parts are cases, listings, commits, damage, outside, standing, meanwhile, mercurial, records, parents, hooks, mixed,
-ignoring, refusing, repository, saving, syncs, turns, beside, exchanged, failing, pages, working, stopping and scripts; all where none is named. The last line is
+ignoring, refusing, repository, saving, syncs, turns, beside, exchanged, failing, pages, working, stopping, scripts and times; all where none is named. The last line is
 'N passed, M failed', and the status 0 exactly where M is 0.
 """
 
@@ -37,6 +37,7 @@ import scripts
 import standing
 import stopping
 import syncs
+import times
 import turns
 import working
 from folder import Tests, stray
@@ -44,7 +45,7 @@ from folder import Tests, stray
 PARTS = {"cases": cases, "listings": listings, "commits": commits, "damage": damage, "outside": outside, "standing": standing, "meanwhile": meanwhile,
          "mercurial": mercurial, "records": records, "parents": parents, "hooks": hooks, "mixed": mixed, "ignoring": ignoring,
          "refusing": refusing, "repository": repository, "saving": saving, "syncs": syncs, "turns": turns, "beside": beside, "exchanged": exchanged, "failing": failing, "pages": pages,
-         "working": working, "stopping": stopping, "scripts": scripts}
+         "working": working, "stopping": stopping, "scripts": scripts, "times": times}
 
 
 def main(words):

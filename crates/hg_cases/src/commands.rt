@@ -2,8 +2,8 @@
 
 use crate::bytes::Docket;
 use crate::due::lay_due;
-use crate::tokens::{joined, number_at, number_of_32, word_at, words_from};
-use crate::world::{NOON, World, file};
+use crate::tokens::{joined, number_at, number_of_32, time_at, word_at, words_from};
+use crate::world::{World, file};
 use crate::wrong::Wrong;
 use hg_base::{Blob, PathRef};
 use hg_tree::Thing;
@@ -63,13 +63,14 @@ fn lay_data_file(world: &mut World, docket: &Docket) -> Result<(), Wrong> {
 
 fn lay_thing(world: &mut World, tokens: &[Vec<u8>]) -> Result<(), Wrong> {
     let path = PathRef::read(word_at(tokens, 1)?)?;
+    let time = world.time;
     match word_at(tokens, 0)? {
         "files" => lay_files(world, tokens),
         "file" => lay_bytes(world, path, tokens, false),
         "exec" => lay_bytes(world, path, tokens, true),
         "link" => lay_link(world, path, tokens),
-        "dir" => Ok(world.tree.device.place(path, Thing::Dir, NOON)?),
-        "other" => Ok(world.tree.device.place(path, Thing::Other, NOON)?),
+        "dir" => Ok(world.tree.device.place(path, Thing::Dir, time)?),
+        "other" => Ok(world.tree.device.place(path, Thing::Other, time)?),
         _ => Ok(world.tree.device.take(path)?),
     }
 }
@@ -98,11 +99,12 @@ fn lay_bytes(
     exec: bool,
 ) -> Result<(), Wrong> {
     let bytes = content(world.alloc, tokens)?;
+    let time = world.time;
     Ok(
         world
             .tree
             .device
-            .place(path, Thing::File { exec, bytes }, NOON)?,
+            .place(path, Thing::File { exec, bytes }, time)?,
     )
 }
 
@@ -111,7 +113,8 @@ fn lay_link(world: &mut World, path: PathRef<'_>, tokens: &[Vec<u8>]) -> Result<
     if target.as_bytes().len() > 4_095 {
         return Err("a target that is too long".into());
     }
-    Ok(world.tree.device.place(path, Thing::Link { target }, NOON)?)
+    let time = world.time;
+    Ok(world.tree.device.place(path, Thing::Link { target }, time)?)
 }
 
 fn lay_file(world: &mut World, tokens: &[Vec<u8>]) -> Result<(), Wrong> {
@@ -214,6 +217,11 @@ fn lay_device(world: &mut World, tokens: &[Vec<u8>]) -> Result<(), Wrong> {
     match word_at(tokens, 0)? {
         "fail" => fail(world, word_at(tokens, 1)?, number_at(tokens, 2)?)?,
         "due" => lay_due(world, tokens)?,
+        "time" => world.time = time_at(tokens, 1)?,
+        "clock" => {
+            let clock = time_at(tokens, 1)?;
+            world.tree.device.set_clock(clock)?;
+        }
         "held" => world.shelf.device.hold(true),
         "free" => world.shelf.device.hold(false),
         "pieces" => world.streams.pieces = number_at(tokens, 1)? as usize,

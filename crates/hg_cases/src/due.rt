@@ -1,8 +1,8 @@
 //! What others do just before a call of the next run.
 
 use crate::commands::content;
-use crate::tokens::{joined, number_at, word_at};
-use crate::world::{NOON, World};
+use crate::tokens::{joined, number_at, time_at, word_at};
+use crate::world::World;
 use crate::wrong::Wrong;
 use hg_base::{Blob, Path, PathRef, Text};
 use hg_shelf::Outside;
@@ -39,10 +39,14 @@ fn file_change(alloc: Global, tokens: &[Vec<u8>]) -> Result<Outside, Wrong> {
     Ok(Outside::Place { name, bytes })
 }
 
-// They put a thing, or take away what stands there.
+// They set the clock, put a thing, or take away what stands there.
 fn lay_due_thing(world: &mut World, call: u64, tokens: &[Vec<u8>]) -> Result<(), Wrong> {
+    if word_at(tokens, 0)? == "clock" {
+        let to = time_at(tokens, 1)?;
+        return Ok(world.tree.device.due(call, OutsideTree::Clock { to })?);
+    }
     let path = Path::of(world.alloc, PathRef::read(word_at(tokens, 1)?)?)?;
-    let mtime = NOON;
+    let mtime = world.time;
     match word_at(tokens, 0)? {
         "take" => Ok(world.tree.device.due(call, OutsideTree::Take { path })?),
         "dir" => {

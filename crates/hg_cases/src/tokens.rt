@@ -3,7 +3,7 @@
 //! In a text stand `\n`, `\0`, `\t`, `\r`, `\\`, `\"` and `\xHH`; `"b"*9` is that text nine times.
 
 use crate::wrong::Wrong;
-use hg_base::{Text, Words};
+use hg_base::{Text, Time, Words};
 use std::alloc::Global;
 use std::mem;
 use std::str::from_utf8;
@@ -221,6 +221,24 @@ pub(crate) fn number_of_32(text: &str) -> Result<u32, Wrong> {
 /// The number at that place.
 pub(crate) fn number_at(tokens: &[Vec<u8>], at: usize) -> Result<u64, Wrong> {
     number(word_at(tokens, at)?)
+}
+
+/// The time at that place: seconds since 1970, which may stand behind a minus, a point, and nanoseconds into that second.
+pub(crate) fn time_at(tokens: &[Vec<u8>], at: usize) -> Result<Time, Wrong> {
+    let Some((seconds, nanos)) = word_at(tokens, at)?.split_once('.') else {
+        return Err("no time".into());
+    };
+    time_of(seconds, number_of_32(nanos)?)
+}
+
+fn time_of(seconds: &str, nanos: u32) -> Result<Time, Wrong> {
+    let Ok(seconds) = seconds.parse::<i64>() else {
+        return Err("no number of seconds".into());
+    };
+    if nanos >= 1_000_000_000 {
+        return Err("more nanoseconds than a second has".into());
+    }
+    Ok(Time { seconds, nanos })
 }
 
 /// The tokens from that place on, joined.

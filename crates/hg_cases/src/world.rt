@@ -58,12 +58,13 @@ pub(crate) struct Told {
     pub errs: u64,
 }
 
-/// What stands before a run.
+/// What stands before a run, and the time of the things that are placed from here on.
 #[derive(Drop)]
 pub(crate) struct World {
     pub alloc: Global,
     pub tree: Noted<MemTree>,
     pub asked: usize,
+    pub time: Time,
     pub shelf: Noted<MemShelf>,
     pub data: Data,
     pub streams: Streams,
@@ -79,6 +80,7 @@ impl World {
             alloc,
             tree: Noted::new(alloc, tree),
             asked: 0,
+            time: NOON,
             shelf: Noted::new(alloc, shelf),
             data: Data::new(alloc),
             streams: Streams::new(alloc),

@@ -8,6 +8,7 @@ use Rattle.hg_flat.specs.declared.kept.FlatRow.{FlatRow}
 use Rattle.hg_listing.specs.declared.row.Wanted.{Wanted}
 use Rattle.hg_flat.proofs.Asks.{reads_none, reads_trans, reads_weaker}
 use Rattle.hg_tree.specs.History.{Extends, History, now}
+use Rattle.hg_tree.proofs.Histories.{extends_trans}
 use Rattle.hg_tree.specs.Moment.{Moment, zero_time}
 use Rattle.hg_tree.specs.declared.thing.Thing.TheVariants as a_thing
 
@@ -31,6 +32,12 @@ asked_later asks a b c path first was = record {
   to = λ told. was.to (first.told ∙ told);
   is = λ told. was.is (first.told ∙ told);
 }
+
+-- where no path is compared in a call, none is in a part of it
+pub never_each : (asks : Asking) (old mid later new : History) → Extends old mid → Extends mid later → Extends later new → ((path : List ℕ) → WasAsked asks old new path → ⊥)
+    → (path : List ℕ) → WasAsked asks mid later path → ⊥
+never_each asks old mid later new first second third never path was =
+    never path (asked_longer asks old later new path (extends_trans old mid later first second) third (asked_later asks old mid later path first was))
 
 -- a moment at which a file stands at each path
 abbrev filled : Moment

@@ -17,9 +17,10 @@ use Rattle.hg_compare.specs.Tracked.{ParentRow, is_file_or_link, tracked_letter}
 use Rattle.hg_compare.specs.declared.letter.Letter.{Letter}
 use Rattle.hg_listing.specs.Full.{HasLetter, HasLetterBy, IsFull, IsFullFor, IsTold, wants}
 use Rattle.hg_flat.specs.Kept.{AreNamed, HaveOwnPaths, Kept, KeptRows, flat_from, source_of}
-use Rattle.hg_flat.specs.Listing.{AddsTracked, ArePutFor, Gives, GivesLetter, IsPutFor, IsUnknownIn, IsUntrackedRow, ListsUnknown, letter_at, row_under, rows_under, untracked_row}
+use Rattle.hg_flat.specs.Judged.{AddsBy, IsPutBy}
+use Rattle.hg_flat.specs.Listing.{ArePutFor, Gives, GivesLetter, IsUnknownIn, IsUntrackedRow, ListsUnknown, letter_at, row_under, rows_under, untracked_row}
 use Rattle.hg_listing.specs.Order.{row_order, whole_order}
-use Rattle.hg_flat.specs.Parent.{IsAsked, IsServed, asked_by, is_compared, is_plain_entry, parent_rows}
+use Rattle.hg_flat.specs.Parent.{Asking, IsAsked, IsServed, asked_by, is_compared, is_plain_entry, parent_rows}
 use Rattle.hg_flat.specs.Patterns.{ignored_at, needs_patterns}
 use Rattle.hg_flat.specs.declared.kept.FlatRow.{FlatRow}
 use Rattle.hg_listing.specs.declared.row.Row.{Row}
@@ -40,6 +41,10 @@ each_of P (row ∷ rows) all r has =
       | inl first ↦ elim (Contains-push_cases [] row r first) [ inl (k, below, is) ↦ absurd (omega (arith, below)) | inr same ↦ subst (λ (q : FlatRow). P q.path) same all.0 ]
       | inr later ↦ each_of P rows all.1 r later
     ]
+
+-- a test of which paths are compared asks for none but those that are compared by their marks
+abbrev pub Narrows : Asking → Wanted → Flat → Type 0
+Narrows asks wanted flat = (moment : Moment) (path : List ℕ) → IsAsked asks moment path → IsAsked (asked_by wanted flat) moment path
 
 -- a path has no row where none is kept of it
 pub none_is : (o : Option FlatRow) → is_some o ≡ false → o ≡ None
@@ -101,11 +106,11 @@ module _ (p1 p2 : List ℕ) (kept : KeptRows) (files : shelves.Files) (id : Id20
       let same = path_is row.path k is in
       inl (k, is, letter_back row.path k row.letter is same tells.1, same_row row (row_under k row.letter) refl (sym same) (tells.2 ∙ ap source_of is))
 
-  module _ (S : List ℕ → Type 0) (Left : FlatRow → Type 0) (rows : List FlatRow) (own : HaveOwnPaths rows) (holds : Holds kept rows) (left : (k : FlatRow) → Contains rows k → S k.path → Left k) (a b : List Row)
-      (tracked : AddsTracked Left files id moment wanted rows [] a) (state : List Piece) (asks : (path : List ℕ) → S path → keeps path ≡ false → needs_patterns wanted ≡ true → state ≡ Ignore moment)
+  module _ (asks : Asking) (Premise : Type 0) (S : List ℕ → Type 0) (rows : List FlatRow) (own : HaveOwnPaths rows) (holds : Holds kept rows) (a b : List Row)
+      (tracked : AddsBy asks Premise S files id moment wanted rows [] a) (state : List Piece) (begun : (path : List ℕ) → S path → keeps path ≡ false → needs_patterns wanted ≡ true → state ≡ Ignore moment)
       (lists : ListsUnknown keeps (Gives wanted state) S (IsUnknownIn keeps moment None) a b) where
     abbrev Put : FlatRow → List Row → Type 0
-    Put = IsPutFor Left files id moment wanted
+    Put = IsPutBy asks Premise S files id moment wanted
 
     -- a row is that of an entry, or of a path without one
     cases : (row : Row) → Contains b row → ((k : FlatRow) × (more : List Row) × Contains rows k × Put k more × Contains more row) ⊎ Contains lists.0 row
@@ -119,38 +124,38 @@ module _ (p1 p2 : List ℕ) (kept : KeptRows) (files : shelves.Files) (id : Id20
     put_row : (k : FlatRow) (more : List Row) → Put k more → (row : Row) → Contains more row → (wants wanted row.letter ≡ true) × (row ≡ row_under k row.letter)
     put_row k more put row has = let one = under_one wanted k put.letter row (subst (λ (l : List Row). Contains l row) put.one has) in (one.1, one.2)
 
-    put_letter : (k : FlatRow) (more : List Row) → Put k more → Left k → (row : Row) → Contains more row → letter_at files id moment k ≡ Some row.letter
-    put_letter k more put here row has =
-        let one = under_one wanted k (letter_at files id moment k) row (subst (λ (l : List Row). Contains l row) (put.one ∙ put.found.right here) has) in one.0
+    put_letter : Premise → (k : FlatRow) (more : List Row) → Put k more → S k.path → (row : Row) → Contains more row → letter_at files id moment k ≡ Some row.letter
+    put_letter premise k more put here row has =
+        let one = under_one wanted k (letter_at files id moment k) row (subst (λ (l : List Row). Contains l row) (put.one ∙ put.found.right premise here) has) in one.0
 
-    told : (row : Row) → Contains b row → S row.path → Tells row
-    told row has meets =
+    told : Premise → (row : Row) → Contains b row → S row.path → Tells row
+    told premise row has meets =
         elim (cases row has) [
           | inl (k, more, of, put, within) ↦
               let is = put_row k more put row within in
-              let here : Left k = left k of (subst S (ap (λ (r : Row). r.path) is.1) meets) in
-              subst Tells (sym is.1) (told_tracked k row.letter (holds.found k of) (put_letter k more put here row within) is.0)
+              let here : S k.path = subst S (ap (λ (r : Row). r.path) is.1) meets in
+              subst Tells (sym is.1) (told_tracked k row.letter (holds.found k of) (put_letter premise k more put here row within) is.0)
           | inr second ↦
               let e = lists.2.each row second in
-              let at : state ≡ Ignore moment = asks row.path meets e.none (gives_needs wanted state row.path row.letter e.given) in
+              let at : state ≡ Ignore moment = begun row.path meets e.none (gives_needs wanted state row.path row.letter e.given) in
               subst Tells (sym e.is)
               (told_unknown row.letter row.path (subst (λ (t : List Piece). Gives wanted t row.path row.letter) at e.given) (lists.2.sound row second meets))
         ]
 
-    has_told : (row : Row) → S row.path → Tells row → Contains b row
-    has_told row meets tells =
+    has_told : Premise → (row : Row) → S row.path → Tells row → Contains b row
+    has_told premise row meets tells =
         subst (λ (l : List Row). Contains l row) (sym lists.1)
         (elim (told_row row (kept row.path) refl tells) [
           | inl (k, is, letter, same) ↦
               let of : Contains rows k = holds.all row.path k is in
               let from = in_put Put rows tracked.0 tracked.2 k of in
-              let here : Left k = left k of (subst S (sym (path_is row.path k is)) meets) in
+              let here : S k.path = subst S (sym (path_is row.path k is)) meets in
               let put : Contains (rows_under wanted k (Some row.letter)) row = subst (Contains (rows_under wanted k (Some row.letter))) (sym same) (under_has wanted k row.letter tells.0) in
               Contains-append_left a lists.0 row
               (subst (λ (l : List Row). Contains l row) (sym tracked.1)
-              (from.2 row (subst (λ (l : List Row). Contains l row) (sym (from.1.one ∙ from.1.found.right here ∙ ap (rows_under wanted k) letter)) put)))
+              (from.2 row (subst (λ (l : List Row). Contains l row) (sym (from.1.one ∙ from.1.found.right premise here ∙ ap (rows_under wanted k) letter)) put)))
           | inr (none, gives, unknown, same) ↦
-              let at : state ≡ Ignore moment = asks row.path meets (ap is_some none) (gives_needs wanted (Ignore moment) row.path row.letter gives) in
+              let at : state ≡ Ignore moment = begun row.path meets (ap is_some none) (gives_needs wanted (Ignore moment) row.path row.letter gives) in
               Contains-append_right a lists.0 row
               (subst (Contains lists.0) (sym same)
               (lists.2.all row.path row.letter meets unknown (subst (λ (t : List Piece). Gives wanted t row.path row.letter) (sym at) gives)))
@@ -229,14 +234,14 @@ module _ (p1 p2 : List ℕ) (kept : KeptRows) (files : shelves.Files) (id : Id20
             let none = none_is (kept q.path) (lists.2.each q second).none in absurd (cc (there, none))
 
     -- what a comparison asked for was there
-    pub served_path : (path : List ℕ) → S path → IsAsked (asked_by wanted flat) moment path → IsServed files id moment path
-    served_path path meets asked = by (kept path) refl
+    pub served_path : Narrows asks wanted flat → (path : List ℕ) → S path → IsAsked asks moment path → IsServed files id moment path
+    served_path narrow path meets asked = by (kept path) refl
       where
         test : Option FlatRow → Bool
         test o = (wanted.m || wanted.c) && is_plain_entry (option_map (λ r. marks_of (view r.entry)) o) (is_some (source_of o))
 
         both : (is_compared wanted flat path ≡ true) × (is_file_or_link (moment.things path) ≡ true)
-        both = and_parts (is_compared wanted flat path) (is_file_or_link (moment.things path)) asked
+        both = and_parts (is_compared wanted flat path) (is_file_or_link (moment.things path)) (narrow moment path asked)
 
         by : (o : Option FlatRow) → kept path ≡ o → IsServed files id moment path
         by None is = absurd (never (wanted.m || wanted.c) (sym (ap test is) ∙ both.0))
@@ -249,15 +254,14 @@ module _ (p1 p2 : List ℕ) (kept : KeptRows) (files : shelves.Files) (id : Id20
             let of : Contains rows k = holds.all path k is in
             let from = in_put Put rows tracked.0 tracked.2 k of in
             subst (IsServed files id moment) same
-            (from.1.found.served (left k of (subst S (sym same) meets))
-            (record { compared = sym (ap test is) ∙ both.0; there = ap (λ (p : List ℕ). is_file_or_link (moment.things p)) same ∙ both.1 }))
+            (from.1.found.served (subst S (sym same) meets) (subst (IsAsked asks moment) (sym same) asked))
 
     -- these rows put in order without doubles are the full listing of the paths that meet S
-    pub full_for : (c d : List Row) → IsPermutation b c → IsSorted whole_order c → d ≡ dedup (eq_by_cmp whole_order) c → IsFullFor S flat moment (parent_rows files id) (ignored_at moment) wanted d
-    full_for c d moved sorted once =
+    pub full_for : Premise → (c d : List Row) → IsPermutation b c → IsSorted whole_order c → d ≡ dedup (eq_by_cmp whole_order) c → IsFullFor S flat moment (parent_rows files id) (ignored_at moment) wanted d
+    full_for premise c d moved sorted once =
         let up : IsStrictlySortedBy row_order d = ascending (λ path. source_of (kept path)) b c d moved sorted once sourced in record {
-          sound = λ row has meets. told row (kept_of b c d row moved once has) meets;
-          all = λ row meets tells. kept_by b c d row moved once (has_told row meets tells);
+          sound = λ row has meets. told premise row (kept_of b c d row moved once has) meets;
+          all = λ row meets tells. kept_by b c d row moved once (has_told premise row meets tells);
           once =
               distinct_paths d up
               (λ x y left right same. one_of_path x y (kept_of b c d x moved once left) (kept_of b c d y moved once right) same);

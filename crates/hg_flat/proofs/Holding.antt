@@ -29,7 +29,7 @@ has_step row rows path r true at later is =
 has_step row rows path r false at later is = let l = later is in (Contains-append_right (row ∷ []) rows r l.0, l.1)
 
 -- it is one of the rows, and of that path
-found_has : (rows : List FlatRow) (path : List ℕ) (r : FlatRow) → row_at rows path ≡ Some r → Contains rows r × (r.path ≡ path)
+pub found_has : (rows : List FlatRow) (path : List ℕ) (r : FlatRow) → row_at rows path ≡ Some r → Contains rows r × (r.path ≡ path)
 found_has [] path r is = absurd (cc (is))
 found_has (row ∷ rows) path r is = has_step row rows path r (bytes_eq row.path path) refl (found_has rows path r) is
 

@@ -107,8 +107,13 @@ some_by true true true true copied letter plain there is = absurd (cc (plain))
 some_by true true false true true letter plain there is = absurd (cc (plain))
 some_by true true false true false letter plain there is = absurd (cc (is))
 
-compared_parts : (wanted : Wanted) (kept : FlatRow) → IsTrue (is_compared_row wanted kept) → (wants_bytes wanted ≡ true) × (is_plain_entry (Some (marks_of (view kept.entry))) (is_some kept.source) ≡ true)
+pub compared_parts : (wanted : Wanted) (kept : FlatRow) → IsTrue (is_compared_row wanted kept) → (wants_bytes wanted ≡ true) × (is_plain_entry (Some (marks_of (view kept.entry))) (is_some kept.source) ≡ true)
 compared_parts wanted kept is = and_parts (wants_bytes wanted) (is_plain_entry (Some (marks_of (view kept.entry))) (is_some kept.source)) is
+
+-- where plain marks leave the letter to the bytes of a file or a link, they don't decide it
+pub marked_plain : (kept : FlatRow) (there : Stat) (letter : Letter) → is_plain_entry (Some (marks_of (view kept.entry))) (is_some kept.source) ≡ true → is_file_or_link_kind there.kind ≡ true
+    → marked_letter kept there ≡ Some letter → ⊥
+marked_plain kept there letter plain is marked = some_by (is_file_or_link_kind there.kind) kept.entry.w kept.entry.p2 kept.entry.p1 (is_some kept.source) letter plain is marked
 
 pub compared_by : (wanted : Wanted) (kept : FlatRow) → wants_bytes wanted ≡ true → is_plain_entry (Some (marks_of (view kept.entry))) (is_some kept.source) ≡ true → is_compared_row wanted kept ≡ true
 compared_by wanted kept first second = cc (first, second)

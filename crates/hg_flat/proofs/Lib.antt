@@ -10,6 +10,7 @@ pub mod Fullness
 pub mod Going
 pub mod Holding
 pub mod Ignoring
+pub mod Judging
 pub mod Leaving
 pub mod Letters
 pub mod Manifests

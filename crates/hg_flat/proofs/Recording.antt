@@ -11,7 +11,7 @@ use Rattle.hg_docket.specs.Docket.{Contents}
 use Rattle.hg_docket.specs.Docket as docket_is
 use Rattle.hg_docket.specs.declared.docket.Docket.{Docket}
 use Rattle.hg_entry.specs.Entry.{EntryData, entry_of, view}
-use Rattle.hg_entry.specs.Table.{flat_of, marks_of}
+use Rattle.hg_entry.specs.Table.{Table, flat_of, marks_of}
 use Rattle.hg_image.specs.Node.{fields_of}
 use Rattle.hg_image.specs.Reading as reading
 use Rattle.hg_image.specs.Reading.{table_in, table_of}
@@ -170,17 +170,21 @@ sourced_by : (o : Option node.Row) → IfSome o IsSourcedByEntry → option_and_
 sourced_by None sourced none = refl
 sourced_by (Some row) sourced none = sourced none
 
--- a map that keeps what the table says of each path is that of the table
-pub flat_same : (docket : Contents) (nodes : List node.Row) (p1 p2 : List ℕ) (kept : KeptRows) → AllByRecursion IsSourcedByEntry nodes → p1 ≡ docket.p1 → p2 ≡ docket.p2 → Records (table_of docket nodes) kept
-    → flat_from p1 p2 kept ≡ flat_of (table_of docket nodes)
-flat_same docket nodes p1 p2 kept sourced first second records =
-    let table = table_of docket nodes in
+-- a map that keeps what a table says of each path is that of the table, where no path without an entry has a source
+pub flat_recorded : (table : Table) (p1 p2 : List ℕ) (kept : KeptRows) → ((path : List ℕ) → table.entries path ≡ None → table.sources path ≡ None) → p1 ≡ table.p1 → p2 ≡ table.p2 → Records table kept
+    → flat_from p1 p2 kept ≡ flat_of table
+flat_recorded table p1 p2 kept sourced first second records =
     let marks : (path : List ℕ) → option_map (λ row. marks_of (view row.entry)) (kept path) ≡ option_map marks_of (table.entries path) =
     λ path. marks_shown (kept path) ∙ ap (option_map (λ (recorded : Recorded). marks_of recorded.0)) (records path) ∙ marks_recorded (table.entries path) (table.sources path) in
     let sources : (path : List ℕ) → source_of (kept path) ≡ table.sources path =
-    λ path. source_shown (kept path) ∙ ap source_in (records path)
-    ∙ source_recorded (table.entries path) (table.sources path) (sourced_by (reading.row_at nodes path) (sourced_at nodes path sourced)) in
+    λ path. source_shown (kept path) ∙ ap source_in (records path) ∙ source_recorded (table.entries path) (table.sources path) (sourced path) in
     λ i. record { p1 = first i; p2 = second i; marks = λ path. marks path i; sources = λ path. sources path i }
+
+-- so is that of a table that was read
+pub flat_same : (docket : Contents) (nodes : List node.Row) (p1 p2 : List ℕ) (kept : KeptRows) → AllByRecursion IsSourcedByEntry nodes → p1 ≡ docket.p1 → p2 ≡ docket.p2 → Records (table_of docket nodes) kept
+    → flat_from p1 p2 kept ≡ flat_of (table_of docket nodes)
+flat_same docket nodes p1 p2 kept sourced first second records =
+    flat_recorded (table_of docket nodes) p1 p2 kept (λ path. sourced_by (reading.row_at nodes path) (sourced_at nodes path sourced)) first second records
 
 -- what was read with these rows
 pub read_flat : (image : Image) (items : List FlatRow) (docket : Docket) (result : Result Flat OutOfMemory) → AreDistinct (image_is.rows image) → Adds (image_is.rows image) [] items → docket ≡ image.docket

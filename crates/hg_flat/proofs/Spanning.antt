@@ -1,9 +1,12 @@
 -- What was met of the first parent behind a read of the patterns was met in the whole status.
-use Rattle.std.proofs.Common.{ℕ, ◌≡◌, true, Some, Result, Ok, Err, IsTrue, ◌∙◌, arith}
+use Rattle.std.proofs.Common.{ℕ, ◌≡◌, true, Some, Result, Ok, Err, IsTrue, sym, ap, ◌∙◌, subst, arith}
+use Rattle.std.specs.Prelude.{IfErr, IfOk, OnOk}
 use Rattle.hg_base.specs.declared.id.Id20.{Id20}
 use Rattle.hg_base.specs.declared.stat.Stat.{Stat}
 use Rattle.hg_tree.specs.History as trees
 use Rattle.hg_tree.specs.Moment.{Moment, stat_at}
+use Rattle.hg_tree.specs.declared.fault.TreeFault.{TreeFault}
+use Rattle.hg_tree.specs.declared.fault.TreeFault.TheVariants as a_tree_fault
 use Rattle.hg_shelf.specs.History as shelves
 use Rattle.hg_manifest.specs.Rows.{Rows}
 use Rattle.hg_manifest.specs.declared.fault.ManifestFault.{ManifestFault}
@@ -11,8 +14,10 @@ use Rattle.hg_manifest.specs.declared.fault.ManifestFault.TheVariants as a_manif
 use Rattle.hg_compare.specs.Alike.{is_alike}
 use Rattle.hg_flat.specs.Course.{LacksPatterns, MetParent}
 use Rattle.hg_flat.specs.Met.{LacksContents, Met, NeedsManifest, Shows, Status, WasRead}
+use Rattle.hg_flat.specs.Others.{IsOfListing}
 use Rattle.hg_flat.specs.Parent.{Asking, IsAsked}
 use Rattle.hg_flat.specs.Patterns.{CountsOversize, is_of_parent, needs_patterns}
+use Rattle.hg_listing.specs.Cause.{of_tree}
 use Rattle.hg_listing.specs.declared.fault.StatusFault.{StatusFault}
 use Rattle.hg_listing.specs.declared.fault.StatusFault.TheVariants as a_fault
 use Rattle.hg_listing.specs.declared.row.Wanted.{Wanted}
@@ -70,6 +75,22 @@ module _ (wanted : Wanted) (asks : Asking) (id : Id20) (start old new : trees.Hi
   met_whole (a_fault.RegexpTooBig line) met = absurd met
   met_whole (a_fault.BadInclude line) met = absurd met
 
+  pub parent_whole : (fault : StatusFault) → MetParent part fault → MetParent whole fault
+  parent_whole a_fault.OutOfMemory met = tt
+  parent_whole a_fault.TreeFailed met = tt
+  parent_whole a_fault.ShelfFailed met = tt
+  parent_whole (a_fault.NoManifest gone) met = met_whole (a_fault.NoManifest gone) met
+  parent_whole (a_fault.ManifestTooLarge size) met = met_whole (a_fault.ManifestTooLarge size) met
+  parent_whole (a_fault.ManifestLine line) met = met_whole (a_fault.ManifestLine line) met
+  parent_whole (a_fault.ManifestOrder line) met = met_whole (a_fault.ManifestOrder line) met
+  parent_whole (a_fault.NoContents gone) met = met_whole (a_fault.NoContents gone) met
+  parent_whole (a_fault.IgnoreTooLarge size) met = met
+  parent_whole (a_fault.IgnoreText at) met = met
+  parent_whole (a_fault.BadGlob line) met = met
+  parent_whole (a_fault.BadRegexp line) met = met
+  parent_whole (a_fault.RegexpTooBig line) met = met
+  parent_whole (a_fault.BadInclude line) met = met
+
 -- no regexp was too big
 pub counts_still : (T : Type 0) (s : Status) (fault : StatusFault) (before now : ℕ) → now ≡ before → MetParent s fault → CountsOversize {T = T} before now (Err fault)
 counts_still T s a_fault.OutOfMemory before now same met = same
@@ -120,3 +141,33 @@ not_parent old new (a_fault.BadGlob line) lacks is = absurd (cc is)
 not_parent old new (a_fault.BadRegexp line) lacks is = absurd (cc is)
 not_parent old new (a_fault.RegexpTooBig line) lacks is = absurd (cc is)
 not_parent old new (a_fault.BadInclude line) lacks is = absurd (cc is)
+
+-- ---- a listing behind the rest
+
+pub if_ok_on : {X Y : Type 0} (r : Result X Y) (P : X → Type 0) (Q : Type 0) → ((x : X) → P x → Q) → IfOk r P → OnOk r Q
+if_ok_on (Ok x) P Q to is = to x is
+if_ok_on (Err y) P Q to is = tt
+
+pub met_listing : (s : Status) (fault : StatusFault) → IsOfListing fault → Met s fault
+met_listing s fault (cause, is) = subst (Met s) (sym is) (by cause)
+  where
+    by : (cause : TreeFault) → Met s (of_tree cause)
+    by a_tree_fault.OutOfMemory = tt
+    by a_tree_fault.Failed = tt
+
+-- it is none of the parent
+pub of_listing_none : (fault : StatusFault) → IsOfListing fault → is_of_parent fault ≡ true → ⊥
+of_listing_none fault (cause, is) parent = by cause (sym (ap is_of_parent is) ∙ parent)
+  where
+    by : (cause : TreeFault) → is_of_parent (of_tree cause) ≡ true → ⊥
+    by a_tree_fault.OutOfMemory same = absurd (cc same)
+    by a_tree_fault.Failed same = absurd (cc same)
+
+-- and no regexp was too big
+pub counts_listing : (T : Type 0) (result : Result T StatusFault) (before now : ℕ) → now ≡ before → IfErr result IsOfListing → CountsOversize {T = T} before now result
+counts_listing T (Ok listed) before now same of = same
+counts_listing T (Err fault) before now same (cause, is) = subst (λ (f : StatusFault). CountsOversize {T = T} before now (Err f)) (sym is) (by cause)
+  where
+    by : (cause : TreeFault) → CountsOversize {T = T} before now (Err (of_tree cause))
+    by a_tree_fault.OutOfMemory = same
+    by a_tree_fault.Failed = same

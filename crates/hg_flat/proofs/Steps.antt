@@ -134,8 +134,8 @@ formed_later old new start past was = record {
 }
 
 -- who passes nothing over has passed nothing over since the last moment
-pub passed_none : (passed : Kept) → ((path : List ℕ) → passed path ≡ false) → (h : History) → ArePassed passed h h.last
-passed_none passed never h = record { begun = omega arith; each = λ told path is. let not_so = never path in absurd (cc (not_so, is)) }
+pub passed_none : (passed : Kept) → ((path : List ℕ) → passed path ≡ false) → (h : History) (start : ℕ) → start ≤ h.last → ArePassed passed h start
+passed_none passed never h start begun = record { begun = begun; each = λ told path is. let not_so = never path in absurd (cc (not_so, is)) }
 
 -- ---- a path that was passed
 
@@ -358,12 +358,13 @@ each_more kept passed wanted state old mid new first second dir names i name tex
 
 -- ---- over the whole span
 
--- what was listed behind a span is so over the whole, for paths that nobody touches over it
-pub lists_later : (old mid new : History) → Extends old mid → Extends mid new → (kept : Kept) (L : List ℕ → Letter → Type 0) (S : List ℕ → Type 0) → ((p : List ℕ) → S p → Untouched new old.last p) → (a b : List Row)
-    → ListsUnknown kept L (Untouched new mid.last) (IsUnknownIn kept (now mid) None) a b → ListsUnknown kept L S (IsUnknownIn kept (now old) None) a b
-lists_later old mid new first second kept L S own a b lists =
-    lists_moved kept L (Untouched new mid.last) S (IsUnknownIn kept (now mid) None) (IsUnknownIn kept (now old) None) a b
-    (λ p meets. second_part old mid new first second p (own p meets))
+-- what was listed behind a span is so over the whole, for paths that nobody touches over it; paths may have been passed since a moment of the span
+pub lists_later : (old mid new : History) → Extends old mid → Extends mid new → (start : ℕ) → old.last ≤ start → start ≤ mid.last → (kept : Kept) (L : List ℕ → Letter → Type 0) (S : List ℕ → Type 0)
+    → ((p : List ℕ) → S p → Untouched new old.last p) → (a b : List Row)
+    → ListsUnknown kept L (Untouched new start) (IsUnknownIn kept (now mid) None) a b → ListsUnknown kept L S (IsUnknownIn kept (now old) None) a b
+lists_later old mid new first second start from upto kept L S own a b lists =
+    lists_moved kept L (Untouched new start) S (IsUnknownIn kept (now mid) None) (IsUnknownIn kept (now old) None) a b
+    (λ p meets. untouched_second new old.last start p from (omega (arith, upto, second.later)) (own p meets))
     (λ p meets u. in_moved kept (now mid) (now old) p (alike_now old mid new first second p (own p meets)) None u)
     (λ p meets u. in_moved kept (now old) (now mid) p (alike_then old mid new first second p (own p meets)) None u)
     lists

@@ -1,8 +1,8 @@
 -- The rows of paths with an entry: one entry behind another, and over longer spans.
-use Rattle.std.proofs.Common.{ℕ, ◌≡◌, ◌+◌, ◌<◌, ◌≤◌, Bool, true, false, List, [], ◌∷◌, ◌++◌, length, take, get_or, Option, Some, None, refl, sym, ap, ◌∙◌, subst, inl, inr, arith}
+use Rattle.std.proofs.Common.{ℕ, ◌≡◌, ◌≤◌, Bool, true, false, List, [], ◌∷◌, ◌++◌, Option, Some, None, refl, sym, ap, ◌∙◌, subst, inl, inr, arith}
 use Rattle.std.specs.Prelude.{IsTrue, IfSome, is_some}
 use Rattle.std.specs.List.{Contains}
-use Rattle.std.proofs.lemmas.List.{append-nil, append_assoc, take_more}
+use Rattle.std.proofs.lemmas.List.{append-nil, append_assoc}
 use Rattle.std.proofs.lemmas.List.Elements.{Contains-append_cases, Contains-append_left, Contains-append_right, Contains-push, Contains-push_cases}
 use Rattle.hg_base.specs.declared.id.Id20.{Id20}
 use Rattle.hg_base.specs.declared.stat.Stat.{Stat}
@@ -11,7 +11,7 @@ use Rattle.hg_entry.specs.Table.{marks_of}
 use Rattle.hg_tree.specs.History as trees
 use Rattle.hg_tree.specs.Moment.{Moment}
 use Rattle.hg_tree.specs.Still.{AreAlike}
-use Rattle.hg_tree.proofs.Stillness.{alike_at, alike_between, same_kind, untouched_first, untouched_second}
+use Rattle.hg_tree.proofs.Stillness.{alike_at, same_kind, untouched_second}
 use Rattle.hg_shelf.specs.History as shelves
 use Rattle.hg_shelf.specs.Polite.{KeepsFile}
 use Rattle.hg_manifest.specs.Plain.{plain_name}
@@ -19,7 +19,7 @@ use Rattle.hg_manifest.specs.declared.row.FileRow.{FileRow}
 use Rattle.hg_compare.specs.Alike.{contents_name, is_alike}
 use Rattle.hg_compare.specs.declared.letter.Letter.{Letter}
 use Rattle.hg_listing.specs.Full.{wants}
-use Rattle.hg_flat.specs.Listing.{AddsTracked, ArePutFor, IsAskedRow, IsLeftRow, IsLetterFor, IsPutFor, row_under, rows_if, rows_under}
+use Rattle.hg_flat.specs.Listing.{AddsTracked, ArePutFor, IsLeftRow, IsLetterFor, row_under, rows_if, rows_under}
 use Rattle.hg_flat.specs.Parent.{HasContents, IsServed, KeepsRow, manifest_at, parent_rows, row_among, row_of}
 use Rattle.hg_flat.specs.declared.kept.FlatRow.{FlatRow}
 use Rattle.hg_listing.specs.declared.row.Row.{Row}
@@ -30,12 +30,12 @@ use Rattle.hg_flat.proofs.Moved.{letter_moved}
 
 -- ---- one entry behind another
 
-put_append : (Put : FlatRow → List Row → Type 0) (xs ys : List FlatRow) (a b : List Row) → ArePutFor Put xs a → ArePutFor Put ys b → ArePutFor Put (xs ++ ys) (a ++ b)
+pub put_append : (Put : FlatRow → List Row → Type 0) (xs ys : List FlatRow) (a b : List Row) → ArePutFor Put xs a → ArePutFor Put ys b → ArePutFor Put (xs ++ ys) (a ++ b)
 put_append Put [] ys a b first second = subst (λ (l : List Row). ArePutFor Put ys (l ++ b)) (sym first) second
 put_append Put (x ∷ xs) ys a b (own, rest, is, put, more) second =
     (own, rest ++ b, ap (λ (l : List Row). l ++ b) is ∙ append_assoc own rest b, put, put_append Put xs ys rest b more second)
 
-put_weaker : (P Q : FlatRow → List Row → Type 0) (all : List FlatRow) (rows : List Row) → ((kept : FlatRow) (own : List Row) → P kept own → Q kept own) → ArePutFor P all rows → ArePutFor Q all rows
+pub put_weaker : (P Q : FlatRow → List Row → Type 0) (all : List FlatRow) (rows : List Row) → ((kept : FlatRow) (own : List Row) → P kept own → Q kept own) → ArePutFor P all rows → ArePutFor Q all rows
 put_weaker P Q [] rows weaker is = is
 put_weaker P Q (x ∷ all) rows weaker (own, rest, is, put, more) = (own, rest, is, weaker x own put, put_weaker P Q all rest weaker more)
 
@@ -107,13 +107,6 @@ row_earlier mid new from id path past within keeps = record {
       (λ row kept. keeps_earlier mid new from (contents_name row.id.0) past within kept) keeps.contents);
 }
 
-module _ (wanted : Wanted) (id : Id20) (old mid new : trees.History) (first : trees.Extends old mid) (second : trees.Extends mid new) (files later : shelves.History) (since : ℕ) (past : shelves.Extends files later) (within : since ≤ files.last) where
-  pub left_first : (k : FlatRow) → IsLeftRow wanted id new old.last later since k → IsLeftRow wanted id mid old.last files since k
-  left_first k is = record {
-    own = untouched_first mid new old.last k.path second first.later is.own;
-    row = λ asked. row_earlier files later since id k.path past within (is.row (subst (λ (m : Moment). IsAskedRow wanted m k) (sym (second.stay old.last first.later)) asked));
-  }
-
 pub left_second : (wanted : Wanted) (id : Id20) (old mid new : trees.History) → trees.Extends old mid → trees.Extends mid new → (later : shelves.History) (since : ℕ) (k : FlatRow) → IsLeftRow wanted id new old.last later since k → IsLeftRow wanted id new mid.last later since k
 left_second wanted id old mid new first second later since k is = record {
   own = untouched_second new old.last mid.last k.path first.later second.later is.own;
@@ -147,50 +140,11 @@ found_moved S T files id m n wanted kept letter meets alike is = record {
       (is.served (meets t) (record { compared = asked.compared; there = file_alike m n kept.path (same_kind m n kept.path (alike t).seen) ∙ asked.there }));
 }
 
-put_moved : (S T : FlatRow → Type 0) (files : shelves.Files) (id : Id20) (m n : Moment) (wanted : Wanted) (kept : FlatRow) (rows : List Row) → (T kept → S kept) → (T kept → AreAlike m n kept.path)
-    → IsPutFor S files id m wanted kept rows → IsPutFor T files id n wanted kept rows
-put_moved S T files id m n wanted kept rows meets alike is =
-    record { letter = is.letter; one = is.one; found = found_moved S T files id m n wanted kept is.letter meets alike is.found }
-
-pub tracked_moved : (S T : FlatRow → Type 0) (files : shelves.Files) (id : Id20) (m n : Moment) (wanted : Wanted) (all : List FlatRow) (a b : List Row) → ((k : FlatRow) → T k → S k) → ((k : FlatRow) → T k → AreAlike m n k.path)
-    → AddsTracked S files id m wanted all a b → AddsTracked T files id n wanted all a b
-tracked_moved S T files id m n wanted all a b meets alike (more, is, put) = (
-  more,
-  is,
-  put_weaker (IsPutFor S files id m wanted) (IsPutFor T files id n wanted) all more (λ kept own one. put_moved S T files id m n wanted kept own (meets kept) (alike kept) one) put,
-)
-
--- ---- the steps
-
-pub tracked_none : (S : FlatRow → Type 0) (files : shelves.Files) (id : Id20) (m : Moment) (wanted : Wanted) (rows : List Row) → AddsTracked S files id m wanted [] rows rows
-tracked_none S files id m wanted rows = ([], sym (append-nil rows), refl)
-
--- the rows of one entry
+-- the rows of one entry that are put
 pub tracked_one : (S : FlatRow → Type 0) (files : shelves.Files) (id : Id20) (m : Moment) (wanted : Wanted) (kept : FlatRow) (letter : Option Letter) (a b : List Row) → IsLetterFor S files id m wanted kept letter
     → b ≡ a ++ rows_under wanted kept letter → AddsTracked S files id m wanted (kept ∷ []) a b
 tracked_one S files id m wanted kept letter a b found put =
     (rows_under wanted kept letter, put, (rows_under wanted kept letter, [], sym (append-nil (rows_under wanted kept letter)), record { letter = letter; one = refl; found = found }, refl))
 
-pub tracked_trans : (S : FlatRow → Type 0) (files : shelves.Files) (id : Id20) (m : Moment) (wanted : Wanted) (xs ys : List FlatRow) (a b c : List Row) → AddsTracked S files id m wanted xs a b → AddsTracked S files id m wanted ys b c
-    → AddsTracked S files id m wanted (xs ++ ys) a c
-tracked_trans S files id m wanted xs ys a b c (more, is, put) (again, also, puts) = (
-  more ++ again,
-  also ∙ ap (λ (l : List Row). l ++ again) is ∙ append_assoc a more again,
-  put_append (IsPutFor S files id m wanted) xs ys more again put puts,
-)
-
 pub alike_same : (m : Moment) (p : List ℕ) → AreAlike m m p
 alike_same m p = record { seen = refl; exec = refl; above = λ dir below. refl; hg = λ dir below. refl }
-
-pub tracked_more : (wanted : Wanted) (id : Id20) (old mid new : trees.History) → trees.Extends old mid → trees.Extends mid new → (files later : shelves.History) (since : ℕ) → shelves.Extends files later → since ≤ files.last → (start : shelves.Files)
-    → (all : List FlatRow) (i : ℕ) (kept : FlatRow) (a b c : List Row) → i < length all → get_or all i kept ≡ kept
-    → AddsTracked (IsLeftRow wanted id mid old.last files since) start id (trees.now old) wanted (take i all) a b
-    → AddsTracked (IsLeftRow wanted id new mid.last later since) start id (trees.now mid) wanted (kept ∷ []) b c
-    → AddsTracked (IsLeftRow wanted id new old.last later since) start id (trees.now old) wanted (take (i + 1) all) a c
-tracked_more wanted id old mid new first second files later since past within start all i kept a b c below is before one =
-    subst (λ (l : List FlatRow). AddsTracked (IsLeftRow wanted id new old.last later since) start id (trees.now old) wanted l a c) (sym (take_more all i kept below ∙ ap (λ (r : FlatRow). take i all ++ r ∷ []) is))
-    (tracked_trans (IsLeftRow wanted id new old.last later since) start id (trees.now old) wanted (take i all) (kept ∷ []) a b c
-    (tracked_moved (IsLeftRow wanted id mid old.last files since) (IsLeftRow wanted id new old.last later since) start id (trees.now old) (trees.now old) wanted (take i all) a b
-    (left_first wanted id old mid new first second files later since past within) (λ k t. alike_same (trees.now old) k.path) before)
-    (tracked_moved (IsLeftRow wanted id new mid.last later since) (IsLeftRow wanted id new old.last later since) start id (trees.now mid) (trees.now old) wanted (kept ∷ []) b c
-    (left_second wanted id old mid new first second later since) (λ k t. alike_between old mid new k.path first second t.own) one))

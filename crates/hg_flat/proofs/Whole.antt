@@ -1,58 +1,83 @@
 -- A status from its parts: the rows of the paths with an entry, and those of what else stands, behind a read of the patterns.
-use Rattle.std.proofs.Common.{ℕ, ◌≡◌, false, true, List, Option, None, option_map, ap}
-use Rattle.std.specs.List.{Contains}
+use Rattle.std.proofs.Common.{ℕ, ◌≡◌, Bool, false, true, List, [], Option, None, is_some, option_map, ap, sym, subst}
 use Rattle.hg_base.specs.declared.id.Id20.{Id20}
 use Rattle.hg_entry.specs.Entry.{view}
-use Rattle.hg_entry.specs.Table.{marks_of}
+use Rattle.hg_entry.specs.Table.{Flat, marks_of}
 use Rattle.hg_ignore.specs.State.{Ignore, Piece}
-use Rattle.hg_shelf.specs.History as shelves
-use Rattle.hg_tree.specs.History as trees
-use Rattle.hg_tree.specs.Still.{Untouched}
-use Rattle.hg_tree.proofs.Histories.{extends_trans}
-use Rattle.hg_tree.proofs.Stillness.{alike_between}
-use Rattle.hg_flat.specs.Course.{IsKeptState, pieces_of}
-use Rattle.hg_flat.specs.Listing.{AddsTracked, Gives, IsLeftRow, IsUnknownIn, ListsUnknown}
-use Rattle.hg_flat.specs.Parent.{IsLeft, asked_by}
-use Rattle.hg_flat.specs.Patterns.{needs_patterns}
-use Rattle.hg_flat.specs.Shown.{flat_in, kept_of, rows_of}
-use Rattle.hg_flat.specs.declared.flat.Flat.{Flat}
-use Rattle.hg_flat.specs.declared.kept.FlatRow.{FlatRow}
+use Rattle.hg_listing.specs.Full.{IsFullFor}
 use Rattle.hg_listing.specs.declared.row.Row.{Row}
 use Rattle.hg_listing.specs.declared.row.Wanted.{Wanted}
-use Rattle.hg_flat.proofs.Fullness.{none_is}
-use Rattle.hg_flat.proofs.Leaving.{left_row}
+use Rattle.hg_shelf.specs.History as shelves
+use Rattle.hg_tree.specs.History as trees
+use Rattle.hg_tree.specs.Moment.{Moment}
+use Rattle.hg_tree.proofs.Histories.{extends_trans}
+use Rattle.hg_tree.proofs.Stillness.{alike_between, untouched_first}
+use Rattle.hg_flat.specs.Course.{IsKeptState, pieces_of}
+use Rattle.hg_flat.specs.Judged.{AddsBy, IsLeftAsked}
+use Rattle.hg_flat.specs.Kept.{HaveOwnPaths, Kept, flat_from, row_at}
+use Rattle.hg_flat.specs.Listing.{Gives, IsUnknownIn, ListsUnknown}
+use Rattle.hg_flat.specs.Others.{ListsOthers}
+use Rattle.hg_flat.specs.Parent.{Asking, IsAsked, IsLeft, IsServed, parent_rows}
+use Rattle.hg_flat.specs.Passed.{ArePassed, ListsSince}
+use Rattle.hg_flat.specs.Patterns.{ignored_at, needs_patterns}
+use Rattle.hg_flat.specs.declared.kept.FlatRow.{FlatRow}
+use Rattle.hg_flat.proofs.Fullness.{Narrows, full_for, none_is, served_path}
+use Rattle.hg_flat.proofs.Holding.{holds_rows, named}
+use Rattle.hg_flat.proofs.Judging.{AsksAlike, adds_moved, left_ended}
 use Rattle.hg_flat.proofs.Refusing.{state_kept}
 use Rattle.hg_flat.proofs.Steps.{lists_later}
-use Rattle.hg_flat.proofs.Tracking.{left_second, tracked_moved}
 
-module _ (flat : Flat) (wanted : Wanted) (id : Id20) (old mid later new : trees.History) (first : trees.Passes old mid) (second : trees.Passes mid later) (third : trees.Passes later new) (files : shelves.History) (since : ℕ) where
+module _ (asks : Asking) (same : AsksAlike asks) (Premise : Type 0) (p1 p2 : List ℕ) (rows : List FlatRow) (own : HaveOwnPaths rows) (wanted : Wanted) (id : Id20)
+    (old mid later new : trees.History) (first : trees.Passes old mid) (second : trees.Passes mid later) (third : trees.Passes later new) (files : shelves.History) (since : ℕ) where
+  -- the record as a map, and which paths have an entry
+  abbrev pub flat : Flat
+  flat = flat_from p1 p2 (row_at rows)
+
+  abbrev pub keeps : Kept
+  keeps path = is_some (row_at rows path)
+
   -- what is left over the whole status
   abbrev pub Left : List ℕ → Type 0
-  Left = IsLeft wanted (flat_in flat) (asked_by wanted (flat_in flat)) id new old.last files since
-
-  -- an entry that is left while the entries are looked at, from the start on
-  abbrev pub LeftRow : FlatRow → Type 0
-  LeftRow = IsLeftRow wanted id later old.last files since
+  Left = IsLeft wanted flat asks id new old.last files since
 
   past : trees.Extends old later
   past = extends_trans old mid later first.past second.past
 
-  pub row_left : (k : FlatRow) → Contains flat.rows.items k → Left k.path → LeftRow k
-  row_left k has left = left_row flat wanted id old later new past third.past files since k has left
+  -- a path that is left is so while the entries are looked at
+  left_then : (path : List ℕ) → Left path → IsLeftAsked asks id later old.last files since path
+  left_then path left = record {
+    own = untouched_first later new old.last path third.past past.later left.own;
+    row = λ asked. left.row (subst (λ (m : Moment). IsAsked asks m path) (sym (third.past.stay old.last past.later)) asked);
+  }
 
-  pub tracked_whole : (start : shelves.Files) (a b : List Row) → AddsTracked (IsLeftRow wanted id later mid.last files since) start id (trees.now mid) wanted flat.rows.items a b
-      → AddsTracked LeftRow start id (trees.now old) wanted flat.rows.items a b
+  tracked_whole : (start : shelves.Files) (a b : List Row) → AddsBy asks Premise (IsLeftAsked asks id later mid.last files since) start id (trees.now mid) wanted rows a b
+      → AddsBy asks Premise Left start id (trees.now old) wanted rows a b
   tracked_whole start a b added =
-      tracked_moved (IsLeftRow wanted id later mid.last files since) LeftRow start id (trees.now mid) (trees.now old) wanted flat.rows.items a b
-      (λ k left. left_second wanted id old mid later first.past second.past files since k left)
-      (λ k left. alike_between old mid later k.path first.past second.past left.own) added
+      adds_moved asks same Premise Premise (λ premise. premise) (IsLeftAsked asks id later mid.last files since) Left start id (trees.now mid) (trees.now old) wanted rows a b
+      (λ path left. left_ended asks same id old mid later first.past second.past files since path (left_then path left))
+      (λ path left. alike_between old mid later path first.past second.past (left_then path left).own) added
 
-  pub lists_whole : (L : List Piece) (a b : List Row) → ListsUnknown (kept_of flat) (Gives wanted L) (Untouched new later.last) (IsUnknownIn (kept_of flat) (trees.now later) None) a b
-      → ListsUnknown (kept_of flat) (Gives wanted L) Left (IsUnknownIn (kept_of flat) (trees.now old) None) a b
-  lists_whole L a b lists = lists_later old later new past third.past (kept_of flat) (Gives wanted L) Left (λ path left. left.own) a b lists
+  lists_whole : (passed : List ℕ → Bool) (state : List Piece) (a b : List Row) → ArePassed passed later mid.last
+      → ListsSince keeps passed (Gives wanted state) later new (IsUnknownIn keeps (trees.now later) None) a b → ListsUnknown keeps (Gives wanted state) Left (IsUnknownIn keeps (trees.now old) None) a b
+  lists_whole passed state a b are lists =
+      lists_later old later new past third.past mid.last first.past.later second.past.later keeps (Gives wanted state) Left (λ path left. left.own) a b (lists mid.last are)
 
   -- where the patterns decide the letter of a path that is left, they are those of the start
-  pub asks_start : (ignore : Option (List Piece)) → IsKeptState wanted old mid ignore → (path : List ℕ) → Left path → kept_of flat path ≡ false → needs_patterns wanted ≡ true → pieces_of ignore ≡ Ignore (trees.now old)
-  asks_start ignore kept path left none needed =
+  state_start : (ignore : Option (List Piece)) → IsKeptState wanted old mid ignore → (path : List ℕ) → Left path → keeps path ≡ false → needs_patterns wanted ≡ true → pieces_of ignore ≡ Ignore (trees.now old)
+  state_start ignore kept path left none needed =
       state_kept old mid new first (extends_trans mid later new second.past third.past) wanted ignore kept needed
-      (left.patterns needed (ap (option_map (λ (r : FlatRow). marks_of (view r.entry))) (none_is (rows_of flat path) none)))
+      (left.patterns needed (ap (option_map (λ (r : FlatRow). marks_of (view r.entry))) (none_is (row_at rows path) none)))
+
+  module _ (start : shelves.Files) (a d : List Row) (added : AddsBy asks Premise (IsLeftAsked asks id later mid.last files since) start id (trees.now mid) wanted rows [] a) (ignore : Option (List Piece)) (kept : IsKeptState wanted old mid ignore)
+      (passed : List ℕ → Bool) (are : ArePassed passed later mid.last) (others : ListsOthers keeps passed wanted (pieces_of ignore) later new a d) where
+    -- of the paths that are left the rows are the full listing
+    pub whole_listing : Premise → IsFullFor Left flat (trees.now old) (parent_rows start id) (ignored_at (trees.now old)) wanted d
+    whole_listing premise =
+        full_for p1 p2 (row_at rows) start id (trees.now old) wanted (named rows) asks Premise Left rows own (holds_rows rows own) a others.whole (tracked_whole start [] a added)
+        (pieces_of ignore) (state_start ignore kept) (lists_whole passed (pieces_of ignore) a others.whole are others.listed) premise others.sorted d others.moved others.order others.once
+
+    -- all that a comparison of one of them asked for was there
+    pub whole_served : Narrows asks wanted flat → (path : List ℕ) → Left path → IsAsked asks (trees.now old) path → IsServed start id (trees.now old) path
+    whole_served =
+        served_path p1 p2 (row_at rows) start id (trees.now old) wanted (named rows) asks Premise Left rows own (holds_rows rows own) a others.whole (tracked_whole start [] a added)
+        (pieces_of ignore) (state_start ignore kept) (lists_whole passed (pieces_of ignore) a others.whole are others.listed)

@@ -1,8 +1,10 @@
 pub mod Asked
 pub mod Course
+pub mod Judged
 pub mod Kept
 pub mod Listing
 pub mod Met
+pub mod Others
 pub mod Parent
 pub mod Passed
 pub mod Patterns

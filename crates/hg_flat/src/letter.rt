@@ -1,6 +1,6 @@
 //! The row of one path.
 
-ghost use Rattle.std.specs.Prelude.{◌≡◌, ◌++◌, ◌∷◌, [], Some, None, false, true, OnOk, IfErr, IfOk, IsTrue, if◌then◌else◌, is_some, ◌||◌};
+ghost use Rattle.std.specs.Prelude.{◌≡◌, ◌++◌, ◌∷◌, [], Some, None, false, true, OnOk, IfErr, IfOk, IsTrue, if◌then◌else◌, is_some, ◌||◌, option_map};
 ghost use Rattle.hg_shelf.specs.History as shelves;
 ghost use Rattle.hg_shelf.specs.Images as images;
 ghost use Rattle.hg_tree.specs.History as trees;
@@ -13,12 +13,14 @@ ghost use Rattle.hg_flat.specs.Listing.{AddsTracked, AsksRow, IsLeftRow, IsLette
 ghost use Rattle.hg_flat.specs.Met.{Status};
 ghost use Rattle.hg_flat.specs.Parent.{Asking, WasAsked};
 ghost use Rattle.hg_flat.specs.Stored.{AsksStore};
+ghost use Rattle.hg_flat.specs.declared.kept.FlatRow.{FlatRow};
 
 use crate::comparing::{compared_letter, letter_of};
-use crate::kept::FlatRow;
+use crate::kept::{FlatRow, item_of};
 use crate::parent::Parent;
-use hg_base::{Kind, OutOfMemory, Path, Stat};
+use hg_base::{Kind, OutOfMemory, Path, PathRef, Stat};
 use hg_compare::Letter;
+use hg_entry::Entry;
 use hg_listing::{Row, StatusFault, Wanted};
 use hg_shelf::Shelf;
 use hg_tree::Tree;
@@ -53,23 +55,30 @@ pub fn wants_bytes(wanted: Wanted) -> bool
     wanted.m || wanted.c
 }
 
-// The letter that the marks and the source of a tracked path give it where a look shows this, or none where its bytes decide.
-fn marked_letter(kept: &FlatRow, there: &Stat) -> Option<Letter>
-    ensures { result ≡ marked_letter kept.now there.now }
+/// The letter of a tracked path by its marks, where a look shows this, or none where its bytes decide.
+pub fn letter_by_marks(entry: &Entry, copied: bool, there: &Stat) -> Option<Letter>
+    ensures { (kept : FlatRow) → kept.entry ≡ entry.now → is_some kept.source ≡ copied → result ≡ marked_letter kept there.now }
 {
     if !matches!(there.kind, Kind::File | Kind::Link) {
         return Some(Letter::Gone);
     }
-    if kept.entry.p2 {
+    if entry.p2 {
         return Some(Letter::M);
     }
-    if !kept.entry.p1 {
+    if !entry.p1 {
         return Some(Letter::A);
     }
-    if kept.source.is_some() {
+    if copied {
         return Some(Letter::M);
     }
     None
+}
+
+// The same of a row.
+fn marked_letter(kept: &FlatRow, there: &Stat) -> Option<Letter>
+    ensures { result ≡ marked_letter kept.now there.now }
+{
+    letter_by_marks(&kept.entry, kept.source.is_some(), there)
 }
 
 // The letter of a tracked path where a look shows something, or none where it isn't wanted.
@@ -212,26 +221,31 @@ fn find_letter<T: Tree, S: Shelf>(
     letter_there(alloc, tree, shelf, kept, &there, parent, wanted)
 }
 
-fn copy_of(alloc: Global, path: &Option<Path>) -> Result<Option<Path>, OutOfMemory>
-    ensures { IfOk result (λ copy. copy ≡ path.now) }
+fn copy_of(alloc: Global, path: Option<PathRef<'_>>) -> Result<Option<Path>, OutOfMemory>
+    ensures { IfOk result (λ copy. copy ≡ option_map (λ path. path.text.now) path.entry) }
 {
     match path {
         None => Ok(None),
-        Some(path) => Ok(Some(Path::of(alloc, path.as_ref())?)),
+        Some(path) => Ok(Some(Path::of(alloc, path)?)),
     }
 }
 
-// Puts the row of an entry under a letter.
+// Puts the row of a path under a letter.
 fn put_under(
     alloc: Global,
-    kept: &FlatRow,
+    path: PathRef<'_>,
+    source: Option<PathRef<'_>>,
     letter: Letter,
     rows: &mut Vec<Row>,
 ) -> Result<(), OutOfMemory>
-    ensures { OnOk result (rows.new.items ≡ rows.old.items ++ (row_under kept.now letter) ∷ []) }
+    ensures { OnOk
+        result
+        ((kept : FlatRow) → kept.path ≡ path.entry.text.now
+        → kept.source ≡ option_map (λ source. source.text.now) source.entry
+        → rows.new.items ≡ rows.old.items ++ (row_under kept letter) ∷ []) }
 {
-    let path = Path::of(alloc, kept.path.as_ref())?;
-    let source = copy_of(alloc, &kept.source)?;
+    let path = Path::of(alloc, path)?;
+    let source = copy_of(alloc, source)?;
     rows.push(Row {
         letter,
         path,
@@ -240,20 +254,25 @@ fn put_under(
     Ok(())
 }
 
-// Puts it where there is a letter and it is wanted.
-fn put_wanted(
+/// Puts the row of a path with its copy source, where there is a letter and it is wanted.
+pub fn put_wanted(
     alloc: Global,
-    kept: &FlatRow,
+    path: PathRef<'_>,
+    source: Option<PathRef<'_>>,
     letter: Option<Letter>,
     wanted: Wanted,
     rows: &mut Vec<Row>,
 ) -> Result<(), OutOfMemory>
-    ensures { OnOk result (rows.new.items ≡ rows.old.items ++ rows_under wanted kept.now letter) }
+    ensures { OnOk
+        result
+        ((kept : FlatRow) → kept.path ≡ path.entry.text.now
+        → kept.source ≡ option_map (λ source. source.text.now) source.entry
+        → rows.new.items ≡ rows.old.items ++ rows_under wanted kept letter) }
 {
     match letter {
         None => Ok(()),
         Some(letter) => if wants(wanted, letter) {
-            put_under(alloc, kept, letter, rows)
+            put_under(alloc, path, source, letter, rows)
         } else {
             Ok(())
         },
@@ -318,6 +337,13 @@ pub(crate) fn add_tracked<T: Tree, S: Shelf>(
     ensures cause_shelf { HasShelfCause (S.faults shelf.old) (S.faults shelf.new) result }
 {
     let letter = find_letter(alloc, tree, shelf, kept, parent, wanted)?;
-    put_wanted(alloc, kept, letter, wanted, rows)?;
+    put_wanted(
+        alloc,
+        kept.path.as_ref(),
+        item_of(kept).source,
+        letter,
+        wanted,
+        rows,
+    )?;
     Ok(())
 }

@@ -4,7 +4,8 @@
 //! removed, `!` tracked but missing, `C` clean, `?` not tracked, `I` not tracked and ignored. The plain status looks at every tracked path and at everything
 //! that stands in the working copy, but for what is in an ignored directory where `I` isn't wanted, and compares all bytes with the first parent's, as the plain
 //! store below `.hg` has them; it trusts no recorded time. `Flat` is the map, read from an `Image` by `Flat::read`; `plain_status` gives the rows, and its
-//! contract says that they are the full listing. `visit` lists what else stands in a directory, over any `Entries`.
+//! contract says that they are the full listing. `visit` lists what else stands in a directory, over any `Entries`, and `list_others` all that does, and puts the
+//! rows of a status in order.
 //!
 //! ```text
 //! let flat = Flat::read(alloc, &image)?;
@@ -24,6 +25,7 @@ mod kept;
 mod letter;
 mod listed;
 mod listing;
+mod others;
 mod parent;
 mod patterns;
 mod reading;
@@ -37,9 +39,10 @@ pub use full::one_listing;
 pub use hg_compare::Letter;
 pub use hg_listing::{Row, Rows, StatusFault, Wanted};
 pub use kept::FlatRow;
-pub use letter::{wants, wants_bytes, wants_tracked};
+pub use letter::{letter_by_marks, put_wanted, wants, wants_bytes, wants_tracked};
 pub use listed::Listed;
 pub use listing::visit;
+pub use others::list_others;
 pub use parent::Parent;
 pub use patterns::{needs_patterns, read_patterns, warnings_of};
 pub use status::plain_status;

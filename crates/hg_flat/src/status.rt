@@ -1,33 +1,32 @@
 //! The plain status of a working copy.
 
-ghost use Rattle.std.specs.Prelude.{◌≡◌, true, false, ℕ, List, None, IsTrue, IfErr, IfOk, OnOk, is_some, option_map};
+ghost use Rattle.std.specs.Prelude.{◌≡◌, true, false, ℕ, List, IsTrue, IfErr, IfOk, OnOk};
 ghost use Rattle.hg_shelf.specs.History as shelves;
 ghost use Rattle.hg_shelf.specs.Images as images;
 ghost use Rattle.hg_shelf.specs.Polite.{KeepsPlain};
 ghost use Rattle.hg_tree.specs.History as trees;
-ghost use Rattle.hg_tree.specs.Still.{Untouched};
-ghost use Rattle.hg_flat.specs.Asked.{AsksAll, AsksBehind, AsksFor, AsksReads, IsDirIn, IsListedDir, pattern_reads};
-ghost use Rattle.hg_listing.specs.Cause.{HasListingCause, HasShelfCause, HasStatusCause};
-ghost use Rattle.hg_flat.specs.Course.{MetParent, pieces_of};
+ghost use Rattle.hg_flat.specs.Asked.{AsksAll, AsksBehind, AsksReads, IsListedDir, pattern_reads};
+ghost use Rattle.hg_listing.specs.Cause.{HasShelfCause, HasStatusCause};
+ghost use Rattle.hg_flat.specs.Course.{MetParent};
+ghost use Rattle.hg_flat.specs.Judged.{AddsBy, IsLeftAsked};
 ghost use Rattle.hg_listing.specs.Full.{IsFull, IsFullFor};
 ghost use Rattle.hg_flat.specs.Met.{Met};
 ghost use Rattle.hg_flat.specs.Parent.{IsAsked, IsLeft, IsServed, WasAsked, asked_by, parent_rows};
 ghost use Rattle.hg_flat.specs.Patterns.{CountsOversize, HadPatterns, Warns, ignored_at, is_of_parent, needs_patterns};
-ghost use Rattle.hg_flat.specs.Listing.{AddsTracked, Gives, IsEntered, IsLeftRow, IsUnknownIn, ListsUnknown};
 ghost use Rattle.hg_flat.specs.Stored.{AsksStore};
-ghost use Rattle.hg_flat.specs.Shown.{flat_in, kept_of};
+ghost use Rattle.hg_flat.specs.Shown.{flat_in};
 
 use crate::flat::Flat;
 use crate::letter::add_tracked;
 use crate::listed::Listed;
-use crate::listing::visit;
+use crate::others::list_others;
 use crate::parent::Parent;
-use crate::patterns::{read_patterns, warnings_of};
+use crate::patterns::read_patterns;
 use hg_base::Id20;
-use hg_ignore::{Ignore, Regexps};
-use hg_listing::{Row, Rows, StatusFault, Wanted};
+use hg_ignore::Regexps;
+use hg_listing::{Row, StatusFault, Wanted};
 use hg_shelf::Shelf;
-use hg_tree::{Tree, TreeFault};
+use hg_tree::Tree;
 use std::alloc::Global;
 
 // Looks at each path with an entry, in order.
@@ -46,9 +45,11 @@ fn add_each<T: Tree, S: Shelf>(
     ensures held { S.held shelf.new ≡ S.held shelf.old }
     ensures added { OnOk
         result
-        (AddsTracked
-        (IsLeftRow
-        wanted
+        (AddsBy
+        (asked_by wanted (flat_in flat.now))
+        (Unit {0})
+        (IsLeftAsked
+        (asked_by wanted (flat_in flat.now))
         p1.now
         (T.history tree.new)
         (T.history tree.old).last
@@ -99,57 +100,6 @@ fn add_each<T: Tree, S: Shelf>(
         add_tracked(alloc, tree, shelf, kept, &mut parent, wanted, rows)?;
     }
     Ok(())
-}
-
-// Looks at what else stands in the working copy, where that is wanted and so patterns were read.
-fn add_others<T: Tree>(
-    alloc: Global,
-    flat: &Flat,
-    ignore: Option<&Ignore>,
-    tree: &mut T,
-    wanted: Wanted,
-    rows: &mut Vec<Row>,
-) -> Result<(), TreeFault>
-    requires { is_some (option_map (λ i. i.now) ignore) ≡ needs_patterns wanted }
-    ensures passes { trees.Passes (T.history tree.old) (T.history tree.new) }
-    ensures listed { OnOk
-        result
-        (ListsUnknown
-        (kept_of flat.now)
-        (Gives wanted (pieces_of (option_map (λ i. i.now) ignore.entry)))
-        (Untouched (T.history tree.new) (T.history tree.old).last)
-        (IsUnknownIn (kept_of flat.now) (trees.now (T.history tree.old)) None)
-        rows.old.items
-        rows.new.items) }
-    ensures asked { IsTrue (T.history tree.old).told
-        → AsksFor
-        (λ dir. (needs_patterns wanted ≡ true)
-        × IsDirIn
-        (IsEntered wanted (pieces_of (option_map (λ i. i.now) ignore.entry)))
-        (T.history tree.old)
-        (T.history tree.new)
-        None
-        dir)
-        (T.history tree.old)
-        (T.history tree.new) }
-    ensures cause { HasListingCause (T.faults tree.old) (T.faults tree.new) result }
-{
-    let Some(ignore) = ignore else {
-        return Ok(());
-    };
-    let mut matcher = ignore.matcher(alloc)?;
-    let mut next = 0;
-    visit(
-        alloc,
-        tree,
-        flat,
-        None,
-        &mut matcher,
-        false,
-        wanted,
-        &mut next,
-        rows,
-    )
 }
 
 /// ListsUnknown each path with a wanted letter: first each path with an entry, in order, then, where `?` or I is wanted, everything that stands in
@@ -277,10 +227,5 @@ pub fn plain_status<T: Tree, S: Shelf, G: Regexps>(
     let ignore = read_patterns(alloc, tree, regexps, wanted)?;
     let mut rows = Vec::new(alloc);
     add_each(alloc, flat, p1, tree, shelf, wanted, &mut rows)?;
-    add_others(alloc, flat, ignore.as_ref(), tree, wanted, &mut rows)?;
-    rows.sort()?;
-    rows.dedup();
-    let rows = Rows::of(rows);
-    let warnings = warnings_of(alloc, ignore);
-    Ok(Listed { rows, warnings })
+    list_others(alloc, flat, ignore, tree, wanted, rows)
 }

@@ -8,6 +8,7 @@ pub mod Dropped
 pub mod DroppedWhole
 pub mod Edited
 pub mod Freed
+pub mod Gathering
 pub mod Handed
 pub mod ImageFormed
 pub mod ImageRows
@@ -19,6 +20,7 @@ pub mod Lifted
 pub mod Listed
 pub mod Moving
 pub mod Nearest
+pub mod Ordered
 pub mod Planted
 pub mod Pruned
 pub mod Rows

@@ -4,6 +4,7 @@ pub mod Children
 pub mod Clash
 pub mod Drop
 pub mod Edits
+pub mod Gathered
 pub mod Held
 pub mod Kids
 pub mod Lent

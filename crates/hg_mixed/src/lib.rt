@@ -16,6 +16,8 @@
 //! Of two tracked paths none stands below the other (Mercurial tracks files, and no file is a directory): `set` refuses an entry that would make
 //! an untracked path tracked beside one above or below it, and names the least such path. Each refused edit leaves all as it was.
 //!
+//! `gather` lists all nodes that have an entry or a cache, ascending by the bytes of their paths (a walk meets `a/b` before `a.c`).
+//!
 //! What a table still lends from its image is told by `is_lent`, `lent` and the places of a `Child`: the lists of children that no edit has touched,
 //! and the texts that have stayed. None counts as lent, since a table is written anew as a whole.
 //!
@@ -36,6 +38,7 @@ mod children;
 mod clash;
 mod edits;
 mod fault;
+mod gathered;
 mod kids;
 mod laws;
 mod lent;
@@ -61,6 +64,7 @@ pub use below::Below;
 pub use child::Child;
 pub use children::Children;
 pub use fault::SetFault;
+pub use gathered::gather;
 pub use laws::one_drop;
 pub use mixed::Mixed;
 pub use walk::Walk;

@@ -1,4 +1,3 @@
-pub mod Gathering
 pub mod Lines
 pub mod Ordered
 pub mod Recorded

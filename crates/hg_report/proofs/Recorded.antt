@@ -1,26 +1,25 @@
 -- The text of a record.
-use Rattle.std.proofs.Common.{ℕ, ◌≡◌, ◌-◌, ◌^◌, Bool, true, false, ◌&&◌, ◌||◌, cond, inl, inr, List, [], ◌∷◌, ◌++◌, length, replicate, Option, Some, None, refl, sym, ap, ◌∙◌, subst, true≢false, nat_cmp, arith}
+use Rattle.std.proofs.Common.{ℕ, ◌≡◌, ◌-◌, ◌^◌, Bool, true, false, ◌&&◌, ◌||◌, cond, inl, inr, List, [], ◌∷◌, ◌++◌, length, replicate, Option, Some, None, refl, sym, ap, ◌∙◌, true≢false, nat_cmp, arith}
 use Rattle.std.specs.Prelude.{is_some}
 use Rattle.std.specs.Fmt.{char_count, decimal, format_spec, padded_integral, styled_decimal}
 use Rattle.std.specs.List.{AllByRecursion, filter, flat_map, list_any}
-use Rattle.std.specs.List.Sorted.{IsPermutation, IsStrictlySortedBy}
+use Rattle.std.specs.List.Sorted.{IsStrictlySortedBy}
 use Rattle.std.specs.Str.{bytes_eq}
 use Rattle.std.specs.Cmp.Lexicographic.{slice_cmp}
 use Rattle.std.proofs.lemmas.Bool.{cases_Bool, or_left}
 use Rattle.std.proofs.lemmas.List.{append-nil}
 use Rattle.std.proofs.lemmas.List.Concat.{flat_map-cons}
-use Rattle.std.proofs.lemmas.List.Elements.{All-from_recursion, recursion_from_All}
 use Rattle.std.proofs.lemmas.List.Kept.{IsStrictlySortedBy-filter}
-use Rattle.std.proofs.lemmas.List.Sorted.{All-permutation, IsPermutation-map, list_any-IsPermutation}
 use Rattle.hg_base.specs.Within.{is_above}
 use Rattle.hg_base.proofs.Within.{same_bytes}
 use Rattle.hg_entry.specs.Entry.{EntryData}
 use Rattle.hg_mixed.specs.Edits.{IsFormed}
+use Rattle.hg_mixed.specs.Gathered.{AreGathered, Shows, is_recorded, path_of, paths_of}
 use Rattle.hg_mixed.specs.Held.{Held, table}
 use Rattle.hg_mixed.specs.declared.child.Child.{Child}
-use Rattle.hg_report.specs.Debug.{IsDebugText, OneDebugText, copy_line, copy_lines, is_copied, is_recorded, nine_digits, parent_lines, record_line, record_lines}
-use Rattle.hg_report.specs.Gathered.{AreGathered, Gathers, Shows, path_of, paths_of, row_copy, row_line}
-use Rattle.hg_report.proofs.Ordered.{distinct_moved, one_all, same_bool}
+use Rattle.hg_mixed.proofs.Ordered.{same_bool}
+use Rattle.hg_report.specs.Debug.{IsDebugText, OneDebugText, copy_line, copy_lines, is_copied, nine_digits, parent_lines, record_line, record_lines, row_copy, row_line}
+use Rattle.hg_report.proofs.Ordered.{one_all}
 
 -- ---- times
 
@@ -29,24 +28,6 @@ unfolding padded_integral char_count
 nine_padded n =
     let e : 9 - length (decimal n) - 0 - 0 ≡ 9 - length (decimal n) = omega arith in
     ap (λ (k : ℕ). replicate k 48 ++ (decimal n ++ [])) e ∙ ap (λ (l : List ℕ). replicate (9 - length (decimal n)) 48 ++ l) (append-nil (decimal n))
-
--- ---- in order
-
-module _ (held : Held) where
-  pub gathered_moved : (test : List ℕ → Bool) (a b : List Child) → IsPermutation a b → AreGathered held test a → AreGathered held test b
-  gathered_moved test a b moved are =
-      let paths : IsPermutation (paths_of a) (paths_of b) = IsPermutation-map path_of a b moved in
-      let Sound : Child → Type 0 = λ row. (test (path_of row) ≡ true) × (is_recorded (table held) (path_of row) ≡ true) × Shows held row in
-      record {
-        own = distinct_moved (paths_of a) (paths_of b) paths are.own;
-        each = recursion_from_All Sound b (All-permutation Sound a b moved (All-from_recursion Sound a are.each));
-        all = λ p is there. sym (list_any-IsPermutation (bytes_eq p) (paths_of a) (paths_of b) paths) ∙ are.all p is there;
-      }
-
-  pub gathered_all : (test : List ℕ → Bool) (none old new : List Child) → none ≡ [] → Gathers held test none new → IsPermutation new old → AreGathered held test old
-  gathered_all test none old new empty g moved =
-      let whole : new ≡ g.0 = g.1 ∙ ap (λ (l : List Child). l ++ g.0) empty in
-      gathered_moved test new old moved (subst (AreGathered held test) (sym whole) g.2)
 
 -- ---- the lists of paths
 

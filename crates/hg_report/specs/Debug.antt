@@ -1,5 +1,6 @@
 -- The text of a record: its parents, a line for each entry and each cached directory, and a line for each copy source.
-use Rattle.std.specs.Prelude.{ℕ, ◌≡◌, ◌-◌, Bool, ◌||◌, if◌then◌else◌, List, [], ◌∷◌, ◌++◌, length, replicate, Option, Some, None, is_some, codes}
+use Rattle.std.specs.Prelude.{ℕ, ◌≡◌, ◌-◌, Bool, if◌then◌else◌, List, [], ◌∷◌, ◌++◌, length, replicate, Option, Some, None, is_some, codes}
+use Rattle.std.specs.Option.{option_map}
 use Rattle.std.specs.Fmt.{decimal}
 use Rattle.std.specs.List.{flat_map, list_any}
 use Rattle.std.specs.List.Sorted.{IsStrictlySortedBy}
@@ -7,10 +8,12 @@ use Rattle.std.specs.Ordering.{nat_cmp}
 use Rattle.std.specs.Cmp.Lexicographic.{slice_cmp}
 use Rattle.std.specs.Str.{bytes_eq}
 use Rattle.hex.specs.Hex.{encode_lower}
-use Rattle.hg_entry.specs.Entry.{EntryData, StampData, state_of}
+use Rattle.hg_entry.specs.Entry.{EntryData, StampData, stamp_view, state_of, view}
 use Rattle.hg_entry.specs.Table.{Table}
 use Rattle.hg_entry.specs.declared.entry.State.{State}
 use Rattle.hg_entry.specs.declared.entry.State.TheVariants as a_state
+use Rattle.hg_mixed.specs.Gathered.{is_recorded, path_of}
+use Rattle.hg_mixed.specs.declared.child.Child.{Child}
 
 -- the letter of what an entry says of its file: a r m n
 abbrev pub state_sign : State → ℕ
@@ -62,13 +65,16 @@ abbrev pub copy_line : List ℕ → Option (List ℕ) → List ℕ
 copy_line path None = []
 copy_line path (Some source) = codes "copy: " ++ source ++ codes " -> " ++ path ++ 10 ∷ []
 
+-- the lines of a row: what is recorded of its path, and where it was copied from
+abbrev pub row_line : Child → List ℕ
+row_line row = record_line (path_of row) (option_map view row.entry) (option_map stamp_view row.cache)
+
+abbrev pub row_copy : Child → List ℕ
+row_copy row = copy_line (path_of row) (option_map (λ s. s.text.now) row.source)
+
 -- the lines of the parents
 abbrev pub parent_lines : List ℕ → List ℕ → List ℕ
 parent_lines p1 p2 = codes "p1 " ++ encode_lower p1 ++ codes "\np2 " ++ encode_lower p2 ++ 10 ∷ []
-
--- a path has an entry, or is a cached directory
-abbrev pub is_recorded : Table → List ℕ → Bool
-is_recorded table path = is_some (table.entries path) || is_some (table.caches path)
 
 -- a path has a copy source
 abbrev pub is_copied : Table → List ℕ → Bool

@@ -7,13 +7,11 @@ ghost use Rattle.std.specs.String.{string_bytes};
 ghost use Rattle.hg_entry.specs.Entry.{stamp_view, view};
 ghost use Rattle.hg_mixed.specs.Held.{table};
 ghost use Rattle.hg_report.specs.Debug as text_is;
-ghost use Rattle.hg_report.specs.Debug.{IsDebugText, OneDebugText, cache_line, doubt_text, entry_line, mode_sign, parent_lines};
-ghost use Rattle.hg_report.specs.Gathered.{row_copy, row_line};
+ghost use Rattle.hg_report.specs.Debug.{IsDebugText, OneDebugText, cache_line, doubt_text, entry_line, mode_sign, parent_lines, row_copy, row_line};
 
-use crate::gather::gather;
 use hg_base::{Id20, OutOfMemory, PathRef, Stamp};
 use hg_entry::{Entry, State};
-use hg_mixed::{Child, Mixed};
+use hg_mixed::{Child, Mixed, gather};
 use std::alloc::Global;
 
 fn state_sign(state: State) -> u8

@@ -4,6 +4,7 @@
 //! ends each name by NUL, `-C` puts the copy source of an added or modified file on a line of its own. A fault prints `abort: `, its
 //! text and a line's end on the error stream; the one that met the error stream itself prints nothing. A warning says which line of
 //! `.hgignore` names a syntax that isn't known. A word that a command refused has a line with the command, the word, and why.
+//! Two statuses over a working copy that was made in memory are told by the numbers of their rows.
 //!
 //! ```text
 //! status_text(alloc, &rows, Style { plain: false, nul: false, copies: false })?;  // "A a\n! b\n? c\n"
@@ -15,7 +16,7 @@
 mod debug;
 mod fault;
 mod fault_line;
-mod gather;
+mod load;
 mod refusal_line;
 mod status;
 mod warnings;
@@ -23,6 +24,7 @@ mod warnings;
 pub use debug::{debug_text, one_debug_text};
 pub use fault::Fault;
 pub use fault_line::fault_text;
+pub use load::{Counts, load_text};
 pub use refusal_line::refusal_text;
 pub use status::{Style, status_text};
 pub use warnings::warnings_text;

@@ -19,8 +19,8 @@ use std::alloc::Global;
 /// refused words, and the line of a fault to `err`. `regexps` compiles the ignore patterns.
 ///
 /// A fault that is met before leaves the warnings and the refused words out: its line stands alone. Where the error stream fails while they
-/// are written, the fault is `ErrFailed`, and nothing more is written. A command that isn't built is answered as such, and so is a script, which is
-/// no single command.
+/// are written, the fault is `ErrFailed`, and nothing more is written. A script and a load are answered as not built here: they are no single
+/// commands.
 pub fn command<T: Tree, S: Shelf, G: Regexps, O: Sink, E: Sink>(
     alloc: Global,
     command: &Command,

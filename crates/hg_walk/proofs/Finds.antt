@@ -110,7 +110,7 @@ vouched_letter path entry copied before copy files vouched s parent table reache
     found_same (shelves.now s.shelf_old).files s.id (trees.now copy) path
     (clean_by entry.w (is_file_or_link ((trees.now copy).things path)) entry.p2 entry.p1 copied (is_unchanged (rows_then s path) ((trees.now copy).things path))
     (subst (λ (b : Bool). tracked_letter (rows_then s path) (marks_of entry) b ((trees.now copy).things path) ≡ Some a_letter.C) (sym recorded.copied)
-    (right.clean copy.last path entry before reached.goes.tree.past.later (omega arith) recorded.entry reached.shown
+    ((right vouched).clean copy.last path entry before reached.goes.tree.past.later (omega arith) recorded.entry reached.shown
     (subst (λ (b : Bool). vouches entry b before ≡ true) recorded.copied vouched))))
 
 -- ---- a path that is compared

@@ -44,7 +44,7 @@ trust_stays rows table old new p trusted = record {
 
 -- ---- one note more
 
-only_one : {A : Type 0} (x y : A) → Contains (x ∷ []) y → x ≡ y
+pub only_one : {A : Type 0} (x y : A) → Contains (x ∷ []) y → x ≡ y
 only_one x y (zero, below, is) = is
 only_one x y (suc k, below, is) = absurd (omega (arith, below))
 
@@ -72,7 +72,7 @@ first_found : {A : Type 0} (test : A → Bool) (x : A) (xs : List A) (y : A) (t 
 first_found test x xs y true so same rest = let one : x ≡ y = cc same in (ap test (sym one) ∙ so, (0, omega arith, one))
 first_found test x xs y false so same rest = let more = rest same in (more.0, later x xs y more.1)
 
-found : {A : Type 0} (test : A → Bool) (xs : List A) (y : A) → find test xs ≡ Some y → (test y ≡ true) × Contains xs y
+pub found : {A : Type 0} (test : A → Bool) (xs : List A) (y : A) → find test xs ≡ Some y → (test y ≡ true) × Contains xs y
 found test [] y is = absurd (cc is)
 found test (x ∷ xs) y is = first_found test x xs y (test x) refl is (found test xs y)
 

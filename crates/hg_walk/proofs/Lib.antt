@@ -8,6 +8,12 @@ pub mod Listed
 pub mod Noted
 pub mod OneNote
 pub mod Parts
+pub mod Rows
+pub mod Tells
+pub mod TellsEach
+pub mod TellsNotes
+pub mod Tracks
 pub mod Vouched
+pub mod Walks
 pub mod Written
 pub mod Example

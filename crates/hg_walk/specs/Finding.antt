@@ -59,11 +59,11 @@ pub record IsRecordOf (table : Table) (l : Look) : Type 0 where
   pub entry : table.entries l.path ≡ Some l.entry
   pub copied : l.copied ≡ is_some (table.sources l.path)
 
--- a letter is that of the path by what the first parent has of it, where the record's times are right over the call and nobody touches the path, nor
--- what the parent has of it where the entry doesn't vouch
+-- a letter is that of the path by what the first parent has of it, where nobody touches the path, and the record's times are right over the call where
+-- the entry vouches, and nobody touches what the parent has of the path where it doesn't
 abbrev pub HasLetter : Look → Status → Parent → Letter → Type 0
 HasLetter l s parent letter =
-    (table : Table) → IsReached l s parent → AreRight (rows_then s) table s.tree_old l.tree_new → IsRecordOf table l
+    (table : Table) → IsReached l s parent → (is_vouched l ≡ true → AreRight (rows_then s) table s.tree_old l.tree_new) → IsRecordOf table l
     → StaysShown l.tree_old l.tree_new l.path → (is_vouched l ≡ false → KeepsOwn l s)
     → IsFound (shelves.now s.shelf_old).files s.id (trees.now l.tree_old) l.path letter
 

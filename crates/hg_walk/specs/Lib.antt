@@ -5,8 +5,11 @@ pub mod Keeping
 pub mod Laws
 pub mod Notes
 pub mod Noting
+pub mod Passing
 pub mod Right
 pub mod Seeing
+pub mod Telling
+pub mod Tracked
 pub mod Trust
 pub mod Walking
 pub mod Worked

@@ -1,8 +1,9 @@
 -- What a walk over a record answers: which paths it compares, what it notes, and what its notes make of the record.
-use Rattle.std.specs.Prelude.{ℕ, ◌≡◌, Bool, true, false, not, ◌&&◌, IsTrue, List, [], Option, Some, None, IsSomeAnd, is_some}
+use Rattle.std.specs.Prelude.{ℕ, ◌≡◌, ◌≤◌, Bool, true, false, not, ◌&&◌, IsTrue, List, [], Option, Some, None, is_some}
 use Rattle.std.specs.List.{Contains}
 use Rattle.hg_base.specs.declared.id.Id20.{Id20}
 use Rattle.hg_base.specs.declared.stat.Stat.{Stat}
+use Rattle.hg_base.specs.declared.time.Time.{Time}
 use Rattle.hg_compare.specs.Tracked.{ParentRow, tracked_letter}
 use Rattle.hg_compare.specs.declared.letter.Letter.TheVariants as a_letter
 use Rattle.hg_entry.specs.Entry.{EntryData}
@@ -75,6 +76,20 @@ pub record AreNeeded (table : Table) (notes : NotesData) : Type 0 where
   pub seen : notes.seen ≡ []
   pub gone : notes.gone ≡ []
   pub hash : notes.hash ≡ None
+
+-- a moment of a call shows this
+pub record WasMoment (old new : trees.History) (P : Moment → Type 0) : Type 0 where
+  pub at : ℕ
+  pub from : old.last ≤ at
+  pub to : at ≤ new.last
+  pub so : P (new.at at)
+
+-- the time of each note is that of a look in the walk, by one boundary, which was the clock's in it
+pub record AreNoted (old new : trees.History) (notes : NotesData) : Type 0 where
+  pub boundary : Time
+  pub clock : IsTrue old.told → (note : CleanNote) → Contains notes.clean note → WasMoment old new (λ moment. boundary ≡ moment.clock)
+  pub stamp : (note : CleanNote) → Contains notes.clean note → stamp_of note.stat.mtime boundary ≡ Some note.stamp
+  pub shown : IsTrue old.told → (note : CleanNote) → Contains notes.clean note → WasMoment old new (λ moment. stat_at moment note.path ≡ Some note.stat)
 
 -- where bytes decide letters that are wanted, a record vouches behind the walk for each path that is clean at a moment with a time that may be recorded
 -- then: the second walk reads no byte of it

@@ -13,11 +13,14 @@
 //! | earned | what a walk notes was seen by it | `specs/Notes.antt` |
 //! | found | the letter that a path has by its entry or by a comparison, and the time that is noted of it | `specs/Finding.antt` |
 //!
-//! Trust is a premise on the history at the start of a call, honesty on that at its end. `find` reads no file whose entry vouches for what a look
-//! shows; where it compares, it notes the time. `Notes` is the record of what a walk notes, and `apply` writes it into a table. The other functions
-//! are laws: each has an empty body, and its clause is the law.
+//! `walk` is a status over the record itself: it lists what `plain_status` of `hg_flat` does, reads no file whose entry vouches for it, and notes the
+//! times of clean files that it read. Trust is a premise on the history at the start of a call, honesty on that at its end. `find` is its step for one
+//! path: it reads no file whose entry vouches for what a look shows; where it compares, it notes the time. `Notes` is the record of what a walk notes, and
+//! `apply` writes it into a table. The other functions are laws: each has an empty body, and its clause is the law.
 //!
 //! ```text
+//! let walked = walk(alloc, &mixed, &mut tree, &mut shelf, &mut Builds::new(), wanted)?;
+//! apply(&mut mixed, &walked.notes)?;  // behind this a second walk reads none of the files again
 //! find(alloc, &mut tree, &mut shelf, path, &entry, false, &stat, boundary, &mut parent)?;  // Found { letter: C, stamp: None }: its entry vouches
 //! ```
 #![tactic(auto)]
@@ -26,9 +29,12 @@ mod applying;
 mod clean;
 mod edits;
 mod finding;
+mod keeper;
 mod laws;
 mod notes;
 mod noting;
+mod telling;
+mod tracked;
 mod walked;
 mod walking;
 

@@ -17,9 +17,11 @@ ghost use Rattle.hg_tree.specs.History as trees;
 ghost use Rattle.hg_tree.specs.Honest.{IsHonest};
 ghost use Rattle.hg_walk.specs.Notes.{AreEarned, applied};
 ghost use Rattle.hg_walk.specs.Right.{AreRight};
-ghost use Rattle.hg_walk.specs.Walking.{AreNeeded, IsLeftBy, IsRecorded, asked_unvouched, first_id, rows_in, walk_status};
+ghost use Rattle.hg_walk.specs.Walking.{AreNeeded, AreNoted, IsLeftBy, IsRecorded, asked_unvouched, first_id, rows_in, walk_status};
 
+use crate::tracked::{Tracked, tell_all};
 use crate::walked::Walked;
+use hg_flat::{list_others, read_patterns};
 use hg_ignore::Regexps;
 use hg_listing::{StatusFault, Wanted};
 use hg_mixed::Mixed;
@@ -122,10 +124,23 @@ pub fn walk<T: Tree, S: Shelf, G: Regexps>(
         (trees.now (T.history tree.old))
         (applied walked.notes (table mixed.now))) }
     ensures needed { IfOk result (λ walked. AreNeeded (table mixed.now) walked.notes) }
+    ensures noted { IfOk result (λ walked. AreNoted (T.history tree.old) (T.history tree.new) walked.notes) }
     ensures uncompiled { needs_patterns wanted ≡ false → regexps.new ≡ regexps.old }
     ensures cause { HasStatusCause (T.faults tree.old) (T.faults tree.new) result }
     ensures cause_shelf { HasShelfCause (S.faults shelf.old) (S.faults shelf.new) result }
     ensures oversize { CountsOversize (G.oversize regexps.old) (G.oversize regexps.new) result }
 {
-    Err(StatusFault::OutOfMemory)
+    let ignore = read_patterns(alloc, tree, regexps, wanted)?;
+    let tracked = tell_all(alloc, mixed, tree, shelf, wanted)?;
+    let Tracked {
+        keeper,
+        rows,
+        notes,
+    } = tracked;
+    let listed = list_others(alloc, &keeper, ignore, tree, wanted, rows)?;
+    Ok(Walked {
+        rows: listed.rows,
+        warnings: listed.warnings,
+        notes,
+    })
 }

@@ -6,6 +6,7 @@ pub mod Leading
 pub mod Letters
 pub mod Parsed
 pub mod Paths
+pub mod Ranged
 pub mod Readings
 pub mod Refused
 pub mod Rows

@@ -33,7 +33,7 @@ is_built (a_command.Copy source target) = true
 is_built (a_command.SetParents p1 p2) = true
 is_built a_command.DebugDirstate = true
 is_built a_command.DebugScript = true
-is_built (a_command.DebugLoad n) = false
+is_built (a_command.DebugLoad n) = true
 
 abbrev pub name_of : Command → List ℕ
 name_of (a_command.Status flags) = codes "status"

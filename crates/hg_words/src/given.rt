@@ -101,8 +101,8 @@ impl Command {
             | Command::Copy { .. }
             | Command::SetParents { .. }
             | Command::DebugDirstate
-            | Command::DebugScript => true,
-            Command::DebugLoad { .. } => false,
+            | Command::DebugScript
+            | Command::DebugLoad { .. } => true,
         }
     }
 

@@ -65,7 +65,7 @@ static ROWS: [HelpRow; 9] = [
         name: "debugload",
         words: "N",
         line: "time a status over a working copy of N folders in memory",
-        is_built: false,
+        is_built: true,
     },
 ];
 

@@ -2,7 +2,6 @@ use Rattle.std.proofs.Common.{Some, sym, subst, ◌≡◌, ◌∙◌}
 use Rattle.std.specs.Prelude.{IsTrue}
 use Rattle.std.proofs.lemmas.Result.{IfErr-weaker, IfOk-weaker}
 use Rattle.hg_compare.specs.Same.{StaysShown}
-use Rattle.hg_compare.specs.declared.looked.Looked.{Looked}
 use Rattle.hg_shelf.specs.History as shelf
 use Rattle.hg_tree.specs.History as tree
 use Rattle.hg_tree.specs.Moment.{stat_at}

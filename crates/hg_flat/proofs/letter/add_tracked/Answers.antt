@@ -1,3 +1,5 @@
+use Rattle.std.proofs.Common.{ℕ, List, Option, sym, ap}
+use Rattle.hg_entry.specs.Entry.{EntryData}
 use Rattle.hg_shelf.specs.History as shelves
 use Rattle.hg_tree.specs.History as trees
 use Rattle.hg_flat.specs.Listing.{IsLeftRow}
@@ -11,7 +13,7 @@ returns-clause-row g c = λ s goes.
     tracked_one
     (IsLeftRow c.args.wanted s.id (g.T.Tree.history c.find_letter.new.tree) (g.T.Tree.history c.args.tree.now).last (g.S.Shelf.history c.find_letter.new.shelf) s.shelf_old.last)
     (shelves.now s.shelf_old).files s.id (trees.now (g.T.Tree.history c.args.tree.now)) c.args.wanted c.args.kept.now c.in_ok-letter.letter c.args.rows.now.items c.put_wanted.new.rows.items
-    (c.in_ok-letter.ensures.found s goes) c.in_ok-put_wanted.ensures
+    (c.in_ok-letter.ensures.found s goes) (c.in_ok-put_wanted.ensures c.args.kept.now (sym c.as_ref.ensures) (sym (ap (λ (p : EntryData × Option (List ℕ)). p.1) c.item_of.ensures)))
 
 pub returns-in_err-put_wanted-clause-store : goal.returns-in_err-put_wanted-clause-store
 returns-in_err-put_wanted-clause-store g c =

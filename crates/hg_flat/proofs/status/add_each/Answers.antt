@@ -7,8 +7,9 @@ use Rattle.hg_flat.specs.Parent.{asked_by}
 use Rattle.hg_flat.specs.Shown.{flat_in}
 use Rattle.hg_flat.proofs.Asking.{asked_later, asked_longer, reads_on}
 use Rattle.hg_flat.proofs.Going.{goes_store}
-use Rattle.hg_flat.proofs.Leaving.{asks_same}
-use Rattle.hg_flat.proofs.Tracking.{tracked_more}
+use Rattle.hg_flat.proofs.Leaving.{added_by, adds_next, asks_same}
+use Rattle.hg_flat.proofs.Judging.{marks_alike}
+use Rattle.hg_tree.specs.History as trees
 use Rattle.hg_flat.proofs.status.add_each.Goals as goal
 
 pub returns-in_err-add_tracked-clause-met : goal.returns-in_err-add_tracked-clause-met
@@ -66,21 +67,28 @@ loop-kept-preserved g c =
       kept = goes_trans _ _ _ c.loop-kept.invariant.kept c.add_tracked.ensures.kept;
       held = c.add_tracked.ensures.held ∙ c.loop-kept.invariant.held;
       added =
-          tracked_more c.args.wanted c.args.p1.now (g.T.Tree.history c.args.tree.now) (g.T.Tree.history c.loop-kept.tree) (g.T.Tree.history c.add_tracked.new.tree) c.loop-kept.invariant.goes.tree.past
-          c.add_tracked.ensures.tree_passes.past (g.S.Shelf.history c.loop-kept.shelf) (g.S.Shelf.history c.add_tracked.new.shelf) (g.S.Shelf.history c.args.shelf.now).last c.add_tracked.ensures.shelf_passes.past
-          c.loop-kept.invariant.goes.shelf.past.later (shelves.now (g.S.Shelf.history c.args.shelf.now)).files c.args.flat.now.rows.items c.loop-kept.kept-index c.kept-item.result c.args.rows.now.items
+          let asks = asked_by c.args.wanted (flat_in c.args.flat.now) in
+          let old = g.T.Tree.history c.args.tree.now in
+          let mid = g.T.Tree.history c.loop-kept.tree in
+          let new = g.T.Tree.history c.add_tracked.new.tree in
+          let since = (g.S.Shelf.history c.args.shelf.now).last in
+          let files = (shelves.now (g.S.Shelf.history c.args.shelf.now)).files in
+          adds_next asks (marks_alike c.args.wanted (flat_in c.args.flat.now)) c.args.wanted c.args.p1.now old mid new c.loop-kept.invariant.goes.tree.past
+          c.add_tracked.ensures.tree_passes.past (g.S.Shelf.history c.loop-kept.shelf) (g.S.Shelf.history c.add_tracked.new.shelf) since c.add_tracked.ensures.shelf_passes.past
+          c.loop-kept.invariant.goes.shelf.past.later files c.args.flat.now.rows.items c.loop-kept.kept-index c.kept-item.result c.args.rows.now.items
           c.loop-kept.rows.items c.add_tracked.new.rows.items below (sym (rw c.deref-kept-items.ensures.value at c.kept-item.is)) c.loop-kept.invariant.added
+          (added_by c.args.flat.now c.args.wanted c.args.p1.now new mid.last (g.S.Shelf.history c.add_tracked.new.shelf) since files (trees.now mid) c.kept-item.result has c.loop-kept.rows.items c.add_tracked.new.rows.items
           (c.in_ok-add_tracked.ensures.row
           (record {
             wanted = c.args.wanted;
-            asks = asked_by c.args.wanted (flat_in c.args.flat.now);
+            asks = asks;
             id = c.args.p1.now;
-            tree_old = g.T.Tree.history c.args.tree.now;
-            tree_new = g.T.Tree.history c.loop-kept.tree;
+            tree_old = old;
+            tree_new = mid;
             shelf_old = g.S.Shelf.history c.args.shelf.now;
             shelf_new = g.S.Shelf.history c.loop-kept.shelf;
           })
-          c.loop-kept.invariant.goes);
+          c.loop-kept.invariant.goes));
       asked = λ told.
           reads_on (asked_by c.args.wanted (flat_in c.args.flat.now)) (g.T.Tree.history c.args.tree.now) (g.T.Tree.history c.loop-kept.tree) (g.T.Tree.history c.add_tracked.new.tree) c.loop-kept.invariant.goes.tree.past
           c.add_tracked.ensures.tree_passes.past (c.loop-kept.invariant.asked told)

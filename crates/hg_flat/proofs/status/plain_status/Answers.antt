@@ -1,30 +1,24 @@
-use Rattle.std.proofs.Common.{List, [], ℕ, ◌≡◌, true, Option, None, is_some, refl, ap, subst, ◌∙◌}
-use Rattle.std.specs.Ordering.{eq_by_cmp}
-use Rattle.std.proofs.lemmas.List.Filters.{dedup_is}
-use Rattle.std.proofs.lemmas.Result.{err_from_is_err_and}
-use Rattle.hg_ignore.specs.State.{Piece}
+use Rattle.std.proofs.Common.{false, refl, sym, subst, ◌∙◌}
+use Rattle.std.proofs.lemmas.Result.{IfErr-weaker, IfOk-weaker, err_from_is_err_and}
 use Rattle.hg_shelf.specs.History as shelves
 use Rattle.hg_tree.specs.History as trees
-use Rattle.hg_tree.specs.Still.{Untouched}
-use Rattle.hg_tree.proofs.Histories.{extends_same, extends_trans}
+use Rattle.hg_tree.proofs.Histories.{extends_same}
 use Rattle.hg_tree.proofs.Spans.{ours_first, passes_trans}
-use Rattle.hg_flat.specs.Asked.{AsksFor, IsDirIn}
 use Rattle.hg_flat.specs.Course.{pieces_of}
-use Rattle.hg_flat.specs.Listing.{Gives, IsEntered, IsUnknownIn, ListsUnknown}
-use Rattle.hg_listing.specs.Order.{whole_order}
-use Rattle.hg_flat.specs.Parent.{Asking, WasAsked, asked_by, parent_rows}
-use Rattle.hg_flat.specs.Patterns.{ignored_at, needs_patterns}
-use Rattle.hg_flat.specs.Shown.{flat_in, kept_of, rows_of}
+use Rattle.hg_flat.specs.Parent.{asked_by, parent_rows}
+use Rattle.hg_flat.specs.Patterns.{Warns, ignored_at}
+use Rattle.hg_flat.specs.Shown.{flat_in}
 use Rattle.hg_flat.specs.declared.listed.Listed.{Listed}
-use Rattle.hg_flat.proofs.Asking.{asked_later, asked_longer}
+use Rattle.hg_flat.proofs.Asking.{never_each}
 use Rattle.hg_flat.proofs.Calls.{all_asks, asks_first, asks_second, own_asks}
-use Rattle.hg_flat.proofs.Fullness.{full_for, full_of, served_path}
-use Rattle.hg_flat.proofs.Holding.{holds_rows, named}
+use Rattle.hg_flat.proofs.Fullness.{full_of}
+use Rattle.hg_flat.proofs.Judging.{marks_alike}
 use Rattle.hg_flat.proofs.Leaving.{left_all}
 use Rattle.hg_flat.proofs.Refusing.{had, is_kept, state_still, warns}
-use Rattle.hg_flat.proofs.Spanning.{counts_still, met_patterns, met_whole, not_parent}
+use Rattle.hg_flat.proofs.Spanning.{counts_listing, counts_still, if_ok_on, met_listing, met_patterns, met_whole, not_parent, of_listing_none}
+use Rattle.hg_flat.proofs.Steps.{passed_none}
 use Rattle.hg_flat.proofs.Storing.{store_longer, store_none}
-use Rattle.hg_flat.proofs.Whole.{Left, LeftRow, asks_start, lists_whole, row_left, tracked_whole}
+use Rattle.hg_flat.proofs.Whole.{Left, whole_listing, whole_served}
 use Rattle.hg_flat.proofs.status.plain_status.Goals as goal
 
 pub returns-clause-still : goal.returns-clause-still
@@ -32,82 +26,91 @@ returns-clause-still g c =
     let old = g.T.Tree.history c.args.tree.now in
     let mid = g.T.Tree.history c.read_patterns.new.tree in
     let later = g.T.Tree.history c.add_each.new.tree in
-    let new = g.T.Tree.history c.add_others.new.tree in
+    let new = g.T.Tree.history c.list_others.new.tree in
     let start = g.S.Shelf.history c.args.shelf.now in
     let files = g.S.Shelf.history c.add_each.new.shelf in
     let flat = c.args.flat.now in
-    rw c.of-rows.ensures
-    (full_for
-    flat.p1.0 flat.p2.0 (rows_of flat) (shelves.now start).files c.args.p1.now (trees.now old) c.args.wanted (named flat.rows.items)
-    (Left flat c.args.wanted c.args.p1.now old mid later new c.read_patterns.ensures.passes c.add_each.ensures.passes c.add_others.ensures.passes files start.last)
-    (LeftRow flat c.args.wanted c.args.p1.now old mid later new c.read_patterns.ensures.passes c.add_each.ensures.passes c.add_others.ensures.passes files start.last)
-    flat.rows.items flat.own (holds_rows flat.rows.items flat.own)
-    (row_left flat c.args.wanted c.args.p1.now old mid later new c.read_patterns.ensures.passes c.add_each.ensures.passes c.add_others.ensures.passes files start.last)
-    c.add_each.new.rows.items c.add_others.new.rows.items
-    (tracked_whole flat c.args.wanted c.args.p1.now old mid later new c.read_patterns.ensures.passes c.add_each.ensures.passes c.add_others.ensures.passes files start.last (shelves.now start).files [] c.add_each.new.rows.items
-    (rw c.new-rows.ensures.items at c.in_ok-add_each.ensures.added))
-    (pieces_of c.in_ok-ignore.ignore)
-    (asks_start flat c.args.wanted c.args.p1.now old mid later new c.read_patterns.ensures.passes c.add_each.ensures.passes c.add_others.ensures.passes files start.last c.in_ok-ignore.ignore c.in_ok-ignore.ensures.kept)
-    (lists_whole flat c.args.wanted c.args.p1.now old mid later new c.read_patterns.ensures.passes c.add_each.ensures.passes c.add_others.ensures.passes files start.last (pieces_of c.in_ok-ignore.ignore) c.add_each.new.rows.items c.add_others.new.rows.items
-    (subst
-    (λ (o : Option (List Piece)). ListsUnknown (kept_of flat) (Gives c.args.wanted (pieces_of o)) (Untouched new later.last) (IsUnknownIn (kept_of flat) (trees.now later) None) c.add_each.new.rows.items c.add_others.new.rows.items)
-    c.as_ref.ensures.value c.in_ok-add_others.ensures.listed))
-    c.sort.new.self.items c.dedup.new.self.items c.in_ok-sort.ensures.permutation c.in_ok-sort.ensures.sorted
-    (dedup_is (eq_by_cmp whole_order) c.sort.new.self.items c.dedup.new.self.items c.dedup.ensures.filtered))
+    let asks = asked_by c.args.wanted (flat_in flat) in
+    IfOk-weaker c.list_others.result _ _
+    (λ listed others.
+    whole_listing asks (marks_alike c.args.wanted (flat_in flat)) (Unit {0}) flat.p1.0 flat.p2.0 flat.rows.items flat.own c.args.wanted c.args.p1.now old mid later new c.read_patterns.ensures.passes c.add_each.ensures.passes c.list_others.ensures.passes files start.last
+    (shelves.now start).files c.add_each.new.rows.items listed.rows (rw c.new-rows.ensures.items at c.in_ok-add_each.ensures.added) c.in_ok-ignore.ignore c.in_ok-ignore.ensures.kept
+    (λ path. false) (passed_none (λ path. false) (λ path. refl) later mid.last c.add_each.ensures.passes.past.later) others tt)
+    c.list_others.ensures.listed
 
 pub returns-clause-full : goal.returns-clause-full
 returns-clause-full g c = λ ours keeps.
     let old = g.T.Tree.history c.args.tree.now in
     let mid = g.T.Tree.history c.read_patterns.new.tree in
     let later = g.T.Tree.history c.add_each.new.tree in
-    let new = g.T.Tree.history c.add_others.new.tree in
+    let new = g.T.Tree.history c.list_others.new.tree in
     let start = g.S.Shelf.history c.args.shelf.now in
     let files = g.S.Shelf.history c.add_each.new.shelf in
     let flat = c.args.flat.now in
-    let whole = passes_trans old mid new c.read_patterns.ensures.passes (passes_trans mid later new c.add_each.ensures.passes c.add_others.ensures.passes) in
-    full_of (Left flat c.args.wanted c.args.p1.now old mid later new c.read_patterns.ensures.passes c.add_each.ensures.passes c.add_others.ensures.passes files start.last)
-    (flat_in flat) (trees.now old) (parent_rows (shelves.now start).files c.args.p1.now) (ignored_at (trees.now old)) c.args.wanted c.of-rows.result
-    (left_all (flat_in flat) c.args.wanted (asked_by c.args.wanted (flat_in flat)) c.args.p1.now old new whole ours files start.last keeps) (returns-clause-still g c)
+    let asks = asked_by c.args.wanted (flat_in flat) in
+    let whole = passes_trans old mid new c.read_patterns.ensures.passes (passes_trans mid later new c.add_each.ensures.passes c.list_others.ensures.passes) in
+    IfOk-weaker c.list_others.result _ _
+    (λ listed is.
+    full_of (Left asks (marks_alike c.args.wanted (flat_in flat)) (Unit {0}) flat.p1.0 flat.p2.0 flat.rows.items flat.own c.args.wanted c.args.p1.now old mid later new c.read_patterns.ensures.passes c.add_each.ensures.passes c.list_others.ensures.passes files start.last)
+    (flat_in flat) (trees.now old) (parent_rows (shelves.now start).files c.args.p1.now) (ignored_at (trees.now old)) c.args.wanted listed.rows
+    (left_all (flat_in flat) c.args.wanted asks c.args.p1.now old new whole ours files start.last keeps) is)
+    (returns-clause-still g c)
 
 pub returns-clause-served : goal.returns-clause-served
 returns-clause-served g c =
     let old = g.T.Tree.history c.args.tree.now in
     let mid = g.T.Tree.history c.read_patterns.new.tree in
     let later = g.T.Tree.history c.add_each.new.tree in
-    let new = g.T.Tree.history c.add_others.new.tree in
+    let new = g.T.Tree.history c.list_others.new.tree in
     let start = g.S.Shelf.history c.args.shelf.now in
     let files = g.S.Shelf.history c.add_each.new.shelf in
     let flat = c.args.flat.now in
-    served_path
-    flat.p1.0 flat.p2.0 (rows_of flat) (shelves.now start).files c.args.p1.now (trees.now old) c.args.wanted (named flat.rows.items)
-    (Left flat c.args.wanted c.args.p1.now old mid later new c.read_patterns.ensures.passes c.add_each.ensures.passes c.add_others.ensures.passes files start.last)
-    (LeftRow flat c.args.wanted c.args.p1.now old mid later new c.read_patterns.ensures.passes c.add_each.ensures.passes c.add_others.ensures.passes files start.last)
-    flat.rows.items flat.own (holds_rows flat.rows.items flat.own)
-    (row_left flat c.args.wanted c.args.p1.now old mid later new c.read_patterns.ensures.passes c.add_each.ensures.passes c.add_others.ensures.passes files start.last)
-    c.add_each.new.rows.items c.add_others.new.rows.items
-    (tracked_whole flat c.args.wanted c.args.p1.now old mid later new c.read_patterns.ensures.passes c.add_each.ensures.passes c.add_others.ensures.passes files start.last (shelves.now start).files [] c.add_each.new.rows.items
-    (rw c.new-rows.ensures.items at c.in_ok-add_each.ensures.added))
-    (pieces_of c.in_ok-ignore.ignore)
-    (asks_start flat c.args.wanted c.args.p1.now old mid later new c.read_patterns.ensures.passes c.add_each.ensures.passes c.add_others.ensures.passes files start.last c.in_ok-ignore.ignore c.in_ok-ignore.ensures.kept)
-    (lists_whole flat c.args.wanted c.args.p1.now old mid later new c.read_patterns.ensures.passes c.add_each.ensures.passes c.add_others.ensures.passes files start.last (pieces_of c.in_ok-ignore.ignore) c.add_each.new.rows.items c.add_others.new.rows.items
-    (subst
-    (λ (o : Option (List Piece)). ListsUnknown (kept_of flat) (Gives c.args.wanted (pieces_of o)) (Untouched new later.last) (IsUnknownIn (kept_of flat) (trees.now later) None) c.add_each.new.rows.items c.add_others.new.rows.items)
-    c.as_ref.ensures.value c.in_ok-add_others.ensures.listed))
+    let asks = asked_by c.args.wanted (flat_in flat) in
+    if_ok_on c.list_others.result _ _
+    (λ listed others.
+    whole_served asks (marks_alike c.args.wanted (flat_in flat)) (Unit {0}) flat.p1.0 flat.p2.0 flat.rows.items flat.own c.args.wanted c.args.p1.now old mid later new c.read_patterns.ensures.passes c.add_each.ensures.passes c.list_others.ensures.passes files start.last
+    (shelves.now start).files c.add_each.new.rows.items listed.rows (rw c.new-rows.ensures.items at c.in_ok-add_each.ensures.added) c.in_ok-ignore.ignore c.in_ok-ignore.ensures.kept
+    (λ path. false) (passed_none (λ path. false) (λ path. refl) later mid.last c.add_each.ensures.passes.past.later) others (λ m path asked. asked))
+    c.list_others.ensures.listed
 
 -- ---- the patterns
 
-pub add_others-requires : goal.add_others-requires
-add_others-requires g c =
-    ap is_some c.as_ref.ensures.value ∙ is_kept c.args.wanted (g.T.Tree.history c.args.tree.now) (g.T.Tree.history c.read_patterns.new.tree) c.in_ok-ignore.ignore c.in_ok-ignore.ensures.kept
+pub list_others-requires : goal.list_others-requires
+list_others-requires g c = is_kept c.args.wanted (g.T.Tree.history c.args.tree.now) (g.T.Tree.history c.read_patterns.new.tree) c.in_ok-ignore.ignore c.in_ok-ignore.ensures.kept
 
 pub returns-clause-warns : goal.returns-clause-warns
 returns-clause-warns g c =
     let old = g.T.Tree.history c.args.tree.now in
     let mid = g.T.Tree.history c.read_patterns.new.tree in
     let later = g.T.Tree.history c.add_each.new.tree in
-    let new = g.T.Tree.history c.add_others.new.tree in
-    rw c.warnings_of-warnings.ensures
-    (warns old mid new c.read_patterns.ensures.passes (passes_trans mid later new c.add_each.ensures.passes c.add_others.ensures.passes).past c.args.wanted c.in_ok-ignore.ignore c.in_ok-ignore.ensures.kept)
+    let new = g.T.Tree.history c.list_others.new.tree in
+    IfOk-weaker c.list_others.result _ _
+    (λ listed is.
+    subst (Warns c.args.wanted old new) (sym is)
+    (warns old mid new c.read_patterns.ensures.passes (passes_trans mid later new c.add_each.ensures.passes c.list_others.ensures.passes).past c.args.wanted c.in_ok-ignore.ignore c.in_ok-ignore.ensures.kept))
+    c.list_others.ensures.warned
+
+pub returns-clause-met : goal.returns-clause-met
+returns-clause-met g c =
+    IfErr-weaker c.list_others.result _ _
+    (met_listing
+    (record {
+      wanted = c.args.wanted;
+      asks = asked_by c.args.wanted (flat_in c.args.flat.now);
+      id = c.args.p1.now;
+      tree_old = g.T.Tree.history c.args.tree.now;
+      tree_new = g.T.Tree.history c.list_others.new.tree;
+      shelf_old = g.S.Shelf.history c.args.shelf.now;
+      shelf_new = g.S.Shelf.history c.add_each.new.shelf;
+    }))
+    c.list_others.ensures.kind
+
+pub returns-clause-behind : goal.returns-clause-behind
+returns-clause-behind g c =
+    IfErr-weaker c.list_others.result _ _ (λ fault of is. absurd (of_listing_none fault of is)) c.list_others.ensures.kind
+
+pub returns-clause-oversize : goal.returns-clause-oversize
+returns-clause-oversize g c = counts_listing Listed c.list_others.result _ _ c.in_ok-ignore.ensures.oversize c.list_others.ensures.kind
 
 pub returns-in_err-ignore-clause-met : goal.returns-in_err-ignore-clause-met
 returns-in_err-ignore-clause-met g c =
@@ -171,69 +174,34 @@ returns-in_err-add_each-clause-asked g c = λ told.
     asks_second c.args.wanted (asked_by c.args.wanted (flat_in c.args.flat.now)) (g.T.Tree.history c.args.tree.now) (g.T.Tree.history c.read_patterns.new.tree)
     (g.T.Tree.history c.add_each.new.tree) c.read_patterns.ensures.passes.past c.add_each.ensures.passes.past (c.read_patterns.ensures.asked told) (c.add_each.ensures.asked (c.read_patterns.ensures.passes.past.told ∙ told))
 
-pub returns-in_err-add_others-clause-asked : goal.returns-in_err-add_others-clause-asked
-returns-in_err-add_others-clause-asked g c = λ told.
-    let old = g.T.Tree.history c.args.tree.now in
-    let mid = g.T.Tree.history c.read_patterns.new.tree in
-    let later = g.T.Tree.history c.add_each.new.tree in
-    let new = g.T.Tree.history c.add_others.new.tree in
-    all_asks c.args.wanted (asked_by c.args.wanted (flat_in c.args.flat.now)) (pieces_of c.in_ok-ignore.ignore) old mid later new c.read_patterns.ensures.passes c.add_each.ensures.passes c.add_others.ensures.passes
-    (state_still c.args.wanted old mid c.in_ok-ignore.ignore c.in_ok-ignore.ensures.kept)
-    (c.read_patterns.ensures.asked told)
-    (c.add_each.ensures.asked (c.read_patterns.ensures.passes.past.told ∙ told))
-    (subst
-    (λ (o : Option (List Piece)). AsksFor (λ dir. (needs_patterns c.args.wanted ≡ true) × IsDirIn (IsEntered c.args.wanted (pieces_of o)) later new None dir) later new)
-    c.as_ref.ensures.value (c.add_others.ensures.asked (c.add_each.ensures.passes.past.told ∙ c.read_patterns.ensures.passes.past.told ∙ told)))
-
-pub returns-in_err-sort-clause-asked : goal.returns-in_err-sort-clause-asked
-returns-in_err-sort-clause-asked g c = λ told.
-    let old = g.T.Tree.history c.args.tree.now in
-    let mid = g.T.Tree.history c.read_patterns.new.tree in
-    let later = g.T.Tree.history c.add_each.new.tree in
-    let new = g.T.Tree.history c.add_others.new.tree in
-    all_asks c.args.wanted (asked_by c.args.wanted (flat_in c.args.flat.now)) (pieces_of c.in_ok-ignore.ignore) old mid later new c.read_patterns.ensures.passes c.add_each.ensures.passes c.add_others.ensures.passes
-    (state_still c.args.wanted old mid c.in_ok-ignore.ignore c.in_ok-ignore.ensures.kept)
-    (c.read_patterns.ensures.asked told)
-    (c.add_each.ensures.asked (c.read_patterns.ensures.passes.past.told ∙ told))
-    (subst
-    (λ (o : Option (List Piece)). AsksFor (λ dir. (needs_patterns c.args.wanted ≡ true) × IsDirIn (IsEntered c.args.wanted (pieces_of o)) later new None dir) later new)
-    c.as_ref.ensures.value (c.add_others.ensures.asked (c.add_each.ensures.passes.past.told ∙ c.read_patterns.ensures.passes.past.told ∙ told)))
-
 pub returns-clause-asked : goal.returns-clause-asked
 returns-clause-asked g c = λ told.
     let old = g.T.Tree.history c.args.tree.now in
     let mid = g.T.Tree.history c.read_patterns.new.tree in
     let later = g.T.Tree.history c.add_each.new.tree in
-    let new = g.T.Tree.history c.add_others.new.tree in
-    all_asks c.args.wanted (asked_by c.args.wanted (flat_in c.args.flat.now)) (pieces_of c.in_ok-ignore.ignore) old mid later new c.read_patterns.ensures.passes c.add_each.ensures.passes c.add_others.ensures.passes
+    let new = g.T.Tree.history c.list_others.new.tree in
+    all_asks c.args.wanted (asked_by c.args.wanted (flat_in c.args.flat.now)) (pieces_of c.in_ok-ignore.ignore) old mid later new c.read_patterns.ensures.passes c.add_each.ensures.passes c.list_others.ensures.passes
     (state_still c.args.wanted old mid c.in_ok-ignore.ignore c.in_ok-ignore.ensures.kept)
     (c.read_patterns.ensures.asked told)
     (c.add_each.ensures.asked (c.read_patterns.ensures.passes.past.told ∙ told))
-    (subst
-    (λ (o : Option (List Piece)). AsksFor (λ dir. (needs_patterns c.args.wanted ≡ true) × IsDirIn (IsEntered c.args.wanted (pieces_of o)) later new None dir) later new)
-    c.as_ref.ensures.value (c.add_others.ensures.asked (c.add_each.ensures.passes.past.told ∙ c.read_patterns.ensures.passes.past.told ∙ told)))
+    (c.list_others.ensures.asked (c.add_each.ensures.passes.past.told ∙ c.read_patterns.ensures.passes.past.told ∙ told))
 
 pub returns-clause-asked_own : goal.returns-clause-asked_own
 returns-clause-asked_own g c = λ ours.
     let old = g.T.Tree.history c.args.tree.now in
     let mid = g.T.Tree.history c.read_patterns.new.tree in
     let later = g.T.Tree.history c.add_each.new.tree in
-    let new = g.T.Tree.history c.add_others.new.tree in
-    own_asks c.args.wanted (asked_by c.args.wanted (flat_in c.args.flat.now)) (pieces_of c.in_ok-ignore.ignore) old mid later new c.read_patterns.ensures.passes c.add_each.ensures.passes c.add_others.ensures.passes
+    let new = g.T.Tree.history c.list_others.new.tree in
+    if_ok_on c.list_others.result _ _
+    (λ listed others.
+    own_asks c.args.wanted (asked_by c.args.wanted (flat_in c.args.flat.now)) (pieces_of c.in_ok-ignore.ignore) old mid later new c.read_patterns.ensures.passes c.add_each.ensures.passes c.list_others.ensures.passes
     (state_still c.args.wanted old mid c.in_ok-ignore.ignore c.in_ok-ignore.ensures.kept)
-    (c.in_ok-ignore.ensures.asked_own (ours_first old mid new (passes_trans mid later new c.add_each.ensures.passes c.add_others.ensures.passes).past ours))
+    (c.in_ok-ignore.ensures.asked_own (ours_first old mid new (passes_trans mid later new c.add_each.ensures.passes c.list_others.ensures.passes).past ours))
     (c.add_each.ensures.asked (c.read_patterns.ensures.passes.past.told ∙ ours.told))
-    (subst
-    (λ (o : Option (List Piece)). AsksFor (λ dir. (needs_patterns c.args.wanted ≡ true) × IsDirIn (IsEntered c.args.wanted (pieces_of o)) later new None dir) later new)
-    c.as_ref.ensures.value (c.add_others.ensures.asked (c.add_each.ensures.passes.past.told ∙ c.read_patterns.ensures.passes.past.told ∙ ours.told)))
+    (c.list_others.ensures.asked (c.add_each.ensures.passes.past.told ∙ c.read_patterns.ensures.passes.past.told ∙ ours.told)))
+    c.list_others.ensures.listed
 
 -- ---- what is asked below `.hg`
-
--- where no path is compared in a call, none is in a part of it
-never_each : (asks : Asking) (old mid later new : trees.History) → trees.Extends old mid → trees.Extends mid later → trees.Extends later new → ((path : List ℕ) → WasAsked asks old new path → ⊥)
-    → (path : List ℕ) → WasAsked asks mid later path → ⊥
-never_each asks old mid later new first second third never path was =
-    never path (asked_longer asks old later new path (extends_trans old mid later first second) third (asked_later asks old mid later path first was))
 
 pub returns-in_err-add_each-clause-unasked : goal.returns-in_err-add_each-clause-unasked
 returns-in_err-add_each-clause-unasked g c = λ never.
@@ -242,23 +210,11 @@ returns-in_err-add_each-clause-unasked g c = λ never.
     (never_each (asked_by c.args.wanted (flat_in c.args.flat.now)) (g.T.Tree.history c.args.tree.now) (g.T.Tree.history c.read_patterns.new.tree) later later c.read_patterns.ensures.passes.past c.add_each.ensures.passes.past
     (extends_same later) never)
 
-pub returns-in_err-add_others-clause-unasked : goal.returns-in_err-add_others-clause-unasked
-returns-in_err-add_others-clause-unasked g c = λ never.
-    c.add_each.ensures.unasked
-    (never_each (asked_by c.args.wanted (flat_in c.args.flat.now)) (g.T.Tree.history c.args.tree.now) (g.T.Tree.history c.read_patterns.new.tree) (g.T.Tree.history c.add_each.new.tree) (g.T.Tree.history c.add_others.new.tree)
-    c.read_patterns.ensures.passes.past c.add_each.ensures.passes.past c.add_others.ensures.passes.past never)
-
-pub returns-in_err-sort-clause-unasked : goal.returns-in_err-sort-clause-unasked
-returns-in_err-sort-clause-unasked g c = λ never.
-    c.add_each.ensures.unasked
-    (never_each (asked_by c.args.wanted (flat_in c.args.flat.now)) (g.T.Tree.history c.args.tree.now) (g.T.Tree.history c.read_patterns.new.tree) (g.T.Tree.history c.add_each.new.tree) (g.T.Tree.history c.add_others.new.tree)
-    c.read_patterns.ensures.passes.past c.add_each.ensures.passes.past c.add_others.ensures.passes.past never)
-
 pub returns-clause-unasked : goal.returns-clause-unasked
 returns-clause-unasked g c = λ never.
     c.add_each.ensures.unasked
-    (never_each (asked_by c.args.wanted (flat_in c.args.flat.now)) (g.T.Tree.history c.args.tree.now) (g.T.Tree.history c.read_patterns.new.tree) (g.T.Tree.history c.add_each.new.tree) (g.T.Tree.history c.add_others.new.tree)
-    c.read_patterns.ensures.passes.past c.add_each.ensures.passes.past c.add_others.ensures.passes.past never)
+    (never_each (asked_by c.args.wanted (flat_in c.args.flat.now)) (g.T.Tree.history c.args.tree.now) (g.T.Tree.history c.read_patterns.new.tree) (g.T.Tree.history c.add_each.new.tree) (g.T.Tree.history c.list_others.new.tree)
+    c.read_patterns.ensures.passes.past c.add_each.ensures.passes.past c.list_others.ensures.passes.past never)
 
 pub returns-in_err-ignore-clause-asked_store : goal.returns-in_err-ignore-clause-asked_store
 returns-in_err-ignore-clause-asked_store g c = λ told.
@@ -288,34 +244,6 @@ returns-in_err-add_each-clause-asked_store g c = λ told.
     })
     (g.T.Tree.history c.args.tree.now) (g.T.Tree.history c.add_each.new.tree) c.read_patterns.ensures.passes.past c.add_each.ensures.passes.past (extends_same (g.T.Tree.history c.add_each.new.tree)) (c.add_each.ensures.store told)
 
-pub returns-in_err-add_others-clause-asked_store : goal.returns-in_err-add_others-clause-asked_store
-returns-in_err-add_others-clause-asked_store g c = λ told.
-    store_longer
-    (record {
-      wanted = c.args.wanted;
-      asks = asked_by c.args.wanted (flat_in c.args.flat.now);
-      id = c.args.p1.now;
-      tree_old = g.T.Tree.history c.read_patterns.new.tree;
-      tree_new = g.T.Tree.history c.add_each.new.tree;
-      shelf_old = g.S.Shelf.history c.args.shelf.now;
-      shelf_new = g.S.Shelf.history c.add_each.new.shelf;
-    })
-    (g.T.Tree.history c.args.tree.now) (g.T.Tree.history c.add_others.new.tree) c.read_patterns.ensures.passes.past c.add_each.ensures.passes.past c.add_others.ensures.passes.past (c.add_each.ensures.store told)
-
-pub returns-in_err-sort-clause-asked_store : goal.returns-in_err-sort-clause-asked_store
-returns-in_err-sort-clause-asked_store g c = λ told.
-    store_longer
-    (record {
-      wanted = c.args.wanted;
-      asks = asked_by c.args.wanted (flat_in c.args.flat.now);
-      id = c.args.p1.now;
-      tree_old = g.T.Tree.history c.read_patterns.new.tree;
-      tree_new = g.T.Tree.history c.add_each.new.tree;
-      shelf_old = g.S.Shelf.history c.args.shelf.now;
-      shelf_new = g.S.Shelf.history c.add_each.new.shelf;
-    })
-    (g.T.Tree.history c.args.tree.now) (g.T.Tree.history c.add_others.new.tree) c.read_patterns.ensures.passes.past c.add_each.ensures.passes.past c.add_others.ensures.passes.past (c.add_each.ensures.store told)
-
 pub returns-clause-asked_store : goal.returns-clause-asked_store
 returns-clause-asked_store g c = λ told.
     store_longer
@@ -328,4 +256,4 @@ returns-clause-asked_store g c = λ told.
       shelf_old = g.S.Shelf.history c.args.shelf.now;
       shelf_new = g.S.Shelf.history c.add_each.new.shelf;
     })
-    (g.T.Tree.history c.args.tree.now) (g.T.Tree.history c.add_others.new.tree) c.read_patterns.ensures.passes.past c.add_each.ensures.passes.past c.add_others.ensures.passes.past (c.add_each.ensures.store told)
+    (g.T.Tree.history c.args.tree.now) (g.T.Tree.history c.list_others.new.tree) c.read_patterns.ensures.passes.past c.add_each.ensures.passes.past c.list_others.ensures.passes.past (c.add_each.ensures.store told)

@@ -1,7 +1,7 @@
 use Rattle.std.proofs.Common.{◌∙◌, ◌++◌, List, ap}
 use Rattle.std.specs.List.{flat_map}
 use Rattle.hg_mixed.specs.declared.child.Child.{Child}
-use Rattle.hg_report.specs.Gathered.{row_copy, row_line}
+use Rattle.hg_report.specs.Debug.{row_copy, row_line}
 use Rattle.hg_report.proofs.Recorded.{text_is}
 use Rattle.hg_report.proofs.debug.debug_text.Goals as goal
 

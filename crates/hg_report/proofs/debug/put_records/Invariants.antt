@@ -1,6 +1,6 @@
 use Rattle.std.proofs.Common.{◌≡◌, ◌++◌, take}
 use Rattle.std.specs.List.{flat_map}
-use Rattle.hg_report.specs.Gathered.{row_line}
+use Rattle.hg_report.specs.Debug.{row_line}
 use Rattle.hg_report.proofs.debug.put_records.Given as goal
 
 -- the lines of the rows so far stand behind what was there

@@ -1,0 +1,99 @@
+-- One file more below `.hg`.
+use Rattle.std.proofs.Common.{◌≡◌, ℕ, zero, suc, ◌+◌, ◌*◌, ◌-◌, ◌^◌, ◌<◌, false, List, [], ◌∷◌, ◌++◌, length, get_or, inl, inr, Some, sym, ap, subst, ◌∙◌, arith}
+use Rattle.std.specs.Prelude.{codes, replicate}
+use Rattle.std.specs.Fmt.{decimal}
+use Rattle.std.specs.Str.{bytes_eq}
+use Rattle.std.proofs.lemmas.Bool.{both_ways, cases_lt, cond-true, cond-false}
+use Rattle.std.proofs.lemmas.Fmt.{decimal_injective, first_decimal}
+use Rattle.std.proofs.lemmas.List.{append_cancel_left, take_all}
+use Rattle.hg_append.specs.declared.encoding.Encoded.{Encoded}
+use Rattle.hg_gen.specs.Copy.{contents_of, text_of}
+use Rattle.hg_gen.specs.Recorded.{AreContents, ArePut, IsRecorded, IsStored, files_of, is_in_parent}
+use Rattle.hg_gen.proofs.Naming.{other_bytes}
+use Rattle.hg_shelf.proofs.Replay.{replayed_push}
+use Rattle.hg_shelf.specs.History.{Files}
+use Rattle.hg_shelf.specs.Images.{Scene}
+use Rattle.hg_shelf.specs.Memory.{Memory, by_others, empty, replayed, with_file}
+use Rattle.hg_shelf.specs.declared.outside.Change.{Change}
+use Rattle.hg_shelf.specs.declared.outside.Outside.TheVariants as a_change
+use Rattle.hg_tree.proofs.Planting.{equal_bytes}
+
+-- what shows is what all changes make
+shows_all : (memory : Memory) → files_of memory ≡ (replayed memory.changes empty).files
+shows_all memory = ap (λ (l : List Change). (replayed l empty).files) (take_all (length memory.changes) memory.changes (omega arith))
+
+-- what a file of others leaves
+pub file_placed : (old new : Memory) (name bytes : List ℕ) → new ≡ record old { changes = old.changes ++ by_others old (a_change.Place name bytes) ∷ [] }
+    → files_of new ≡ with_file name bytes (files_of old)
+file_placed old new name bytes is =
+    ap files_of is
+    ∙ shows_all (record old { changes = old.changes ++ by_others old (a_change.Place name bytes) ∷ [] })
+    ∙ ap (λ (s : Scene). s.files) (replayed_push old.changes (by_others old (a_change.Place name bytes)) empty)
+    ∙ ap (with_file name bytes) (sym (shows_all old))
+
+-- ---- the names of contents differ
+
+rests : (a b : ℕ) (x y : List ℕ) → replicate a 48 ++ x ≡ replicate b 48 ++ y → 48 < get_or x 0 0 → 48 < get_or y 0 0 → x ≡ y
+rests zero zero x y same x_first y_first = same
+rests zero (suc b) x y same x_first y_first = absurd (let low : 48 < 48 = subst (λ (l : List ℕ). 48 < get_or l 0 0) same x_first in omega (arith, low))
+rests (suc a) zero x y same x_first y_first = absurd (let low : 48 < 48 = subst (λ (l : List ℕ). 48 < get_or l 0 0) (sym same) y_first in omega (arith, low))
+rests (suc a) (suc b) x y same x_first y_first = rests a b x y (append_cancel_left (48 ∷ []) (replicate a 48 ++ x) (replicate b 48 ++ y) same) x_first y_first
+
+contents_differ : (i j : ℕ) → i < 2 ^ 32 → j < 2 ^ 32 → contents_of i ≡ contents_of j → i ≡ j
+contents_differ i j few_i few_j same =
+    let digits : decimal (i + 1) ≡ decimal (j + 1) =
+    rests (40 - length (decimal (i + 1))) (40 - length (decimal (j + 1))) (decimal (i + 1)) (decimal (j + 1)) same (first_decimal (i + 1) (omega arith) (omega arith))
+    (first_decimal (j + 1) (omega arith) (omega arith)) in
+    let next : i + 1 ≡ j + 1 = decimal_injective (i + 1) (j + 1) (omega arith) (omega arith) digits in
+    omega (arith, next)
+
+abbrev pub contents_name : ℕ → List ℕ
+contents_name file = codes "plain/f-" ++ contents_of file
+
+names_differ : (i j : ℕ) → i < 2 ^ 32 → j < 2 ^ 32 → contents_name i ≡ contents_name j → i ≡ j
+names_differ i j few_i few_j same = contents_differ i j few_i few_j (append_cancel_left (codes "plain/f-") (contents_of i) (contents_of j) same)
+
+pub no_contents : (files : Files) → AreContents 0 files
+no_contents files i below = absurd (omega (arith, below))
+
+module _ (i : ℕ) (was : Files) (upto : AreContents i was) (small : i < 2 ^ 32) where
+  -- the parent doesn't have the next file
+  pub without_more : is_in_parent i ≡ false → AreContents (i + 1) was
+  without_more gone j below there = elim (cases_lt j i) [
+    | inl less ↦ upto j less there
+    | inr last ↦ let same : j ≡ i = omega arith in absurd (both_ways (is_in_parent j) (ap is_in_parent same ∙ gone) there)
+  ]
+
+  -- or has it
+  pub with_more : (name bytes : List ℕ) → name ≡ contents_name i → bytes ≡ text_of i → AreContents (i + 1) (with_file name bytes was)
+  with_more name bytes named is j below there = elim (cases_lt j i) [
+    | inl less ↦
+        cond-false (bytes_eq name (contents_name j)) (Some bytes) (was (contents_name j))
+        (other_bytes name (contents_name j) (λ same. let e : i ≡ j = names_differ i j (omega arith) (omega arith) (sym named ∙ same) in absurd (omega (arith, e, less))))
+        ∙ upto j less there
+    | inr last ↦
+        let same : j ≡ i = omega arith in
+        let own : name ≡ contents_name j = named ∙ ap contents_name (sym same) in
+        cond-true (bytes_eq name (contents_name j)) (Some bytes) (was (contents_name j)) (ap (bytes_eq name) (sym own) ∙ equal_bytes name)
+        ∙ ap Some (is ∙ ap text_of (sym same))
+  ]
+
+-- ---- the record beside them
+
+pub put_three : (e : Encoded) (manifest : List ℕ) (first second third last : Files) → second ≡ with_file (codes "plain/m-1111111111111111111111111111111111111111") manifest first
+    → third ≡ with_file (codes "dirstate.0000000000000000") e.bytes.items second → last ≡ with_file (codes "dirstate") e.docket.items third → ArePut e manifest first last
+put_three e manifest first second third last one two three at =
+    ap (λ (f : Files). f at) three
+    ∙ ap (λ (f : Files). with_file (codes "dirstate") e.docket.items f at) (two ∙ ap (with_file (codes "dirstate.0000000000000000") e.bytes.items) one)
+
+pub stored_so : (dirs : ℕ) (e : Encoded) (manifest : List ℕ) (old new : Files) → IsRecorded dirs e → AreContents (16 * dirs) old → ArePut e manifest old new → IsStored dirs new
+stored_so dirs e manifest old new recorded contents put = record {
+  docket = e.docket.items;
+  nodes = e.bytes.items;
+  table = recorded.table;
+  docket_is = put (codes "dirstate");
+  nodes_is = put (codes "dirstate.0000000000000000");
+  reads = recorded.reads;
+  is = recorded.is;
+  contents = λ i below there. put (contents_name i) ∙ contents i below there;
+}

@@ -1,0 +1,4 @@
+pub mod Entering
+pub mod Keeping
+pub mod Naming
+pub mod Placing

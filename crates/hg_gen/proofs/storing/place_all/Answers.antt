@@ -1,0 +1,6 @@
+use Rattle.hg_gen.specs.Recorded.{files_of}
+use Rattle.hg_gen.proofs.Keeping.{no_contents}
+use Rattle.hg_gen.proofs.storing.place_all.Goals as goal
+
+pub loop-file-init : goal.loop-file-init
+loop-file-init c = no_contents (files_of c.in_ok-shelf.shelf)

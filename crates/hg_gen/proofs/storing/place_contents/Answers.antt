@@ -1,0 +1,24 @@
+use Rattle.std.proofs.Common.{◌≡◌, ◌∙◌, ◌+◌, ◌<◌, ◌++◌, List, ℕ, false, sym, ap, subst, arith, rules}
+use Rattle.std.specs.Prelude.{codes}
+use Rattle.std.proofs.lemmas.Result.{on_ok_weaker}
+use Rattle.hg_gen.specs.Copy.{text_of}
+use Rattle.hg_gen.specs.Recorded.{AreContents, files_of, is_in_parent}
+use Rattle.hg_gen.proofs.Keeping.{contents_name, file_placed, with_more, without_more}
+use Rattle.hg_shelf.specs.History.{Files}
+use Rattle.hg_gen.proofs.storing.place_contents.Goals as goal
+
+pub returns-then-not-is_in_parent : goal.returns-then-not-is_in_parent
+returns-then-not-is_in_parent c =
+    let small : c.args.file < 32000 = omega (arith, c.requires) in
+    let gone : is_in_parent c.args.file ≡ false = search rules in
+    λ upto. without_more c.args.file (files_of c.args.shelf.now) upto (omega arith) gone
+
+pub returns : goal.returns
+returns c =
+    let small : c.args.file < 32000 = omega (arith, c.requires) in
+    let name : c.as_str-2.result.now ≡ contents_name c.args.file =
+    c.as_str-2.ensures.value ∙ c.in_ok-name.ensures ∙ ap (λ (n : List ℕ). codes "plain/f-" ++ n) (c.as_str.ensures.value ∙ c.in_ok-contents.ensures) in
+    let text : c.as_bytes.result.now ≡ text_of c.args.file = search rules in
+    on_ok_weaker c.place.result
+    (λ is upto. subst (λ (f : Files). AreContents (c.args.file + 1) f) (sym (file_placed c.args.shelf.now c.place.new.self _ _ is)) (with_more c.args.file (files_of c.args.shelf.now) upto (omega arith) _ _ name text))
+    c.place.ensures.ok

@@ -1,0 +1,8 @@
+use Rattle.hg_gen.specs.Recorded.{files_of}
+use Rattle.hg_gen.proofs.Keeping.{stored_so}
+use Rattle.hg_gen.proofs.storing.stored.Goals as goal
+
+pub returns : goal.returns
+returns c =
+    stored_so c.args.dirs c.in_ok-encoded.encoded c.as_slice.result.now (files_of c.in_ok-shelf.shelf) (files_of c.place_record.new.shelf) c.in_ok-encoded.ensures c.in_ok-shelf.ensures
+    c.in_ok-place_record.ensures

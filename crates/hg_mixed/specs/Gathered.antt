@@ -1,0 +1,58 @@
+-- What a walk over all nodes gathers: of each path with an entry or a cache what is held of it.
+use Rattle.std.specs.Prelude.{ℕ, ◌≡◌, Bool, true, not, ◌&&◌, ◌||◌, List, ◌++◌, map, Option, is_some}
+use Rattle.std.specs.Option.{option_map}
+use Rattle.std.specs.List.{AllByRecursion, IsDistinct, list_any}
+use Rattle.std.specs.List.Sorted.{IsStrictlySortedBy}
+use Rattle.std.specs.Ordering.{nat_cmp}
+use Rattle.std.specs.Cmp.Lexicographic.{slice_cmp}
+use Rattle.std.specs.Str.{bytes_eq}
+use Rattle.hg_base.specs.Within.{is_above, is_within}
+use Rattle.hg_entry.specs.Entry.{stamp_view, view}
+use Rattle.hg_entry.specs.Table.{Table}
+use Rattle.hg_mixed.specs.Children.{ChildData, IsChild}
+use Rattle.hg_mixed.specs.Held.{Held, table}
+use Rattle.hg_mixed.specs.declared.child.Child.{Child}
+
+-- a path has an entry, or is a cached directory
+abbrev pub is_recorded : Table → List ℕ → Bool
+is_recorded table path = is_some (table.entries path) || is_some (table.caches path)
+
+abbrev pub path_of : Child → List ℕ
+path_of child = child.path.text.now
+
+abbrev pub paths_of : List Child → List (List ℕ)
+paths_of rows = map path_of rows
+
+-- a child shows what is held of its path
+pub record Shows (held : Held) (child : Child) : Type 0 where
+  pub entry : option_map view child.entry ≡ (table held).entries (path_of child)
+  pub source : option_map (λ s. s.text.now) child.source ≡ (table held).sources (path_of child)
+  pub cache : option_map stamp_view child.cache ≡ (table held).caches (path_of child)
+
+-- it has an entry or a cache
+abbrev pub has_line : Child → Bool
+has_line child = is_some child.entry || is_some child.cache
+
+-- one row for each path that passes a test and has an entry or a cache
+pub record AreGathered (held : Held) (test : List ℕ → Bool) (rows : List Child) : Type 0 where
+  pub own : IsDistinct bytes_eq (paths_of rows)
+  pub each : AllByRecursion (λ row. (test (path_of row) ≡ true) × (is_recorded (table held) (path_of row) ≡ true) × Shows held row) rows
+  pub all : (path : List ℕ) → test path ≡ true → is_recorded (table held) path ≡ true → list_any (bytes_eq path) (paths_of rows) ≡ true
+
+-- such rows were put behind others
+abbrev pub Gathers : Held → (List ℕ → Bool) → List Child → List Child → Type 0
+Gathers held test old new = (rows : List Child) × (new ≡ old ++ rows) × AreGathered held test rows
+
+-- a path stands at one of some children or below it
+abbrev pub is_left : List ChildData → List ℕ → Bool
+is_left left path = list_any (λ child. is_within child.path path) left
+
+-- what stands below a directory, but for what is at the children that are left and below them
+abbrev pub is_done : Option (List ℕ) → List ChildData → List ℕ → Bool
+is_done dir left path = is_above dir path && not (is_left left path)
+
+-- some children of a directory are left, and of the rest the rows were gathered
+pub record AreLeft (held : Held) (dir : Option (List ℕ)) (left : List ChildData) (old new : List Child) : Type 0 where
+  pub sorted : IsStrictlySortedBy (slice_cmp nat_cmp) (map (λ child. child.path) left)
+  pub each : AllByRecursion (IsChild held dir) left
+  pub gathered : Gathers held (is_done dir left) old new

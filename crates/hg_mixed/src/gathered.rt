@@ -1,0 +1,81 @@
+//! All nodes of a table that have an entry or are cached directories, each as the child that it is of its directory.
+
+ghost use Rattle.std.specs.Prelude.{◌≡◌, ◌++◌, ◌∷◌, [], if◌then◌else◌, None, OnOk, IfOk, option_map};
+ghost use Rattle.std.specs.List.Sorted.{IsStrictlySortedBy};
+ghost use Rattle.std.specs.Ordering.{nat_cmp};
+ghost use Rattle.std.specs.Cmp.Lexicographic.{slice_cmp};
+ghost use Rattle.hg_base.specs.PathText.{is_below, parent_of};
+ghost use Rattle.hg_base.specs.Within.{is_above};
+ghost use Rattle.hg_mixed.specs.Child.{shown_child};
+ghost use Rattle.hg_mixed.specs.Children.{IsChild};
+ghost use Rattle.hg_mixed.specs.Edits.{IsFormed};
+ghost use Rattle.hg_mixed.specs.Gathered.{AreGathered, Gathers, has_line, path_of, paths_of};
+ghost use Rattle.hg_mixed.specs.Held.{table};
+
+use crate::child::Child;
+use crate::mixed::Mixed;
+use hg_base::{OutOfMemory, PathRef};
+use std::alloc::Global;
+
+fn is_recorded(child: &Child<'_>) -> bool
+    ensures { result ≡ has_line child.now }
+{
+    child.entry.is_some() || child.cache.is_some()
+}
+
+// Takes a child that has a line of its own.
+fn add_own<'t>(rows: &mut Vec<Child<'t>>, child: Child<'t>) -> Result<(), OutOfMemory>
+    ensures { OnOk result (rows.new.items ≡ rows.old.items ++ (if has_line child.entry then child.entry ∷ [] else [])) }
+{
+    if is_recorded(&child) {
+        rows.push(child)?;
+    }
+    Ok(())
+}
+
+// Takes what stands below a child.
+#[cycle(gathering)]
+fn add_below<'t>(
+    mixed: &'t Mixed<'_>,
+    child: &Child<'t>,
+    rows: &mut Vec<Child<'t>>,
+) -> Result<(), OutOfMemory>
+    requires formed { IsFormed (table mixed.now) }
+    requires child { IsChild mixed.now (parent_of (path_of child.now)) (shown_child child.now) }
+    ensures { OnOk result (Gathers mixed.now (is_below (path_of child.now)) rows.old.items rows.new.items) }
+{
+    if !child.has_kids {
+        return Ok(());
+    }
+    add_children(mixed, Some(child.path), rows)
+}
+
+// Takes what stands below a directory, where no directory is the root.
+#[cycle(gathering)]
+fn add_children<'t>(
+    mixed: &'t Mixed<'_>,
+    dir: Option<PathRef<'t>>,
+    rows: &mut Vec<Child<'t>>,
+) -> Result<(), OutOfMemory>
+    requires { IsFormed (table mixed.now) }
+    ensures { OnOk result (Gathers mixed.now (is_above (option_map (λ d. d.text.now) dir.entry)) rows.old.items rows.new.items) }
+{
+    let mut children = mixed.children(dir);
+    while let Some(child) = children.next() {
+        add_own(rows, child)?;
+        add_below(mixed, &child, rows)?;
+    }
+    Ok(())
+}
+
+/// All nodes that have an entry or a cache, ascending by the bytes of their paths.
+pub fn gather<'t>(alloc: Global, mixed: &'t Mixed<'_>) -> Result<Vec<Child<'t>>, OutOfMemory>
+    requires { IsFormed (table mixed.now) }
+    ensures gathered { IfOk result (λ rows. AreGathered mixed.now (is_above None) rows.items) }
+    ensures ascending { IfOk result (λ rows. IsStrictlySortedBy (slice_cmp nat_cmp) (paths_of rows.items)) }
+{
+    let mut rows = Vec::new(alloc);
+    add_children(mixed, None, &mut rows)?;
+    rows.sort_by(|a, b| a.path.text.cmp(b.path.text))?;
+    Ok(rows)
+}

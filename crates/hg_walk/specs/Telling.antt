@@ -1,0 +1,153 @@
+-- The pass over the paths of a record: the row of each that has an entry, where no directory stood, and what is noted of times.
+use Rattle.std.specs.Prelude.{ℕ, ◌≡◌, ◌≤◌, Bool, true, false, IsTrue, List, [], ◌∷◌, ◌++◌, Option, Some, None, is_some}
+use Rattle.std.specs.Option.{option_map}
+use Rattle.std.specs.List.{Contains}
+use Rattle.hg_base.specs.declared.id.Id20.{Id20}
+use Rattle.hg_base.specs.declared.stat.Stat.{Stat}
+use Rattle.hg_base.specs.declared.time.Time.{Time}
+use Rattle.hg_compare.specs.Tracked.{tracked_letter}
+use Rattle.hg_compare.specs.declared.letter.Letter.{Letter}
+use Rattle.hg_compare.specs.declared.letter.Letter.TheVariants as a_letter
+use Rattle.hg_entry.specs.Entry.{EntryData, StampData, stamp_view, view}
+use Rattle.hg_entry.specs.Table.{Table, marks_of}
+use Rattle.hg_entry.specs.declared.entry.Entry.{Entry}
+use Rattle.hg_flat.specs.Course.{Proceeds}
+use Rattle.hg_flat.specs.Judged.{AddsBy, IsLeftAsked, IsLetterBy}
+use Rattle.hg_flat.specs.Listing.{wants_bytes, wants_tracked}
+use Rattle.hg_flat.specs.Met.{Status}
+use Rattle.hg_flat.specs.Parent.{KeepsRow}
+use Rattle.hg_flat.specs.Passed.{WasNoDir}
+use Rattle.hg_flat.specs.declared.kept.FlatRow.{FlatRow}
+use Rattle.hg_flat.specs.declared.parent.Parent.{Parent}
+use Rattle.hg_listing.specs.declared.row.Row.{Row}
+use Rattle.hg_listing.specs.declared.row.Wanted.{Wanted}
+use Rattle.hg_mixed.specs.Gathered.{path_of}
+use Rattle.hg_mixed.specs.declared.child.Child.{Child}
+use Rattle.hg_mtime.specs.Stamps.{stamp_of}
+use Rattle.hg_mtime.specs.Vouching.{vouches}
+use Rattle.hg_shelf.specs.History as shelves
+use Rattle.hg_tree.specs.History as trees
+use Rattle.hg_tree.specs.Honest.{IsHonest}
+use Rattle.hg_tree.specs.Moment.{is_dir, stat_at}
+use Rattle.hg_walk.specs.Finding.{WasClock, rows_then}
+use Rattle.hg_walk.specs.Notes.{AreClean, CleanNote, NotesData, clean_at}
+use Rattle.hg_walk.specs.Walking.{IsNeededNote, first_id}
+use Rattle.hg_walk.specs.declared.telling.Seen.{Seen}
+
+-- ---- the paths of a record
+
+-- a record has what a child shows
+pub record IsChildOf (t : Table) (child : Child) : Type 0 where
+  pub entry : option_map view child.entry ≡ t.entries (path_of child)
+  pub source : option_map (λ source. source.text.now) child.source ≡ t.sources (path_of child)
+
+-- it has what some children show, and names this first parent
+pub record AreOf (t : Table) (id : Id20) (children : List Child) : Type 0 where
+  pub first : id ≡ first_id t
+  pub each : (child : Child) → Contains children child → IsChildOf t child
+
+-- a child has a copy source
+abbrev pub copied_in : Child → Bool
+copied_in child = is_some (option_map (λ source. source.text.now) child.source)
+
+-- the row of a child with an entry
+abbrev pub tracked_row : Child → Entry → FlatRow
+tracked_row child entry = record { path = path_of child; entry = entry; source = option_map (λ source. source.text.now) child.source }
+
+abbrev pub rows_with : Child → Option Entry → List FlatRow
+rows_with child None = []
+rows_with child (Some entry) = tracked_row child entry ∷ []
+
+-- the rows of those children that have an entry, in their order
+abbrev pub tracked_rows : List Child → List FlatRow
+tracked_rows [] = []
+tracked_rows (child ∷ children) = rows_with child child.entry ++ tracked_rows children
+
+-- ---- what is put
+
+-- the rows of children were put behind the rows so far, by what both devices tell before and behind it; under the premise they are those of the
+-- paths' letters
+abbrev pub TellsEach : Type 0 → Status → List Child → List Row → List Row → Type 0
+TellsEach Premise s children old new =
+    AddsBy s.asks Premise (IsLeftAsked s.asks s.id s.tree_new s.tree_old.last s.shelf_new s.shelf_old.last) (shelves.now s.shelf_old).files s.id
+    (trees.now s.tree_old) s.wanted (tracked_rows children) old new
+
+-- ---- where no directory stood
+
+abbrev pub is_tracked : Option Entry → Bool
+is_tracked None = false
+is_tracked (Some entry) = entry.w
+
+-- a mark of a child: where it is set no directory stood there at a moment of the call; it is set where a look is taken and shows none
+pub record IsMarked (wanted : Wanted) (old new : trees.History) (child : Child) (mark : Bool) : Type 0 where
+  pub none : IsTrue old.told → mark ≡ true → WasNoDir new old.last (path_of child)
+  pub looked : trees.IsOurs old new → wants_tracked wanted ≡ true → is_tracked child.entry ≡ true
+      → is_dir ((trees.now old).things (path_of child)) ≡ false → mark ≡ true
+
+-- one mark for each child, in their order
+abbrev pub AreMarked : (Child → Bool → Type 0) → List Child → List Bool → Type 0
+AreMarked Is [] [] = Unit {0}
+AreMarked Is [] (mark ∷ marks) = ⊥
+AreMarked Is (child ∷ children) [] = ⊥
+AreMarked Is (child ∷ children) (mark ∷ marks) = Is child mark × AreMarked Is children marks
+
+-- they were put behind the marks so far
+abbrev pub MarksEach : Wanted → trees.History → trees.History → List Child → List Bool → List Bool → Type 0
+MarksEach wanted old new children before after = (marks : List Bool) × (after ≡ before ++ marks) × AreMarked (IsMarked wanted old new) children marks
+
+-- ---- what is noted
+
+-- notes of clean paths were put behind those so far
+abbrev pub with_clean_notes : List CleanNote → NotesData → NotesData
+with_clean_notes more notes = record notes { clean = notes.clean ++ more }
+
+-- a moment of the call shows this of a path
+pub record WasShown (old new : trees.History) (path : List ℕ) (stat : Stat) : Type 0 where
+  pub at : ℕ
+  pub from : old.last ≤ at
+  pub to : at ≤ new.last
+  pub shows : stat_at (new.at at) path ≡ Some stat
+
+-- nobody touches what the first parent has of any path
+abbrev pub KeepsRows : Status → Type 0
+KeepsRows s = (path : List ℕ) → KeepsRow s.shelf_new s.shelf_old.last s.id path
+
+-- what is noted of children: needed times alone, each by the boundary and from a look in the call; whatever others do they are earned, and where
+-- nobody else steps no clean path is left out whose time may be noted
+pub record AreNotesOf (s : Status) (t : Table) (boundary : Time) (children : List Child) (notes : List CleanNote) : Type 0 where
+  pub needed : (note : CleanNote) → Contains notes note → IsNeededNote t note
+  pub stamp : (note : CleanNote) → Contains notes note → stamp_of note.stat.mtime boundary ≡ Some note.stamp
+  pub shown : IsTrue s.tree_old.told → (note : CleanNote) → Contains notes note → WasShown s.tree_old s.tree_new note.path note.stat
+  pub earned : IsHonest s.tree_new → IsTrue s.tree_old.told → WasClock s.tree_old boundary → KeepsRows s → AreClean (rows_then s) t s.tree_new notes
+  pub recorded : trees.IsOurs s.tree_old s.tree_new → KeepsRows s → wants_bytes s.wanted ≡ true
+      → (child : Child) (entry : EntryData) (stat : Stat) (stamp : StampData) → Contains children child → t.entries (path_of child) ≡ Some entry
+      → stat_at (trees.now s.tree_old) (path_of child) ≡ Some stat
+      → tracked_letter (rows_then s (path_of child)) (marks_of entry) (is_some (t.sources (path_of child))) ((trees.now s.tree_old).things (path_of child)) ≡ Some a_letter.C
+      → vouches entry (is_some (t.sources (path_of child))) stat ≡ false → stamp_of stat.mtime boundary ≡ Some stamp
+      → clean_at notes (path_of child) ≡ Some (record { path = path_of child; stat = stat; stamp = stamp })
+
+-- they were put behind the notes so far
+abbrev pub NotesBehind : (Table → List CleanNote → Type 0) → NotesData → NotesData → Type 0
+NotesBehind AreNotes old new = (more : List CleanNote) × (new ≡ with_clean_notes more old) × ((t : Table) → AreNotes t more)
+
+-- ---- one child
+
+-- a status has come to a child of a record, with what it keeps of its parent
+pub record IsAtChild (s : Status) (t : Table) (parent : Parent) (child : Child) : Type 0 where
+  pub of : IsChildOf t child
+  pub goes : Proceeds s parent
+
+-- a look shows this of a path now, where the tree tells
+abbrev pub ShowsNow : trees.History → List ℕ → Stat → Type 0
+ShowsNow h path stat = IsTrue h.told → stat_at (trees.now h) path ≡ Some stat
+
+-- a letter that is found of an entry, or none
+abbrev pub IsLetterOf : Type 0 → Status → FlatRow → Option Letter → Type 0
+IsLetterOf Premise s row letter =
+    IsLetterBy s.asks Premise (IsLeftAsked s.asks s.id s.tree_new s.tree_old.last s.shelf_new s.shelf_old.last) (shelves.now s.shelf_old).files s.id
+    (trees.now s.tree_old) s.wanted row letter
+
+-- the note of a path
+abbrev pub notes_of : List ℕ → Option Seen → List CleanNote
+notes_of path None = []
+notes_of path (Some seen) = record { path = path; stat = seen.stat; stamp = stamp_view seen.stamp } ∷ []
