@@ -1,3 +1,4 @@
 pub mod Calls
+pub mod Good
 pub mod Run
 pub mod Script

@@ -17,5 +17,5 @@ mod laws;
 mod script;
 mod top;
 
-pub use laws::{each_call_is_safe, each_run_is_safe};
+pub use laws::{each_call_is_good, each_call_is_safe, each_run_is_safe};
 pub use top::run;
