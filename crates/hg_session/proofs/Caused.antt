@@ -1,5 +1,5 @@
 -- The cause of a fault in the table of all commands, from the stage at which a command met it; and the whole answer of a call.
-use Rattle.std.proofs.Common.{ℕ, ◌≡◌, true, false, Option, Some, None, Result, Ok, Err, IfSome, IsTrue, refl, sym, subst, inl, inr, true≢false}
+use Rattle.std.proofs.Common.{ℕ, ◌≡◌, true, false, Option, Some, None, Result, Ok, Err, IfSome, IsTrue, sym, subst, inl, inr, true≢false}
 use Rattle.std.specs.Option.{MatchOption}
 use Rattle.std.specs.Prelude.{IsSomeAnd, ◌⊎◌}
 use Rattle.hg_append.specs.declared.fault.EncodeFault.TheVariants as an_encode_fault

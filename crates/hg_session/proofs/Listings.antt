@@ -1,8 +1,7 @@
 -- What a listing behind a load says of the call up to where it ended.
-use Rattle.std.proofs.Common.{ℕ, ◌≡◌, ◌≤◌, true, List, [], ◌∷◌, Option, Some, None, Result, Ok, Err, IsTrue, refl, sym, ◌∙◌, subst, inl, inr, arith}
+use Rattle.std.proofs.Common.{ℕ, List, [], ◌∷◌, Option, Some, IsTrue, refl, sym, ◌∙◌, subst, inl, inr, arith}
 use Rattle.std.proofs.lemmas.List.{append-nil}
 use Rattle.hg_entry.specs.Table.{Table}
-use Rattle.hg_flat.specs.Asked.{AsksNothing}
 use Rattle.hg_listing.specs.declared.fault.StatusFault.{StatusFault}
 use Rattle.hg_listing.specs.declared.fault.StatusFault.TheVariants as a_status
 use Rattle.hg_listing.specs.declared.row.Row.{Row}
@@ -20,7 +19,7 @@ use Rattle.hg_session.specs.Flags.{wanted_of}
 use Rattle.hg_session.specs.Listed.{AsksBelow, AsksLittle, AsksOver, AsksPlain, IsListable, IsListedFor, IsRightFor, StatusCause, StatusMet, asking, first_parent}
 use Rattle.hg_session.specs.Loaded.{AsksRecord}
 use Rattle.hg_session.specs.Look.{IsShown, IsUntold, LeavesAt, Stage, at_first, at_printing, at_saving, at_telling}
-use Rattle.hg_session.specs.Put.{Puts, PutsFront}
+use Rattle.hg_session.specs.Put.{Puts}
 use Rattle.hg_session.specs.Status.{IsRowsText, OnlyAsksBelow, listed_to, show_look, status_look}
 use Rattle.hg_walk.specs.Right.{VouchedAreClean}
 use Rattle.hg_walk.specs.Walking.{rows_in}

@@ -1,5 +1,5 @@
 -- What a listing did up to where it ended is so over the whole call, behind which times are saved.
-use Rattle.std.proofs.Common.{ℕ, ◌≡◌, ◌≤◌, List, map, Option, Some, None, option_map, Result, Ok, Err, IsTrue, IfSome, refl, sym, ap, ◌∙◌, subst, inl, inr, arith}
+use Rattle.std.proofs.Common.{ℕ, ◌≡◌, ◌≤◌, List, map, Option, Some, None, Result, Ok, Err, IsTrue, IfSome, sym, ap, ◌∙◌, subst, inl, inr, arith}
 use Rattle.std.specs.Prelude.{IsSomeAnd}
 use Rattle.hg_base.specs.declared.id.Id20.{Id20}
 use Rattle.hg_base.specs.declared.stat.Stat.{Stat}
@@ -20,7 +20,7 @@ use Rattle.hg_manifest.specs.declared.fault.ManifestFault.TheVariants as a_manif
 use Rattle.hg_manifest.specs.declared.row.FileRow.{FileRow}
 use Rattle.hg_report.specs.declared.fault.Fault.{Fault}
 use Rattle.hg_save.proofs.Loads.{found_longer, tries_longer}
-use Rattle.hg_save.specs.Loads.{Try, found_by, id_by}
+use Rattle.hg_save.specs.Loads.{found_by, id_by}
 use Rattle.hg_shelf.specs.History as shelf
 use Rattle.hg_shelf.specs.History.{Extends, Files, History, IsOurs}
 use Rattle.hg_shelf.specs.Polite.{KeepsFile, KeepsPlain}
@@ -30,12 +30,12 @@ use Rattle.hg_session.proofs.Parents.{row_plain, rows_same}
 use Rattle.hg_session.proofs.Readings.{read_longer}
 use Rattle.hg_session.proofs.Widening.{ids_longer}
 use Rattle.hg_session.proofs.Locked.{unwritten}
-use Rattle.hg_session.specs.Call.{Count, Looked, Saved, Sink, Watched}
+use Rattle.hg_session.specs.Call.{Count, Looked, Saved, Sink}
 use Rattle.hg_session.specs.Change.{up_to}
 use Rattle.hg_session.specs.Flags.{wanted_of}
 use Rattle.hg_session.specs.Listed.{IsListable, IsListedFor, IsOwn, IsRightFor, IsUntouched, StatusCause, StatusMet, status_over}
 use Rattle.hg_session.specs.Loaded.{IsLoaded, IsRefused, LoadMet, MetReading}
-use Rattle.hg_session.specs.Look.{Concludes, IsShown, LeavesAt, OnlyReads, Stage, at_first, at_printing, at_saving, at_telling}
+use Rattle.hg_session.specs.Look.{Concludes, IsShown, LeavesAt, Stage, at_first, at_printing, at_saving, at_telling}
 use Rattle.hg_session.specs.Put.{Puts, PutsFront, Tells}
 use Rattle.hg_session.specs.Status.{IsLoadedFirst, IsRowsText, ListingCause, listed_to, status_look}
 use Rattle.hg_session.specs.declared.read_fault.ReadFault.{ReadFault}

@@ -164,10 +164,14 @@ module _ (wanted : Wanted) (table : Table) (moment : Moment) (a b : List ℕ →
 
   told_rows : (row : Row) → (IsAsked (asked_unvouched wanted table) moment row.path → a row.path ≡ b row.path)
       → IsTold (flat_of table) moment a Ignored wanted row → IsTold (flat_of table) moment b Ignored wanted row
-  told_rows row same told = (told.0, elim (cases_Bool (is_vouched_at table moment row.path)) [
-    | inl vouched ↦ vouched_by row.path row.letter (table.entries row.path) refl (stat_at moment row.path) refl vouched told.1
-    | inr unvouched ↦ letter_by wanted (flat_of table) moment a b Ignored row.path row.letter told.0 (option_map marks_of (table.entries row.path)) (λ asked. same (asked_as row.path unvouched asked)) told.1
-  ], told.2)
+  told_rows row same told = (
+    told.0,
+    elim (cases_Bool (is_vouched_at table moment row.path)) [
+      | inl vouched ↦ vouched_by row.path row.letter (table.entries row.path) refl (stat_at moment row.path) refl vouched told.1
+      | inr unvouched ↦ letter_by wanted (flat_of table) moment a b Ignored row.path row.letter told.0 (option_map marks_of (table.entries row.path)) (λ asked. same (asked_as row.path unvouched asked)) told.1
+    ],
+    told.2,
+  )
 
 -- where a row's contents are the same, a path that has them goes on having them
 contents_moved : (a b : shelf.Files) (moment : Moment) (path : List ℕ) (o : Option FileRow) → IfSome o (λ row. a (contents_name row.id.0) ≡ b (contents_name row.id.0)) → HasContents a moment path o → HasContents b moment path o

@@ -1,10 +1,8 @@
 -- What a listing over a table, its printing and its telling do, from what their parts do.
-use Rattle.std.proofs.Common.{ℕ, ◌≡◌, Bool, true, List, [], Result, Ok, Err, IfErr, IfOk, IsTrue, OnOk, Some, refl, sym, ap, ◌∙◌, subst, inl, arith}
+use Rattle.std.proofs.Common.{ℕ, ◌≡◌, Bool, true, List, [], Result, Ok, Err, IfErr, IfOk, IsTrue, OnOk, refl, ap, ◌∙◌, subst, inl, arith}
 use Rattle.std.specs.Prelude.{MatchBool}
-use Rattle.hg_base.specs.Fault.{HasCause}
 use Rattle.hg_entry.specs.Table.{Table, flat_of}
 use Rattle.hg_flat.specs.Met.{Met}
-use Rattle.hg_flat.specs.Parent.{IsServed}
 use Rattle.hg_flat.specs.Patterns.{CountsOversize, HadPatterns, Warns, ignored_at, is_of_parent}
 use Rattle.hg_ignore.specs.Patterns.{WereRead}
 use Rattle.hg_ignore.specs.declared.warnings.Warning.{Warning}

@@ -1,5 +1,5 @@
 -- Saving what was noted with the lock round it, from what was done under the lock.
-use Rattle.std.proofs.Common.{ℕ, ◌≡◌, ◌≤◌, ◌⊎◌, List, [], ◌∷◌, Option, Some, None, Result, Ok, Err, IsTrue, refl, sym, ap, ◌∙◌, subst, inl, inr, arith}
+use Rattle.std.proofs.Common.{ℕ, ◌≡◌, [], ◌∷◌, None, Result, Ok, Err, IsTrue, refl, sym, ap, ◌∙◌, subst, inl, inr, arith}
 use Rattle.std.proofs.lemmas.List.{append-nil}
 use Rattle.hg_base.specs.Fault.{HasCause, Rose}
 use Rattle.hg_base.specs.declared.fault.Failed.{Failed}
@@ -26,7 +26,7 @@ use Rattle.hg_shelf.proofs.Histories.{passes_same}
 use Rattle.hg_shelf.proofs.Scenes.{goes_same}
 use Rattle.hg_shelf.specs.Asks.{AsksFrontOf}
 use Rattle.hg_shelf.specs.History.{Files, History, Waits}
-use Rattle.hg_shelf.specs.Images.{Course, Goes, scene}
+use Rattle.hg_shelf.specs.Images.{Course, Goes}
 use Rattle.hg_shelf.specs.Lock as locks_are
 use Rattle.hg_shelf.specs.Lock.{NotesUnlock, Unlocks}
 use Rattle.hg_shelf.specs.Polite.{Undisturbed}

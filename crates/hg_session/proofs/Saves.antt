@@ -1,26 +1,23 @@
 -- What became of notes behind a part of a call in which the caller only asked, said of the whole call.
-use Rattle.std.proofs.Common.{ℕ, ◌≡◌, ◌≤◌, List, ◌∷◌, [], ◌++◌, true, Option, Some, None, IsTrue, refl, sym, ap, ◌∙◌, subst, inl, inr, arith}
+use Rattle.std.proofs.Common.{ℕ, ◌≡◌, List, ◌∷◌, [], ◌++◌, Option, Some, IsTrue, sym, ap, ◌∙◌, subst, inl, inr, arith}
 use Rattle.std.proofs.lemmas.Bool.{cases_lt}
 use Rattle.hg_base.specs.Fault.{Rose}
 use Rattle.hg_entry.specs.Table.{Table}
 use Rattle.hg_report.specs.declared.fault.Fault.{Fault}
-use Rattle.hg_report.specs.declared.fault.Fault.TheVariants as a_fault
 use Rattle.hg_session.proofs.Locked.{unwritten_then}
 use Rattle.hg_session.specs.Acts.{Makes}
-use Rattle.hg_session.specs.Call.{Count, Fails, FailsTwice, Saved, Watched}
+use Rattle.hg_session.specs.Call.{Count, Fails, FailsTwice, Watched}
 use Rattle.hg_session.specs.Change.{IsKept, IsSafe, IsUnwritten, NoneOurs, Stretch, WasReturned}
-use Rattle.hg_session.specs.Locks.{NotReturned, NotTaken, Refused, Returned, TakenAt, came_to}
+use Rattle.hg_session.specs.Locks.{NotReturned, NotTaken, came_to}
 use Rattle.hg_session.specs.Look.{OnlyReads}
 use Rattle.hg_session.specs.Saving.{IsLockedToSave, IsNoted, IsNotedHeld, SavesNotes, WasNotGivenBack, WasNotGot, WasPassedOver, noted_makes}
 use Rattle.hg_session.specs.Status.{SavesLast}
 use Rattle.hg_shelf.proofs.Histories.{passes_trans, us_apart}
 use Rattle.hg_shelf.proofs.Scenes.{goes_trans, second_part}
-use Rattle.hg_shelf.specs.History.{History, Passes, us}
+use Rattle.hg_shelf.specs.History.{History, Passes}
 use Rattle.hg_shelf.specs.Images.{Course, Goes}
-use Rattle.hg_shelf.specs.Polite.{Undisturbed}
 use Rattle.hg_shelf.specs.declared.asked.LockAnswer.TheVariants as an_answer
 use Rattle.hg_shelf.specs.declared.asked.LockCall.{LockCall}
-use Rattle.hg_walk.specs.Applying.{IsBlank}
 use Rattle.hg_walk.specs.Notes.{NotesData, applied}
 
 module _ (a c d : Course) (only : Passes a.history c.history) (first : Goes a c) (goes : Goes c d) where

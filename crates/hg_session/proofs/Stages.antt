@@ -1,5 +1,5 @@
 -- What a status does, exit by exit: the record wasn't read, it wasn't shown, or what was noted was saved or not.
-use Rattle.std.proofs.Common.{ℕ, ◌≡◌, ◌≤◌, ◌⊎◌, true, List, [], ◌∷◌, Option, Some, None, Result, Ok, Err, IfErr, IsTrue, OnOk, refl, sym, ◌∙◌, subst, inl, inr, arith}
+use Rattle.std.proofs.Common.{ℕ, ◌≡◌, ◌⊎◌, true, List, [], ◌∷◌, Option, Some, None, Result, Ok, Err, IsTrue, OnOk, refl, sym, ◌∙◌, subst, inl, inr, arith}
 use Rattle.std.specs.List.{Contains}
 use Rattle.hg_compare.specs.Tracked.{ParentRow}
 use Rattle.hg_entry.specs.Table.{Table}
@@ -11,7 +11,6 @@ use Rattle.hg_shelf.proofs.Histories.{extends_same, extends_trans}
 use Rattle.hg_shelf.specs.Asks.{AsksFrontOf}
 use Rattle.hg_shelf.specs.History as shelf
 use Rattle.hg_shelf.specs.Polite.{KeepsPlain}
-use Rattle.hg_tree.proofs.Spans.{passes_same}
 use Rattle.hg_tree.specs.History as tree
 use Rattle.hg_session.proofs.Listings.{asks_below, asks_little, asks_load, left_by, part_of, shown_by}
 use Rattle.hg_session.proofs.Locked.{unwritten}
@@ -178,6 +177,7 @@ module _ (flags : StatusFlags) (looked : Looked) (saved : Saved) (locks : Count)
       always : {P : Type 0} (r : Result Unit Fault) → P → OnOk r P
       always (Ok u) has = has
       always (Err f) has = tt
+
       on_ok : {P Q : Type 0} (r : Result Unit Fault) → (P → Q) → OnOk r P → OnOk r Q
       on_ok (Ok u) move has = move has
       on_ok (Err f) move has = tt

@@ -1,5 +1,5 @@
 -- What a status did that ended so, from what was done before the line of its fault, and how that ends.
-use Rattle.std.proofs.Common.{ℕ, ◌≡◌, true, List, Option, Some, None, Result, Ok, Err, IfSome, IsTrue, OnOk, refl, sym, subst, inl, inr}
+use Rattle.std.proofs.Common.{ℕ, ◌≡◌, Option, Some, None, Result, refl, inl, inr}
 use Rattle.std.specs.Prelude.{IsSomeAnd}
 use Rattle.hg_entry.specs.Table.{Table}
 use Rattle.hg_report.specs.declared.fault.Fault.{Fault}
@@ -13,9 +13,9 @@ use Rattle.hg_session.specs.Call.{Call, Count, Looked, Saved, Sink, Watched}
 use Rattle.hg_session.specs.Change.{IsSafe}
 use Rattle.hg_session.specs.Flags.{wanted_of}
 use Rattle.hg_session.specs.Listed.{AsksOwn}
-use Rattle.hg_session.specs.Look.{Concludes, EndsAs, fault_in}
+use Rattle.hg_session.specs.Look.{Concludes, EndsAs}
 use Rattle.hg_session.specs.Put.{IsFaultOrMemory}
-use Rattle.hg_session.specs.Status.{DoesStatus, IsLockedLast, IsRecordedFor, ListingCause, RanStatus, SavesLast, listed_to, noted_in, status_look}
+use Rattle.hg_session.specs.Status.{DoesStatus, IsLockedLast, IsRecordedFor, RanStatus, SavesLast, listed_to, noted_in, status_look}
 use Rattle.hg_session.specs.declared.read_fault.ReadFault.TheVariants as a_read
 use Rattle.hg_shelf.specs.History.{History}
 use Rattle.hg_walk.specs.Notes.{NotesData}
@@ -39,6 +39,7 @@ saves_memory files saved locks table notes fault is = record {
   where
     told_memory : IsFaultOrMemory (Some fault) a_fault.ShelfFailed → IsFaultOrMemory (Some a_fault.OutOfMemory) a_fault.ShelfFailed
     told_memory either = inr refl
+
     locked_memory : (t : Option Table) → IsLockedLast files saved locks t notes (Some fault) → IsLockedLast files saved locks t notes (Some a_fault.OutOfMemory)
     locked_memory None only = only
     locked_memory (Some t) (inl uncalled) = inl uncalled

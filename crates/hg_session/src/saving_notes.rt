@@ -1,18 +1,19 @@
 //! A status saves what it noted, where it gets the lock and the docket still stands.
 
-ghost use Rattle.std.specs.Prelude.{◌≡◌, ◌⊎◌, ◌≤◌, ◌∷◌, [], IfErr, IsTrue, None, Ok, false, length, true};
+ghost use Rattle.std.specs.Prelude.{◌≡◌, ◌⊎◌, ◌≤◌, ◌↔◌, ◌∷◌, [], IfErr, IfOk, IsTrue, None, Ok, false, length, true};
 ghost use Rattle.hg_base.specs.Fault.{HasCause};
 ghost use Rattle.hg_docket.specs.Docket.{docket_of, docket_refusal};
 ghost use Rattle.hg_entry.specs.Table.{Table};
 ghost use Rattle.hg_mixed.specs.Held.{table};
 ghost use Rattle.hg_save.specs.Asked.{docket_ask};
 ghost use Rattle.hg_save.specs.Leads.{IsHeld};
+ghost use Rattle.hg_save.specs.Record.{docket_in};
 ghost use Rattle.hg_session.specs.Call.{counted, saved_by, watched};
 ghost use Rattle.hg_session.specs.Change.{IsUnwritten};
 ghost use Rattle.hg_session.specs.Saving.{IsOpenedSince, SavesHeld, SavesNotes, once_saved, save_fault, unless_full};
 ghost use Rattle.hg_session.specs.declared.save_fault.SaveFault.TheVariants as a_fault;
-ghost use Rattle.hg_shelf.specs.Asks.{AsksFrontOf};
-ghost use Rattle.hg_shelf.specs.History.{History};
+ghost use Rattle.hg_shelf.specs.Asks.{AsksFrontOf, AsksInOrder};
+ghost use Rattle.hg_shelf.specs.History.{History, Passes, now};
 ghost use Rattle.hg_shelf.specs.Images.{Goes, course};
 ghost use Rattle.hg_walk.specs.Applying.{CanApply, IsBlank};
 
@@ -36,6 +37,23 @@ fn unless_unfit(done: Result<(), ChangeFault>) -> Result<(), SaveFault>
         Err(ChangeFault::Encode(EncodeFault::OutOfMemory)) => Err(SaveFault::OutOfMemory),
         Err(ChangeFault::Encode(_)) => Ok(()),
         Err(_) => Err(SaveFault::ShelfFailed),
+    }
+}
+
+// Whether the docket stands as it was loaded.
+fn stands<S: Shelf>(shelf: &mut S, loaded: &Loaded) -> Result<bool, SaveFault>
+    ensures found { IsTrue (S.history shelf.old).told
+        → IfOk result (λ same. IsTrue same ↔ (docket_in (now (S.history shelf.new)).files ≡ loaded.now.docket.items)) }
+    ensures passes { Passes (S.history shelf.old) (S.history shelf.new) }
+    ensures kept { Goes (course (S.history shelf.old) (S.images shelf.old)) (course (S.history shelf.new) (S.images shelf.new)) }
+    ensures asked { IsTrue (S.history shelf.old).told → AsksInOrder (docket_ask ∷ []) (S.history shelf.old) (S.history shelf.new) result }
+    ensures cause { HasCause (S.faults shelf.old) (S.faults shelf.new) result (λ e. e ≡ a_fault.ShelfFailed) }
+    ensures kind { IfErr result (λ e. e ≡ a_fault.ShelfFailed) }
+    ensures locks { S.held shelf.new ≡ S.held shelf.old }
+{
+    match still(shelf, loaded) {
+        Err(_) => Err(SaveFault::ShelfFailed),
+        Ok(same) => Ok(same),
     }
 }
 
@@ -71,14 +89,12 @@ fn save_held<S: Shelf>(
     ensures uncalled { (S.history shelf.new).locks ≡ (S.history shelf.old).locks }
     ensures locks { S.held shelf.new ≡ S.held shelf.old }
 {
-    match still(shelf, loaded) {
-        Err(_) => Err(SaveFault::ShelfFailed),
-        Ok(false) => Ok(()),
-        Ok(true) => {
-            apply(mixed, notes)?;
-            unless_unfit(save(alloc, shelf, loaded, mixed))
-        }
+    let same = stands(shelf, loaded)?;
+    if !same {
+        return Ok(());
     }
+    apply(mixed, notes)?;
+    unless_unfit(save(alloc, shelf, loaded, mixed))
 }
 
 // The first fault of saving and of giving the lock back.
