@@ -1,6 +1,6 @@
 -- What a command that changes the record did, from what its parts did.
-use Rattle.std.proofs.Common.{ℕ, ◌≡◌, ◌≤◌, ◌⊎◌, Bool, true, false, List, [], ◌∷◌, Option, Some, None, is_some, Ok, Err, IsTrue, refl, sym, ap, ◌∙◌, subst, inl, inr, arith}
-use Rattle.std.proofs.lemmas.Bool.{cases_Bool, cases_lt}
+use Rattle.std.proofs.Common.{ℕ, ◌≡◌, Bool, true, false, List, [], ◌∷◌, Option, Some, None, is_some, Ok, Err, IsTrue, refl, sym, ap, ◌∙◌, subst, inl, inr, arith}
+use Rattle.std.proofs.lemmas.Bool.{cases_Bool}
 use Rattle.hg_append.specs.Encoded.{HasCause}
 use Rattle.hg_append.specs.declared.fault.EncodeFault.{EncodeFault}
 use Rattle.hg_append.specs.declared.fault.EncodeFault.TheVariants as an_encode
@@ -15,26 +15,23 @@ use Rattle.hg_ops.proofs.Added.{same_table}
 use Rattle.hg_ops.specs.declared.refusal.OpFault.{OpFault}
 use Rattle.hg_ops.specs.declared.refusal.OpFault.TheVariants as an_op
 use Rattle.hg_report.specs.declared.fault.Fault.{Fault}
-use Rattle.hg_save.specs.Leads.{Leads}
 use Rattle.hg_save.specs.Loads.{IsLoad, IsTry, Loads, Tries, Try, files_at, found_by}
-use Rattle.hg_save.specs.Record.{data_name, docket_in, id_in, reading}
-use Rattle.hg_save.specs.Saved.{KeepsOthers, LeavesOnly, ReadsAsBeforeOr, ShowsOnly, Stands}
+use Rattle.hg_save.specs.Record.{docket_in, id_in, reading}
+use Rattle.hg_save.specs.Saved.{Stands}
 use Rattle.hg_save.specs.declared.load_fault.LoadFault.{LoadFault}
 use Rattle.hg_save.specs.declared.loaded.Loaded.{Loaded}
 use Rattle.hg_save.proofs.Loads.{found_longer, last_within, tries_longer}
-use Rattle.hg_save.proofs.Published.{keeps_front}
-use Rattle.hg_save.proofs.Spans.{files_front}
 use Rattle.hg_session.specs.Acts.{AsksBehind, ChangesTree, Makes, StandsAt}
 use Rattle.hg_session.specs.Anew.{CanWrite, IsOpened, IsOverwritten, IsRecorded, LoadsOrRefuses, MetWriting, WritesOnly}
 use Rattle.hg_session.specs.Call.{Fails, IsLeftAlone, Watched}
-use Rattle.hg_session.specs.Change.{AsksChange, ChangesBehind, FitsFirst, IsDone, IsKept, IsMade, IsPublished, IsReadFirst, IsReadSome, IsSafeHeld, IsToBlame, IsUnwritten, IsWritten, MetChanging, up_to}
+use Rattle.hg_session.specs.Change.{AsksChange, ChangesBehind, FitsFirst, IsDone, IsKept, IsMade, IsPublished, IsReadFirst, IsReadSome, IsSafeHeld, IsToBlame, IsUnwritten, MetChanging, up_to}
 use Rattle.hg_session.specs.Load.{by_load}
 use Rattle.hg_session.specs.Loaded.{AsksRecord, NodesFind, Refuses}
 use Rattle.hg_session.specs.declared.change_fault.ChangeFault.{ChangeFault}
 use Rattle.hg_session.specs.declared.change_fault.ChangeFault.TheVariants as a_change_fault
 use Rattle.hg_session.specs.declared.read_fault.ReadFault.{ReadFault}
 use Rattle.hg_session.specs.declared.read_fault.ReadFault.TheVariants as a_read
-use Rattle.hg_session.proofs.Locked.{end_remains, front_docket, front_found, front_latest, front_remains, none_front, unwritten, unwritten_then}
+use Rattle.hg_session.proofs.Locked.{end_remains, front_docket, front_found, none_front, unwritten, unwritten_then}
 use Rattle.hg_session.proofs.Publishing.{kept_over, published_over}
 use Rattle.hg_session.proofs.Readings.{refused_by, sound_reading}
 use Rattle.hg_session.proofs.SameTables.{one_table}

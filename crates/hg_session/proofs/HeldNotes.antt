@@ -1,10 +1,9 @@
 -- What was noted is saved over a docket that still stands, while the lock is held.
-use Rattle.std.proofs.Common.{ℕ, ◌≡◌, ◌≤◌, ◌⊎◌, Bool, true, false, List, [], ◌∷◌, ◌++◌, Option, Some, None, Result, Ok, Err, IfErr, OnOk, IsTrue, refl, sym, ap, ◌∙◌, subst, inl, inr, arith, true≢false}
+use Rattle.std.proofs.Common.{ℕ, ◌≡◌, true, false, List, [], ◌∷◌, ◌++◌, Some, None, Result, Ok, Err, IfErr, OnOk, IsTrue, refl, sym, ap, ◌∙◌, subst, inl, inr, arith, true≢false}
 use Rattle.std.proofs.lemmas.Bool.{cases_Bool}
 use Rattle.hg_append.specs.Encoded as anew
 use Rattle.hg_append.specs.declared.fault.EncodeFault.{EncodeFault}
 use Rattle.hg_append.specs.declared.fault.EncodeFault.TheVariants as an_encode
-use Rattle.hg_base.specs.Fault.{HasCause, Rose}
 use Rattle.hg_docket.specs.Docket.{Contents, docket_of, docket_refusal}
 use Rattle.hg_docket.specs.Number.{next_name}
 use Rattle.hg_entry.specs.Table.{Table}
@@ -15,8 +14,8 @@ use Rattle.hg_mixed.specs.Held.{Held, table}
 use Rattle.hg_ops.proofs.Added.{same_table}
 use Rattle.hg_save.proofs.Loads.{found_longer, last_within}
 use Rattle.hg_save.specs.Asked.{docket_ask}
-use Rattle.hg_save.specs.Loads.{IsTry, Loads, Try, files_at, found_by}
-use Rattle.hg_save.specs.Record.{docket_in, id_in, record_in}
+use Rattle.hg_save.specs.Loads.{Try}
+use Rattle.hg_save.specs.Record.{docket_in}
 use Rattle.hg_save.specs.Saved.{Stands}
 use Rattle.hg_save.specs.declared.loaded.Loaded.{Loaded}
 use Rattle.hg_session.proofs.Locked.{end_remains, unwritten, unwritten_then}
@@ -24,7 +23,7 @@ use Rattle.hg_session.proofs.Publishing.{id_there, kept_over, published_over}
 use Rattle.hg_session.proofs.Readings.{sound_reading}
 use Rattle.hg_session.proofs.SameTables.{one_table, table_stays}
 use Rattle.hg_session.proofs.Standing.{still_recorded}
-use Rattle.hg_session.specs.Anew.{CanWrite, IsRecorded, MetWriting, WritesOnly}
+use Rattle.hg_session.specs.Anew.{IsRecorded, MetWriting, WritesOnly}
 use Rattle.hg_session.specs.Call.{Saved, Watched}
 use Rattle.hg_session.specs.Change.{FailsOrUnwritten, IsKept, IsSafeHeld, IsUnwritten, MayFollowWriting, fault_of}
 use Rattle.hg_session.specs.Saving.{AnotherStood, IsNoted, IsOpenedSince, IsUnfit, SavesHeld, noted_makes, save_fault, unless_full}
@@ -33,7 +32,7 @@ use Rattle.hg_session.specs.declared.change_fault.ChangeFault.TheVariants as a_c
 use Rattle.hg_session.specs.declared.save_fault.SaveFault.{SaveFault}
 use Rattle.hg_session.specs.declared.save_fault.SaveFault.TheVariants as a_save
 use Rattle.hg_shelf.specs.Asks.{AsksFrontOf, AsksNothing}
-use Rattle.hg_shelf.specs.History.{Extends, Files, History, Passes, now}
+use Rattle.hg_shelf.specs.History.{Extends, History, Passes, now}
 use Rattle.hg_shelf.specs.Images.{Course, Goes, last_scene, scene}
 use Rattle.hg_shelf.specs.Polite.{Undisturbed}
 use Rattle.hg_shelf.proofs.Histories.{extends_trans}

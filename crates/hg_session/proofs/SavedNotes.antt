@@ -1,6 +1,5 @@
 -- Saving what was noted with the lock round it, from what was done under the lock.
-use Rattle.std.proofs.Common.{ℕ, ◌≡◌, ◌≤◌, ◌+◌, ◌-◌, ◌^◌, min, ◌⊎◌, List, [], ◌∷◌, ◌++◌, Option, Some, None, Result, Ok, Err, IsTrue, refl, sym, ap, ◌∙◌, subst, inl, inr, arith}
-use Rattle.std.proofs.lemmas.Bool.{cases_lt}
+use Rattle.std.proofs.Common.{ℕ, ◌≡◌, [], ◌∷◌, None, Result, Ok, Err, IsTrue, refl, sym, ap, ◌∙◌, subst, inl, inr, arith}
 use Rattle.std.proofs.lemmas.List.{append-nil}
 use Rattle.hg_base.specs.Fault.{HasCause, Rose}
 use Rattle.hg_base.specs.declared.fault.Failed.{Failed}
@@ -10,30 +9,28 @@ use Rattle.hg_save.specs.Leads.{IsHeld}
 use Rattle.hg_save.specs.Loads.{files_at}
 use Rattle.hg_save.specs.Record.{docket_in, record_in}
 use Rattle.hg_session.proofs.Freed.{rose_last, rose_twice}
-use Rattle.hg_session.proofs.Locked.{none_front, unwritten_here, unwritten_then}
+use Rattle.hg_session.proofs.Locked.{unwritten_here}
 use Rattle.hg_session.proofs.Locks.{not_returned_by, returned_by}
 use Rattle.hg_session.proofs.Makers.{IsWider, stands_later}
 use Rattle.hg_session.proofs.Standing.{keep_earlier}
 use Rattle.hg_session.proofs.Widening.{calm_within, held_stretch, kept_wide, safe_wide, unwritten_wide}
 use Rattle.hg_session.specs.Acts.{Makes}
-use Rattle.hg_report.specs.declared.fault.Fault.{Fault}
-use Rattle.hg_session.specs.Call.{Count, FailsTwice, Saved, Watched}
-use Rattle.hg_session.specs.Change.{IsSafe, IsSafeHeld, IsUnwritten, Stretch}
-use Rattle.hg_session.specs.Locks.{NotReturned, NotTaken, Refused, Returned, TakenAt, came_to}
+use Rattle.hg_session.specs.Call.{Count, Saved, Watched}
+use Rattle.hg_session.specs.Change.{IsSafe, IsSafeHeld}
+use Rattle.hg_session.specs.Locks.{NotTaken, Refused, TakenAt}
 use Rattle.hg_session.specs.Look.{OnlyReads}
 use Rattle.hg_session.specs.Saving.{AnotherStood, IsLockedToSave, IsNoted, IsNotedHeld, IsUnfit, IsUnsaved, SavesHeld, SavesNotes, noted_makes, once_saved, save_fault}
 use Rattle.hg_session.specs.declared.save_fault.SaveFault.{SaveFault}
 use Rattle.hg_session.specs.declared.save_fault.SaveFault.TheVariants as a_save
-use Rattle.hg_shelf.proofs.Histories.{passes_same, passes_trans}
-use Rattle.hg_shelf.proofs.Scenes.{goes_same, goes_trans, second_part}
+use Rattle.hg_shelf.proofs.Histories.{passes_same}
+use Rattle.hg_shelf.proofs.Scenes.{goes_same}
 use Rattle.hg_shelf.specs.Asks.{AsksFrontOf}
-use Rattle.hg_shelf.specs.History.{Files, History, Passes, Waits}
-use Rattle.hg_shelf.specs.Images.{Course, Goes, scene}
+use Rattle.hg_shelf.specs.History.{Files, History, Waits}
+use Rattle.hg_shelf.specs.Images.{Course, Goes}
 use Rattle.hg_shelf.specs.Lock as locks_are
 use Rattle.hg_shelf.specs.Lock.{NotesUnlock, Unlocks}
 use Rattle.hg_shelf.specs.Polite.{Undisturbed}
 use Rattle.hg_shelf.specs.declared.asked.LockAnswer.TheVariants as an_answer
-use Rattle.hg_shelf.specs.declared.asked.LockCall.{LockCall}
 use Rattle.hg_tree.specs.History as tree
 use Rattle.hg_walk.specs.Applying.{IsBlank}
 use Rattle.hg_walk.specs.Notes.{NotesData, applied}

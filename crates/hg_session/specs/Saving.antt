@@ -1,5 +1,5 @@
 -- What a status saves of what it noted, and what comes of it.
-use Rattle.std.specs.Prelude.{ℕ, ◌≡◌, ◌⊎◌, ◌≤◌, List, [], ◌∷◌, Option, Some, None, Result, Ok, Err, IsTrue}
+use Rattle.std.specs.Prelude.{ℕ, ◌≡◌, ◌⊎◌, ◌≤◌, [], ◌∷◌, Option, Some, None, Result, Ok, Err, IsTrue}
 use Rattle.hg_append.specs.Encoded.{IsTooLarge}
 use Rattle.hg_append.specs.declared.fault.EncodeFault.TheVariants as an_encode
 use Rattle.hg_base.specs.Fault.{Rose}

@@ -1,5 +1,5 @@
 -- Saving under the lock: the docket, the notes written into the table, the publication.
-use Rattle.std.proofs.Common.{true, false, inl, inr, ap, ◌∙◌, sym, true≢false}
+use Rattle.std.proofs.Common.{◌∙◌, sym, true≢false}
 use Rattle.std.proofs.lemmas.Result.{err_from_is_err_and}
 use Rattle.hg_session.proofs.HeldNotes.{asked_once, held_other, held_saved, held_unwritten}
 use Rattle.hg_session.proofs.Locked.{unwritten}

@@ -1,5 +1,5 @@
 -- The lock round saving, as one call.
-use Rattle.std.proofs.Common.{IsTrue, refl, sym, ◌∙◌, true≢false}
+use Rattle.std.proofs.Common.{IsTrue, sym, ◌∙◌, true≢false}
 use Rattle.hg_session.proofs.Freed.{refused_same, taken_same}
 use Rattle.hg_session.proofs.Locks.{not_taken_by, noted_taken, refused_by, taken_by}
 use Rattle.hg_session.proofs.SavedNotes.{asked_none, saves_blank, saves_locked, saves_not_taken, saves_refused}
