@@ -1,6 +1,8 @@
 pub mod Calling
 pub mod Carried
 pub mod Counting
+pub mod Good
+pub mod GoodLists
 pub mod Lists
 pub mod Loading
 pub mod Paths

@@ -20,7 +20,7 @@ use Rattle.hg_words.specs.declared.given.Command.{Command}
 use Rattle.hg_words.specs.declared.given.Command.TheVariants as a_command
 
 -- steps that keep to how a record is published kept to it before a call
-keeps_before : (by : Who) (a b : Course) (from : ℕ) → Goes a b → KeepsRecords by b from → KeepsRecords by a from
+pub keeps_before : (by : Who) (a b : Course) (from : ℕ) → Goes a b → KeepsRecords by b from → KeepsRecords by a from
 keeps_before by a b from goes keep = record {
   each = λ k after before who.
       let later : a.history.last ≤ b.history.last = goes.past.later in

@@ -1,4 +1,5 @@
 pub mod Calls
+pub mod Good
 pub mod Lines
 pub mod Load
 pub mod Reading

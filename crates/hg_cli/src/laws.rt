@@ -1,6 +1,7 @@
 //! What holds of every list of runs, and of every list of calls, scripts included.
 
 ghost use Rattle.hg_cli.specs.Calls.{EachCallIsSafe};
+ghost use Rattle.hg_cli.specs.Good.{EachCallIsGood};
 ghost use Rattle.hg_cli.specs.Run.{EachIsSafe};
 ghost use Rattle.hg_shelf.specs.Images.{course};
 
@@ -20,6 +21,24 @@ pub fn each_run_is_safe<S: Shelf>()
 /// line a crash leaves a record of what it might have left behind the line before, of what this line published, or of what others published since.
 pub fn each_call_is_safe<T: Tree, S: Shelf, G: Regexps, O: Sink, E: Sink>()
     ensures { EachCallIsSafe (record {
+      tree = T.history;
+      tree_faults = T.faults;
+      shelf = S.history;
+      images = S.images;
+      shelf_faults = S.faults;
+      held = S.held;
+      oversize = G.oversize;
+      out = O.bytes;
+      out_faults = O.faults;
+      err = E.bytes;
+      err_faults = E.faults;
+    }) }
+{}
+
+/// From a shelf of which whatever a crash leaves is good, each call of a list of calls of `run`, each of which may be a script, leads to such a one, at each
+/// of its moments, where it has what it needs of others: honest times, a plain store that doesn't change, and good records of theirs.
+pub fn each_call_is_good<T: Tree, S: Shelf, G: Regexps, O: Sink, E: Sink>()
+    ensures { EachCallIsGood (record {
       tree = T.history;
       tree_faults = T.faults;
       shelf = S.history;

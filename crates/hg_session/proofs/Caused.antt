@@ -1,5 +1,5 @@
 -- The cause of a fault in the table of all commands, from the stage at which a command met it; and the whole answer of a call.
-use Rattle.std.proofs.Common.{ℕ, ◌≡◌, true, false, Option, Some, None, Result, Ok, Err, IfSome, IsTrue, refl, sym, subst, inl, inr, true≢false}
+use Rattle.std.proofs.Common.{ℕ, ◌≡◌, true, false, Option, Some, None, Result, Ok, Err, IfSome, IsTrue, sym, subst, inl, inr, true≢false}
 use Rattle.std.specs.Option.{MatchOption}
 use Rattle.std.specs.Prelude.{IsSomeAnd, ◌⊎◌}
 use Rattle.hg_append.specs.declared.fault.EncodeFault.TheVariants as an_encode_fault
@@ -13,7 +13,7 @@ use Rattle.hg_report.specs.Cause.{of_op, of_status}
 use Rattle.hg_report.specs.declared.fault.Fault.{Fault}
 use Rattle.hg_report.specs.declared.fault.Fault.TheVariants as a_fault
 use Rattle.hg_session.specs.Answered.{IsAnswered, IsIdle, IsUnbuilt, Ran}
-use Rattle.hg_session.specs.Call.{Call, Count, Fails, IsLeftAlone, Looked, Saved, Sink}
+use Rattle.hg_session.specs.Call.{Call, Count, Fails, IsLeftAlone, Looked, Saved, Sink, Watched}
 use Rattle.hg_session.specs.Cause.{CommandCause}
 use Rattle.hg_session.specs.Change.{IsUnwritten, MetChanging, MetDoing, MetLocking, makes_in, of_change}
 use Rattle.hg_session.specs.Changed.{RanChange, change_look}
@@ -21,25 +21,23 @@ use Rattle.hg_session.specs.Commands.{is_change, is_done}
 use Rattle.hg_session.specs.Crash.{published_in}
 use Rattle.hg_session.specs.Debug.{AnswersPrinting, Prints, ShowsRecord}
 use Rattle.hg_session.specs.Flags.{wanted_of}
-use Rattle.hg_session.specs.Listed.{AsksOwn, ListingCause, StatusCause}
-use Rattle.hg_session.specs.Load.{of_list, of_print, of_read}
+use Rattle.hg_session.specs.Listed.{StatusCause}
+use Rattle.hg_session.specs.Load.{of_print, of_read}
 use Rattle.hg_session.specs.Loaded.{AsksRecord, IsLoaded, MetReading}
 use Rattle.hg_session.specs.Look.{EndsAs, IsCalm, IsLook, IsOutFault, LeavesAt, Concludes, OnlyReads, Stage, at_first, at_printing, at_saving, at_telling}
 use Rattle.hg_session.specs.Put.{IsFaultOrMemory, Tells}
-use Rattle.hg_session.specs.Status.{DoesStatus, RanStatus, status_look}
+use Rattle.hg_session.specs.Status.{DoesStatus, IsLoadedFirst, ListingCause, RanStatus, noted_in, status_look}
 use Rattle.hg_session.specs.declared.change_fault.ChangeFault.{ChangeFault}
 use Rattle.hg_session.specs.declared.change_fault.ChangeFault.TheVariants as a_change_fault
-use Rattle.hg_session.specs.declared.list_fault.ListFault.{ListFault}
-use Rattle.hg_session.specs.declared.list_fault.ListFault.TheVariants as a_list
 use Rattle.hg_session.specs.declared.print_fault.PrintFault.{PrintFault}
 use Rattle.hg_session.specs.declared.print_fault.PrintFault.TheVariants as a_print
 use Rattle.hg_session.specs.declared.read_fault.ReadFault.{ReadFault}
 use Rattle.hg_session.specs.declared.read_fault.ReadFault.TheVariants as a_read
 use Rattle.hg_session.proofs.Crashes.{crash_unwritten}
-use Rattle.hg_session.proofs.Expectations.{status_by}
-use Rattle.hg_session.proofs.Looks.{calm_by, from_well, joined, looks_by, not_without, status_failed}
-use Rattle.hg_session.proofs.Readings.{was_loaded}
+use Rattle.hg_session.proofs.Looks.{joined, not_without, status_failed}
+use Rattle.hg_session.proofs.Readings.{first_read, was_loaded}
 use Rattle.hg_session.proofs.Records.{record_by}
+use Rattle.hg_session.proofs.Statuses.{ran_status}
 use Rattle.hg_shelf.specs.History as shelf
 use Rattle.hg_words.specs.declared.flags.StatusFlags.{StatusFlags}
 use Rattle.hg_words.specs.declared.given.Command.{Command}
@@ -71,19 +69,23 @@ module _ (call : Call) (flags : StatusFlags) (is : call.command ≡ a_command.St
   by_status table loaded (a_status.RegexpTooBig line) cause = ((flags, is, table, loaded, cause.0), cause.1)
   by_status table loaded fault cause = (flags, is, table, loaded, cause)
 
-  by_listing : (table : Option Table) → IfSome table (IsLoaded call.looked.shelf) → (fault : ListFault) → ListingCause call.looked (wanted_of flags) table fault → CommandCause call (of_list fault)
-  by_listing table loaded (a_list.Read fault) cause = by_reading call fault cause
-  by_listing None loaded (a_list.Status fault) cause = absurd cause
-  by_listing (Some table) loaded (a_list.Status fault) cause = by_status table loaded fault cause
+  by_some : (table : Option Table) → IfSome table (IsLoaded call.looked.shelf) → (fault : StatusFault) → IsSomeAnd table (λ t. StatusCause call.looked (wanted_of flags) t fault) → CommandCause call (of_status fault)
+  by_some None loaded fault cause = absurd cause
+  by_some (Some table) loaded fault cause = by_status table loaded fault cause
+
+  by_listing : (table : Option Table) → IfSome table (IsLoaded call.looked.shelf) → (fault : Fault) → ListingCause call.looked (wanted_of flags) table fault → CommandCause call fault
+  by_listing table loaded fault (inl (f, same, cause)) = subst (CommandCause call) (sym same) (by_reading call f cause)
+  by_listing table loaded fault (inr (f, same, cause)) = subst (CommandCause call) (sym same) (by_some table loaded f cause)
 
   module _ (table : Option Table) (loaded : IfSome table (IsLoaded call.looked.shelf)) where
-    left_cause : (fault : Fault) → (stage : Stage) × LeavesAt (status_look flags call.looked table) call.out call.err Tells stage fault → CommandCause call fault
-    left_cause fault (at_first, ((f, same, cause), silent, line)) = subst (CommandCause call) (sym same) (by_listing table loaded f cause)
+    left_cause : (fault : Fault) → (stage : Stage) × LeavesAt (status_look flags call.looked call.saved call.locks table) call.out call.err Tells stage fault → CommandCause call fault
+    left_cause fault (at_first, ((only, why), silent, line)) = by_listing table loaded fault why
     left_cause fault (at_printing, (printing, ready, front, kind, line)) = by_printing call fault kind front.failed
     left_cause fault (at_telling, (telling, ready, puts, front, same)) = subst (CommandCause call) (sym same) front.failed
-    left_cause fault (at_saving, (never, left)) = absurd never
+    left_cause fault (at_saving, (inl (same, failed), left)) = subst (CommandCause call) (sym same) failed
+    left_cause fault (at_saving, (inr same, left)) = subst (CommandCause call) (sym same) tt
 
-    pub status_cause : (fault : Option Fault) → Concludes (status_look flags call.looked table) call.out call.err fault → IfSome fault (CommandCause call)
+    pub status_cause : (fault : Option Fault) → Concludes (status_look flags call.looked call.saved call.locks table) call.out call.err fault → IfSome fault (CommandCause call)
     status_cause None looks = tt
     status_cause (Some fault) looks = left_cause fault looks.left
 
@@ -192,19 +194,24 @@ answered_changed call code fault is changed status = record {
 }
 
 -- a status, from what it did and what was told behind it
+some_read : (files : Watched shelf.History) (table : Option Table) → IfSome table (IsLoadedFirst files) → IfSome table (IsLoaded files)
+some_read files None is = tt
+some_read files (Some t) is = first_read files t is
+
 pub answered_status : (command : Command) (flags : StatusFlags) (looked : Looked) (saved : Saved) (locks : Count) (out mid tail : Sink) (bytes : tail.old ≡ mid.new) (count : tail.before ≡ mid.after)
-    (done : Result Unit Fault) (code : ℕ) (fault : Option Fault) → command ≡ a_command.Status flags → DoesStatus flags looked out mid done → OnlyReads looked.shelf saved locks → IsUnwritten saved.old.history saved.new.history → EndsAs tail done code fault
+    (done : Result Unit Fault) (code : ℕ) (fault : Option Fault) → command ≡ a_command.Status flags → DoesStatus flags looked saved locks out mid done → EndsAs tail done code fault
     → IsAnswered (record { command = command; looked = looked; saved = saved; locks = locks; out = out; err = joined mid tail bytes count }) code fault
-answered_status command flags looked saved locks out mid tail bytes count done code fault is does only none ends =
+answered_status command flags looked saved locks out mid tail bytes count done code fault is does ends =
     let call : Call = record { command = command; looked = looked; saved = saved; locks = locks; out = out; err = joined mid tail bytes count } in
-    let looks : Concludes (status_look flags looked does.table) out (joined mid tail bytes count) fault =
-    looks_by mid tail bytes count (status_look flags looked does.table) out (a_list.Read a_read.OutOfMemory, refl, tt) (λ f never. absurd never) done code fault does.shows ends in
-    let look : IsLook call code fault =
-    look_by call code fault only none (calm_by mid tail bytes count looked out done code fault ends does.calm) ends.status in
-    let ran : RanStatus flags call code fault =
-    status_by flags call does.tree only.passes does.table does.loaded fault looks does.asked
-    (λ none. from_well mid tail bytes count (IsSomeAnd does.table (AsksOwn looked (wanted_of flags))) done code fault ends does.asked_own none) does.below code look in
-    answered_looked call code fault (subst (λ (c : Command). Ran c call code fault) (sym is) ran) look (status_cause call flags is does.table does.loaded fault looks)
+    let ran : RanStatus flags call code fault = ran_status command flags looked saved locks out mid tail bytes count done code fault does ends in
+    record {
+      ran = subst (λ (c : Command). Ran c call code fault) (sym is) ran;
+      cause = status_cause call flags is ran.table (some_read looked.shelf ran.table ran.loaded) fault ran.looks;
+      calm = ran.calm;
+      kept = ran.saving.kept;
+      crash = λ calm keep first. (published_in (noted_in looked.shelf ran.table ran.notes) saved fault (ran.saving.safe calm), ran.crash calm keep first);
+      status = looked_status code fault ran.status;
+    }
 
 -- the command that prints the record
 pub answered_record : (call : Call) (code : ℕ) (fault : Option Fault) → call.command ≡ a_command.DebugDirstate → ShowsRecord call.looked.shelf call.out call.err fault

@@ -1,6 +1,6 @@
 -- What a command that changes the record did, from what its parts did.
-use Rattle.std.proofs.Common.{ℕ, ◌≡◌, ◌≤◌, ◌⊎◌, Bool, true, false, List, [], ◌∷◌, Option, Some, None, is_some, Ok, Err, IsTrue, refl, sym, ap, ◌∙◌, subst, inl, inr, arith}
-use Rattle.std.proofs.lemmas.Bool.{cases_Bool, cases_lt}
+use Rattle.std.proofs.Common.{ℕ, ◌≡◌, Bool, true, false, List, [], ◌∷◌, Option, Some, None, is_some, Ok, Err, IsTrue, refl, sym, ap, ◌∙◌, subst, inl, inr, arith}
+use Rattle.std.proofs.lemmas.Bool.{cases_Bool}
 use Rattle.hg_append.specs.Encoded.{HasCause}
 use Rattle.hg_append.specs.declared.fault.EncodeFault.{EncodeFault}
 use Rattle.hg_append.specs.declared.fault.EncodeFault.TheVariants as an_encode
@@ -15,26 +15,24 @@ use Rattle.hg_ops.proofs.Added.{same_table}
 use Rattle.hg_ops.specs.declared.refusal.OpFault.{OpFault}
 use Rattle.hg_ops.specs.declared.refusal.OpFault.TheVariants as an_op
 use Rattle.hg_report.specs.declared.fault.Fault.{Fault}
-use Rattle.hg_save.specs.Leads.{Leads}
 use Rattle.hg_save.specs.Loads.{IsLoad, IsTry, Loads, Tries, Try, files_at, found_by}
-use Rattle.hg_save.specs.Record.{data_name, docket_in, id_in, reading}
-use Rattle.hg_save.specs.Saved.{KeepsOthers, LeavesOnly, ReadsAsBeforeOr, ShowsOnly, Stands}
+use Rattle.hg_save.specs.Record.{docket_in, id_in, reading}
+use Rattle.hg_save.specs.Saved.{Stands}
 use Rattle.hg_save.specs.declared.load_fault.LoadFault.{LoadFault}
 use Rattle.hg_save.specs.declared.loaded.Loaded.{Loaded}
 use Rattle.hg_save.proofs.Loads.{found_longer, last_within, tries_longer}
-use Rattle.hg_save.proofs.Published.{keeps_front}
-use Rattle.hg_save.proofs.Spans.{files_front}
-use Rattle.hg_session.specs.Acts.{AsksBehind, ChangesTree, Makes}
+use Rattle.hg_session.specs.Acts.{AsksBehind, ChangesTree, Makes, StandsAt}
 use Rattle.hg_session.specs.Anew.{CanWrite, IsOpened, IsOverwritten, IsRecorded, LoadsOrRefuses, MetWriting, WritesOnly}
 use Rattle.hg_session.specs.Call.{Fails, IsLeftAlone, Watched}
-use Rattle.hg_session.specs.Change.{AsksChange, ChangesBehind, FitsFirst, IsDone, IsKept, IsMade, IsPublished, IsReadFirst, IsReadSome, IsSafeHeld, IsToBlame, IsUnwritten, IsWritten, MetChanging, up_to}
+use Rattle.hg_session.specs.Change.{AsksChange, ChangesBehind, FitsFirst, IsDone, IsKept, IsMade, IsPublished, IsReadFirst, IsReadSome, IsSafeHeld, IsToBlame, IsUnwritten, MetChanging, up_to}
 use Rattle.hg_session.specs.Load.{by_load}
 use Rattle.hg_session.specs.Loaded.{AsksRecord, NodesFind, Refuses}
 use Rattle.hg_session.specs.declared.change_fault.ChangeFault.{ChangeFault}
 use Rattle.hg_session.specs.declared.change_fault.ChangeFault.TheVariants as a_change_fault
 use Rattle.hg_session.specs.declared.read_fault.ReadFault.{ReadFault}
 use Rattle.hg_session.specs.declared.read_fault.ReadFault.TheVariants as a_read
-use Rattle.hg_session.proofs.Locked.{end_remains, front_docket, front_found, front_latest, front_remains, none_front, unwritten, unwritten_then}
+use Rattle.hg_session.proofs.Locked.{end_remains, front_docket, front_found, none_front, unwritten, unwritten_then}
+use Rattle.hg_session.proofs.Publishing.{kept_over, published_over}
 use Rattle.hg_session.proofs.Readings.{refused_by, sound_reading}
 use Rattle.hg_session.proofs.SameTables.{one_table}
 use Rattle.hg_shelf.specs.History as shelf
@@ -240,85 +238,18 @@ module _ (a b c : Course) (passes : Passes a.history b.history) (goes : Goes b c
       pub stands : Stands loaded.docket.items (last_scene b)
       stands = front_docket a b c ours passes goes calm tried (tried_within calm.told) ∙ sym (loads calm.told).1.answer.docket
 
-      -- what a crash leaves of a table that was written over the record
-      crash_over : (found : Table) → LeavesOnly b c (Some (Ok found)) → (k : ℕ) (f : Files) → a.history.last ≤ k → k ≤ c.history.last → (scene c k).leaves f → ReadsAsBeforeOr (scene c a.history.last) (Some (Ok found)) f
-      crash_over found only k f from to is = elim (cases_lt b.history.last k) [
-        | inl late ↦ elim (only.each k f (omega (arith, late)) to is) [
-          | inl before ↦ inl (before.0, (end_remains a b c ours passes goes calm).left before.0 before.1, before.2)
-          | inr new ↦ inr new
-        ]
-        | inr early ↦ inl (f, (front_remains a b c ours passes goes calm k from early).left f is, refl)
-      ]
-
-      shown_over : (found : Table) → ShowsOnly b c (Some (Ok found)) → (k : ℕ) → a.history.last ≤ k → k ≤ c.history.last
-          → (reading (scene c k).files ≡ reading (scene c a.history.last).files) ⊎ (reading (scene c k).files ≡ Some (Ok found))
-      shown_over found only k from to = elim (cases_lt b.history.last k) [
-        | inl late ↦ elim (only.each k (omega (arith, late)) to) [
-          | inl before ↦ inl (before ∙ ap reading (end_remains a b c ours passes goes calm).shown)
-          | inr new ↦ inr new
-        ]
-        | inr early ↦ inl (ap reading (front_remains a b c ours passes goes calm k from early).shown)
-      ]
-
-      id_there : id_in (scene c a.history.last).files ≡ made.docket.id
-      id_there =
-          ap id_in (sym (end_remains a b c ours passes goes calm).shown) ∙ ap (λ (bytes : List ℕ). (docket_of bytes).id) stands ∙ sym (ap (λ (d : Contents). d.id) docket_is)
-
-      -- what is kept of the other files
-      others_over : (was id : List ℕ) → Leads (KeepsOthers was id) b c → (k : ℕ) → a.history.last ≤ k → k ≤ c.history.last → KeepsOthers was id (scene c a.history.last).files (scene c k).files
-      others_over was id leads k from to = elim (cases_lt b.history.last k) [
-        | inl late ↦
-            subst (λ (f : Files). KeepsOthers was id f (scene c k).files) (end_remains a b c ours passes goes calm).shown (leads.shown k (omega (arith, late)) to)
-        | inr early ↦
-            let same = (front_remains a b c ours passes goes calm k from early).shown in
-            record { others = λ at p q r s. ap (λ (f : Files). f at) same; named = inl (ap (λ (f : Files). f (data_name was)) same) }
-      ]
-
-      spared_over : (was id : List ℕ) → Leads (KeepsOthers was id) b c → (k : ℕ) (f : Files) → a.history.last ≤ k → k ≤ c.history.last → (scene c k).leaves f
-          → (d : Files) × (scene c a.history.last).leaves d × KeepsOthers was id d f
-      spared_over was id leads k f from to is = elim (cases_lt b.history.last k) [
-        | inl late ↦
-            let before = leads.left k f (omega (arith, late)) to is in
-            (before.0, (end_remains a b c ours passes goes calm).left before.0 before.1, before.2)
-        | inr early ↦ (f, (front_remains a b c ours passes goes calm k from early).left f is, record { others = λ at p q r s. refl; named = inl refl })
-      ]
-
-      published_by : IsOverwritten made b c → IsPublished Does c a.history.last c.history.last
-      published_by over = record {
-        loaded = recorded;
-        there = there;
-        made = table made;
-        lines = lines;
-        does = subst (λ (changed : Bool). Does.does recorded (table made) lines changed) over.changed does_from;
-        found = over.found;
-        is = over.is;
-        crash = λ latest. crash_over over.found (over.crash (front_latest a b c ours passes goes calm latest));
-        shown = λ latest. shown_over over.found (over.shown (front_latest a b c ours passes goes calm latest));
-        id = over.id;
-        next = ap next_name id_there ∙ over.next;
-        others = others_over (id_in (scene c a.history.last).files) over.id (subst (λ (i : List ℕ). Leads (KeepsOthers i over.id) b c) (sym id_there) over.others);
-        spared = spared_over (id_in (scene c a.history.last).files) over.id (subst (λ (i : List ℕ). Leads (KeepsOthers i over.id) b c) (sym id_there) over.others);
-        orderly = λ latest. keeps_front us c a.history.last b.history.last (none_front a b c passes goes) (over.orderly (front_latest a b c ours passes goes calm latest));
-        keeping = files_front us c.history a.history.last b.history.last (none_front a b c passes goes) over.keeping;
-        latest = λ latest. over.latest (front_latest a b c ours passes goes calm latest);
-      }
+      published_by : (StandsAt c a.history.last recorded → Does.stands c a.history.last recorded) → IsOverwritten made b c → IsPublished Does c a.history.last c.history.last
+      published_by standing over =
+          published_over a b c ours passes goes calm loaded.docket.items stands made (ap (λ (d : Contents). d.id) docket_is) Does recorded lines (standing there)
+          (subst (λ (changed : Bool). Does.does recorded (table made) lines changed) over.changed does_from) over
 
       -- nothing was written, or the table was over the record that stood
-      pub safe_by : (fault : Option Fault) → WritesOnly made b c fault → IsSafeHeld Does (record { old = a; new = c }) fault
-      safe_by fault (inl none) = inl (unwritten_then a b c passes goes none)
-      safe_by fault (inr (follows, over)) = inr (follows, published_by over)
+      pub safe_by : (StandsAt c a.history.last recorded → Does.stands c a.history.last recorded) → (fault : Option Fault) → WritesOnly made b c fault → IsSafeHeld Does (record { old = a; new = c }) fault
+      safe_by standing fault (inl none) = inl (unwritten_then a b c passes goes none)
+      safe_by standing fault (inr (follows, over)) = inr (follows, published_by standing over)
 
       kept_written : IsRecorded made b c → IsKept recorded (table made) (record { old = a; new = c }) a.history.last c.history.last
-      kept_written is = record {
-        found = is.found;
-        is = is.is;
-        shown = is.records.shown;
-        left = inl is.records.left;
-        gone =
-            inl (λ some.
-            subst (λ (id : List ℕ). (last_scene c).files (data_name id) ≡ None) (sym id_there) (is.gone (λ empty. some (id_there ∙ empty))));
-        bytes = inl (subst (λ (f : Files). IsWritten is.found f (last_scene c)) (end_remains a b c ours passes goes calm).shown is.bytes);
-      }
+      kept_written = kept_over a b c ours passes goes calm loaded.docket.items stands made (ap (λ (d : Contents). d.id) docket_is) recorded
 
       kept_still : c ≡ b → IsSame (table made) recorded → IsKept recorded (table made) (record { old = a; new = c }) a.history.last c.history.last
       kept_still none same = record {

@@ -128,7 +128,7 @@ module _ (a b : Course) (goes : Goes a b) (calm : Undisturbed a b) (keep : Keeps
 
   -- also where the caller makes no step
   pub crash_unwritten : IsUnwritten a.history b.history → IsLatest (last_scene a) → IsCrashSafe None saved
-  crash_unwritten none first = crash_safe (record { does = λ old new lines changed. ⊥; stops = λ loaded fault. ⊥ }) first None (inl none)
+  crash_unwritten none first = crash_safe (record { does = λ old new lines changed. ⊥; stops = λ loaded fault. ⊥; stands = λ c from loaded. ⊥ }) first None (inl none)
 
   lasts_by : (loaded made : Table) (stretch : Stretch a.history b.history) (kept : IsKept loaded made saved stretch.from stretch.to)
       → (((c : Files) → (scene b stretch.to).leaves c → reading c ≡ Some (Ok kept.found)) ⊎ (IsSame made loaded × IsUnwritten a.history b.history))

@@ -1,4 +1,4 @@
--- What is expected of a status where nobody else steps, and what it did, from how it ended.
+-- What is expected of a status where nobody else steps, from how it ended and what was listed.
 use Rattle.std.proofs.Common.{ℕ, ◌≡◌, ◌≤◌, length, true, List, [], Option, Some, None, Ok, Err, IsTrue, IfSome, refl, sym, ◌∙◌, subst, inl, inr}
 use Rattle.std.proofs.lemmas.List.{append-nil}
 use Rattle.std.specs.Prelude.{IsSomeAnd}
@@ -9,7 +9,7 @@ use Rattle.hg_base.specs.declared.stat.Stat.{Stat}
 use Rattle.hg_compare.specs.Alike.{contents_name, is_alike}
 use Rattle.hg_entry.specs.Table.{Table, flat_of}
 use Rattle.hg_flat.specs.Met as flat_met
-use Rattle.hg_flat.specs.Parent.{manifest_at, parent_rows}
+use Rattle.hg_flat.specs.Parent.{manifest_at}
 use Rattle.hg_flat.specs.Patterns.{HadPatterns, ignored_at, needs_patterns}
 use Rattle.hg_listing.specs.declared.fault.StatusFault.{StatusFault}
 use Rattle.hg_listing.specs.declared.fault.StatusFault.TheVariants as a_status
@@ -34,22 +34,21 @@ use Rattle.hg_tree.specs.Moment.{stat_at}
 use Rattle.hg_tree.proofs.Spans.{ours_unstepped}
 use Rattle.hg_tree.proofs.Stillness.{ours_untouched}
 use Rattle.hg_save.specs.Record.{record_in}
-use Rattle.hg_session.specs.Call.{Call, Looked, Serves}
+use Rattle.hg_session.specs.Call.{Count, Looked, Saved, Serves, Sink}
 use Rattle.hg_session.specs.Flags.{wanted_of}
-use Rattle.hg_session.specs.Listed.{AsksBelow, AsksLittle, AsksOwn, IsAskedAt, IsListable, IsListed, IsListedFor, IsOwn, IsUntouched, ListingCause, StatusCause, first_parent, status_over}
-use Rattle.hg_session.specs.Load.{of_list, of_read}
+use Rattle.hg_session.specs.Listed.{IsAskedAt, IsListable, IsListed, IsListedFor, IsOwn, IsRightFor, IsUntouched, StatusCause, first_parent, status_over}
+use Rattle.hg_session.specs.Load.{of_read}
 use Rattle.hg_session.specs.Loaded.{IsLoaded, IsUnreadable}
-use Rattle.hg_session.specs.Look.{IsLook, LeavesAt, LeftBySaving, Look, Concludes, Order, Stage, at_first, at_printing, at_saving, at_telling, saves_first, saves_last}
-use Rattle.hg_session.specs.Put.{LeavesFront, Tells}
-use Rattle.hg_session.specs.Status.{HasBadManifest, HasBadPatterns, IsExpected, IsFullText, IsReady, IsRowsText, LacksContents, RanStatus, status_look}
-use Rattle.hg_session.specs.declared.list_fault.ListFault.{ListFault}
-use Rattle.hg_session.specs.declared.list_fault.ListFault.TheVariants as a_list
+use Rattle.hg_session.specs.Look.{LeavesAt, LeftBySaving, Look, Concludes, Order, Stage, at_first, at_printing, at_saving, at_telling, saves_first, saves_last}
+use Rattle.hg_session.specs.Put.{LeavesFront, Puts, Tells}
+use Rattle.hg_session.specs.Status.{HasBadManifest, HasBadPatterns, IsExpected, IsFullText, IsReady, IsRowsText, LacksContents, ListingCause, status_look}
 use Rattle.hg_session.specs.declared.read_fault.ReadFault.{ReadFault}
 use Rattle.hg_session.specs.declared.read_fault.ReadFault.TheVariants as a_read
 use Rattle.hg_session.proofs.Causes.{asked_now, gone_now, holds_now, large_now, read_now, shows_now}
 use Rattle.hg_session.proofs.Readings as readings
 use Rattle.hg_session.proofs.Refusals.{fine_now, over_now, so_now}
 use Rattle.hg_session.proofs.Parents.{row_kept}
+use Rattle.hg_walk.specs.Walking.{rows_in}
 use Rattle.hg_words.specs.declared.flags.StatusFlags.{StatusFlags}
 
 -- ---- texts
@@ -59,17 +58,17 @@ pub grown_whole : (old new : Option (List ℕ)) (text : List ℕ) → Grown old 
 grown_whole old new text grown = ([], record { front = text; parts = sym (append-nil text); grown = grown })
 
 -- what stands in a sink after a fault, as a front of a text
-pub front_by : (IsText Own : List ℕ → Type 0) → ((text : List ℕ) → IsText text → Own text) → (look : Look) → ((text : List ℕ) → look.Text text → IsText text) → (call : Call) (fault : Fault)
-    → (stage : Stage) × LeavesAt look call.out call.err Tells stage fault → LeavesFront Own call.out
-front_by IsText Own own look is call fault (at_first, (before, silent, line)) = inl silent.bytes
-front_by IsText Own own look is call fault (at_printing, (printing, ready, front, kind, line)) = inr (front.text, own front.text (is front.text front.is), front.put)
-front_by IsText Own own look is call fault (at_telling, (telling, ready, puts, front, kind)) =
-    inr (puts.text, own puts.text (is puts.text puts.is), grown_whole call.out.old call.out.new puts.text puts.put)
-front_by IsText Own own look is call fault (at_saving, (saving, left)) = by_order look.order left
+pub front_by : (IsText Own : List ℕ → Type 0) → ((text : List ℕ) → IsText text → Own text) → (look : Look) → ((text : List ℕ) → look.Text text → IsText text) → (out err : Sink) (fault : Fault)
+    → (stage : Stage) × LeavesAt look out err Tells stage fault → LeavesFront Own out
+front_by IsText Own own look is out err fault (at_first, (before, silent, line)) = inl silent.bytes
+front_by IsText Own own look is out err fault (at_printing, (printing, ready, front, kind, line)) = inr (front.text, own front.text (is front.text front.is), front.put)
+front_by IsText Own own look is out err fault (at_telling, (telling, ready, puts, front, kind)) =
+    inr (puts.text, own puts.text (is puts.text puts.is), grown_whole out.old out.new puts.text puts.put)
+front_by IsText Own own look is out err fault (at_saving, (saving, left)) = by_order look.order left
   where
-    by_order : (order : Order) → LeftBySaving order look call.out call.err Tells fault → LeavesFront Own call.out
+    by_order : (order : Order) → LeftBySaving order look out err Tells fault → LeavesFront Own out
     by_order saves_first (silent, line) = inl silent.bytes
-    by_order saves_last (ready, puts, behind) = inr (puts.text, own puts.text (is puts.text puts.is), grown_whole call.out.old call.out.new puts.text puts.put)
+    by_order saves_last (ready, puts, behind) = inr (puts.text, own puts.text (is puts.text puts.is), grown_whole out.old out.new puts.text puts.put)
 
 -- ---- where nobody else steps
 
@@ -100,13 +99,13 @@ module _ (looked : Looked) (copy : tree.Passes looked.tree.old looked.tree.new) 
     }
 
     -- and the listing is the whole
-    listed_own : (table : Table) → IsLoaded looked.shelf table → (rows : List Row) → IsListedFor looked wanted rows table → IsListed there (tree.now looked.tree.old) wanted rows
-    listed_own table loaded rows is = record {
+    listed_own : (table : Table) → IsLoaded looked.shelf table → IsRightFor looked table → (rows : List Row) → IsListedFor looked wanted rows table → IsListed there (tree.now looked.tree.old) wanted rows
+    listed_own table loaded right rows is = record {
       table = table;
       recorded = recorded_now table loaded;
       full =
-          full_of (IsUntouched looked wanted table) (flat_of table) (tree.now looked.tree.old) (parent_rows there (first_parent table)) (ignored_at (tree.now looked.tree.old)) wanted rows
-          (ours_left table) is;
+          full_of (IsUntouched looked wanted table) (flat_of table) (tree.now looked.tree.old) (rows_in table there) (ignored_at (tree.now looked.tree.old)) wanted rows
+          (ours_left table) (is right);
     }
 
     abbrev Expects : Option Fault → Type 0
@@ -196,11 +195,16 @@ module _ (looked : Looked) (copy : tree.Passes looked.tree.old looked.tree.new) 
         bad_patterns table loaded cause.0.met.0 (an_ignore.RegexpTooBig line) (lines_so (an_ignore.RegexpTooBig line) cause.0.met.1)
     status_expected table loaded (a_status.BadInclude line) cause p q = bad_patterns table loaded cause.met.0 (an_ignore.BadInclude line) (lines_so (an_ignore.BadInclude line) cause.met.1)
 
-    listing_expected : (table : Option Table) → IfSome table (IsLoaded looked.shelf) → (fault : ListFault) → ListingCause looked wanted table fault → Serves looked.tree → Serves looked.shelf
-        → Expects (Some (of_list fault))
-    listing_expected table loaded (a_list.Read fault) cause p q = reading_expected fault (readings.unreadable_now looked.shelf files.past still_shelf own.shelf.told fault cause q)
-    listing_expected None loaded (a_list.Status fault) cause p q = absurd cause
-    listing_expected (Some table) loaded (a_list.Status fault) cause p q = status_expected table loaded fault cause p q
+    some_expected : (table : Option Table) → IfSome table (IsLoaded looked.shelf) → (fault : StatusFault) → IsSomeAnd table (λ t. StatusCause looked wanted t fault) → Serves looked.tree → Serves looked.shelf
+        → Expects (Some (of_status fault))
+    some_expected None loaded fault cause p q = absurd cause
+    some_expected (Some table) loaded fault cause p q = status_expected table loaded fault cause p q
+
+    listing_expected : (table : Option Table) → IfSome table (IsLoaded looked.shelf) → (fault : Fault) → ListingCause looked wanted table fault → Serves looked.tree → Serves looked.shelf
+        → Expects (Some fault)
+    listing_expected table loaded fault (inl (f, is, cause)) p q =
+        subst (λ (f : Fault). Expects (Some f)) (sym is) (reading_expected f (readings.unreadable_now looked.shelf files.past still_shelf own.shelf.told f cause q))
+    listing_expected table loaded fault (inr (f, is, cause)) p q = subst (λ (f : Fault). Expects (Some f)) (sym is) (some_expected table loaded f cause p q)
 
     none_expected : (table : Option Table) → IfSome table (IsLoaded looked.shelf) → IsSomeAnd table (IsListable looked wanted) → Expects None
     none_expected None loaded listable = absurd listable
@@ -210,55 +214,44 @@ module _ (looked : Looked) (copy : tree.Passes looked.tree.old looked.tree.new) 
       served = λ path asked. listable.served path (ours_left table path) asked;
     }
 
-    rows_own : (table : Option Table) → IfSome table (IsLoaded looked.shelf) → (rows : List Row) → IsSomeAnd table (IsListedFor looked wanted rows) → IsListed there (tree.now looked.tree.old) wanted rows
-    rows_own None loaded rows is = absurd is
-    rows_own (Some table) loaded rows is = listed_own table loaded rows is
+    rows_own : (table : Option Table) → IfSome table (IsLoaded looked.shelf) → IfSome table (IsRightFor looked) → (rows : List Row) → IsSomeAnd table (IsListedFor looked wanted rows)
+        → IsListed there (tree.now looked.tree.old) wanted rows
+    rows_own None loaded right rows is = absurd is
+    rows_own (Some table) loaded right rows is = listed_own table loaded right rows is
 
-  text_own : (flags : StatusFlags) (table : Option Table) → IfSome table (IsLoaded looked.shelf) → (text : List ℕ) → IsRowsText flags looked table text → IsFullText flags there (tree.now looked.tree.old) text
-  text_own flags table loaded text is = record { rows = is.rows; listing = rows_own (wanted_of flags) table loaded is.rows is.listing; is = is.is }
+  text_own : (flags : StatusFlags) (table : Option Table) → IfSome table (IsLoaded looked.shelf) → IfSome table (IsRightFor looked) → (text : List ℕ) → IsRowsText flags looked table text
+      → IsFullText flags there (tree.now looked.tree.old) text
+  text_own flags table loaded right text is = record { rows = is.rows; listing = rows_own (wanted_of flags) table loaded right is.rows is.listing; is = is.is }
 
 -- ---- the command
 
-module _ (flags : StatusFlags) (call : Call) (copy : tree.Passes call.looked.tree.old call.looked.tree.new) (files : shelf.Passes call.looked.shelf.old call.looked.shelf.new)
-    (table : Option Table) (loaded : IfSome table (IsLoaded call.looked.shelf)) where
+module _ (flags : StatusFlags) (looked : Looked) (saved : Saved) (locks : Count) (out err : Sink) (copy : tree.Passes looked.tree.old looked.tree.new) (files : shelf.Passes looked.shelf.old looked.shelf.new)
+    (table : Option Table) (loaded : IfSome table (IsLoaded looked.shelf)) where
   abbrev Expected : Option Fault → Type 0
-  Expected fault = IsExpected (wanted_of flags) (shelf.now call.looked.shelf.old).files (tree.now call.looked.tree.old) fault
+  Expected fault = IsExpected (wanted_of flags) (shelf.now looked.shelf.old).files (tree.now looked.tree.old) fault
 
-  left_expected : IsOwn call.looked → (fault : Fault) → (stage : Stage) × LeavesAt (status_look flags call.looked table) call.out call.err Tells stage fault
-      → Serves call.looked.tree → Serves call.looked.shelf → Serves call.out → Serves call.err → Expected (Some fault)
-  left_expected own fault (at_first, ((f, is, cause), silent, line)) p q r w =
-      subst (λ (f : Fault). Expected (Some f)) (sym is) (listing_expected call.looked copy files own (wanted_of flags) table loaded f cause p q)
-  left_expected own fault (at_printing, (printing, ready, front, kind, line)) p q r w = absurd (steady_not_rose call.out.before call.out.after r front.failed)
-  left_expected own fault (at_telling, (telling, ready, puts, front, is)) p q r w = absurd (steady_not_rose call.err.before call.err.after w front.failed)
-  left_expected own fault (at_saving, (never, left)) p q r w = absurd never
+  abbrev Full : List ℕ → Type 0
+  Full = IsFullText flags (shelf.now looked.shelf.old).files (tree.now looked.tree.old)
 
-  expected_by : (fault : Option Fault) → Concludes (status_look flags call.looked table) call.out call.err fault
-      → IsOwn call.looked → Serves call.looked.tree → Serves call.looked.shelf → Serves call.out → Serves call.err → Expected fault
-  expected_by None looks own p q r w = none_expected call.looked copy files own (wanted_of flags) table loaded (looks.done refl).ready
+  left_expected : IsOwn looked → (fault : Fault) → (stage : Stage) × LeavesAt (status_look flags looked saved locks table) out err Tells stage fault
+      → Serves looked.tree → Serves looked.shelf → Serves out → Serves err → Expected (Some fault)
+  left_expected own fault (at_first, ((only, why), silent, line)) p q r w = listing_expected looked copy files own (wanted_of flags) table loaded fault why p q
+  left_expected own fault (at_printing, (printing, ready, front, kind, line)) p q r w = absurd (steady_not_rose out.before out.after r front.failed)
+  left_expected own fault (at_telling, (telling, ready, puts, front, is)) p q r w = absurd (steady_not_rose err.before err.after w front.failed)
+  left_expected own fault (at_saving, (inl (is, failed), left)) p q r w = absurd (steady_not_rose looked.shelf.before looked.shelf.after q failed)
+  left_expected own fault (at_saving, (inr is, left)) p q r w = subst (λ (f : Fault). Expected (Some f)) (sym is) tt
+
+  pub expected_by : (fault : Option Fault) → Concludes (status_look flags looked saved locks table) out err fault
+      → IsOwn looked → Serves looked.tree → Serves looked.shelf → Serves out → Serves err → Expected fault
+  expected_by None looks own p q r w = none_expected looked copy files own (wanted_of flags) table loaded (looks.done refl).ready
   expected_by (Some fault) looks own p q r w = left_expected own fault looks.left p q r w
 
-  front_own : (fault : Option Fault) → Concludes (status_look flags call.looked table) call.out call.err fault → IsOwn call.looked
-      → IfSome fault (λ _. LeavesFront (IsFullText flags (shelf.now call.looked.shelf.old).files (tree.now call.looked.tree.old)) call.out)
-  front_own None looks own = tt
-  front_own (Some fault) looks own =
-      front_by (IsRowsText flags call.looked table) (IsFullText flags (shelf.now call.looked.shelf.old).files (tree.now call.looked.tree.old)) (text_own call.looked copy files own flags table loaded)
-      (status_look flags call.looked table) (λ text is. is) call fault looks.left
+  pub whole_own : (fault : Option Fault) → Concludes (status_look flags looked saved locks table) out err fault → fault ≡ None → IsOwn looked → IfSome table (IsRightFor looked) → Puts Full out
+  whole_own fault looks none own right =
+      let printed = (looks.done none).printed in
+      record { text = printed.text; is = text_own looked copy files own flags table loaded right printed.text printed.is; put = printed.put }
 
-  pub status_by : (fault : Option Fault) → Concludes (status_look flags call.looked table) call.out call.err fault → AsksLittle call.looked (wanted_of flags) table
-      → (fault ≡ None → IsSomeAnd table (AsksOwn call.looked (wanted_of flags))) → (IsTrue call.looked.shelf.old.told → AsksBelow call.looked (wanted_of flags) table) → (code : ℕ) → IsLook call code fault
-      → RanStatus flags call code fault
-  status_by fault looks asked asked_own below code look = record {
-    table = table;
-    loaded = loaded;
-    looks = looks;
-    whole = λ none own.
-        let printed = (looks.done none).printed in
-        record { text = printed.text; is = text_own call.looked copy files own flags table loaded printed.text printed.is; put = printed.put };
-    front = front_own fault looks;
-    complete = expected_by fault looks;
-    tree = copy;
-    asked = asked;
-    asked_own = asked_own;
-    below = below;
-    look = look;
-  }
+  pub front_own : (fault : Option Fault) → Concludes (status_look flags looked saved locks table) out err fault → IsOwn looked → IfSome table (IsRightFor looked) → IfSome fault (λ _. LeavesFront Full out)
+  front_own None looks own right = tt
+  front_own (Some fault) looks own right =
+      front_by (IsRowsText flags looked table) Full (text_own looked copy files own flags table loaded right) (status_look flags looked saved locks table) (λ text is. is) out err fault looks.left

@@ -24,14 +24,14 @@ use Rattle.hg_shelf.specs.Polite.{Undisturbed}
 use Rattle.hg_tree.specs.History as tree
 
 -- a count that rose in the last part rose in the whole
-rose_last : (start before after end : ℕ) → before ≡ start → before ≤ after → Rose after end → Rose start end
+pub rose_last : (start before after end : ℕ) → before ≡ start → before ≤ after → Rose after end → Rose start end
 rose_last start before after end same later rose = omega (arith, same, later, rose)
 
 rose_first : (start before after end : ℕ) → before ≡ start → after ≤ end → Rose before after → Rose start end
 rose_first start before after end same later rose = omega (arith, same, later, rose)
 
 -- a count that rose in a part, and then in the last one, rose twice in the whole
-rose_twice : (start before after end : ℕ) → before ≡ start → Rose before after → Rose after end → min (start + 2) (2 ^ 64 - 1) ≤ end
+pub rose_twice : (start before after end : ℕ) → before ≡ start → Rose before after → Rose after end → min (start + 2) (2 ^ 64 - 1) ≤ end
 rose_twice start before after end same rose again = omega (arith, same, rose, again)
 
 -- who was refused a lock holds it as before

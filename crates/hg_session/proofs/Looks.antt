@@ -7,7 +7,7 @@ use Rattle.hg_report.specs.declared.fault.Fault.TheVariants as a_fault
 use Rattle.hg_base.specs.Fault.{Rose}
 use Rattle.hg_stream.specs.Stream.{GrownByFront}
 use Rattle.hg_session.specs.Call.{Looked, Sink}
-use Rattle.hg_session.specs.Look.{EndsAs, IsCalm, IsUntold, LeavesAt, LeftBySaving, Look, Concludes, Order, Shows, Stage, at_first, at_printing, at_saving, at_telling, saves_first, saves_last}
+use Rattle.hg_session.specs.Look.{EndsAs, IsCalm, IsUntold, fault_in, LeavesAt, LeftBySaving, Look, Concludes, Order, Shows, Stage, at_first, at_printing, at_saving, at_telling, saves_first, saves_last}
 use Rattle.hg_session.specs.Put.{IsFaultOrMemory, IsSilent, Puts, PutsFront, PutsThen, Tells, TellsLine}
 
 pub not_without : {Q : Type 0} (answered : Option Fault) (fault : Fault) → IsFaultOrMemory answered fault → answered ≡ None → Q
@@ -58,7 +58,7 @@ module _ (mid tail : Sink) (bytes : tail.old ≡ mid.new) (count : tail.before �
       subst (λ (old : Option (List ℕ)). TellsLine old tail.new mid.before tail.after fault) (bytes ∙ silent.bytes)
       (subst (λ (n : ℕ). TellsLine tail.old tail.new n tail.after fault) (count ∙ silent.count) told)
 
-  module _ (look : Look) (out : Sink) (memory : look.Before a_fault.OutOfMemory) (saving : (fault : Fault) → look.Saving fault → look.Saving a_fault.OutOfMemory) where
+  module _ (look : Look) (out : Sink) (memory : (fault : Fault) → look.Before fault → look.Before a_fault.OutOfMemory) (saving : (fault : Fault) → look.Saving fault → look.Saving a_fault.OutOfMemory) where
     abbrev Left : Fault → Type 0
     Left fault = (stage : Stage) × LeavesAt look out joined Tells stage fault
 
@@ -80,7 +80,7 @@ module _ (mid tail : Sink) (bytes : tail.old ≡ mid.new) (count : tail.before �
 
     -- or want of memory for its line
     left_memory : (fault : Fault) → has_line fault ≡ true → Tells tail a_fault.OutOfMemory → (stage : Stage) × LeavesAt look out mid IsUntold stage fault → Left a_fault.OutOfMemory
-    left_memory fault has line (at_first, (is, silent, untold)) = (at_first, (memory, silent, line_joined a_fault.OutOfMemory untold.silent line))
+    left_memory fault has line (at_first, (is, silent, untold)) = (at_first, (memory fault is, silent, line_joined a_fault.OutOfMemory untold.silent line))
     left_memory fault has line (at_printing, (printing, ready, front, kind, untold)) = (at_printing, (printing, ready, front, inr refl, line_joined a_fault.OutOfMemory untold.silent line))
     left_memory fault has line (at_telling, (telling, ready, puts, front, is)) = told_apart fault has is
     left_memory fault has line (at_saving, (is, left)) = (at_saving, (saving fault is, saving_told look.order fault a_fault.OutOfMemory line left))
@@ -127,3 +127,13 @@ module _ (mid tail : Sink) (bytes : tail.old ≡ mid.new) (count : tail.before �
   calm_by looked out (Ok u) code fault ends c none =
       record { tree = c.tree; shelf = c.shelf; regexps = c.regexps; out = c.out; err = ends.well.1.count ∙ count ∙ c.err }
   calm_by looked out (Err met) code fault ends c none = from_well (IsCalm looked out joined) (Err met) code fault ends tt none
+
+  -- the fault that is answered is the one that was met, or want of memory for its line
+  pub answer_is : (P : Option Fault → Type 0) → ((fault : Fault) → P (Some fault) → P (Some a_fault.OutOfMemory)) → (done : Result Unit Fault) (code : ℕ) (fault : Option Fault) → EndsAs tail done code fault
+      → P (fault_in done) → P fault
+  answer_is P memory (Ok u) code fault ends has = subst P (sym ends.well.0) has
+  answer_is P memory (Err met) code fault ends has = elim ends.ill [
+    | inl (told, inl same, line) ↦ subst P (sym same) has
+    | inl (told, inr none, line) ↦ subst P (sym none) (memory met has)
+    | inr (none, same, silent) ↦ subst P (sym same) has
+  ]

@@ -1,30 +1,50 @@
 -- What a command makes, said of a part of a call, holds of the whole.
-use Rattle.std.proofs.Common.{ℕ, Bool, List, Ok, Err, codes, inl, inr}
+use Rattle.std.proofs.Common.{ℕ, ◌≤◌, Bool, List, Ok, Err, codes, inl, inr, ap, ◌∙◌}
 use Rattle.hg_base.specs.declared.id.Id20.{Id20}
 use Rattle.hg_entry.specs.Table.{Table}
 use Rattle.hg_manifest.specs.Rows.{Rows}
 use Rattle.hg_manifest.specs.declared.fault.ManifestFault.{ManifestFault}
 use Rattle.hg_ops.specs.declared.refusal.OpFault.{OpFault}
 use Rattle.hg_ops.specs.declared.refusal.OpFault.TheVariants as an_op
-use Rattle.hg_session.specs.Acts.{AllSteps, Deed, IsRemoved, Makes, StopsRemoving, TakesAway, makes_of, span_of}
+use Rattle.hg_save.specs.Record.{reading}
+use Rattle.hg_session.specs.Acts.{AllSteps, Deed, IsRemoved, Makes, StandsAt, StopsRemoving, TakesAway, makes_of, span_of}
 use Rattle.hg_session.specs.Call.{Watched}
 use Rattle.hg_session.specs.Manifests.{IsReparented, LacksParents, LacksRows, LoadsRows, StopsParents}
 use Rattle.hg_session.proofs.Acted.{acted_wide, steps_wide}
 use Rattle.hg_session.proofs.TakenWords.{takes_longer}
 use Rattle.hg_shelf.specs.History.{Extends, History}
+use Rattle.hg_shelf.specs.Images.{Course, Goes}
 use Rattle.hg_shelf.proofs.Histories.{extends_trans}
 use Rattle.hg_tree.specs.History as tree
 use Rattle.hg_words.specs.declared.given.Command.{Command}
 use Rattle.hg_words.specs.declared.given.Command.TheVariants as a_command
 use Rattle.std.specs.Prelude.{Result}
 
+-- what the one says of its course, which the other goes on, the other says of its own
+abbrev pub StandsWider : Makes → Makes → Type 1
+StandsWider Part Whole = (c d : Course) → Goes c d → (at : ℕ) → at ≤ c.history.last → (loaded : Table) → Part.stands c at loaded → Whole.stands d at loaded
+
 -- what the one says the other says
-pub record IsWider (Part Whole : Makes) : Type 0 where
+pub record IsWider (Part Whole : Makes) : Type 1 where
   pub does : (old new : Table) (lines : List ℕ) (changed : Bool) → Part.does old new lines changed → Whole.does old new lines changed
   pub stops : (loaded : Table) (fault : OpFault) → Part.stops loaded fault → Whole.stops loaded fault
+  pub stands : StandsWider Part Whole
 
-pub as_wide : (One : Makes) → IsWider One One
-as_wide One = record { does = λ old new lines changed is. is; stops = λ loaded fault is. is }
+-- the files of a moment record it, seen from later on too
+pub stands_later : (c d : Course) → Goes c d → (at : ℕ) → at ≤ c.history.last → (loaded : Table) → StandsAt c at loaded → StandsAt d at loaded
+stands_later c d goes at within loaded is = ap reading (goes.kept at within).shown ∙ is
+
+pub as_wide : (One : Makes) → StandsWider One One → IsWider One One
+as_wide One stands = record { does = λ old new lines changed is. is; stops = λ loaded fault is. is; stands = stands }
+
+-- what a command makes is made of the record that stands
+pub stands_as : (command : Command) (copy : Watched tree.History) (files : Watched History) (c : Course) (at : ℕ) (loaded : Table) → StandsAt c at loaded → (makes_of command copy files).stands c at loaded
+stands_as (a_command.Add words) copy files c at loaded is = is
+stands_as (a_command.Forget words) copy files c at loaded is = is
+stands_as (a_command.Remove after words) copy files c at loaded is = is
+stands_as (a_command.Copy source target) copy files c at loaded is = is
+stands_as (a_command.SetParents p1 p2) copy files c at loaded is = is
+stands_as command copy files c at loaded is = is
 
 module _ (part whole : Watched History) (before : Extends whole.old part.old) (behind : Extends part.new whole.new) where
   rows_wide : (id : Id20) (answer : Result Rows ManifestFault) → LoadsRows part id answer → LoadsRows whole id answer
@@ -110,15 +130,17 @@ module _ (part whole : Watched History) (before : Extends whole.old part.old) (b
   parents_stopped p1 p2 (an_op.NoContents id) stops = stops
 
   pub makes_wide : (command : Command) (copy : Watched tree.History) → IsWider (makes_of command copy part) (makes_of command copy whole)
-  makes_wide (a_command.Add words) copy = as_wide (makes_of (a_command.Add words) copy whole)
-  makes_wide (a_command.Forget words) copy = as_wide (makes_of (a_command.Forget words) copy whole)
+  makes_wide (a_command.Add words) copy = as_wide (makes_of (a_command.Add words) copy whole) stands_later
+  makes_wide (a_command.Forget words) copy = as_wide (makes_of (a_command.Forget words) copy whole) stands_later
   makes_wide (a_command.Remove after words) copy = record {
     does = λ old new lines changed is. removed_wide after words copy old new lines changed is;
     stops = λ loaded fault is. stopped_wide after words copy loaded fault is;
+    stands = stands_later;
   }
-  makes_wide (a_command.Copy source target) copy = as_wide (makes_of (a_command.Copy source target) copy whole)
+  makes_wide (a_command.Copy source target) copy = as_wide (makes_of (a_command.Copy source target) copy whole) stands_later
   makes_wide (a_command.SetParents p1 p2) copy = record {
     does = λ old new lines changed is. reparented_wide p1 p2 old new lines changed is;
     stops = λ loaded fault is. parents_stopped p1 p2 fault is;
+    stands = stands_later;
   }
-  makes_wide command copy = record { does = λ old new lines changed is. is; stops = λ loaded fault is. is }
+  makes_wide command copy = record { does = λ old new lines changed is. is; stops = λ loaded fault is. is; stands = stands_later }

@@ -1,15 +1,17 @@
 -- What a listing says of the first parent, begun behind a load, moved to the start of the call.
-use Rattle.std.proofs.Common.{ℕ, ◌≡◌, ◌≤◌, Bool, true, false, not, ◌&&◌, ◌||◌, cond, List, [], Option, Some, None, option_map, Result, Ok, IsTrue, IfSome, is_some, refl, sym, ap, ◌∙◌, subst, inl, inr, arith}
+use Rattle.std.proofs.Common.{ℕ, ◌≡◌, ◌≤◌, Bool, true, false, not, ◌&&◌, ◌||◌, cond, List, [], Option, Some, None, option_map, Result, Ok, IsTrue, IfSome, is_some, refl, sym, ap, ◌∙◌, subst, inl, inr, arith, true≢false}
 use Rattle.std.proofs.lemmas.Bool.{cases_Bool, or_left, or_right}
 use Rattle.hg_base.specs.declared.id.Id20.{Id20}
+use Rattle.hg_base.specs.declared.stat.Stat.{Stat}
 use Rattle.hg_compare.specs.Alike.{contents_name, is_alike}
 use Rattle.hg_compare.specs.Same.{parent_row}
 use Rattle.hg_compare.specs.Tracked.{ParentRow, is_file_or_link, is_unchanged, tracked_letter}
 use Rattle.hg_compare.specs.declared.letter.Letter.{Letter}
 use Rattle.hg_compare.specs.declared.letter.Letter.TheVariants as a_letter
-use Rattle.hg_entry.specs.Table.{Flat, Marks}
+use Rattle.hg_entry.specs.Entry.{EntryData}
+use Rattle.hg_entry.specs.Table.{Flat, Marks, Table, flat_of, marks_of}
 use Rattle.hg_listing.specs.Full.{HasLetterBy, IsFullFor, IsTold, wants}
-use Rattle.hg_flat.specs.Parent.{HasContents, IsAsked, IsLeft, IsServed, KeepsRow, asked_by, is_plain_entry, manifest_at, parent_rows, row_among, row_of}
+use Rattle.hg_flat.specs.Parent.{HasContents, IsAsked, IsServed, KeepsRow, asked_by, is_plain_entry, manifest_at, parent_rows, row_among, row_of}
 use Rattle.hg_flat.specs.Patterns.{ignored_at}
 use Rattle.hg_listing.specs.declared.row.Row.{Row}
 use Rattle.hg_listing.specs.declared.row.Wanted.{Wanted}
@@ -19,10 +21,13 @@ use Rattle.hg_manifest.specs.Rows.{Rows}
 use Rattle.hg_manifest.specs.declared.fault.ManifestFault.{ManifestFault}
 use Rattle.hg_manifest.specs.declared.row.FileRow.{FileRow}
 use Rattle.hg_shelf.specs.History as shelf
-use Rattle.hg_shelf.specs.Polite.{KeepsFile}
+use Rattle.hg_shelf.specs.Polite.{KeepsFile, KeepsPlain}
 use Rattle.hg_tree.specs.History as tree
 use Rattle.hg_tree.specs.Moment.{Moment, stat_at}
 use Rattle.hg_tree.specs.declared.thing.Placed.{Placed}
+use Rattle.hg_mtime.specs.Vouching.{vouches}
+use Rattle.hg_walk.specs.Right.{VouchedAreClean}
+use Rattle.hg_walk.specs.Walking.{IsLeftBy, asked_unvouched, first_id, is_vouched_at, rows_in, vouches_for}
 
 -- ---- the files
 
@@ -61,10 +66,22 @@ module _ (h : shelf.History) (since behind : ℕ) (id : Id20) (path : List ℕ) 
   rows_by None keeps = refl
   rows_by (Some row) keeps = ap (λ (file : Option (List ℕ)). Some (parent_row row file)) (keeps behind order within)
 
-  rows_same : parent_rows (h.at behind).files id path ≡ parent_rows (h.at since).files id path
+  pub rows_same : parent_rows (h.at behind).files id path ≡ parent_rows (h.at since).files id path
   rows_same =
       ap (λ (r : Result Rows ManifestFault). option_map (λ row. parent_row row ((h.at behind).files (contents_name row.id.0))) (row_among r path)) manifest_same
       ∙ rows_by (row_among (manifest_at (h.at since).files id) path) kept.contents
+
+-- where the plain store stays nobody touches what a parent has of a path
+pub row_plain : (h : shelf.History) (since : ℕ) (id : Id20) (path : List ℕ) → KeepsPlain h since → KeepsRow h since id path
+row_plain h since id path keeps = record {
+  told = keeps.told;
+  manifest = λ committed. keeps.each (plain_name id.0) refl;
+  contents = each (row_among (manifest_at (h.at since).files id) path);
+}
+  where
+    each : (o : Option FileRow) → IfSome o (λ row. KeepsFile h since (contents_name row.id.0))
+    each None = tt
+    each (Some row) = keeps.each (contents_name row.id.0) refl
 
 keeps_last : (old new : shelf.History) → new.last ≡ old.last → (name : List ℕ) → KeepsFile new old.last name
 keeps_last old new none name k from upto = ap (λ (n : ℕ). (new.at n).files name) (omega (arith, from, upto, none))
@@ -125,10 +142,36 @@ module _ (wanted : Wanted) (flat : Flat) (moment : Moment) (a b : List ℕ → O
       (wanted.m || wanted.c) letter (λ is. ap (λ (row : Option ParentRow). is_unchanged row (moment.things path)) (same is)) wants_m wants_c
       (chain_is (a path) marks (is_some (flat.sources path)) (moment.things path) ∙ has)
 
-told_rows : (wanted : Wanted) (flat : Flat) (moment : Moment) (a b : List ℕ → Option ParentRow) (Ignored : List ℕ → Type 0) (row : Row) → (IsAsked (asked_by wanted flat) moment row.path → a row.path ≡ b row.path)
-    → IsTold flat moment a Ignored wanted row → IsTold flat moment b Ignored wanted row
-told_rows wanted flat moment a b Ignored row same told =
-    (told.0, letter_by wanted flat moment a b Ignored row.path row.letter told.0 (flat.marks row.path) same told.1, told.2)
+-- ---- a path for which a record vouches at a moment is clean there by either row
+
+-- so it is by some rows
+abbrev pub CleanAt : Table → (List ℕ → Option ParentRow) → Moment → Type 0
+CleanAt table rows moment =
+    (path : List ℕ) (entry : EntryData) (stat : Stat) → table.entries path ≡ Some entry → stat_at moment path ≡ Some stat → vouches entry (is_some (table.sources path)) stat ≡ true
+    → tracked_letter (rows path) (marks_of entry) (is_some (table.sources path)) (moment.things path) ≡ Some a_letter.C
+
+module _ (wanted : Wanted) (table : Table) (moment : Moment) (a b : List ℕ → Option ParentRow) (Ignored : List ℕ → Type 0) (clean_a : CleanAt table a moment) (clean_b : CleanAt table b moment) where
+  vouched_by : (path : List ℕ) (letter : Letter) (entry : Option EntryData) → table.entries path ≡ entry → (stat : Option Stat) → stat_at moment path ≡ stat
+      → vouches_for entry (is_some (table.sources path)) stat ≡ true → HasLetterBy (option_map marks_of entry) (flat_of table) moment a Ignored path letter
+      → HasLetterBy (option_map marks_of entry) (flat_of table) moment b Ignored path letter
+  vouched_by path letter None is stat shows vouched has = absurd (true≢false (sym vouched))
+  vouched_by path letter (Some entry) is None shows vouched has = absurd (true≢false (sym vouched))
+  vouched_by path letter (Some entry) is (Some stat) shows vouched has = clean_b path entry stat is shows vouched ∙ sym (clean_a path entry stat is shows vouched) ∙ has
+
+  asked_as : (path : List ℕ) → is_vouched_at table moment path ≡ false → asked_by wanted (flat_of table) moment path ≡ true → IsAsked (asked_unvouched wanted table) moment path
+  asked_as path unvouched asked =
+      subst (λ (v : Bool). (asked_by wanted (flat_of table) moment path && not v) ≡ true) (sym unvouched) (ap (λ (t : Bool). t && true) asked)
+
+  told_rows : (row : Row) → (IsAsked (asked_unvouched wanted table) moment row.path → a row.path ≡ b row.path)
+      → IsTold (flat_of table) moment a Ignored wanted row → IsTold (flat_of table) moment b Ignored wanted row
+  told_rows row same told = (
+    told.0,
+    elim (cases_Bool (is_vouched_at table moment row.path)) [
+      | inl vouched ↦ vouched_by row.path row.letter (table.entries row.path) refl (stat_at moment row.path) refl vouched told.1
+      | inr unvouched ↦ letter_by wanted (flat_of table) moment a b Ignored row.path row.letter told.0 (option_map marks_of (table.entries row.path)) (λ asked. same (asked_as row.path unvouched asked)) told.1
+    ],
+    told.2,
+  )
 
 -- where a row's contents are the same, a path that has them goes on having them
 contents_moved : (a b : shelf.Files) (moment : Moment) (path : List ℕ) (o : Option FileRow) → IfSome o (λ row. a (contents_name row.id.0) ≡ b (contents_name row.id.0)) → HasContents a moment path o → HasContents b moment path o
@@ -138,12 +181,15 @@ contents_moved a b moment path (Some row) same has =
 
 -- ---- over a load
 
-module _ (wanted : Wanted) (flat : Flat) (id : Id20) (old new : tree.History) (start behind end : shelf.History) (copy : tree.Extends old new) (before : shelf.Extends start behind) (after : shelf.Extends behind end) where
+module _ (wanted : Wanted) (table : Table) (old new : tree.History) (start behind end : shelf.History) (copy : tree.Extends old new) (before : shelf.Extends start behind) (after : shelf.Extends behind end) where
+  abbrev id : Id20
+  id = first_id table
+
   abbrev Left : List ℕ → Type 0
-  Left = IsLeft wanted flat (asked_by wanted flat) id new old.last end start.last
+  Left = IsLeftBy wanted table new old.last end start.last
 
   abbrev LeftBehind : List ℕ → Type 0
-  LeftBehind = IsLeft wanted flat (asked_by wanted flat) id new old.last end behind.last
+  LeftBehind = IsLeftBy wanted table new old.last end behind.last
 
   within : behind.last ≤ end.last
   within = after.later
@@ -157,8 +203,8 @@ module _ (wanted : Wanted) (flat : Flat) (id : Id20) (old new : tree.History) (s
   }
 
   -- a path that is compared at first
-  asked_first : (path : List ℕ) → IsAsked (asked_by wanted flat) (tree.now old) path → IsAsked (asked_by wanted flat) (new.at old.last) path
-  asked_first path asked = subst (λ (moment : Moment). IsAsked (asked_by wanted flat) moment path) (sym (copy.stay old.last (omega arith))) asked
+  asked_first : (path : List ℕ) → IsAsked (asked_unvouched wanted table) (tree.now old) path → IsAsked (asked_unvouched wanted table) (new.at old.last) path
+  asked_first path asked = subst (λ (moment : Moment). IsAsked (asked_unvouched wanted table) moment path) (sym (copy.stay old.last (omega arith))) asked
 
   at_start : (end.at start.last).files ≡ (shelf.now start).files
   at_start = (after.stay start.last before.later).shown ∙ (before.stay start.last (omega arith)).shown
@@ -176,19 +222,27 @@ module _ (wanted : Wanted) (flat : Flat) (id : Id20) (old new : tree.History) (s
       ap (λ (files : shelf.Files). manifest_at files id) (sym at_behind) ∙ manifest_same end start.last behind.last id path before.later after.later kept
       ∙ ap (λ (files : shelf.Files). manifest_at files id) at_start
 
-  pub full_moved : (rows : List Row) → IsFullFor LeftBehind flat (tree.now old) (parent_rows (shelf.now behind).files id) (ignored_at (tree.now old)) wanted rows
-      → IsFullFor Left flat (tree.now old) (parent_rows (shelf.now start).files id) (ignored_at (tree.now old)) wanted rows
-  full_moved rows is = record {
-    sound = λ row has left.
-        told_rows wanted flat (tree.now old) (parent_rows (shelf.now behind).files id) (parent_rows (shelf.now start).files id) (ignored_at (tree.now old)) row (λ asked. rows_moved row.path (left.row (asked_first row.path asked)))
-        (is.sound row has (left_behind row.path left));
-    all = λ row left tells.
-        is.all row (left_behind row.path left)
-        (told_rows wanted flat (tree.now old) (parent_rows (shelf.now start).files id) (parent_rows (shelf.now behind).files id) (ignored_at (tree.now old)) row (λ asked. sym (rows_moved row.path (left.row (asked_first row.path asked))))
-        tells);
-    once = is.once;
-    ascending = is.ascending;
-  }
+  -- at the first moment a path for which the record vouches is clean
+  clean_now : (rows : List ℕ → Option ParentRow) → VouchedAreClean rows table old new → CleanAt table rows (tree.now old)
+  clean_now rows right = subst (CleanAt table rows) (copy.stay old.last (omega arith)) (λ path entry stat. right old.last path entry stat (omega arith) copy.later)
+
+  pub full_moved : (rows : List Row) → VouchedAreClean (rows_in table (shelf.now start).files) table old new → VouchedAreClean (rows_in table (shelf.now behind).files) table old new
+      → IsFullFor LeftBehind (flat_of table) (tree.now old) (rows_in table (shelf.now behind).files) (ignored_at (tree.now old)) wanted rows
+      → IsFullFor Left (flat_of table) (tree.now old) (rows_in table (shelf.now start).files) (ignored_at (tree.now old)) wanted rows
+  full_moved rows right_start right_behind is =
+      let clean_start = clean_now (rows_in table (shelf.now start).files) right_start in
+      let clean_behind = clean_now (rows_in table (shelf.now behind).files) right_behind in
+      record {
+        sound = λ row has left.
+            told_rows wanted table (tree.now old) (rows_in table (shelf.now behind).files) (rows_in table (shelf.now start).files) (ignored_at (tree.now old)) clean_behind clean_start row
+            (λ asked. rows_moved row.path (left.row (asked_first row.path asked))) (is.sound row has (left_behind row.path left));
+        all = λ row left tells.
+            is.all row (left_behind row.path left)
+            (told_rows wanted table (tree.now old) (rows_in table (shelf.now start).files) (rows_in table (shelf.now behind).files) (ignored_at (tree.now old)) clean_start clean_behind row
+            (λ asked. sym (rows_moved row.path (left.row (asked_first row.path asked)))) tells);
+        once = is.once;
+        ascending = is.ascending;
+      }
 
   -- the contents that a row names stay
   contents_stay : (path : List ℕ) → KeepsRow end start.last id path → (rows : Rows) → manifest_at (shelf.now start).files id ≡ Ok rows
@@ -204,8 +258,8 @@ module _ (wanted : Wanted) (flat : Flat) (id : Id20) (old new : tree.History) (s
           ap (λ (files : shelf.Files). files (contents_name row.id.0)) (sym at_behind) ∙ keeps behind.last before.later after.later
           ∙ ap (λ (files : shelf.Files). files (contents_name row.id.0)) at_start
 
-  pub served_moved : ((path : List ℕ) → LeftBehind path → IsAsked (asked_by wanted flat) (tree.now old) path → IsServed (shelf.now behind).files id (tree.now old) path)
-      → (path : List ℕ) → Left path → IsAsked (asked_by wanted flat) (tree.now old) path → IsServed (shelf.now start).files id (tree.now old) path
+  pub served_moved : ((path : List ℕ) → LeftBehind path → IsAsked (asked_unvouched wanted table) (tree.now old) path → IsServed (shelf.now behind).files id (tree.now old) path)
+      → (path : List ℕ) → Left path → IsAsked (asked_unvouched wanted table) (tree.now old) path → IsServed (shelf.now start).files id (tree.now old) path
   served_moved served path left asked =
       let kept : KeepsRow end start.last id path = left.row (asked_first path asked) in
       let s = served path (left_behind path left) asked in

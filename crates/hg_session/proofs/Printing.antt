@@ -1,140 +1,223 @@
--- What a status does, from what its parts do.
-use Rattle.std.proofs.Common.{ℕ, ◌≡◌, true, List, Result, Ok, Err, refl, ap, ◌∙◌, subst, inl}
-use Rattle.hg_flat.specs.declared.listed.Listed.{Listed}
+-- What a listing over a table, its printing and its telling do, from what their parts do.
+use Rattle.std.proofs.Common.{ℕ, ◌≡◌, Bool, true, List, [], Result, Ok, Err, IfErr, IfOk, IsTrue, OnOk, refl, ap, ◌∙◌, subst, inl, arith}
+use Rattle.std.specs.Prelude.{MatchBool}
+use Rattle.hg_entry.specs.Table.{Table, flat_of}
+use Rattle.hg_flat.specs.Met.{Met}
+use Rattle.hg_flat.specs.Patterns.{CountsOversize, HadPatterns, Warns, ignored_at, is_of_parent}
+use Rattle.hg_ignore.specs.Patterns.{WereRead}
+use Rattle.hg_ignore.specs.declared.warnings.Warning.{Warning}
+use Rattle.hg_listing.specs.Full.{IsFullFor}
+use Rattle.hg_listing.specs.declared.fault.StatusFault.{StatusFault}
 use Rattle.hg_listing.specs.declared.fault.StatusFault.TheVariants as a_status
 use Rattle.hg_listing.specs.declared.row.Row.{Row}
 use Rattle.hg_listing.specs.declared.row.Wanted.{Wanted}
+use Rattle.hg_report.specs.Cause.{of_status}
 use Rattle.hg_report.specs.Fault.{has_line}
 use Rattle.hg_report.specs.Status.{text_of}
 use Rattle.hg_report.specs.Warnings.{warnings_text}
 use Rattle.hg_report.specs.declared.fault.Fault.TheVariants as a_fault
 use Rattle.hg_report.specs.declared.status.Style.{Style}
+use Rattle.hg_shelf.specs.History as shelf
 use Rattle.hg_stream.specs.Stream.{Grown, GrownByFront}
+use Rattle.hg_tree.specs.History as tree
 use Rattle.hg_session.specs.Call.{Fails, Looked, Sink}
 use Rattle.hg_session.specs.Flags.{style_of, wanted_of}
-use Rattle.hg_session.specs.Listed.{ListsCopy}
-use Rattle.hg_session.specs.Load.{of_list}
+use Rattle.hg_session.specs.Listed.{AsksOver, AsksOwn, AsksPlain, IsListable, IsListedFor, IsRightFor, IsServedFor, IsUntouched, StatusCause, StatusMet, status_over}
 use Rattle.hg_session.specs.Look.{at_first, at_printing, at_telling}
 use Rattle.hg_session.specs.Put.{IsSilent}
-use Rattle.hg_session.specs.Status.{DoesStatus}
-use Rattle.hg_session.specs.declared.list_fault.ListFault.{ListFault}
-use Rattle.hg_session.specs.declared.list_fault.ListFault.TheVariants as a_list
-use Rattle.hg_session.specs.declared.read_fault.ReadFault.TheVariants as a_read
+use Rattle.hg_session.specs.Status.{IsNotedFor, ShowsTable}
+use Rattle.hg_walk.specs.Right.{AreRight}
+use Rattle.hg_walk.specs.Walking.{rows_in}
+use Rattle.hg_walk.specs.declared.walked.Walked.{Walked}
 use Rattle.hg_words.specs.declared.flags.StatusFlags.{StatusFlags}
 
--- a fault of a listing has a line
-listing_told : (fault : ListFault) → has_line (of_list fault) ≡ true
-listing_told (a_list.Read a_read.OutOfMemory) = refl
-listing_told (a_list.Read (a_read.Docket f)) = refl
-listing_told (a_list.Read (a_read.Node f)) = refl
-listing_told (a_list.Read (a_read.DataGone ids)) = refl
-listing_told (a_list.Read a_read.Failed) = refl
-listing_told (a_list.Status a_status.OutOfMemory) = refl
-listing_told (a_list.Status fault) = refl
+-- warnings that were read say that the patterns were
+pub had_patterns : (wanted : Wanted) (old new : tree.History) (warnings : List Warning) → Warns wanted old new warnings → HadPatterns wanted old new
+had_patterns wanted old new warnings warns needs = (warnings, subst (λ (b : Bool). MatchBool b (WereRead old new warnings) (warnings ≡ [])) needs warns)
 
--- what a listing does is so by the flags, and so is the text
-pub lists_as : (looked : Looked) (flags : StatusFlags) (wanted : Wanted) (result : Result Listed ListFault) → wanted ≡ wanted_of flags → ListsCopy looked wanted result → ListsCopy looked (wanted_of flags) result
-lists_as looked flags wanted result is lists = subst (λ (w : Wanted). ListsCopy looked w result) is lists
+-- ---- a walk over a table
+
+-- what it answers and asks
+pub record Walks (looked : Looked) (wanted : Wanted) (table : Table) (result : Result Walked StatusFault) : Type 0 where
+  pub tree : tree.Passes looked.tree.old looked.tree.new
+  pub still : IfOk result (λ walked. IsListedFor looked wanted walked.rows table)
+  pub warns : IfOk result (λ walked. Warns wanted looked.tree.old looked.tree.new walked.warnings)
+  pub listable : OnOk result (IsListable looked wanted table)
+  pub cause : IfErr result (StatusCause looked wanted table)
+  pub asked : IsTrue looked.tree.old.told → AsksOver table wanted looked.tree
+  pub asked_own : OnOk result (AsksOwn looked wanted table)
+  pub store : IsTrue looked.shelf.old.told → AsksPlain looked wanted table looked.shelf.old looked.shelf.new
+  pub calm_tree : OnOk result (looked.tree.after ≡ looked.tree.before)
+  pub calm_shelf : OnOk result (looked.shelf.after ≡ looked.shelf.before)
+  pub calm_regexps : OnOk result (looked.oversize.after ≡ looked.oversize.before)
+  pub noted : IfOk result (λ walked. IsNotedFor looked wanted table walked.notes)
+
+module _ (looked : Looked) (wanted : Wanted) (table : Table) where
+  -- where times are right over the call, they are by the rows at its start
+  pub right_now : shelf.Passes looked.shelf.old looked.shelf.new → IsRightFor looked table → AreRight (rows_in table (shelf.now looked.shelf.old).files) table looked.tree.old looked.tree.new
+  right_now passes right =
+      subst (λ (f : shelf.Files). AreRight (rows_in table f) table looked.tree.old looked.tree.new) (passes.past.stay looked.shelf.old.last (omega arith)).shown
+      (right looked.shelf.old.last (omega arith) passes.past.later)
+
+  -- a fault of the first parent was met behind patterns that were fine
+  abbrev Behind : StatusFault → Type 0
+  Behind fault = is_of_parent fault ≡ true → HadPatterns wanted looked.tree.old looked.tree.new
+
+  met_here : (fault : StatusFault) → Behind fault → Met (status_over looked wanted table) fault → StatusMet looked wanted table fault
+  met_here fault patterns met = record { behind = patterns; met = met }
+
+  pub cause_of : (fault : StatusFault) → Behind fault → (fault ≡ a_status.TreeFailed → Fails looked.tree) → (fault ≡ a_status.ShelfFailed → Fails looked.shelf)
+      → CountsOversize {T = Walked} looked.oversize.before looked.oversize.after (Err fault) → Met (status_over looked wanted table) fault → StatusCause looked wanted table fault
+  cause_of a_status.OutOfMemory patterns tree_failed shelf_failed counts met = tt
+  cause_of a_status.TreeFailed patterns tree_failed shelf_failed counts met = tree_failed refl
+  cause_of a_status.ShelfFailed patterns tree_failed shelf_failed counts met = shelf_failed refl
+  cause_of (a_status.RegexpTooBig line) patterns tree_failed shelf_failed counts met = (met_here (a_status.RegexpTooBig line) patterns met, counts.1)
+  cause_of fault patterns tree_failed shelf_failed counts met = met_here fault patterns met
+
+  module _ (copy : tree.Passes looked.tree.old looked.tree.new) (files : shelf.Passes looked.shelf.old looked.shelf.new) (asked : IsTrue looked.tree.old.told → AsksOver table wanted looked.tree)
+      (store : IsTrue looked.shelf.old.told → AsksPlain looked wanted table looked.shelf.old looked.shelf.new) where
+    pub walks_err : (fault : StatusFault) → StatusCause looked wanted table fault → Walks looked wanted table (Err fault)
+    walks_err fault cause = record {
+      tree = copy;
+      still = tt;
+      warns = tt;
+      listable = tt;
+      cause = cause;
+      asked = asked;
+      asked_own = tt;
+      store = store;
+      calm_tree = tt;
+      calm_shelf = tt;
+      calm_regexps = tt;
+      noted = tt;
+    }
+
+    pub walks_ok : (walked : Walked)
+        → (AreRight (rows_in table (shelf.now looked.shelf.old).files) table looked.tree.old looked.tree.new
+        → IsFullFor (IsUntouched looked wanted table) (flat_of table) (tree.now looked.tree.old) (rows_in table (shelf.now looked.shelf.old).files) (ignored_at (tree.now looked.tree.old)) wanted walked.rows)
+        → Warns wanted looked.tree.old looked.tree.new walked.warnings → IsServedFor looked wanted table → AsksOwn looked wanted table → looked.tree.after ≡ looked.tree.before → looked.shelf.after ≡ looked.shelf.before
+        → looked.oversize.after ≡ looked.oversize.before → IsNotedFor looked wanted table walked.notes → Walks looked wanted table (Ok walked)
+    walks_ok walked still warns served asked_own calm_tree calm_shelf calm_regexps noted = record {
+      tree = copy;
+      still = λ right. still (right_now files right);
+      warns = warns;
+      listable = record { patterns = had_patterns wanted looked.tree.old looked.tree.new walked.warnings warns; served = served };
+      cause = tt;
+      asked = asked;
+      asked_own = asked_own;
+      store = store;
+      calm_tree = calm_tree;
+      calm_shelf = calm_shelf;
+      calm_regexps = calm_regexps;
+      noted = noted;
+    }
+
+pub walks_as : (looked : Looked) (flags : StatusFlags) (wanted : Wanted) (table : Table) (result : Result Walked StatusFault) → wanted ≡ wanted_of flags → Walks looked wanted table result
+    → Walks looked (wanted_of flags) table result
+walks_as looked flags wanted table result is walks = subst (λ (w : Wanted). Walks looked w table result) is walks
+
+-- ---- the texts
+
+-- a fault of a walk has a line
+walk_told : (fault : StatusFault) → has_line (of_status fault) ≡ true
+walk_told a_status.OutOfMemory = refl
+walk_told fault = refl
 
 pub text_as : (rows : List Row) (text : List ℕ) (style : Style) (flags : StatusFlags) → style ≡ style_of flags → text ≡ text_of style rows → text ≡ text_of (style_of flags) rows
 text_as rows text style flags is same = same ∙ ap (λ (s : Style). text_of s rows) is
 
--- ---- what a status does, exit by exit
+-- ---- what is done over a table, exit by exit
 
-module _ (flags : StatusFlags) (looked : Looked) (out err : Sink) where
+module _ (flags : StatusFlags) (looked : Looked) (table : Table) (out err : Sink) where
   abbrev wanted : Wanted
   wanted = wanted_of flags
 
-  pub met_listing : (fault : ListFault) → ListsCopy looked wanted (Err fault) → IsSilent out → IsSilent err → DoesStatus flags looked out err (Err (of_list fault))
-  met_listing fault lists still silent = record {
-    table = lists.table;
-    loaded = lists.loaded;
-    tree = lists.tree;
-    shows = record { done = tt; left = (at_first, ((fault, refl, lists.cause), still, record { told = listing_told fault; silent = silent })) };
-    asked = lists.asked;
+  pub met_walking : (fault : StatusFault) → Walks looked wanted table (Err fault) → IsSilent out → IsSilent err → ShowsTable flags looked table out err (Err (of_status fault))
+  met_walking fault walks still silent = record {
+    tree = walks.tree;
+    shows = record { done = tt; left = (at_first, ((fault, refl, walks.cause), still, record { told = walk_told fault; silent = silent })) };
+    asked = walks.asked;
     asked_own = tt;
-    below = lists.below;
+    store = walks.store;
     calm = tt;
+    noted = tt;
   }
 
-  -- there was no memory for a text
-  pub met_memory : (listed : Listed) → ListsCopy looked wanted (Ok listed) → IsSilent out → IsSilent err → DoesStatus flags looked out err (Err a_fault.OutOfMemory)
-  met_memory listed lists still silent = record {
-    table = lists.table;
-    loaded = lists.loaded;
-    tree = lists.tree;
-    shows = record { done = tt; left = (at_first, ((a_list.Read a_read.OutOfMemory, refl, tt), still, record { told = refl; silent = silent })) };
-    asked = lists.asked;
-    asked_own = tt;
-    below = lists.below;
-    calm = tt;
-  }
-
-  module _ (listed : Listed) (text : List ℕ) (lists : ListsCopy looked wanted (Ok listed)) (is : text ≡ text_of (style_of flags) listed.rows) where
-    pub met_printing : GrownByFront out.old out.new text → Fails out → IsSilent err → DoesStatus flags looked out err (Err a_fault.OutFailed)
-    met_printing grown failed silent = record {
-      table = lists.table;
-      loaded = lists.loaded;
-      tree = lists.tree;
-      shows = record {
-        done = tt;
-        left = (
-          at_printing,
-          (
-            tt,
-            lists.listable,
-            record { text = text; is = record { rows = listed.rows; listing = lists.still; is = is }; put = grown; failed = failed },
-            inl refl,
-            record { told = refl; silent = silent },
-          ),
-        );
-      };
-      asked = lists.asked;
+  module _ (walked : Walked) (walks : Walks looked wanted table (Ok walked)) where
+    -- there was no memory for a text
+    pub met_memory : IsSilent out → IsSilent err → ShowsTable flags looked table out err (Err a_fault.OutOfMemory)
+    met_memory still silent = record {
+      tree = walks.tree;
+      shows = record { done = tt; left = (at_first, ((a_status.OutOfMemory, refl, tt), still, record { told = refl; silent = silent })) };
+      asked = walks.asked;
       asked_own = tt;
-      below = lists.below;
+      store = walks.store;
       calm = tt;
+      noted = tt;
     }
 
-    module _ (lines : List ℕ) (warns : lines ≡ warnings_text listed.warnings) (printed : Grown out.old out.new text) where
-      pub met_warning : GrownByFront err.old err.new lines → Fails err → DoesStatus flags looked out err (Err a_fault.ErrFailed)
-      met_warning begun failed = record {
-        table = lists.table;
-        loaded = lists.loaded;
-        tree = lists.tree;
+    module _ (text : List ℕ) (is : text ≡ text_of (style_of flags) walked.rows) where
+      pub met_printing : GrownByFront out.old out.new text → Fails out → IsSilent err → ShowsTable flags looked table out err (Err a_fault.OutFailed)
+      met_printing grown failed silent = record {
+        tree = walks.tree;
         shows = record {
           done = tt;
           left = (
-            at_telling,
+            at_printing,
             (
               tt,
-              lists.listable,
-              record { text = text; is = record { rows = listed.rows; listing = lists.still; is = is }; put = printed },
-              record { text = lines; is = record { warnings = listed.warnings; are = lists.warns; is = warns }; put = begun; failed = failed },
-              refl,
+              walks.listable,
+              record { text = text; is = record { rows = walked.rows; listing = walks.still; is = is }; put = grown; failed = failed },
+              inl refl,
+              record { told = refl; silent = silent },
             ),
           );
         };
-        asked = lists.asked;
+        asked = walks.asked;
         asked_own = tt;
-        below = lists.below;
+        store = walks.store;
         calm = tt;
+        noted = tt;
       }
 
-      pub did_print : (u : Unit) → out.after ≡ out.before → Grown err.old err.new lines → err.after ≡ err.before → DoesStatus flags looked out err (Ok u)
-      did_print u calm_out told calm_err = record {
-        table = lists.table;
-        loaded = lists.loaded;
-        tree = lists.tree;
-        shows = record {
-          done = record {
-            ready = lists.listable;
-            printed = record { text = text; is = record { rows = listed.rows; listing = lists.still; is = is }; put = printed };
-            told = record { text = lines; is = record { warnings = listed.warnings; are = lists.warns; is = warns }; put = told };
+      module _ (lines : List ℕ) (warns : lines ≡ warnings_text walked.warnings) (printed : Grown out.old out.new text) where
+        pub met_warning : GrownByFront err.old err.new lines → Fails err → ShowsTable flags looked table out err (Err a_fault.ErrFailed)
+        met_warning begun failed = record {
+          tree = walks.tree;
+          shows = record {
+            done = tt;
+            left = (
+              at_telling,
+              (
+                tt,
+                walks.listable,
+                record { text = text; is = record { rows = walked.rows; listing = walks.still; is = is }; put = printed },
+                record { text = lines; is = record { warnings = walked.warnings; are = walks.warns; is = warns }; put = begun; failed = failed },
+                refl,
+              ),
+            );
           };
-          left = tt;
-        };
-        asked = lists.asked;
-        asked_own = lists.asked_own;
-        below = lists.below;
-        calm = record { tree = lists.calm_tree; shelf = lists.calm_shelf; regexps = lists.calm_regexps; out = calm_out; err = calm_err };
-      }
+          asked = walks.asked;
+          asked_own = tt;
+          store = walks.store;
+          calm = tt;
+          noted = tt;
+        }
+
+        pub did_show : out.after ≡ out.before → Grown err.old err.new lines → err.after ≡ err.before → ShowsTable flags looked table out err (Ok walked.notes)
+        did_show calm_out told calm_err = record {
+          tree = walks.tree;
+          shows = record {
+            done = record {
+              ready = walks.listable;
+              printed = record { text = text; is = record { rows = walked.rows; listing = walks.still; is = is }; put = printed };
+              told = record { text = lines; is = record { warnings = walked.warnings; are = walks.warns; is = warns }; put = told };
+            };
+            left = tt;
+          };
+          asked = walks.asked;
+          asked_own = walks.asked_own;
+          store = walks.store;
+          calm = record { tree = walks.calm_tree; shelf = walks.calm_shelf; regexps = walks.calm_regexps; out = calm_out; err = calm_err };
+          noted = walks.noted;
+        }

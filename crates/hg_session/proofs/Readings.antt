@@ -4,19 +4,23 @@ use Rattle.std.specs.List.{AllByRecursion}
 use Rattle.std.proofs.lemmas.Bool.{cases_Bool}
 use Rattle.hg_base.proofs.Faults.{steady_not_rose}
 use Rattle.hg_base.specs.Fault.{HasCause}
-use Rattle.hg_docket.specs.Docket.{docket_of, docket_refusal}
+use Rattle.hg_docket.specs.Docket.{Contents, docket_of, docket_refusal}
 use Rattle.hg_docket.specs.declared.fault.DocketFault.{DocketFault}
 use Rattle.hg_entry.specs.Table.{Table}
 use Rattle.hg_image.specs.Reading.{RecordFault, data_reading, docket_reading, of_data, reading_of}
 use Rattle.hg_image.specs.declared.fault.NodeFault.{NodeFault}
+use Rattle.hg_mixed.specs.Edits.{IsSame}
+use Rattle.hg_mixed.specs.Held.{Held, table}
 use Rattle.hg_save.proofs.Loads.{found_longer, same_ids, tries_longer, unstepped_found}
 use Rattle.hg_save.specs.Loads.{Loads, Try, found_by, id_by}
 use Rattle.hg_save.specs.Record.{id_in, record_in}
 use Rattle.hg_save.specs.declared.load_fault.LoadFault.{LoadFault}
 use Rattle.hg_save.specs.declared.load_fault.LoadFault.TheVariants as a_load
 use Rattle.hg_save.specs.declared.loaded.Loaded.{Loaded}
+use Rattle.hg_session.proofs.SameTables.{one_table}
+use Rattle.hg_session.specs.Anew.{IsOpened, LoadsOrRefuses}
 use Rattle.hg_session.specs.Call.{Fails, Serves, Watched}
-use Rattle.hg_session.specs.Change.{IsReadSome, up_to}
+use Rattle.hg_session.specs.Change.{IsReadFirst, IsReadSome, up_to}
 use Rattle.hg_session.specs.Load.{by_load, of_read}
 use Rattle.hg_session.specs.Loaded.{Answers, IsLoaded, IsRead, IsRefused, IsUnreadable, LoadMet, MetReading, NodesFind, Reads, Refuses, WasLoaded}
 use Rattle.hg_session.specs.declared.read_fault.ReadFault.{ReadFault}
@@ -71,7 +75,7 @@ pub unread : {X : Type 0} (IsOf : Table → X → Type 0) (old new : History) (t
 unread IsOf old new tried fault loads = record { tried = loads.tried; answer = refused_by fault old new (tried ∷ []) loads }
 
 -- what was found before the shelf was asked more
-read_longer : (old mid new : History) (table : Table) → Extends mid new → IsRead old mid table → IsRead old new table
+pub read_longer : (old mid new : History) (table : Table) → Extends mid new → IsRead old mid table → IsRead old new table
 read_longer old mid new table second r = record {
   tries = r.tries;
   tried = tries_longer old mid new r.tries second r.tried;
@@ -88,9 +92,35 @@ loaded_as IsOf files mid made second found some = elim (cases_Bool files.old.tol
   | inr not ↦ (some.0, (λ told. absurd (true≢false (sym told ∙ not))), some.1)
 ]
 
+-- ---- a record that was loaded and opened
+
+pub opened_as : (old new : History) (loaded : Loaded) (result : Result Held ReadFault) → docket_refusal loaded.docket.items ≡ None
+    → NodesFind (IsOpened (docket_of loaded.docket.items)) result (data_reading (docket_of loaded.docket.items) loaded.nodes.items)
+    → (IsTrue old.told → (tried : Try) × LoadsOrRefuses old new (tried ∷ []) (Ok loaded)) → IsTrue old.told → (tried : Try) × Reads (IsOpened (docket_of loaded.docket.items)) old new (tried ∷ []) result
+opened_as old new loaded result sound finds found told =
+    let m = found told in (m.0, read_by (IsOpened (docket_of loaded.docket.items)) old new m.0 loaded result sound finds m.1)
+
+-- the nodes that were opened are those of the table that was opened
+pub opened_nodes : (docket : Contents) (found : Result Table NodeFault) (opened : Held) → (t : Table) × (found ≡ Ok t) × IsOpened docket t opened → found ≡ Ok (table opened)
+opened_nodes docket found opened is = is.1 ∙ ap (λ (t : Table). Ok t) (sym (one_table (table opened) is.0 is.2.same))
+
+pub same_as : (t : Table) → IsSame t t
+same_as t = record { p1 = refl; p2 = refl; hash = refl; entries = λ at. refl; sources = λ at. refl; nodes = λ at. refl; caches = λ at. refl }
+
+-- the table that was opened is the one that was loaded
+pub loaded_table : (files : Watched History) (mid : History) (docket : Contents) (opened : Held) → Extends mid files.new
+    → (IsTrue files.old.told → (tried : Try) × Reads (IsOpened docket) files.old mid (tried ∷ []) (Ok opened)) → ((t : Table) × IsOpened docket t opened) → IsLoaded files (table opened)
+loaded_table files mid docket opened second found some =
+    let l = loaded_as (IsOpened docket) files mid opened second found some in
+    subst (IsLoaded files) (sym (one_table (table opened) l.0 l.2.same)) l.1
+
 -- what was read before the caller made a step was read
 extends_up_to : (h : History) (upto : ℕ) → upto ≤ h.last → Extends (up_to upto h) h
 extends_up_to h upto within = record { told = refl; later = within; who = λ k less. refl; stay = λ k less. record { shown = refl } }
+
+pub first_read : (files : Watched History) (table : Table) → (IsTrue files.old.told → IsReadFirst files.old files.new table) → IsLoaded files table
+first_read files table first told =
+    let is = first told in read_longer files.old (up_to is.upto files.new) files.new table (extends_up_to files.new is.upto is.within) is.read
 
 pub was_loaded : (files : Watched History) → IsReadSome files → WasLoaded files
 was_loaded files some told =
@@ -104,6 +134,15 @@ met_reading IsOf files (a_fault.Docket fault) met failed = λ told. let m = met 
 met_reading IsOf files (a_fault.Node fault) met failed = λ told. let m = met told in (m.0 ∷ [], record { tried = m.1.tried; answer = m.1.answer })
 met_reading IsOf files (a_fault.DataGone ids) met failed = λ told. let m = met told in (m.0 ∷ [], record { tried = m.1.tried; answer = m.1.answer })
 met_reading IsOf files a_fault.Failed met failed = failed refl
+
+-- so it is where a load was refused
+pub met_refused : (files : Watched History) (fault : ReadFault) → (IsTrue files.old.told → (tried : Try) × Refuses files.old files.new (tried ∷ []) fault) → (fault ≡ a_fault.Failed → Fails files)
+    → MetReading files fault
+met_refused files a_fault.OutOfMemory met failed = tt
+met_refused files (a_fault.Docket fault) met failed = λ told. let m = met told in (m.0 ∷ [], m.1)
+met_refused files (a_fault.Node fault) met failed = λ told. let m = met told in (m.0 ∷ [], m.1)
+met_refused files (a_fault.DataGone ids) met failed = λ told. let m = met told in (m.0 ∷ [], m.1)
+met_refused files a_fault.Failed met failed = failed refl
 
 -- where the shelf made no step, the record is refused as it stands there, whatever the tries: each names the same identifier
 pub unstepped_refuses : (old new : History) (tries : List Try) (fault : ReadFault) → Extends old new → new.last ≡ old.last → Refuses old new tries fault

@@ -81,7 +81,7 @@ tries_earlier old mid new tries later t = record {
   gone = t.gone;
 }
 
-ids_longer : (old mid new : History) (tries : List Try) → Extends mid new → AllByRecursion (IsTry old mid) tries → map (id_by new) tries ≡ map (id_by mid) tries
+pub ids_longer : (old mid new : History) (tries : List Try) → Extends mid new → AllByRecursion (IsTry old mid) tries → map (id_by new) tries ≡ map (id_by mid) tries
 ids_longer old mid new [] past within = refl
 ids_longer old mid new (one ∷ more) past within = λ i. id_in ((past.stay one.docket within.0.docket.to).shown i) ∷ ids_longer old mid new more past within.1 i
 
@@ -231,7 +231,7 @@ module _ (a b c d : Course) (lock : Waits a.history b.history) (unlock : Waits c
       fits = subst (λ (f : Files). Fits f made) (sym (r.past.stay is.at is.within).shown) is.fits;
     }
 
-    kept_wide : (loaded made : Table) → IsKept loaded made (record { old = b; new = c }) b.history.last c.history.last → IsKept loaded made (record { old = a; new = d }) b.history.last c.history.last
+    pub kept_wide : (loaded made : Table) → IsKept loaded made (record { old = b; new = c }) b.history.last c.history.last → IsKept loaded made (record { old = a; new = d }) b.history.last c.history.last
     kept_wide loaded made is = record {
       found = is.found;
       is = is.is;
@@ -270,7 +270,7 @@ module _ (a b c d : Course) (lock : Waits a.history b.history) (unlock : Waits c
         let latest : IsLatest (scene d from) → IsLatest (scene c from) = latest_same (scene d from) (scene c from) (from_end from near) (to_end from near) in
         record {
           loaded = is.loaded;
-          there = reading_wide from near ∙ is.there;
+          there = wide.stands c d r from near is.loaded is.there;
           made = is.made;
           lines = is.lines;
           does = wide.does is.loaded is.made is.lines true is.does;

@@ -1,5 +1,5 @@
 -- What a command that changes the record makes of it, and how each does so.
-use Rattle.std.specs.Prelude.{ℕ, ◌≡◌, ◌⊎◌, ◌<◌, Bool, true, false, List, [], ◌∷◌, ◌++◌, map, Option, Some, None, Result, Err, IfErr, IfOk, OnOk, IsTrue, Vec, codes}
+use Rattle.std.specs.Prelude.{ℕ, ◌≡◌, ◌⊎◌, ◌<◌, Bool, true, false, List, [], ◌∷◌, ◌++◌, map, Option, Some, None, Result, Ok, Err, IfErr, IfOk, OnOk, IsTrue, Vec, codes}
 use Rattle.std.specs.List.{AllByRecursion}
 use Rattle.std.specs.declared.alloc.Global.{Global}
 use Rattle.hg_base.specs.Fault.{HasCause}
@@ -19,12 +19,14 @@ use Rattle.hg_ops.specs.declared.refusal.OpFault.{OpFault}
 use Rattle.hg_ops.specs.declared.refusal.OpFault.TheVariants as an_op_fault
 use Rattle.hg_ops.specs.declared.refusal.Refusal.{Refusal}
 use Rattle.hg_report.specs.Refusal.{refusal_line}
+use Rattle.hg_save.specs.Record.{reading}
 use Rattle.hg_session.specs.Call.{Fails, IsLeftAlone, Watched}
 use Rattle.hg_session.specs.Manifests.{IsReparented, StopsParents}
 use Rattle.hg_session.specs.declared.acting.Changing.{Changing}
 use Rattle.hg_session.specs.declared.acting.Changing.TheVariants as a_change
 use Rattle.hg_shelf.specs.Asks.{AsksFrontOf}
 use Rattle.hg_shelf.specs.History as shelf
+use Rattle.hg_shelf.specs.Images.{Course, scene}
 use Rattle.hg_tree.specs.History as tree
 use Rattle.hg_tree.specs.Touched.{ChangesOnly}
 use Rattle.hg_tree.specs.declared.asked.Asked.{Asked}
@@ -33,10 +35,15 @@ use Rattle.hg_words.specs.declared.given.Command.{Command}
 use Rattle.hg_words.specs.declared.given.Command.TheVariants as a_command
 
 -- what a command does to the record: of the one that was read the one that is made, with the lines that are told, and whether something was
--- changed; and for which faults of what stands below `.hg` it stops
+-- changed; for which faults of what stands below `.hg` it stops; and how the one that was read stands at the moment over which another is published
 pub record Makes : Type 1 where
   pub does : Table → Table → List ℕ → Bool → Type 0
   pub stops : Table → OpFault → Type 0
+  pub stands : Course → ℕ → Table → Type 0
+
+-- the files of a moment record it
+abbrev pub StandsAt : Course → ℕ → Table → Type 0
+StandsAt c at loaded = reading (scene c at).files ≡ Some (Ok loaded)
 
 -- ---- words, one after another
 
@@ -186,12 +193,12 @@ IsTreeFault fault = (fault ≡ an_op_fault.OutOfMemory) ⊎ (fault ≡ an_op_fau
 
 -- what a command makes of the record, by what the working copy and the files below `.hg` tell of the call
 abbrev pub makes_of : Command → Watched tree.History → Watched shelf.History → Makes
-makes_of (a_command.Add words) copy files = record { does = IsActed (codes "add") (steps_of a_change.Add) words copy; stops = λ loaded fault. IsTreeFault fault }
-makes_of (a_command.Forget words) copy files = record { does = IsActed (codes "forget") (steps_of a_change.Forget) words copy; stops = λ loaded fault. IsTreeFault fault }
-makes_of (a_command.Remove after words) copy files = record { does = IsRemoved after words copy files; stops = StopsRemoving after words copy files }
-makes_of (a_command.Copy source target) copy files = record { does = IsCopied source target copy; stops = λ loaded fault. IsTreeFault fault }
-makes_of (a_command.SetParents p1 p2) copy files = record { does = IsReparented p1 p2 files; stops = λ loaded fault. StopsParents p1 p2 files fault }
-makes_of command copy files = record { does = IsNothingMade; stops = λ loaded fault. ⊥ }
+makes_of (a_command.Add words) copy files = record { does = IsActed (codes "add") (steps_of a_change.Add) words copy; stops = λ loaded fault. IsTreeFault fault; stands = StandsAt }
+makes_of (a_command.Forget words) copy files = record { does = IsActed (codes "forget") (steps_of a_change.Forget) words copy; stops = λ loaded fault. IsTreeFault fault; stands = StandsAt }
+makes_of (a_command.Remove after words) copy files = record { does = IsRemoved after words copy files; stops = StopsRemoving after words copy files; stands = StandsAt }
+makes_of (a_command.Copy source target) copy files = record { does = IsCopied source target copy; stops = λ loaded fault. IsTreeFault fault; stands = StandsAt }
+makes_of (a_command.SetParents p1 p2) copy files = record { does = IsReparented p1 p2 files; stops = λ loaded fault. StopsParents p1 p2 files fault; stands = StandsAt }
+makes_of command copy files = record { does = IsNothingMade; stops = λ loaded fault. ⊥; stands = StandsAt }
 
 -- ---- the working copy
 

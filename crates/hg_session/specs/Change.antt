@@ -87,7 +87,7 @@ FailsOrUnwritten old new fault = (fault ≡ a_change_fault.ShelfFailed) ⊎ IsUn
 -- between two moments a record was published over the one that stood at the first
 pub record IsPublished (Does : Makes) (c : Course) (from to : ℕ) : Type 0 where
   pub loaded : Table
-  pub there : reading (scene c from).files ≡ Some (Ok loaded)
+  pub there : Does.stands c from loaded
   pub made : Table
   pub lines : List ℕ
   pub does : Does.does loaded made lines true

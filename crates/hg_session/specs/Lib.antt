@@ -9,6 +9,8 @@ pub mod Commands
 pub mod Crash
 pub mod Debug
 pub mod Flags
+pub mod Good
+pub mod GoodLaws
 pub mod Listed
 pub mod Load
 pub mod Loaded
@@ -16,4 +18,5 @@ pub mod Locks
 pub mod Look
 pub mod Manifests
 pub mod Put
+pub mod Saving
 pub mod Status

@@ -1,43 +1,50 @@
 -- What a listing answers, and why.
-use Rattle.std.specs.Prelude.{ℕ, ◌≡◌, ◌⊎◌, true, List, Option, Some, Result, Ok, IsTrue, IsSomeAnd, IfErr, IfOk, IfSome, OnOk}
+use Rattle.std.specs.Prelude.{ℕ, ◌≡◌, ◌≤◌, ◌⊎◌, ◌∷◌, [], true, List, Option, Some, Ok, IsTrue, IsSomeAnd}
 use Rattle.hg_base.specs.Fault.{Rose}
 use Rattle.hg_base.specs.declared.id.Id20.{Id20}
 use Rattle.hg_entry.specs.Table.{Table, flat_of}
 use Rattle.hg_flat.specs.Asked.{AsksAll, AsksBehind, AsksNothing, IsListedDir, pattern_reads}
 use Rattle.hg_listing.specs.Full.{IsFull, IsFullFor}
 use Rattle.hg_flat.specs.Met.{Met, Status}
-use Rattle.hg_flat.specs.Parent.{Asking, IsAsked, IsLeft, IsServed, asked_by, parent_rows}
-use Rattle.hg_flat.specs.Patterns.{HadPatterns, Warns, ignored_at, is_of_parent}
+use Rattle.hg_flat.specs.Parent.{Asking, IsAsked, IsServed}
+use Rattle.hg_flat.specs.Patterns.{HadPatterns, ignored_at, is_of_parent}
 use Rattle.hg_flat.specs.Stored.{AsksStore}
 use Rattle.hg_listing.specs.declared.fault.StatusFault.{StatusFault}
 use Rattle.hg_listing.specs.declared.fault.StatusFault.TheVariants as a_status
-use Rattle.hg_flat.specs.declared.listed.Listed.{Listed}
 use Rattle.hg_listing.specs.declared.row.Row.{Row}
 use Rattle.hg_listing.specs.declared.row.Wanted.{Wanted}
+use Rattle.hg_shelf.specs.Asks.{AsksFrontOf}
 use Rattle.hg_shelf.specs.History as shelf
 use Rattle.hg_tree.specs.History as tree
 use Rattle.hg_tree.specs.Moment.{Moment}
 use Rattle.hg_session.specs.Call.{Fails, Looked, Watched}
+use Rattle.hg_save.specs.Asked.{docket_ask}
 use Rattle.hg_save.specs.Record.{record_in}
-use Rattle.hg_session.specs.Loaded.{AsksRecord, IsLoaded, MetReading}
-use Rattle.hg_session.specs.declared.list_fault.ListFault.{ListFault}
-use Rattle.hg_session.specs.declared.list_fault.ListFault.TheVariants as a_list
+use Rattle.hg_session.specs.Loaded.{AsksRecord}
+use Rattle.hg_walk.specs.Right.{AreRight}
+use Rattle.hg_walk.specs.Walking.{IsLeftBy, asked_unvouched, rows_in, walk_status}
 
 -- the first parent that a table records
 abbrev pub first_parent : Table → Id20
 first_parent table = record { 0 = (flat_of table).p1 }
 
--- which paths a status over a table compares, by what a moment shows
+-- which paths a status over a table compares, by what a moment shows: those whose marks leave the letter to the bytes, and for which the table doesn't vouch
 abbrev pub asking : Wanted → Table → Asking
-asking wanted table = asked_by wanted (flat_of table)
+asking wanted table = asked_unvouched wanted table
+
+-- ---- recorded times
+
+-- recorded times are right over the call, whatever the first parent has of each path at a moment of it
+abbrev pub IsRightFor : Looked → Table → Type 0
+IsRightFor looked table =
+    (k : ℕ) → looked.shelf.old.last ≤ k → k ≤ looked.shelf.new.last → AreRight (rows_in table (looked.shelf.new.at k).files) table looked.tree.old looked.tree.new
 
 -- ---- paths that are left alone
 
 -- nobody touches the path during the call, nor what the first parent has of it where it is compared, nor the ignore patterns where they
 -- decide its letter
 abbrev pub IsUntouched : Looked → Wanted → Table → List ℕ → Type 0
-IsUntouched looked wanted table =
-    IsLeft wanted (flat_of table) (asking wanted table) (first_parent table) looked.tree.new looked.tree.old.last looked.shelf.new looked.shelf.old.last
+IsUntouched looked wanted table = IsLeftBy wanted table looked.tree.new looked.tree.old.last looked.shelf.new looked.shelf.old.last
 
 -- a path is compared at a moment
 abbrev pub IsAskedAt : Wanted → Table → Moment → List ℕ → Type 0
@@ -58,15 +65,7 @@ pub record IsListable (looked : Looked) (wanted : Wanted) (table : Table) : Type
 
 -- the status over a table, from the start to the end of the call
 abbrev pub status_over : Looked → Wanted → Table → Status
-status_over looked wanted table = record {
-  wanted = wanted;
-  asks = asking wanted table;
-  id = first_parent table;
-  tree_old = looked.tree.old;
-  tree_new = looked.tree.new;
-  shelf_old = looked.shelf.old;
-  shelf_new = looked.shelf.new;
-}
+status_over looked wanted table = walk_status wanted table looked.tree.old looked.tree.new looked.shelf.old looked.shelf.new
 
 -- a status over a table met this fault; one of the first parent was met behind patterns that were fine
 pub record StatusMet (looked : Looked) (wanted : Wanted) (table : Table) (fault : StatusFault) : Type 0 where
@@ -83,24 +82,20 @@ StatusCause looked wanted table (a_status.RegexpTooBig line) =
     StatusMet looked wanted table (a_status.RegexpTooBig line) × Rose looked.oversize.before looked.oversize.after
 StatusCause looked wanted table fault = StatusMet looked wanted table fault
 
--- of a listing: the record wasn't read, or the status over the table that was
-abbrev pub ListingCause : Looked → Wanted → Option Table → ListFault → Type 0
-ListingCause looked wanted table (a_list.Read fault) = MetReading looked.shelf fault
-ListingCause looked wanted table (a_list.Status fault) = IsSomeAnd table (λ t. StatusCause looked wanted t fault)
-
 -- ---- the rows
 
--- for paths that are left alone the rows are the full listing at the start of the call, by a table, what the files at the start of the call have of
--- its first parent, and the ignore patterns there
+-- where recorded times are right, the rows are for paths that are left alone the full listing at the start of the call, by a table, what the files at the
+-- start of the call have of its first parent, and the ignore patterns there
 abbrev pub IsListedFor : Looked → Wanted → List Row → Table → Type 0
 IsListedFor looked wanted rows table =
-    IsFullFor (IsUntouched looked wanted table) (flat_of table) (tree.now looked.tree.old) (parent_rows (shelf.now looked.shelf.old).files (first_parent table)) (ignored_at (tree.now looked.tree.old)) wanted rows
+    IsRightFor looked table
+    → IsFullFor (IsUntouched looked wanted table) (flat_of table) (tree.now looked.tree.old) (rows_in table (shelf.now looked.shelf.old).files) (ignored_at (tree.now looked.tree.old)) wanted rows
 
 -- the rows are the full listing of the working copy at a moment, by the table in these files, its first parent there, and the ignore patterns of that moment
 pub record IsListed (files : shelf.Files) (moment : Moment) (wanted : Wanted) (rows : List Row) : Type 0 where
   pub table : Table
   pub recorded : record_in files files ≡ Some (Ok table)
-  pub full : IsFull (flat_of table) moment (parent_rows files (first_parent table)) (ignored_at moment) wanted rows
+  pub full : IsFull (flat_of table) moment (rows_in table files) (ignored_at moment) wanted rows
 
 -- nobody but the caller makes a step
 pub record IsOwn (looked : Looked) : Type 0 where
@@ -124,27 +119,18 @@ AsksOwn looked wanted table =
     tree.IsOurs looked.tree.old looked.tree.new
     → AsksBehind (pattern_reads wanted (tree.now looked.tree.old)) (asking wanted table) (IsListedDir wanted looked.tree.old looked.tree.new) looked.tree.old looked.tree.new
 
--- below `.hg` the record was asked for, and behind it nothing, or what a listing over the table that was read asks of the plain store: the manifest once
--- at most, where a path was compared, and contents that its rows of such paths name
+-- what a listing over a table asks below `.hg`, from one history to another: the manifest once at most, where a path was compared, and contents that its
+-- rows of such paths name
+abbrev pub AsksPlain : Looked → Wanted → Table → shelf.History → shelf.History → Type 0
+AsksPlain looked wanted table old new = AsksStore (walk_status wanted table looked.tree.old looked.tree.new old new)
+
+-- below `.hg` the record was asked for; behind it nothing, or what a listing over the table that was read asks of the plain store; and behind that, where
+-- times were to be saved, the docket once more
 pub record AsksBelow (looked : Looked) (wanted : Wanted) (table : Option Table) : Type 0 where
   pub behind : shelf.History
   pub past : shelf.Extends behind looked.shelf.new
   pub load : AsksRecord looked.shelf.old behind
-  pub store : (looked.shelf.new.asked ≡ behind.asked)
-      ⊎ IsSomeAnd table (λ t. AsksStore (record (status_over looked wanted t) { shelf_old = behind }))
-
--- what a listing does: it only asks, and answers the rows and the warnings, or a fault; all by one table, where one was read in the call
-pub record ListsCopy (looked : Looked) (wanted : Wanted) (result : Result Listed ListFault) : Type 0 where
-  pub table : Option Table
-  pub loaded : IfSome table (IsLoaded looked.shelf)
-  pub tree : tree.Passes looked.tree.old looked.tree.new
-  pub still : IfOk result (λ listed. IsSomeAnd table (IsListedFor looked wanted listed.rows))
-  pub warns : IfOk result (λ listed. Warns wanted looked.tree.old looked.tree.new listed.warnings)
-  pub listable : OnOk result (IsSomeAnd table (IsListable looked wanted))
-  pub cause : IfErr result (ListingCause looked wanted table)
-  pub asked : AsksLittle looked wanted table
-  pub asked_own : OnOk result (IsSomeAnd table (AsksOwn looked wanted))
-  pub below : IsTrue looked.shelf.old.told → AsksBelow looked wanted table
-  pub calm_tree : OnOk result (looked.tree.after ≡ looked.tree.before)
-  pub calm_shelf : OnOk result (looked.shelf.after ≡ looked.shelf.before)
-  pub calm_regexps : OnOk result (looked.oversize.after ≡ looked.oversize.before)
+  pub listed : shelf.History
+  pub later : shelf.Extends listed looked.shelf.new
+  pub store : (listed.asked ≡ behind.asked) ⊎ IsSomeAnd table (λ t. AsksPlain looked wanted t behind listed)
+  pub saving : AsksFrontOf (docket_ask ∷ []) listed looked.shelf.new

@@ -1,11 +1,8 @@
--- The faults of reading the record, of printing it and of a listing: from those of a load, and as a command tells them.
-use Rattle.hg_report.specs.Cause.{of_status}
+-- The faults of reading the record and of printing it: from those of a load, and as a command tells them.
 use Rattle.hg_report.specs.declared.fault.Fault.{Fault}
 use Rattle.hg_report.specs.declared.fault.Fault.TheVariants as a_fault
 use Rattle.hg_save.specs.declared.load_fault.LoadFault.{LoadFault}
 use Rattle.hg_save.specs.declared.load_fault.LoadFault.TheVariants as a_load
-use Rattle.hg_session.specs.declared.list_fault.ListFault.{ListFault}
-use Rattle.hg_session.specs.declared.list_fault.ListFault.TheVariants as a_list
 use Rattle.hg_session.specs.declared.print_fault.PrintFault.{PrintFault}
 use Rattle.hg_session.specs.declared.print_fault.PrintFault.TheVariants as a_print
 use Rattle.hg_session.specs.declared.read_fault.ReadFault.{ReadFault}
@@ -23,10 +20,6 @@ of_read (a_read.Docket fault) = a_fault.Docket fault
 of_read (a_read.Node fault) = a_fault.Node fault
 of_read (a_read.DataGone ids) = a_fault.DataGone ids
 of_read a_read.Failed = a_fault.ShelfFailed
-
-abbrev pub of_list : ListFault → Fault
-of_list (a_list.Read fault) = of_read fault
-of_list (a_list.Status fault) = of_status fault
 
 abbrev pub of_print : PrintFault → Fault
 of_print (a_print.Read fault) = of_read fault

@@ -2,10 +2,7 @@
 use Rattle.std.specs.Prelude.{ℕ, ◌≡◌, List, ◌∷◌, map, Option, Some, None, Result, Ok, Err, IsTrue, Vec}
 use Rattle.std.specs.List.{AllByRecursion}
 use Rattle.std.specs.declared.alloc.Global.{Global}
-use Rattle.hg_entry.specs.Table.{Table, flat_of}
-use Rattle.hg_flat.specs.Recorded.{Records}
-use Rattle.hg_flat.specs.Shown.{flat_in, rows_of}
-use Rattle.hg_flat.specs.declared.flat.Flat.{Flat}
+use Rattle.hg_entry.specs.Table.{Table}
 use Rattle.hg_image.specs.Reading.{RecordFault}
 use Rattle.hg_image.specs.Reading as a_record_fault
 use Rattle.hg_image.specs.declared.fault.NodeFault.{NodeFault}
@@ -45,11 +42,6 @@ pub record AsksRecord (old new : History) : Type 0 where
   pub asks : AsksFrontOf (docket_ask ∷ named_asks (docket_in (files_at new at))) old new
 
 -- ---- what reading it answers
-
--- a flat map is that of a table, and keeps its entries and sources
-pub record IsFlatOf (table : Table) (loaded : Flat) : Type 0 where
-  pub flat : flat_in loaded ≡ flat_of table
-  pub records : Records table (rows_of loaded)
 
 -- bytes are the text of a table
 abbrev pub IsBytesOf : Table → Vec ℕ Global → Type 0

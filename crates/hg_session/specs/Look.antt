@@ -1,5 +1,5 @@
 -- Where a command meets a fault, and what stands in its streams then; and what every command does that only looks.
-use Rattle.std.specs.Prelude.{ℕ, ◌≡◌, ◌⊎◌, true, false, List, Option, Some, None, Result, IfErr, IfSome, MatchOption, OnOk}
+use Rattle.std.specs.Prelude.{ℕ, ◌≡◌, ◌⊎◌, true, false, List, Option, Some, None, Result, Ok, Err, IfErr, IfSome, MatchOption, OnOk}
 use Rattle.hg_report.specs.Fault.{has_line}
 use Rattle.hg_report.specs.declared.fault.Fault.{Fault}
 use Rattle.hg_report.specs.declared.fault.Fault.TheVariants as a_fault
@@ -64,8 +64,13 @@ pub record IsUntold (err : Sink) (fault : Fault) : Type 0 where
   pub told : has_line fault ≡ true
   pub silent : IsSilent err
 
+-- the fault of what was done, where it met one
+abbrev pub fault_in : {A : Type 0} → Result A Fault → Option Fault
+fault_in (Ok done) = None
+fault_in (Err fault) = Some fault
+
 -- what was done before the line of a fault is told
-pub record Shows (look : Look) (out err : Sink) (result : Result Unit Fault) : Type 0 where
+pub record Shows {A : Type 0} (look : Look) (out err : Sink) (result : Result A Fault) : Type 0 where
   pub done : OnOk result (IsShown look out err)
   pub left : IfErr result (λ fault. (stage : Stage) × LeavesAt look out err IsUntold stage fault)
 

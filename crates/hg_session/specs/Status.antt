@@ -1,11 +1,13 @@
 -- What a status prints, tells and answers.
-use Rattle.std.specs.Prelude.{ℕ, ◌≡◌, true, List, Option, Some, None, Result, Ok, Err, IfSome, IsSomeAnd, IsTrue, OnOk}
+use Rattle.std.specs.Prelude.{ℕ, ◌≡◌, ◌⊎◌, true, List, Option, Some, None, Result, Ok, Err, IfOk, IfSome, IsSomeAnd, IsTrue, MatchOption, OnOk}
+use Rattle.hg_base.specs.Fault.{Rose}
 use Rattle.hg_base.specs.declared.id.Id20.{Id20}
 use Rattle.hg_base.specs.declared.stat.Stat.{Stat}
 use Rattle.hg_compare.specs.Alike.{contents_name, is_alike}
 use Rattle.hg_entry.specs.Table.{Table}
 use Rattle.hg_flat.specs.Parent.{IsServed, manifest_at, row_of}
 use Rattle.hg_flat.specs.Patterns.{Warns, needs_patterns}
+use Rattle.hg_listing.specs.declared.fault.StatusFault.{StatusFault}
 use Rattle.hg_listing.specs.declared.row.Row.{Row}
 use Rattle.hg_listing.specs.declared.row.Wanted.{Wanted}
 use Rattle.hg_ignore.specs.Patterns.{AreFine, RefusesPatterns}
@@ -17,22 +19,35 @@ use Rattle.hg_manifest.specs.Rows.{Rows}
 use Rattle.hg_manifest.specs.declared.fault.ManifestFault.{ManifestFault}
 use Rattle.hg_manifest.specs.declared.fault.ManifestFault.TheVariants as a_manifest_fault
 use Rattle.hg_manifest.specs.declared.row.FileRow.{FileRow}
+use Rattle.hg_report.specs.Cause.{of_status}
 use Rattle.hg_report.specs.Status.{text_of}
 use Rattle.hg_report.specs.Warnings.{warnings_text}
 use Rattle.hg_report.specs.declared.fault.Fault.{Fault}
 use Rattle.hg_report.specs.declared.fault.Fault.TheVariants as a_fault
+use Rattle.hg_save.specs.Others.{KeepsRecords}
 use Rattle.hg_save.specs.Record.{record_in}
-use Rattle.hg_session.specs.Call.{Call, Looked, Serves, Sink, Watched}
+use Rattle.hg_save.specs.Saved.{IsLatest}
+use Rattle.hg_session.specs.Acts.{Makes}
+use Rattle.hg_session.specs.Call.{Call, Count, Fails, Looked, Saved, Serves, Sink, Watched}
+use Rattle.hg_session.specs.Change.{IsReadFirst, IsSafe}
+use Rattle.hg_session.specs.Crash.{IsCrashSafe, published_in}
 use Rattle.hg_session.specs.Flags.{style_of, wanted_of}
-use Rattle.hg_session.specs.Listed.{AsksBelow, AsksLittle, AsksOwn, IsAskedAt, IsListable, IsListed, IsListedFor, IsOwn, ListingCause, first_parent}
-use Rattle.hg_session.specs.Load.{of_list}
-use Rattle.hg_session.specs.Loaded.{IsLoaded, IsUnreadable}
-use Rattle.hg_session.specs.Look.{IsCalm, IsLook, Look, Concludes, Shows, saves_last}
+use Rattle.hg_session.specs.Listed.{AsksBelow, AsksLittle, AsksOver, AsksOwn, AsksPlain, IsAskedAt, IsListable, IsListed, IsListedFor, IsOwn, IsRightFor, StatusCause, first_parent}
+use Rattle.hg_session.specs.Load.{of_read}
+use Rattle.hg_session.specs.Loaded.{IsLoaded, IsUnreadable, MetReading}
+use Rattle.hg_session.specs.Look.{IsCalm, Look, Concludes, OnlyReads, Shows, fault_in, saves_last}
 use Rattle.hg_session.specs.Put.{LeavesFront, Puts}
-use Rattle.hg_session.specs.declared.list_fault.ListFault.{ListFault}
+use Rattle.hg_session.specs.Saving.{IsLockedToSave, IsNotedHeld, noted_makes}
+use Rattle.hg_session.specs.declared.read_fault.ReadFault.{ReadFault}
 use Rattle.hg_shelf.specs.History as shelf
+use Rattle.hg_shelf.specs.Images.{Goes, last_scene}
+use Rattle.hg_shelf.specs.Polite.{KeepsPlain, Undisturbed}
 use Rattle.hg_tree.specs.History as tree
+use Rattle.hg_tree.specs.Honest.{IsHonest}
 use Rattle.hg_tree.specs.Moment.{Moment, stat_at}
+use Rattle.hg_walk.specs.Applying.{IsBlank}
+use Rattle.hg_walk.specs.Notes.{AreEarned, NotesData, applied}
+use Rattle.hg_walk.specs.Walking.{AreNeeded, IsRecorded, rows_in}
 use Rattle.hg_words.specs.declared.flags.StatusFlags.{StatusFlags}
 
 -- ---- what is printed
@@ -59,13 +74,38 @@ pub record IsFullText (flags : StatusFlags) (files : shelf.Files) (moment : Mome
 abbrev pub OneText : Type 0
 OneText = (flags : StatusFlags) (files : shelf.Files) (moment : Moment) (a b : List ℕ) → IsFullText flags files moment a → IsFullText flags files moment b → a ≡ b
 
--- a status lists by the table that was read, where one was, prints the rows, and then tells the warnings
-abbrev pub status_look : StatusFlags → Looked → Option Table → Look
-status_look flags looked table = record {
-  Before = λ fault. (f : ListFault) × (fault ≡ of_list f) × ListingCause looked (wanted_of flags) table f;
+-- why there is no listing, as a command tells it: the record wasn't read, or what the listing over the table met that was. Want of memory needs no reason
+abbrev pub ListingCause : Looked → Wanted → Option Table → Fault → Type 0
+ListingCause looked wanted table fault =
+    ((f : ReadFault) × (fault ≡ of_read f) × MetReading looked.shelf f) ⊎ ((f : StatusFault) × (fault ≡ of_status f) × IsSomeAnd table (λ t. StatusCause looked wanted t f))
+
+-- below `.hg` the caller only asked: it wrote nothing and called for no lock
+pub record OnlyAsksBelow (saved : Saved) (locks : Count) : Type 0 where
+  pub passes : shelf.Passes saved.old.history saved.new.history
+  pub kept : Goes saved.old saved.new
+  pub held : locks.after ≡ locks.before
+
+-- a status lists by the table that was read, where one was, prints the rows, then tells the warnings, and saves the times that it noted last: where it meets
+-- a fault before that, it has only asked below `.hg`, and called for no lock
+abbrev pub status_look : StatusFlags → Looked → Saved → Count → Option Table → Look
+status_look flags looked saved locks table = record {
+  Before = λ fault. OnlyAsksBelow saved locks × ListingCause looked (wanted_of flags) table fault;
   Ready = IsSomeAnd table (IsListable looked (wanted_of flags));
-  Printing = Unit {0};
+  Printing = OnlyAsksBelow saved locks;
   Text = IsRowsText flags looked table;
+  Telling = OnlyAsksBelow saved locks;
+  Told = IsWarningText (wanted_of flags) looked.tree;
+  Saving = λ fault. ((fault ≡ a_fault.ShelfFailed) × Fails looked.shelf) ⊎ (fault ≡ a_fault.OutOfMemory);
+  order = saves_last;
+}
+
+-- the part of it that lists, prints and tells, over a table that was read before
+abbrev pub show_look : StatusFlags → Looked → Table → Look
+show_look flags looked table = record {
+  Before = λ fault. (f : StatusFault) × (fault ≡ of_status f) × StatusCause looked (wanted_of flags) table f;
+  Ready = IsListable looked (wanted_of flags) table;
+  Printing = Unit {0};
+  Text = IsRowsText flags looked (Some table);
   Telling = Unit {0};
   Told = IsWarningText (wanted_of flags) looked.tree;
   Saving = λ fault. ⊥;
@@ -130,42 +170,124 @@ IsExpected wanted files moment (Some (a_fault.RegexpTooBig line)) = HasBadPatter
 IsExpected wanted files moment (Some (a_fault.BadInclude line)) = HasBadPatterns wanted files moment (an_ignore_fault.BadInclude line)
 IsExpected wanted files moment (Some fault) = IsUnreadable files fault
 
+-- ---- what is noted of times, and saved
+
+-- whatever others do in the working copy, each time that was noted was seen with what it stands for, where times are honest and the plain store stays
+abbrev pub AreEarnedFor : Looked → Table → NotesData → Type 0
+AreEarnedFor looked table notes =
+    IsHonest looked.tree.new → IsTrue looked.tree.old.told → KeepsPlain looked.shelf.new looked.shelf.old.last
+    → AreEarned (rows_in table (shelf.now looked.shelf.old).files) table looked.tree.new notes
+
+-- where nobody else touches the working copy and the plain store stays, all was noted that a second status needs to read no clean file again
+abbrev pub IsRecordedFor : Looked → Wanted → Table → NotesData → Type 0
+IsRecordedFor looked wanted table notes =
+    tree.IsOurs looked.tree.old looked.tree.new → KeepsPlain looked.shelf.new looked.shelf.old.last
+    → IsRecorded wanted (rows_in table (shelf.now looked.shelf.old).files) table (tree.now looked.tree.old) (applied notes table)
+
+-- what a listing over a table notes, only what is needed
+pub record IsNotedFor (looked : Looked) (wanted : Wanted) (table : Table) (notes : NotesData) : Type 0 where
+  pub needed : AreNeeded table notes
+  pub earned : AreEarnedFor looked table notes
+  pub recorded : IsRecordedFor looked wanted table notes
+
 -- ---- the command
 
--- a listing, its text and its warnings, or a fault, before its line is told
-pub record DoesStatus (flags : StatusFlags) (looked : Looked) (out err : Sink) (result : Result Unit Fault) : Type 0 where
-  pub table : Option Table
-  pub loaded : IfSome table (IsLoaded looked.shelf)
+-- a listing over a table, its text and its warnings, and what is noted, or a fault, before its line is told
+pub record ShowsTable (flags : StatusFlags) (looked : Looked) (table : Table) (out err : Sink) (result : Result NotesData Fault) : Type 0 where
   pub tree : tree.Passes looked.tree.old looked.tree.new
-  pub shows : Shows (status_look flags looked table) out err result
+  pub shows : Shows (show_look flags looked table) out err result
+  pub asked : IsTrue looked.tree.old.told → AsksOver table (wanted_of flags) looked.tree
+  pub asked_own : OnOk result (AsksOwn looked (wanted_of flags) table)
+  pub store : IsTrue looked.shelf.old.told → AsksPlain looked (wanted_of flags) table looked.shelf.old looked.shelf.new
+  pub calm : OnOk result (IsCalm looked out err)
+  pub noted : IfOk result (IsNotedFor looked (wanted_of flags) table)
+
+-- the call, with the files below `.hg` up to a history at which the listing ended, behind which times were saved
+abbrev pub listed_to : shelf.History → Looked → Looked
+listed_to end looked = record looked { shelf = record looked.shelf { new = end } }
+
+-- what a status makes of the record: where a table was read, it with the notes
+abbrev pub noted_in : Watched shelf.History → Option Table → NotesData → Makes
+noted_in files None notes = record { does = λ loaded made lines changed. ⊥; stops = λ loaded fault. ⊥; stands = λ c from loaded. ⊥ }
+noted_in files (Some table) notes = noted_makes files table notes
+
+-- what came of the lock: where no table was read it wasn't called for
+abbrev pub IsLockedLast : Watched shelf.History → Saved → Count → Option Table → NotesData → Option Fault → Type 0
+IsLockedLast files saved locks None notes fault = OnlyReads files saved locks
+IsLockedLast files saved locks (Some table) notes fault = IsLockedToSave files.old files saved locks table notes fault
+
+-- what becomes of the notes of a status that ended with this fault or with none
+pub record SavesLast (files : Watched shelf.History) (saved : Saved) (locks : Count) (table : Option Table) (notes : NotesData) (fault : Option Fault) : Type 0 where
+  -- whatever the answer, nothing was written, or the record that was read, with the notes, was published while the lock was held
+  pub safe : Undisturbed saved.old saved.new → IsSafe (noted_in files table notes) saved fault
+  -- where nothing is noted, or a fault was met before, the files below `.hg` were only asked, and no lock was called for
+  pub idle : IsBlank notes → OnlyReads files saved locks
+  pub locked : IsLockedLast files saved locks table notes fault
+  -- without a fault the record with the notes is what is recorded where the lock was given back, unless nothing was noted, the lock was refused, or another
+  -- docket stood, or what would be written is too large, or no identifier is left
+  pub saves : fault ≡ None → IsSomeAnd table (λ t. IsBlank notes ⊎ (Rose locks.before locks.after ⊎ IsNotedHeld files.old t notes saved))
+  pub kept : Goes saved.old saved.new
+
+-- all of a status, or a fault, before its line is told
+pub record DoesStatus (flags : StatusFlags) (looked : Looked) (saved : Saved) (locks : Count) (out err : Sink) (result : Result Unit Fault) : Type 0 where
+  pub end : shelf.History
+  pub passes : shelf.Passes looked.shelf.old end
+  pub later : shelf.Extends end looked.shelf.new
+  pub table : Option Table
+  pub loaded : IfSome table (IsLoaded (listed_to end looked).shelf)
+  pub tree : tree.Passes looked.tree.old looked.tree.new
+  pub shows : Shows (status_look flags (listed_to end looked) saved locks table) out err result
   pub asked : AsksLittle looked (wanted_of flags) table
   pub asked_own : OnOk result (IsSomeAnd table (AsksOwn looked (wanted_of flags)))
   pub below : IsTrue looked.shelf.old.told → AsksBelow looked (wanted_of flags) table
   pub calm : OnOk result (IsCalm looked out err)
+  pub notes : NotesData
+  pub needed : IfSome table (λ t. AreNeeded t notes)
+  pub earned : IfSome table (λ t. AreEarnedFor looked t notes)
+  pub recorded : OnOk result (IsSomeAnd table (λ t. IsRecordedFor looked (wanted_of flags) t notes))
+  pub saving : SavesLast looked.shelf saved locks table notes (fault_in result)
+
+-- a table was read in the call, before the caller made a step, where the files are told
+abbrev pub IsLoadedFirst : Watched shelf.History → Table → Type 0
+IsLoadedFirst files table = IsTrue files.old.told → IsReadFirst files.old files.new table
 
 -- what a status did that ended with this status and this fault, or with none
 pub record RanStatus (flags : StatusFlags) (call : Call) (code : ℕ) (fault : Option Fault) : Type 0 where
   -- the table that was read in the call, where one was: all that follows speaks of this one
   pub table : Option Table
-  pub loaded : IfSome table (IsLoaded call.looked.shelf)
-  -- without a fault, the rows printed have each path that is left alone meanwhile exactly under its letter, and no two are of one path, and the
-  -- warnings were told behind them; and with one, why, and what stands in both streams
-  pub looks : Concludes (status_look flags call.looked table) call.out call.err fault
+  pub loaded : IfSome table (IsLoadedFirst call.looked.shelf)
+  -- without a fault, where recorded times are right, the rows printed have each path that is left alone meanwhile exactly under its letter, and no two are of
+  -- one path, and the warnings were told behind them; and with one, why, and what stands in both streams
+  pub looks : Concludes (status_look flags call.looked call.saved call.locks table) call.out call.err fault
   -- where nobody else made a step, the rows are the full listing, and with a fault a front of its text stands there, or nothing
-  pub whole : fault ≡ None → IsOwn call.looked
+  pub whole : fault ≡ None → IsOwn call.looked → IfSome table (IsRightFor call.looked)
       → Puts (IsFullText flags (shelf.now call.looked.shelf.old).files (tree.now call.looked.tree.old)) call.out
-  pub front : IsOwn call.looked
+  pub front : IsOwn call.looked → IfSome table (IsRightFor call.looked)
       → IfSome fault (λ _. LeavesFront (IsFullText flags (shelf.now call.looked.shelf.old).files (tree.now call.looked.tree.old)) call.out)
   -- where nobody else steps and no count rises, the answer is the expected one, or there was no memory
   pub complete : IsOwn call.looked → Serves call.looked.tree → Serves call.looked.shelf → Serves call.out → Serves call.err
       → IsExpected (wanted_of flags) (shelf.now call.looked.shelf.old).files (tree.now call.looked.tree.old) fault
-  -- nothing of the working copy is changed; it reads the ignore patterns and only paths whose bytes are compared, and lists directories only where `?`
-  -- or I is wanted, each once at most; where nobody else steps visible ones alone, and without I none that is ignored
+  -- nothing of the working copy is changed; it reads the ignore patterns and only paths whose bytes are compared, none of which the table vouches for, and
+  -- lists directories only where `?` or I is wanted, each once at most; where nobody else steps visible ones alone, and without I none that is ignored
   pub tree : tree.Passes call.looked.tree.old call.looked.tree.new
   pub asked : AsksLittle call.looked (wanted_of flags) table
   -- without a fault, and where nobody else steps, the patterns are read exactly where they are needed and stand there
   pub asked_own : fault ≡ None → IsSomeAnd table (AsksOwn call.looked (wanted_of flags))
-  -- below `.hg` it asks for the record, and then for what its comparisons need, the manifest once at most
+  -- below `.hg` it asks for the record, then for what its comparisons need, the manifest once at most, and for the docket once more before it saves times
   pub below : IsTrue call.looked.shelf.old.told → AsksBelow call.looked (wanted_of flags) table
-  -- nothing below `.hg` is changed, and no lock asked for
-  pub look : IsLook call code fault
+  -- what it noted of times: only what is needed; each time was seen with what it stands for, whatever others do in the working copy; and without a fault, where
+  -- nobody else touches that, all that a second status needs to read no clean file again
+  pub notes : NotesData
+  pub needed : IfSome table (λ t. AreNeeded t notes)
+  pub earned : IfSome table (λ t. AreEarnedFor call.looked t notes)
+  pub recorded : fault ≡ None → IsSomeAnd table (λ t. IsRecordedFor call.looked (wanted_of flags) t notes)
+  -- what became of that
+  pub saving : SavesLast call.looked.shelf call.saved call.locks table notes fault
+  -- and where others keep to how a record is published: at each moment since the call's start a crash leaves a record of what it might have left then, of what
+  -- the call published, or of what others published since
+  pub crash : (calm : Undisturbed call.saved.old call.saved.new) → KeepsRecords shelf.others call.saved.new call.saved.old.history.last → IsLatest (last_scene call.saved.old)
+      → IsCrashSafe (published_in (noted_in call.looked.shelf table notes) call.saved fault (saving.safe calm)) call.saved
+  -- where a device failed, or a regexp was too big, there is a fault
+  pub calm : fault ≡ None → IsCalm call.looked call.out call.err
+  -- the status is 0 without a fault, and 255 with one
+  pub status : MatchOption fault (code ≡ 0) (λ f. code ≡ 255)

@@ -21,47 +21,17 @@ ghost use Rattle.hg_shelf.specs.Polite.{Undisturbed};
 
 use crate::acting::act;
 use crate::change_fault::ChangeFault;
-use crate::read_fault::ReadFault;
+use crate::reading::{opened, read};
 use hg_append::{encode, plan};
 use hg_mixed::Mixed;
-use hg_save::{Loaded, load, publish};
+use hg_save::{Loaded, publish};
 use hg_shelf::Shelf;
 use hg_tree::Tree;
 use hg_words::Command;
 use std::alloc::Global;
 
-// Loads the record.
-fn read<S: Shelf>(alloc: Global, shelf: &mut S) -> Result<Loaded, ReadFault>
-    ensures passes { Passes (S.history shelf.old) (S.history shelf.new) }
-    ensures found { IsTrue (S.history shelf.old).told
-        → ((tried : Try) × LoadsOrRefuses (S.history shelf.old) (S.history shelf.new) (tried ∷ []) result) }
-    ensures few { IfOk result (λ l. length l.docket.items ≤ 512) }
-    ensures whole { IfOk result (λ l. docket_refusal l.docket.items ≡ None) }
-    ensures cause { HasCause (S.faults shelf.old) (S.faults shelf.new) result (λ e. e ≡ a_read.Failed) }
-    ensures asked { IsTrue (S.history shelf.old).told → AsksRecord (S.history shelf.old) (S.history shelf.new) }
-    ensures kept { Goes (course (S.history shelf.old) (S.images shelf.old)) (course (S.history shelf.new) (S.images shelf.new)) }
-    ensures locks { S.held shelf.new ≡ S.held shelf.old }
-{
-    let loaded = load(alloc, shelf)?;
-    Ok(loaded)
-}
-
-// The table of a record that was loaded.
-fn opened<'a>(alloc: Global, loaded: &'a Loaded) -> Result<Mixed<'a>, ReadFault>
-    requires few { length loaded.now.docket.items ≤ 512 }
-    requires whole { docket_refusal loaded.now.docket.items ≡ None }
-    ensures { NodesFind
-        (IsOpened (docket_of loaded.now.docket.items))
-        result
-        (data_reading (docket_of loaded.now.docket.items) loaded.now.nodes.items) }
-{
-    let image = loaded.open()?;
-    let mixed = Mixed::open(alloc, image)?;
-    Ok(mixed)
-}
-
-// Publishes a table that was changed over the record that it was opened from.
-fn save<S: Shelf>(
+/// Publishes a table that was changed over the record that it was opened from. The caller holds the lock.
+pub(crate) fn save<S: Shelf>(
     alloc: Global,
     shelf: &mut S,
     loaded: &Loaded,
@@ -88,6 +58,7 @@ fn save<S: Shelf>(
         (fault_of result) }
     ensures met { IfErr result (MetWriting table.now (S.faults shelf.old) (S.faults shelf.new)) }
     ensures unwritten { IfErr result (FailsOrUnwritten (S.history shelf.old) (S.history shelf.new)) }
+    ensures untouched { IfErr result (λ e. (e ≡ a_fault.ShelfFailed) ⊎ (shelf.new ≡ shelf.old)) }
     ensures calm { OnOk result (S.faults shelf.new ≡ S.faults shelf.old) }
     ensures later { S.faults shelf.old ≤ S.faults shelf.new }
     ensures kept { Goes (course (S.history shelf.old) (S.images shelf.old)) (course (S.history shelf.new) (S.images shelf.new)) }

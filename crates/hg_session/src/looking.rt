@@ -1,21 +1,64 @@
-//! A command that only looks: `status`, and how each such command ends.
+//! `status`, and how it ends.
 
+ghost use Rattle.hg_mixed.specs.Held.{table};
 ghost use Rattle.hg_session.specs.Call.{counted, saved_by, watched};
 ghost use Rattle.hg_session.specs.Look.{EndsAs, OnlyReads};
-ghost use Rattle.hg_session.specs.Status.{DoesStatus};
+ghost use Rattle.hg_session.specs.Status.{DoesStatus, ShowsTable};
 
 use crate::ending::{Outcome, failed, has_line};
 use crate::flags::{style, wanted};
-use crate::listing::list;
+use crate::reading::{opened, read};
+use crate::saving_notes::save_notes;
 use hg_ignore::Regexps;
+use hg_mixed::Mixed;
 use hg_report::{Fault, status_text, warnings_text};
 use hg_shelf::Shelf;
 use hg_stream::{Sink, put_all};
 use hg_tree::Tree;
+use hg_walk::{Notes, walk};
 use hg_words::StatusFlags;
 use std::alloc::Global;
 
-/// Lists, prints the rows, then the warnings.
+// Lists by a table, prints the rows, then the warnings; what was noted of times.
+fn show<T: Tree, S: Shelf, G: Regexps, O: Sink, E: Sink>(
+    alloc: Global,
+    flags: StatusFlags,
+    mixed: &Mixed<'_>,
+    tree: &mut T,
+    shelf: &mut S,
+    regexps: &mut G,
+    out: &mut O,
+    err: &mut E,
+) -> Result<Notes, Fault>
+    ensures shows { ShowsTable
+        flags
+        (record {
+          tree = watched T.history T.faults tree.old tree.new;
+          shelf = watched S.history S.faults shelf.old shelf.new;
+          oversize = counted G.oversize regexps.old regexps.new;
+        })
+        (table mixed.now)
+        (watched O.bytes O.faults out.old out.new)
+        (watched E.bytes E.faults err.old err.new)
+        result }
+    ensures only { OnlyReads
+        (watched S.history S.faults shelf.old shelf.new)
+        (saved_by S.history S.images shelf.old shelf.new)
+        (counted S.held shelf.old shelf.new) }
+{
+    let walked = walk(alloc, mixed, tree, shelf, regexps, wanted(flags))?;
+    let text = status_text(alloc, &walked.rows, style(flags))?;
+    let warnings = warnings_text(alloc, &walked.warnings)?;
+    match put_all(out, text.as_slice()) {
+        Err(_) => Err(Fault::OutFailed),
+        Ok(()) => match put_all(err, warnings.as_slice()) {
+            Err(_) => Err(Fault::ErrFailed),
+            Ok(()) => Ok(walked.notes),
+        },
+    }
+}
+
+/// Loads the record, lists, prints the rows, then the warnings, and saves last what was noted of times.
 pub(crate) fn status<T: Tree, S: Shelf, G: Regexps, O: Sink, E: Sink>(
     alloc: Global,
     flags: StatusFlags,
@@ -25,31 +68,24 @@ pub(crate) fn status<T: Tree, S: Shelf, G: Regexps, O: Sink, E: Sink>(
     out: &mut O,
     err: &mut E,
 ) -> Result<(), Fault>
-    ensures does { DoesStatus
+    ensures { DoesStatus
         flags
         (record {
           tree = watched T.history T.faults tree.old tree.new;
           shelf = watched S.history S.faults shelf.old shelf.new;
           oversize = counted G.oversize regexps.old regexps.new;
         })
+        (saved_by S.history S.images shelf.old shelf.new)
+        (counted S.held shelf.old shelf.new)
         (watched O.bytes O.faults out.old out.new)
         (watched E.bytes E.faults err.old err.new)
         result }
-    ensures only { OnlyReads
-        (watched S.history S.faults shelf.old shelf.new)
-        (saved_by S.history S.images shelf.old shelf.new)
-        (counted S.held shelf.old shelf.new) }
 {
-    let listed = list(alloc, tree, shelf, regexps, wanted(flags))?;
-    let text = status_text(alloc, &listed.rows, style(flags))?;
-    let warnings = warnings_text(alloc, &listed.warnings)?;
-    match put_all(out, text.as_slice()) {
-        Err(_) => Err(Fault::OutFailed),
-        Ok(()) => match put_all(err, warnings.as_slice()) {
-            Err(_) => Err(Fault::ErrFailed),
-            Ok(()) => Ok(()),
-        },
-    }
+    let loaded = read(alloc, shelf)?;
+    let mut mixed = opened(alloc, &loaded)?;
+    let notes = show(alloc, flags, &mixed, tree, shelf, regexps, out, err)?;
+    save_notes(alloc, shelf, &loaded, &mut mixed, &notes)?;
+    Ok(())
 }
 
 /// How such a command ends by what it did: the line of a fault is told, where it has one.

@@ -1,23 +1,19 @@
 -- The look at all paths of a record, over the span that begins before the clock is asked: its rows, what was passed, and what is noted.
-use Rattle.std.proofs.Common.{ℕ, ◌≡◌, ◌≤◌, ◌&&◌, ◌||◌, Bool, true, false, not, cond, List, [], ◌∷◌, ◌++◌, Option, Some, None, Result, Ok, Err, option_map, is_some, refl, sym, ap, ◌∙◌, subst, arith, true≢false}
+use Rattle.std.proofs.Common.{ℕ, ◌≡◌, ◌&&◌, ◌||◌, Bool, true, false, not, cond, List, [], ◌∷◌, ◌++◌, Option, Some, None, Result, Ok, Err, option_map, is_some, refl, sym, ap, ◌∙◌, subst, arith, true≢false}
 use Rattle.std.specs.Prelude.{ℤ, pos, negsuc, int_lt, nat_lt, ◌==◌, IfOk, IsTrue, MatchBool}
 use Rattle.std.specs.List.{Contains, find}
 use Rattle.std.specs.Ordering.{int_eq}
 use Rattle.std.specs.Str.{bytes_eq}
-use Rattle.std.proofs.lemmas.Bool.{and_parts}
 use Rattle.std.proofs.lemmas.List.Elements.{Contains-append_left, Contains-append_right, Contains-push}
 use Rattle.std.proofs.lemmas.Slice.Eq.{bytes_eq-Decides}
 use Rattle.hg_base.specs.declared.id.Id20.{Id20}
-use Rattle.hg_base.specs.declared.stat.Kind.{Kind}
-use Rattle.hg_base.specs.declared.stat.Kind.TheVariants as a_kind
 use Rattle.hg_base.specs.declared.stat.Stat.{Stat}
 use Rattle.hg_base.specs.declared.time.Time.{Time}
 use Rattle.hg_compare.specs.Tracked.{ParentRow, is_file_or_link, is_unchanged, tracked_letter}
-use Rattle.hg_compare.specs.declared.letter.Letter.{Letter}
 use Rattle.hg_compare.specs.declared.letter.Letter.TheVariants as a_letter
 use Rattle.hg_entry.specs.Entry.{EntryData, StampData}
-use Rattle.hg_entry.specs.Steps.{is_file, seen_clean}
-use Rattle.hg_entry.specs.Table.{Marks, Table, marks_of}
+use Rattle.hg_entry.specs.Steps.{is_file}
+use Rattle.hg_entry.specs.Table.{Table, marks_of}
 use Rattle.hg_flat.specs.Judged.{IsLeftAsked}
 use Rattle.hg_flat.specs.Listing.{wants_bytes}
 use Rattle.hg_flat.specs.Met.{Status}
@@ -41,11 +37,10 @@ use Rattle.hg_tree.specs.Moment.{Moment, stat_at, stat_of}
 use Rattle.hg_tree.specs.declared.thing.Placed.{Placed}
 use Rattle.hg_tree.specs.declared.thing.Thing.{Thing}
 use Rattle.hg_tree.specs.declared.thing.Thing.TheVariants as a_thing
-use Rattle.hg_tree.proofs.Histories.{extends_trans}
-use Rattle.hg_tree.proofs.Spans.{now_same, ours_first, ours_second, ours_unstepped, passes_trans}
+use Rattle.hg_tree.proofs.Spans.{now_same, ours_first, ours_second, ours_unstepped}
 use Rattle.hg_tree.proofs.Stillness.{alike_between}
 use Rattle.hg_walk.specs.Applying.{IsBlank}
-use Rattle.hg_walk.specs.Finding.{WasClock, rows_then}
+use Rattle.hg_walk.specs.Finding.{rows_then}
 use Rattle.hg_walk.specs.Notes.{AreEarned, CleanNote, NotesData, applied, clean_at, with_clean}
 use Rattle.hg_walk.specs.Passing.{is_marked}
 use Rattle.hg_walk.specs.Right.{AreRight}

@@ -1,9 +1,8 @@
 -- A walk from its parts: a read of the patterns, the look at all paths with an entry, and the listing of what else stands.
-use Rattle.std.proofs.Common.{ℕ, ◌≡◌, Bool, true, false, List, Option, IsTrue, sym, ap, ◌∙◌, subst, arith}
+use Rattle.std.proofs.Common.{ℕ, Bool, false, List, Option, IsTrue, sym, ap, ◌∙◌, subst, arith}
 use Rattle.std.proofs.lemmas.Bool.{and_parts}
 use Rattle.hg_entry.specs.Table.{Flat, Table, flat_of}
 use Rattle.hg_flat.specs.Course.{IsKeptState, pieces_of}
-use Rattle.hg_flat.specs.Judged.{IsLeftAsked}
 use Rattle.hg_flat.specs.Others.{ListsOthers}
 use Rattle.hg_flat.specs.Parent.{IsAsked, IsLeft, IsServed, asked_by}
 use Rattle.hg_flat.specs.Patterns.{ignored_at}
@@ -21,10 +20,7 @@ use Rattle.hg_tree.specs.History as trees
 use Rattle.hg_tree.specs.Honest.{IsHonest}
 use Rattle.hg_tree.specs.Moment.{Moment, stat_at}
 use Rattle.hg_tree.proofs.Faces.{past_honest}
-use Rattle.hg_tree.proofs.Histories.{extends_trans}
 use Rattle.hg_tree.proofs.Spans.{now_same, ours_first, ours_second, passes_trans}
-use Rattle.hg_tree.proofs.Stillness.{alike_between}
-use Rattle.hg_walk.specs.Finding.{rows_then}
 use Rattle.hg_walk.specs.Notes.{AreEarned, NotesData, applied}
 use Rattle.hg_walk.specs.Passing.{has_entry, is_marked}
 use Rattle.hg_walk.specs.Right.{AreRight}

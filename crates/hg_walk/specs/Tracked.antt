@@ -1,17 +1,14 @@
 -- What a walk knows behind its look at all paths of a record that have an entry.
-use Rattle.std.specs.Prelude.{ℕ, ◌≡◌, ◌≤◌, true, false, Bool, IsTrue, MatchBool, List, [], None}
-use Rattle.std.specs.Option.{option_map}
+use Rattle.std.specs.Prelude.{◌≡◌, Bool, IsTrue, MatchBool, List, [], None}
 use Rattle.hg_base.specs.declared.time.Time.{Time}
 use Rattle.hg_entry.specs.Table.{Table, flat_of}
 use Rattle.hg_flat.specs.Kept.{HaveOwnPaths, flat_from, row_at}
-use Rattle.hg_flat.specs.Listing.{wants_bytes}
 use Rattle.hg_flat.specs.Met.{Status}
 use Rattle.hg_flat.specs.Passed.{ArePassed}
 use Rattle.hg_listing.specs.declared.row.Row.{Row}
 use Rattle.hg_mixed.specs.declared.child.Child.{Child}
 use Rattle.hg_mtime.specs.Stamps.{stamp_of}
 use Rattle.hg_shelf.specs.Polite.{KeepsPlain}
-use Rattle.hg_shelf.specs.History as shelves
 use Rattle.hg_tree.specs.History.{History, IsOurs, now}
 use Rattle.hg_tree.specs.Honest.{IsHonest}
 use Rattle.hg_walk.specs.Finding.{rows_then}

@@ -1,5 +1,5 @@
 -- What a walk over a record answers: which paths it compares, what it notes, and what its notes make of the record.
-use Rattle.std.specs.Prelude.{ℕ, ◌≡◌, ◌≤◌, Bool, true, false, not, ◌&&◌, IsTrue, List, [], Option, Some, None, IsSomeAnd, is_some}
+use Rattle.std.specs.Prelude.{ℕ, ◌≡◌, ◌≤◌, Bool, true, false, not, ◌&&◌, IsTrue, List, [], Option, Some, None, is_some}
 use Rattle.std.specs.List.{Contains}
 use Rattle.hg_base.specs.declared.id.Id20.{Id20}
 use Rattle.hg_base.specs.declared.stat.Stat.{Stat}

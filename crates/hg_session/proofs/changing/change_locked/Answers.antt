@@ -12,7 +12,7 @@ use Rattle.hg_session.proofs.Asking.{asks_read}
 use Rattle.hg_session.proofs.Changes.{asks_by, changes_by, done_by, loads_upto, met_acting, met_opened, met_read, met_writing, read_some, safe_by, stands}
 use Rattle.hg_session.proofs.Doing.{op_late, writing_late}
 use Rattle.hg_session.proofs.Locked.{unwritten, unwritten_unless}
-use Rattle.hg_session.proofs.Makers.{makes_wide}
+use Rattle.hg_session.proofs.Makers.{makes_wide, stands_as}
 use Rattle.hg_session.specs.Change.{of_change}
 use Rattle.hg_shelf.specs.History as shelf
 use Rattle.hg_shelf.specs.Images.{Course, course}
@@ -202,7 +202,7 @@ returns-in_err-save-clause-safe g c = λ calm.
     rw (p.1, p.2)
     (safe_by a m d passes c.in_err-save.ensures.kept c.in_ok-loaded.loaded c.in_ok-loaded.ensures.whole loads c.in_ok-table.ensures.0 c.in_ok-table.ensures.1
     Does c.in_ok-table.table c.act.new.mixed c.in_ok-table.ensures.2 acts.image c.in_ok-lines.lines.items acted
-    c.requires calm (Some (of_change c.in_err-save.field-0.0))
+    c.requires calm (stands_as c.args.command.now copy whole d a.history.last c.in_ok-table.ensures.0) (Some (of_change c.in_err-save.field-0.0))
     (c.in_err-save.ensures.safe (second_part a m d (goes_trans a b m c.in_ok-loaded.ensures.kept c.in_ok-lines.ensures.kept) calm)
     (stands a m d passes c.in_err-save.ensures.kept c.in_ok-loaded.loaded c.in_ok-loaded.ensures.whole loads c.in_ok-table.ensures.0 c.in_ok-table.ensures.1
     Does c.in_ok-table.table c.act.new.mixed c.in_ok-table.ensures.2 acts.image c.in_ok-lines.lines.items acted
@@ -300,7 +300,7 @@ returns-clause-safe g c = λ calm.
     let acted = wider.does _ _ _ _ (acts.does c.in_ok-table.ensures.2.unchanged) in
     (safe_by a m d passes c.in_ok-save.ensures.kept c.in_ok-loaded.loaded c.in_ok-loaded.ensures.whole loads c.in_ok-table.ensures.0 c.in_ok-table.ensures.1
     Does c.in_ok-table.table c.act.new.mixed c.in_ok-table.ensures.2 acts.image c.in_ok-lines.lines.items acted
-    c.requires calm None
+    c.requires calm (stands_as c.args.command.now copy whole d a.history.last c.in_ok-table.ensures.0) None
     (c.in_ok-save.ensures.safe (second_part a m d (goes_trans a b m c.in_ok-loaded.ensures.kept c.in_ok-lines.ensures.kept) calm)
     (stands a m d passes c.in_ok-save.ensures.kept c.in_ok-loaded.loaded c.in_ok-loaded.ensures.whole loads c.in_ok-table.ensures.0 c.in_ok-table.ensures.1
     Does c.in_ok-table.table c.act.new.mixed c.in_ok-table.ensures.2 acts.image c.in_ok-lines.lines.items acted

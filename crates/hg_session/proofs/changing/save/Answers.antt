@@ -28,6 +28,14 @@ returns-in_err-new-clause-unwritten g c =
 pub returns-in-Err-clause-unwritten : goal.returns-in-Err-clause-unwritten
 returns-in-Err-clause-unwritten g c = inl refl
 
+pub returns-in_err-new-clause-untouched : goal.returns-in_err-new-clause-untouched
+returns-in_err-new-clause-untouched g c =
+    let p = err_from_is_err_and c.from_residual.result c.from_residual.ensures.1 in
+    rw (p.1, p.2) (inr refl)
+
+pub returns-in-Err-clause-untouched : goal.returns-in-Err-clause-untouched
+returns-in-Err-clause-untouched g c = inl refl
+
 pub returns-in-Err-clause-met : goal.returns-in-Err-clause-met
 returns-in-Err-clause-met g c = inr (refl, c.in-Err.ensures.cause.rose tt)
 

@@ -1,45 +1,152 @@
--- A status: the rows, their text and that of the warnings, and printing both.
-use Rattle.std.proofs.Common.{◌∙◌, refl}
+-- A status: the record, what is shown of it, and saving what was noted.
+use Rattle.std.proofs.Common.{◌∙◌, Ok, Err, refl, sym}
+use Rattle.std.proofs.lemmas.List.{append-nil}
 use Rattle.std.proofs.lemmas.Result.{err_from_is_err_and}
-use Rattle.hg_session.proofs.Printing.{did_print, lists_as, met_listing, met_memory, met_printing, met_warning, text_as}
+use Rattle.hg_docket.specs.Docket.{docket_of}
+use Rattle.hg_image.specs.Reading.{data_reading}
+use Rattle.hg_mixed.specs.Held.{table}
+use Rattle.hg_shelf.proofs.Histories.{extends_same, passes_trans}
+use Rattle.hg_shelf.proofs.Scenes.{goes_trans}
+use Rattle.hg_shelf.specs.Images.{course}
+use Rattle.hg_tree.proofs.Spans.{passes_same}
+use Rattle.hg_session.proofs.Readings.{cause_still, loaded_table, met_reading, met_refused, opened_as, opened_nodes, same_as}
+use Rattle.hg_session.proofs.Saves.{saves_earlier}
+use Rattle.hg_session.proofs.Stages.{does_saved, does_unread, does_unsaved, does_unshown, needed_can, save_met}
+use Rattle.hg_session.specs.Anew.{IsOpened}
+use Rattle.hg_session.specs.Call.{Count, IsLeftAlone, Looked, Saved}
+use Rattle.hg_session.specs.Saving.{IsOpenedSince, of_save}
+use Rattle.hg_session.specs.Status.{OnlyAsksBelow, listed_to}
 use Rattle.hg_session.proofs.looking.status.Goals as goal
 
-pub returns-in_err-listed-clause-does : goal.returns-in_err-listed-clause-does
-returns-in_err-listed-clause-does g c =
+pub returns-in_err-loaded : goal.returns-in_err-loaded
+returns-in_err-loaded g c =
     let p = err_from_is_err_and c.from_residual.result c.from_residual.ensures.1 in
-    let lists = lists_as _ c.args.flags c.wanted.result _ c.wanted.ensures c.in_err-listed.ensures.lists in
-    rw (p.1, p.2) (met_listing c.args.flags _ _ _ c.in_err-listed.field-0.0 lists (record { bytes = refl; count = refl }) (record { bytes = refl; count = refl }))
+    let looked : Looked = record {
+      tree = record { old = g.T.Tree.history c.args.tree.now; new = g.T.Tree.history c.args.tree.now; before = g.T.Tree.faults c.args.tree.now; after = g.T.Tree.faults c.args.tree.now };
+      shelf = record { old = g.S.Shelf.history c.args.shelf.now; new = g.S.Shelf.history c.read.new.shelf; before = g.S.Shelf.faults c.args.shelf.now; after = g.S.Shelf.faults c.read.new.shelf };
+      oversize = record { before = g.G.Regexps.oversize c.args.regexps.now; after = g.G.Regexps.oversize c.args.regexps.now };
+    } in
+    let saved : Saved = record { old = course (g.S.Shelf.history c.args.shelf.now) (g.S.Shelf.images c.args.shelf.now); new = course (g.S.Shelf.history c.read.new.shelf) (g.S.Shelf.images c.read.new.shelf) } in
+    let locks : Count = record { before = g.S.Shelf.held c.args.shelf.now; after = g.S.Shelf.held c.read.new.shelf } in
+    let unsaved : OnlyAsksBelow saved locks = record { passes = c.read.ensures.passes; kept = c.read.ensures.kept; held = c.read.ensures.locks } in
+    let alone : IsLeftAlone looked.tree = record { history = refl; count = refl } in
+    let fault = c.in_err-loaded.field-0.0 in
+    rw (p.1, p.2) (does_unread c.args.flags looked saved locks _ _ alone (passes_same looked.tree.old) c.read.ensures.passes unsaved fault
+    (met_refused looked.shelf fault c.in_err-loaded.ensures.found c.in_err-loaded.ensures.cause.rose) c.read.ensures.asked (record { bytes = refl; count = refl }) (record { bytes = refl; count = refl }))
 
-pub returns-in_err-text-clause-does : goal.returns-in_err-text-clause-does
-returns-in_err-text-clause-does g c =
-    let p = err_from_is_err_and c.from_residual-in_err-text.result c.from_residual-in_err-text.ensures.1 in
-    let lists = lists_as _ c.args.flags c.wanted.result _ c.wanted.ensures c.in_ok-listed.ensures.lists in
-    rw (p.1, p.2) (met_memory c.args.flags _ _ _ c.in_ok-listed.listed lists (record { bytes = refl; count = refl }) (record { bytes = refl; count = refl }))
+pub returns-in_err-mixed : goal.returns-in_err-mixed
+returns-in_err-mixed g c =
+    let p = err_from_is_err_and c.from_residual-in_err-mixed.result c.from_residual-in_err-mixed.ensures.1 in
+    let looked : Looked = record {
+      tree = record { old = g.T.Tree.history c.args.tree.now; new = g.T.Tree.history c.args.tree.now; before = g.T.Tree.faults c.args.tree.now; after = g.T.Tree.faults c.args.tree.now };
+      shelf = record { old = g.S.Shelf.history c.args.shelf.now; new = g.S.Shelf.history c.read.new.shelf; before = g.S.Shelf.faults c.args.shelf.now; after = g.S.Shelf.faults c.read.new.shelf };
+      oversize = record { before = g.G.Regexps.oversize c.args.regexps.now; after = g.G.Regexps.oversize c.args.regexps.now };
+    } in
+    let saved : Saved = record { old = course (g.S.Shelf.history c.args.shelf.now) (g.S.Shelf.images c.args.shelf.now); new = course (g.S.Shelf.history c.read.new.shelf) (g.S.Shelf.images c.read.new.shelf) } in
+    let locks : Count = record { before = g.S.Shelf.held c.args.shelf.now; after = g.S.Shelf.held c.read.new.shelf } in
+    let unsaved : OnlyAsksBelow saved locks = record { passes = c.read.ensures.passes; kept = c.read.ensures.kept; held = c.read.ensures.locks } in
+    let alone : IsLeftAlone looked.tree = record { history = refl; count = refl } in
+    let fault = c.in_err-mixed.field-0.0 in
+    let docket = docket_of c.in_ok-loaded.loaded.docket.items in
+    let nodes = data_reading docket c.in_ok-loaded.loaded.nodes.items in
+    let found = opened_as looked.shelf.old looked.shelf.new c.in_ok-loaded.loaded (Err fault) c.in_ok-loaded.ensures.whole c.in_err-mixed.ensures c.in_ok-loaded.ensures.found in
+    rw (p.1, p.2) (does_unread c.args.flags looked saved locks _ _ alone (passes_same looked.tree.old) c.read.ensures.passes unsaved fault
+    (met_reading (IsOpened docket) looked.shelf fault found (cause_still (IsOpened docket) looked.shelf.before looked.shelf.after (Err fault) nodes c.in_ok-loaded.ensures.cause.quiet c.in_err-mixed.ensures).rose)
+    c.read.ensures.asked (record { bytes = refl; count = refl }) (record { bytes = refl; count = refl }))
 
-pub returns-in_err-warnings-clause-does : goal.returns-in_err-warnings-clause-does
-returns-in_err-warnings-clause-does g c =
-    let p = err_from_is_err_and c.from_residual-in_err-warnings.result c.from_residual-in_err-warnings.ensures.1 in
-    let lists = lists_as _ c.args.flags c.wanted.result _ c.wanted.ensures c.in_ok-listed.ensures.lists in
-    rw (p.1, p.2) (met_memory c.args.flags _ _ _ c.in_ok-listed.listed lists (record { bytes = refl; count = refl }) (record { bytes = refl; count = refl }))
+pub returns-in_err-notes : goal.returns-in_err-notes
+returns-in_err-notes g c =
+    let p = err_from_is_err_and c.from_residual-in_err-notes.result c.from_residual-in_err-notes.ensures.1 in
+    let looked : Looked = record {
+      tree = record { old = g.T.Tree.history c.args.tree.now; new = g.T.Tree.history c.show.new.tree; before = g.T.Tree.faults c.args.tree.now; after = g.T.Tree.faults c.show.new.tree };
+      shelf = record { old = g.S.Shelf.history c.args.shelf.now; new = g.S.Shelf.history c.show.new.shelf; before = g.S.Shelf.faults c.args.shelf.now; after = g.S.Shelf.faults c.show.new.shelf };
+      oversize = record { before = g.G.Regexps.oversize c.args.regexps.now; after = g.G.Regexps.oversize c.show.new.regexps };
+    } in
+    let saved : Saved = record { old = course (g.S.Shelf.history c.args.shelf.now) (g.S.Shelf.images c.args.shelf.now); new = course (g.S.Shelf.history c.show.new.shelf) (g.S.Shelf.images c.show.new.shelf) } in
+    let locks : Count = record { before = g.S.Shelf.held c.args.shelf.now; after = g.S.Shelf.held c.show.new.shelf } in
+    let docket = docket_of c.in_ok-loaded.loaded.docket.items in
+    let start = g.S.Shelf.history c.args.shelf.now in
+    let behind = g.S.Shelf.history c.read.new.shelf in
+    let end = g.S.Shelf.history c.show.new.shelf in
+    let found = opened_as start behind c.in_ok-loaded.loaded (Ok c.in_ok-mixed.mixed) c.in_ok-loaded.ensures.whole c.in_ok-mixed.ensures c.in_ok-loaded.ensures.found in
+    let t = table c.in_ok-mixed.mixed in
+    let loaded = loaded_table (listed_to end looked).shelf behind docket c.in_ok-mixed.mixed c.show.ensures.only.passes.past found (c.in_ok-mixed.ensures.0, c.in_ok-mixed.ensures.2) in
+    let only = passes_trans start behind end c.read.ensures.passes c.show.ensures.only.passes in
+    let unsaved : OnlyAsksBelow saved locks = record {
+      passes = only;
+      kept = goes_trans saved.old (course behind (g.S.Shelf.images c.read.new.shelf)) saved.new c.read.ensures.kept c.show.ensures.only.kept;
+      held = c.show.ensures.only.held ∙ c.read.ensures.locks;
+    } in
+    rw (p.1, p.2) (does_unshown c.args.flags looked saved locks _ _ behind end (g.S.Shelf.faults c.read.new.shelf) (g.S.Shelf.faults c.show.new.shelf) t c.read.ensures.passes c.show.ensures.only.passes
+    (extends_same end) loaded c.read.ensures.asked only (λ told. record { some = 0; made = sym (append-nil end.asked) }) unsaved (record { passes = unsaved.passes; kept = unsaved.kept; held = unsaved.held }) (λ failed. rw (sym c.in_ok-loaded.ensures.cause.quiet) failed)
+    c.in_err-notes.field-0.0 c.in_err-notes.ensures.shows)
 
-pub returns-in-Err-clause-does : goal.returns-in-Err-clause-does
-returns-in-Err-clause-does g c =
-    let lists = lists_as _ c.args.flags c.wanted.result _ c.wanted.ensures c.in_ok-listed.ensures.lists in
-    met_printing c.args.flags _ _ _ c.in_ok-listed.listed c.as_slice.result.now lists
-    (text_as c.in_ok-listed.listed.rows _ c.style.result c.args.flags c.style.ensures (c.as_slice.ensures.value ∙ c.in_ok-text.ensures)) c.in-Err.ensures.prefix (c.in-Err.ensures.cause.rose tt)
-    (record { bytes = refl; count = refl })
+pub returns-in_err-save_notes : goal.returns-in_err-save_notes
+returns-in_err-save_notes g c =
+    let p = err_from_is_err_and c.from_residual-in_err-save_notes.result c.from_residual-in_err-save_notes.ensures.1 in
+    let looked : Looked = record {
+      tree = record { old = g.T.Tree.history c.args.tree.now; new = g.T.Tree.history c.show.new.tree; before = g.T.Tree.faults c.args.tree.now; after = g.T.Tree.faults c.show.new.tree };
+      shelf = record { old = g.S.Shelf.history c.args.shelf.now; new = g.S.Shelf.history c.save_notes.new.shelf; before = g.S.Shelf.faults c.args.shelf.now; after = g.S.Shelf.faults c.save_notes.new.shelf };
+      oversize = record { before = g.G.Regexps.oversize c.args.regexps.now; after = g.G.Regexps.oversize c.show.new.regexps };
+    } in
+    let saved : Saved = record { old = course (g.S.Shelf.history c.args.shelf.now) (g.S.Shelf.images c.args.shelf.now); new = course (g.S.Shelf.history c.save_notes.new.shelf) (g.S.Shelf.images c.save_notes.new.shelf) } in
+    let locks : Count = record { before = g.S.Shelf.held c.args.shelf.now; after = g.S.Shelf.held c.save_notes.new.shelf } in
+    let docket = docket_of c.in_ok-loaded.loaded.docket.items in
+    let start = g.S.Shelf.history c.args.shelf.now in
+    let behind = g.S.Shelf.history c.read.new.shelf in
+    let end = g.S.Shelf.history c.show.new.shelf in
+    let found = opened_as start behind c.in_ok-loaded.loaded (Ok c.in_ok-mixed.mixed) c.in_ok-loaded.ensures.whole c.in_ok-mixed.ensures c.in_ok-loaded.ensures.found in
+    let t = table c.in_ok-mixed.mixed in
+    let loaded = loaded_table (listed_to end looked).shelf behind docket c.in_ok-mixed.mixed c.show.ensures.only.passes.past found (c.in_ok-mixed.ensures.0, c.in_ok-mixed.ensures.2) in
+    let only = passes_trans start behind end c.read.ensures.passes c.show.ensures.only.passes in
+    let first = goes_trans saved.old (course behind (g.S.Shelf.images c.read.new.shelf)) (course end (g.S.Shelf.images c.show.new.shelf)) c.read.ensures.kept c.show.ensures.only.kept in
+    let since : IsOpenedSince start end c.in_ok-loaded.loaded t c.in_ok-mixed.mixed = record {
+      mid = behind;
+      front = c.read.ensures.passes.past;
+      past = c.show.ensures.only.passes.past;
+      loads = c.in_ok-loaded.ensures.found;
+      nodes = opened_nodes docket _ c.in_ok-mixed.mixed c.in_ok-mixed.ensures;
+      same = same_as t;
+    } in
+    let quiet = c.in_ok-notes.ensures.shows.calm.shelf ∙ c.in_ok-loaded.ensures.cause.quiet in
+    let saving = saves_earlier saved.old (course end (g.S.Shelf.images c.show.new.shelf)) saved.new only first c.save_notes.ensures.kept t c.in_ok-notes.notes looked.shelf.before (g.S.Shelf.faults c.show.new.shelf) looked.shelf.after
+    locks.before (g.S.Shelf.held c.show.new.shelf) locks.after quiet (c.show.ensures.only.held ∙ c.read.ensures.locks) _ (c.in_err-save_notes.ensures.saves start t since) in
+    let fault = c.in_err-save_notes.field-0.0 in
+    rw (p.1, p.2) (does_unsaved c.args.flags looked saved locks _ _ behind end (g.S.Shelf.faults c.read.new.shelf) (g.S.Shelf.faults c.show.new.shelf) t c.read.ensures.passes c.show.ensures.only.passes
+    c.save_notes.ensures.kept.past loaded c.read.ensures.asked only c.in_ok-notes.notes c.in_ok-notes.ensures.shows (of_save fault) saving c.save_notes.ensures.asked
+    (save_met fault (λ is. rw (sym quiet) (c.in_err-save_notes.ensures.cause.rose is))))
 
-pub returns-in-Err-put_all-clause-does : goal.returns-in-Err-put_all-clause-does
-returns-in-Err-put_all-clause-does g c =
-    let lists = lists_as _ c.args.flags c.wanted.result _ c.wanted.ensures c.in_ok-listed.ensures.lists in
-    met_warning c.args.flags _ _ _ c.in_ok-listed.listed c.as_slice.result.now lists
-    (text_as c.in_ok-listed.listed.rows _ c.style.result c.args.flags c.style.ensures (c.as_slice.ensures.value ∙ c.in_ok-text.ensures))
-    c.as_slice-in-Ok.result.now (c.as_slice-in-Ok.ensures.value ∙ c.in_ok-warnings.ensures) c.in-Ok.ensures.all c.in-Err-put_all.ensures.prefix (c.in-Err-put_all.ensures.cause.rose tt)
+pub returns : goal.returns
+returns g c =
+    let looked : Looked = record {
+      tree = record { old = g.T.Tree.history c.args.tree.now; new = g.T.Tree.history c.show.new.tree; before = g.T.Tree.faults c.args.tree.now; after = g.T.Tree.faults c.show.new.tree };
+      shelf = record { old = g.S.Shelf.history c.args.shelf.now; new = g.S.Shelf.history c.save_notes.new.shelf; before = g.S.Shelf.faults c.args.shelf.now; after = g.S.Shelf.faults c.save_notes.new.shelf };
+      oversize = record { before = g.G.Regexps.oversize c.args.regexps.now; after = g.G.Regexps.oversize c.show.new.regexps };
+    } in
+    let saved : Saved = record { old = course (g.S.Shelf.history c.args.shelf.now) (g.S.Shelf.images c.args.shelf.now); new = course (g.S.Shelf.history c.save_notes.new.shelf) (g.S.Shelf.images c.save_notes.new.shelf) } in
+    let locks : Count = record { before = g.S.Shelf.held c.args.shelf.now; after = g.S.Shelf.held c.save_notes.new.shelf } in
+    let docket = docket_of c.in_ok-loaded.loaded.docket.items in
+    let start = g.S.Shelf.history c.args.shelf.now in
+    let behind = g.S.Shelf.history c.read.new.shelf in
+    let end = g.S.Shelf.history c.show.new.shelf in
+    let found = opened_as start behind c.in_ok-loaded.loaded (Ok c.in_ok-mixed.mixed) c.in_ok-loaded.ensures.whole c.in_ok-mixed.ensures c.in_ok-loaded.ensures.found in
+    let t = table c.in_ok-mixed.mixed in
+    let loaded = loaded_table (listed_to end looked).shelf behind docket c.in_ok-mixed.mixed c.show.ensures.only.passes.past found (c.in_ok-mixed.ensures.0, c.in_ok-mixed.ensures.2) in
+    let only = passes_trans start behind end c.read.ensures.passes c.show.ensures.only.passes in
+    let first = goes_trans saved.old (course behind (g.S.Shelf.images c.read.new.shelf)) (course end (g.S.Shelf.images c.show.new.shelf)) c.read.ensures.kept c.show.ensures.only.kept in
+    let since : IsOpenedSince start end c.in_ok-loaded.loaded t c.in_ok-mixed.mixed = record {
+      mid = behind;
+      front = c.read.ensures.passes.past;
+      past = c.show.ensures.only.passes.past;
+      loads = c.in_ok-loaded.ensures.found;
+      nodes = opened_nodes docket _ c.in_ok-mixed.mixed c.in_ok-mixed.ensures;
+      same = same_as t;
+    } in
+    let quiet = c.in_ok-notes.ensures.shows.calm.shelf ∙ c.in_ok-loaded.ensures.cause.quiet in
+    let saving = saves_earlier saved.old (course end (g.S.Shelf.images c.show.new.shelf)) saved.new only first c.save_notes.ensures.kept t c.in_ok-notes.notes looked.shelf.before (g.S.Shelf.faults c.show.new.shelf) looked.shelf.after
+    locks.before (g.S.Shelf.held c.show.new.shelf) locks.after quiet (c.show.ensures.only.held ∙ c.read.ensures.locks) _ (c.in_ok-save_notes.ensures.saves start t since) in
+    does_saved c.args.flags looked saved locks _ _ behind end (g.S.Shelf.faults c.read.new.shelf) (g.S.Shelf.faults c.show.new.shelf) t c.read.ensures.passes c.show.ensures.only.passes
+    c.save_notes.ensures.kept.past loaded c.read.ensures.asked only c.in_ok-notes.notes c.in_ok-notes.ensures.shows tt saving c.save_notes.ensures.asked (c.in_ok-save_notes.ensures.cause.quiet ∙ quiet)
 
-pub returns-clause-does : goal.returns-clause-does
-returns-clause-does g c =
-    let lists = lists_as _ c.args.flags c.wanted.result _ c.wanted.ensures c.in_ok-listed.ensures.lists in
-    did_print c.args.flags _ _ _ c.in_ok-listed.listed c.as_slice.result.now lists
-    (text_as c.in_ok-listed.listed.rows _ c.style.result c.args.flags c.style.ensures (c.as_slice.ensures.value ∙ c.in_ok-text.ensures))
-    c.as_slice-in-Ok.result.now (c.as_slice-in-Ok.ensures.value ∙ c.in_ok-warnings.ensures) c.in-Ok.ensures.all c.in-Ok-put_all.field-0 c.in-Ok.ensures.cause.quiet
-    c.in-Ok-put_all.ensures.all c.in-Ok-put_all.ensures.cause.quiet
+pub save_notes-requires-clause-can : goal.save_notes-requires-clause-can
+save_notes-requires-clause-can g c = needed_can (table c.in_ok-mixed.mixed) c.in_ok-notes.notes c.in_ok-notes.ensures.shows.noted.needed

@@ -1,7 +1,5 @@
-use Rattle.std.proofs.Common.{List, [], ℕ, ◌≡◌, refl, sym, subst, ◌∙◌}
+use Rattle.std.proofs.Common.{refl, ◌∙◌}
 use Rattle.std.proofs.lemmas.Result.{err_from_is_err_and}
-use Rattle.hg_shelf.specs.History as shelves
-use Rattle.hg_tree.specs.History as trees
 use Rattle.hg_tree.proofs.Histories.{extends_same}
 use Rattle.hg_flat.specs.Parent.{WasAsked}
 use Rattle.hg_flat.proofs.Asking.{never_each, reads_behind}

@@ -1,7 +1,5 @@
-use Rattle.std.proofs.Common.{List, ℕ, Err, refl, sym, subst, ◌∙◌}
+use Rattle.std.proofs.Common.{Err, refl, sym, subst, ◌∙◌}
 use Rattle.std.proofs.lemmas.Result.{err_from_is_err_and}
-use Rattle.hg_shelf.specs.History as shelves
-use Rattle.hg_tree.specs.History as trees
 use Rattle.hg_tree.proofs.Histories.{extends_same}
 use Rattle.hg_tree.proofs.Spans.{ours_first, passes_trans}
 use Rattle.hg_flat.specs.Course.{pieces_of}

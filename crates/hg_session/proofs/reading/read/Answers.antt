@@ -2,7 +2,7 @@ use Rattle.std.proofs.Common.{[], ◌∷◌, Ok, Err}
 use Rattle.std.proofs.lemmas.Result.{err_from_is_err_and}
 use Rattle.hg_session.proofs.Asking.{asks_load}
 use Rattle.hg_session.proofs.Changes.{refused_load}
-use Rattle.hg_session.proofs.changing.read.Goals as goal
+use Rattle.hg_session.proofs.reading.read.Goals as goal
 
 pub returns-in_err-loaded-clause-found : goal.returns-in_err-loaded-clause-found
 returns-in_err-loaded-clause-found g c = λ told.

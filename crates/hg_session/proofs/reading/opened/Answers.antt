@@ -1,7 +1,7 @@
 use Rattle.std.proofs.Common.{sym, ◌∙◌}
 use Rattle.std.proofs.lemmas.Result.{err_from_is_err_and}
 use Rattle.hg_image.specs.Reading.{table_in}
-use Rattle.hg_session.proofs.changing.opened.Goals as goal
+use Rattle.hg_session.proofs.reading.opened.Goals as goal
 
 pub returns-in_err-image : goal.returns-in_err-image
 returns-in_err-image c =

@@ -1,0 +1,181 @@
+-- Each command leads from good records to good ones.
+use Rattle.std.proofs.Common.{ℕ, ◌≡◌, ◌≤◌, Bool, List, [], ◌∷◌, Option, Some, None, Ok, sym, ◌∙◌, subst, arith, inl, inr}
+use Rattle.std.specs.Prelude.{IfSome, IsTrue}
+use Rattle.hg_entry.specs.Table.{Table}
+use Rattle.hg_ops.specs.declared.refusal.Refusal.{Refusal}
+use Rattle.hg_report.specs.declared.fault.Fault.{Fault}
+use Rattle.hg_save.proofs.Others.{last_record}
+use Rattle.hg_save.specs.Others.{KeepData}
+use Rattle.hg_save.specs.Record.{reading}
+use Rattle.hg_session.proofs.Longer.{right_by_start}
+use Rattle.hg_session.specs.Acts.{AllSteps, ChangesTree, Deed, StandsAt, Stepping, TakesAway, makes_of, span_of, steps_of}
+use Rattle.hg_session.specs.Answered.{Ran}
+use Rattle.hg_session.specs.Call.{Call, Count, IsLeftAlone, Looked, Saved, Sink, Watched}
+use Rattle.hg_session.specs.Change.{ChangesBehind, IsUnwritten, up_to}
+use Rattle.hg_session.specs.Changed.{RanChange}
+use Rattle.hg_session.specs.Good.{IsGoodIn, KeepsGood, ReadsRight, StaysGood}
+use Rattle.hg_session.specs.Look.{IsLook}
+use Rattle.hg_session.specs.Status.{AreEarnedFor, RanStatus, noted_in}
+use Rattle.hg_session.specs.declared.acting.Changing.TheVariants as a_change
+use Rattle.hg_session.proofs.Crashes.{crash_unwritten}
+use Rattle.hg_session.proofs.GoodParents.{reparented_good}
+use Rattle.hg_session.proofs.GoodStays.{before, good_by, good_later, good_stays, one_table}
+use Rattle.hg_session.proofs.GoodParts.{data_before, from_moment}
+use Rattle.hg_session.proofs.GoodTables.{KeepsTable, added_keeps, copied_keeps, forgotten_keeps, noted_good, table_good, table_same, table_through}
+use Rattle.hg_shelf.specs.History as shelf
+use Rattle.hg_shelf.specs.Images.{Course, Goes, Images, course}
+use Rattle.hg_shelf.specs.Polite.{KeepsPlain}
+use Rattle.hg_tree.proofs.Histories.{extends_same}
+use Rattle.hg_tree.specs.History as tree
+use Rattle.hg_tree.specs.Honest.{IsHonest}
+use Rattle.hg_walk.proofs.Parts.{trusted_are_right}
+use Rattle.hg_walk.specs.Notes.{NotesData}
+use Rattle.hg_walk.specs.Trust.{IsTrusted}
+use Rattle.hg_walk.specs.Walking.{rows_in}
+use Rattle.hg_words.specs.declared.flags.StatusFlags.{StatusFlags}
+use Rattle.hg_words.specs.declared.given.Command.{Command}
+use Rattle.hg_words.specs.declared.given.Command.TheVariants as a_command
+
+-- ---- what a command makes
+
+abbrev KeepsEach : Stepping → Type 0
+KeepsEach Steps = (before after : tree.History) (word : List ℕ) (old : Table) (refused : Option Refusal) (new : Table) → Steps before after word old refused new → KeepsTable old new
+
+steps_keep : (Steps : Stepping) → KeepsEach Steps → (before after : tree.History) (deeds : List Deed) (old new : Table) → AllSteps Steps before after deeds old new → KeepsTable old new
+steps_keep Steps each before after [] old new is = table_same old new is.1
+steps_keep Steps each before after (deed ∷ more) old new is =
+    table_through old is.1 new (each before is.0 deed.word old deed.refused is.1 is.2.made) (steps_keep Steps each is.0 after more is.1 new is.3)
+
+each_add : KeepsEach (steps_of a_change.Add)
+each_add before after word old refused new is = added_keeps word refused old new is.0.step.table
+
+each_forget : KeepsEach (steps_of a_change.Forget)
+each_forget before after word old refused new is = forgotten_keeps word refused old new is.0.table
+
+each_taken : (gone : Bool) (t : Table) (from to : shelf.History) → KeepsEach (TakesAway gone (span_of t from to))
+each_taken gone t from to before after word old refused new is = forgotten_keeps word refused old new is.removes.table
+
+module _ (copy : Watched tree.History) (files : Watched shelf.History) (past : shelf.Extends files.old files.new) (told : IsTrue files.old.told) (plain : KeepsPlain files.new files.old.last) where
+  abbrev store : shelf.Files
+  store = (shelf.now files.old).files
+
+  -- what a command makes of a good record is good
+  pub made_good : (command : Command) (h : tree.History) (loaded made : Table) (lines : List ℕ) (changed : Bool) → (makes_of command copy files).does loaded made lines changed → IsGoodIn store loaded h → IsGoodIn store made h
+  made_good (a_command.Add words) h loaded made lines changed does =
+      table_good store loaded made h (steps_keep (steps_of a_change.Add) each_add copy.old copy.new does.deeds loaded made does.steps)
+  made_good (a_command.Forget words) h loaded made lines changed does =
+      table_good store loaded made h (steps_keep (steps_of a_change.Forget) each_forget copy.old copy.new does.deeds loaded made does.steps)
+  made_good (a_command.Remove gone words) h loaded made lines changed does =
+      table_good store loaded made h
+      (steps_keep (TakesAway gone (span_of loaded does.start files.new)) (each_taken gone loaded does.start files.new) copy.old copy.new does.acted.deeds loaded made does.acted.steps)
+  made_good (a_command.Copy source target) h loaded made lines changed does = table_good store loaded made h (copied_keeps source target does.refused loaded made does.copies.table)
+  made_good (a_command.SetParents p1 p2) h loaded made lines changed does = reparented_good files past told plain p1 p2 h loaded made lines changed does
+  made_good command h loaded made lines changed does = table_good store loaded made h (table_same loaded made does.table)
+
+-- it is made of the record that stands
+stands_there : (command : Command) (copy : Watched tree.History) (files : Watched shelf.History) (c : Course) (from : ℕ) (loaded : Table) → (makes_of command copy files).stands c from loaded → StandsAt c from loaded
+stands_there (a_command.Add words) copy files c from loaded is = is
+stands_there (a_command.Forget words) copy files c from loaded is = is
+stands_there (a_command.Remove gone words) copy files c from loaded is = is
+stands_there (a_command.Copy source target) copy files c from loaded is = is
+stands_there (a_command.SetParents p1 p2) copy files c from loaded is = is
+stands_there command copy files c from loaded is = is
+
+-- ---- what a status makes
+
+noted_stands : (files : Watched shelf.History) (table : Option Table) (notes : NotesData) (c : Course) → KeepData c.history files.old.last → (from : ℕ) (loaded : Table) → (noted_in files table notes).stands c from loaded → StandsAt c from loaded
+noted_stands files None notes c keeps from loaded is = absurd is
+noted_stands files (Some t) notes c keeps from loaded is = is keeps
+
+noted_does : (looked : Looked) (table : Option Table) (notes : NotesData) → tree.Extends looked.tree.old looked.tree.new → IfSome table (λ t. AreEarnedFor looked t notes)
+    → IsHonest looked.tree.new → IsTrue looked.tree.old.told → KeepsPlain looked.shelf.new looked.shelf.old.last
+    → (loaded made : Table) (lines : List ℕ) (changed : Bool) → (noted_in looked.shelf table notes).does loaded made lines changed
+    → IsGoodIn (shelf.now looked.shelf.old).files loaded looked.tree.old → IsGoodIn (shelf.now looked.shelf.old).files made looked.tree.new
+noted_does looked None notes past earned honest told plain loaded made lines changed does good = absurd does
+noted_does looked (Some t) notes past earned honest told plain loaded made lines changed does good =
+    noted_good (shelf.now looked.shelf.old).files t loaded made notes looked.tree.old looked.tree.new past does.0 does.1 (earned honest told plain) good
+
+-- ---- the working copy
+
+pub alone_past : (copy : Watched tree.History) → IsLeftAlone copy → tree.Extends copy.old copy.new
+alone_past copy alone = subst (λ (h : tree.History). tree.Extends copy.old h) (sym alone.history) (extends_same copy.old)
+
+changes_past : (command : Command) (loaded : Table) (copy : Watched tree.History) → ChangesTree command loaded copy → tree.Extends copy.old copy.new
+changes_past (a_command.Add words) loaded copy is = is.passes.past
+changes_past (a_command.Remove gone words) loaded copy is = is.past
+changes_past (a_command.Copy source target) loaded copy is = is.past
+changes_past command loaded copy is = alone_past copy is
+
+behind_past : (command : Command) (copy : Watched tree.History) (files : Watched shelf.History) → ChangesBehind command copy files → tree.Extends copy.old copy.new
+behind_past command copy files (inl alone) = alone_past copy alone
+behind_past command copy files (inr (loaded, read, is)) = changes_past command loaded copy is
+
+-- ---- a call
+
+-- a call that writes nothing
+pub unwritten_good : (looked : Looked) (saved : Saved) → tree.Extends looked.tree.old looked.tree.new → Goes saved.old saved.new → IsUnwritten saved.old.history saved.new.history → StaysGood looked saved
+unwritten_good looked saved past goes none fair latest good =
+    good_by saved.old saved.new goes fair.calm fair.keep fair.plain looked.tree.old looked.tree.new past fair.published good None (λ r own. absurd own)
+    (crash_unwritten saved.old saved.new goes fair.calm fair.keep none latest)
+
+module _ (copy : Watched tree.History) (files : Watched shelf.History) (oversize locks : Count) (was now : ℕ → Images) (out err : Sink) (code : ℕ) (fault : Option Fault)
+    -- reads show one of what a crash may leave
+    (shown : IsTrue files.new.told → (k : ℕ) → k ≤ files.new.last → (now k).leaves (files.new.at k).files) where
+  abbrev looked : Looked
+  looked = record { tree = copy; shelf = files; oversize = oversize }
+
+  abbrev saved : Saved
+  saved = record { old = course files.old was; new = course files.new now }
+
+  abbrev call : Command → Call
+  call command = record { command = command; looked = looked; saved = saved; locks = locks; out = out; err = err }
+
+  look_stays : (command : Command) → tree.Extends copy.old copy.new → IsLook (call command) code fault → StaysGood looked saved
+  look_stays command past is fair latest good =
+      good_by saved.old saved.new is.only.kept fair.calm fair.keep fair.plain copy.old copy.new past fair.published good None (λ r own. absurd own) (is.crash fair.calm fair.keep latest)
+
+  change_stays : (command : Command) → tree.Extends copy.old copy.new → RanChange (call command) code fault → StaysGood looked saved
+  change_stays command past is fair latest good =
+      good_stays saved.old saved.new is.kept fair.calm fair.keep fair.plain copy.old copy.new past fair.published good (shown (is.kept.past.told ∙ fair.calm.told)) (makes_of command copy files)
+      (stands_there command copy files saved.new)
+      (λ loaded made lines changed does there.
+      good_later (shelf.now files.old).files made copy.old copy.new past (made_good copy files is.kept.past fair.calm.told fair.plain command copy.old loaded made lines changed does there))
+      fault (is.safe fair.calm) (is.crash fair.calm fair.keep latest)
+
+  status_stays : (flags : StatusFlags) → RanStatus flags (call (a_command.Status flags)) code fault → StaysGood looked saved
+  status_stays flags ran fair latest good =
+      good_stays saved.old saved.new ran.saving.kept fair.calm fair.keep fair.plain copy.old copy.new ran.tree.past fair.published good (shown (ran.saving.kept.past.told ∙ fair.calm.told)) (noted_in files ran.table ran.notes)
+      (noted_stands files ran.table ran.notes saved.new fair.kept)
+      (noted_does looked ran.table ran.notes ran.tree.past ran.earned fair.honest fair.told fair.plain)
+      fault (ran.saving.safe fair.calm) (ran.crash fair.calm fair.keep latest)
+
+  reads_right : tree.Extends copy.old copy.new → Goes saved.old saved.new → ReadsRight looked saved
+  reads_right past goes fair apart good t read =
+      let start = files.old.last in
+      let keeps : KeepData (up_to read.upto files.new) start = data_before (up_to read.upto files.new) files.new (from_moment files.new read.upto read.within) start fair.kept in
+      let was = last_record files.old (up_to read.upto files.new) read.read.tries (Ok t) keeps read.read.tried read.read.found in
+      let within : was.at ≤ files.new.last = omega (arith, was.during.to, read.within) in
+      let stood =
+      before saved.old saved.new goes fair.calm fair.keep fair.plain copy.old copy.new past fair.published good was.at was.during.from within
+      (λ j after below. read.none j after (omega (arith, below, was.during.to))) (files.new.at was.at).files (shown (goes.past.told ∙ fair.calm.told) was.at within) in
+      let same : stood.0 ≡ t = one_table (reading (files.new.at was.at).files) stood.0 t stood.1 was.reading in
+      let trusted : IsTrusted (rows_in t (shelf.now files.old).files) t copy.old = subst (λ (t : Table). IsTrusted (rows_in t (shelf.now files.old).files) t copy.old) same stood.2.trusted in
+      right_by_start looked t goes.past fair.plain (trusted_are_right (rows_in t (shelf.now files.old).files) t copy.old copy.new past fair.honest apart trusted)
+
+  look_good : (command : Command) → tree.Extends copy.old copy.new → IsLook (call command) code fault → KeepsGood looked saved
+  look_good command past is = record { past = past; stays = look_stays command past is; right = reads_right past is.only.kept }
+
+  change_good : (command : Command) → RanChange (call command) code fault → KeepsGood looked saved
+  change_good command is = let past = behind_past command copy files is.copy in record { past = past; stays = change_stays command past is; right = reads_right past is.kept }
+
+  -- what a command did keeps what is good
+  pub ran_good : (command : Command) → Ran command (call command) code fault → KeepsGood looked saved
+  ran_good (a_command.Status flags) ran = record { past = ran.tree.past; stays = status_stays flags ran; right = reads_right ran.tree.past ran.saving.kept }
+  ran_good (a_command.Add words) ran = change_good (a_command.Add words) ran
+  ran_good (a_command.Forget words) ran = change_good (a_command.Forget words) ran
+  ran_good (a_command.Remove gone words) ran = change_good (a_command.Remove gone words) ran
+  ran_good (a_command.Copy source target) ran = change_good (a_command.Copy source target) ran
+  ran_good (a_command.SetParents p1 p2) ran = change_good (a_command.SetParents p1 p2) ran
+  ran_good a_command.DebugDirstate ran = look_good a_command.DebugDirstate (alone_past copy ran.alone) ran.look
+  ran_good a_command.DebugScript ran = look_good a_command.DebugScript (alone_past copy ran.idle.copy) ran.look
+  ran_good (a_command.DebugLoad n) ran = look_good (a_command.DebugLoad n) (alone_past copy ran.idle.copy) ran.look

@@ -1,0 +1,191 @@
+-- Saving what was noted with the lock round it, from what was done under the lock.
+use Rattle.std.proofs.Common.{ℕ, ◌≡◌, [], ◌∷◌, None, Result, Ok, Err, IsTrue, refl, sym, ap, ◌∙◌, subst, inl, inr, arith}
+use Rattle.std.proofs.lemmas.List.{append-nil}
+use Rattle.hg_base.specs.Fault.{HasCause, Rose}
+use Rattle.hg_base.specs.declared.fault.Failed.{Failed}
+use Rattle.hg_entry.specs.Table.{Table}
+use Rattle.hg_save.specs.Asked.{docket_ask}
+use Rattle.hg_save.specs.Leads.{IsHeld}
+use Rattle.hg_save.specs.Loads.{files_at}
+use Rattle.hg_save.specs.Record.{docket_in, record_in}
+use Rattle.hg_session.proofs.Freed.{rose_last, rose_twice}
+use Rattle.hg_session.proofs.Locked.{unwritten_here}
+use Rattle.hg_session.proofs.Locks.{not_returned_by, returned_by}
+use Rattle.hg_session.proofs.Makers.{IsWider, stands_later}
+use Rattle.hg_session.proofs.Standing.{keep_earlier}
+use Rattle.hg_session.proofs.Widening.{calm_within, held_stretch, kept_wide, safe_wide, unwritten_wide}
+use Rattle.hg_session.specs.Acts.{Makes}
+use Rattle.hg_session.specs.Call.{Count, Saved, Watched}
+use Rattle.hg_session.specs.Change.{IsSafe, IsSafeHeld}
+use Rattle.hg_session.specs.Locks.{NotTaken, Refused, TakenAt}
+use Rattle.hg_session.specs.Look.{OnlyReads}
+use Rattle.hg_session.specs.Saving.{AnotherStood, IsLockedToSave, IsNoted, IsNotedHeld, IsUnfit, IsUnsaved, SavesHeld, SavesNotes, noted_makes, once_saved, save_fault}
+use Rattle.hg_session.specs.declared.save_fault.SaveFault.{SaveFault}
+use Rattle.hg_session.specs.declared.save_fault.SaveFault.TheVariants as a_save
+use Rattle.hg_shelf.proofs.Histories.{passes_same}
+use Rattle.hg_shelf.proofs.Scenes.{goes_same}
+use Rattle.hg_shelf.specs.Asks.{AsksFrontOf}
+use Rattle.hg_shelf.specs.History.{Files, History, Waits}
+use Rattle.hg_shelf.specs.Images.{Course, Goes}
+use Rattle.hg_shelf.specs.Lock as locks_are
+use Rattle.hg_shelf.specs.Lock.{NotesUnlock, Unlocks}
+use Rattle.hg_shelf.specs.Polite.{Undisturbed}
+use Rattle.hg_shelf.specs.declared.asked.LockAnswer.TheVariants as an_answer
+use Rattle.hg_tree.specs.History as tree
+use Rattle.hg_walk.specs.Applying.{IsBlank}
+use Rattle.hg_walk.specs.Notes.{NotesData, applied}
+
+never_none : {Q : Type 0} (fault : SaveFault) → save_fault (Err fault) ≡ None → Q
+never_none fault is = absurd (cc is)
+
+-- ---- where the lock wasn't had
+
+-- nothing was noted, and nothing touched
+pub saves_blank : (start : History) (c : Course) (count held : ℕ) (recorded : Table) (notes : NotesData) → IsBlank notes
+    → SavesNotes start (record { old = c.history; new = c.history; before = count; after = count }) (record { old = c; new = c }) (record { before = held; after = held }) recorded notes None
+saves_blank start c count held recorded notes blank =
+    let only : OnlyReads (record { old = c.history; new = c.history; before = count; after = count }) (record { old = c; new = c }) (record { before = held; after = held }) =
+    record { passes = passes_same c.history; kept = goes_same c; held = refl } in
+    record { idle = λ none. (only, refl); safe = λ calm. inl (unwritten_here c.history); locked = inl (blank, only); saves = λ well. inl blank }
+
+module _ (start : History) (a b : Course) (lock : Waits a.history b.history) (before after : ℕ) (locks : Count) (recorded : Table) (notes : NotesData) (some : IsBlank notes → ⊥) (ours : b.history.ours ≡ a.history.ours) where
+  abbrev called : Watched History
+  called = record { old = a.history; new = b.history; before = before; after = after }
+
+  -- it was refused
+  pub saves_refused : (IsTrue a.history.told → Refused a.history b.history) → Rose locks.before locks.after → SavesNotes start called (record { old = a; new = b }) locks recorded notes None
+  saves_refused told rose = record {
+    idle = λ blank. absurd (some blank);
+    safe = λ calm. inl (record { none = lock.none });
+    locked = inr (inl (record { told = told; ours = ours; counted = rose; unwritten = record { none = lock.none }; answer = refl }));
+    saves = λ well. inr (inl rose);
+  }
+
+  -- taking it failed
+  pub saves_not_taken : (IsTrue a.history.told → NotTaken a.history b.history) → locks.after ≡ locks.before → Rose before after
+      → SavesNotes start called (record { old = a; new = b }) locks recorded notes (save_fault (Err a_save.ShelfFailed))
+  saves_not_taken told uncounted failed = record {
+    idle = λ blank. absurd (some blank);
+    safe = λ calm. inl (record { none = lock.none });
+    locked = inr (inr (inl (record { told = told; ours = ours; uncounted = uncounted; failed = failed; unwritten = record { none = lock.none }; answer = inl refl })));
+    saves = λ well. never_none a_save.ShelfFailed well;
+  }
+
+-- ---- where it was
+
+-- nothing was asked for
+pub asked_none : (old new : History) → new.asked ≡ old.asked → AsksFrontOf (docket_ask ∷ []) old new
+asked_none old new none = record { some = 0; made = none ∙ sym (append-nil old.asked) }
+
+module _ (start : History) (recorded : Table) (notes : NotesData) (a b c d : Course) (lock : Waits a.history b.history) (unlock : Waits c.history d.history) (p : Goes a b) (q : Goes b c) (r : Goes c d)
+    (noted : IsTrue a.history.told → locks_are.IsNoted an_answer.Taken a.history b.history) (same : c.history.locks ≡ b.history.locks)
+    (taken : IsTrue a.history.told → TakenAt a.history d.history b.history.last c.history.last) (held : IsTrue b.history.told → IsHeld b.history c.history) (first before after end : ℕ) where
+  abbrev part : Watched History
+  part = record { old = b.history; new = c.history; before = before; after = after }
+
+  abbrev whole : Watched History
+  whole = record { old = a.history; new = d.history; before = first; after = end }
+
+  abbrev inner : Saved
+  inner = record { old = b; new = c }
+
+  abbrev outer : Saved
+  outer = record { old = a; new = d }
+
+  abbrev Part : Makes
+  Part = noted_makes (record part { old = start }) recorded notes
+
+  abbrev Whole : Makes
+  Whole = noted_makes (record whole { old = start }) recorded notes
+
+  abbrev alone : Watched tree.History
+  alone = record { old = tree.untold; new = tree.untold; before = 0; after = 0 }
+
+  wide : IsWider Part Whole
+  wide = record {
+    does = λ old new lines changed is. is;
+    stops = λ loaded fault is. is;
+    stands = λ x y goes at within loaded is keep. stands_later x y goes at within loaded (is (keep_earlier x.history y.history start.last goes.past keep));
+  }
+
+  -- ---- what became of the notes
+
+  another_wide : AnotherStood start c.history recorded b.history.last c.history.last → AnotherStood start d.history recorded b.history.last c.history.last
+  another_wide is =
+      let docket : files_at d.history is.tried.docket ≡ files_at c.history is.tried.docket = (r.past.stay is.tried.docket is.within.docket.to).shown in
+      let file : files_at d.history is.tried.file ≡ files_at c.history is.tried.file = (r.past.stay is.tried.file is.within.file.to).shown in
+      record {
+        tried = is.tried;
+        within = record {
+          docket = record { from = is.within.docket.from; to = omega (arith, is.within.docket.to, r.past.later) };
+          file = record { from = is.within.file.from; to = omega (arith, is.within.file.to, r.past.later) };
+          order = is.within.order;
+        };
+        found = (λ i. record_in (docket i) (file i)) ∙ is.found;
+        at = is.at;
+        later = is.later;
+        upto = is.upto;
+        other = λ equal. is.other (sym (ap docket_in (r.past.stay is.at is.upto).shown) ∙ equal ∙ ap docket_in docket);
+      }
+
+  why_wide : IsUnsaved start recorded notes inner b.history.last c.history.last → IsUnsaved start recorded notes outer b.history.last c.history.last
+  why_wide (inl other) = inl (another_wide other)
+  why_wide (inr (inl unfit)) = inr (inl (subst (λ (f : Files). IsUnfit f (applied notes recorded)) (sym (r.kept b.history.last q.past.later).shown) unfit))
+  why_wide (inr (inr equal)) = inr (inr equal)
+
+  noted_wide : IsNoted start recorded notes inner b.history.last c.history.last → IsNoted start recorded notes outer b.history.last c.history.last
+  noted_wide (inl (why, none)) = inl (why_wide why, unwritten_wide a b c d lock unlock p q r taken held none)
+  noted_wide (inr kept) = inr (kept_wide a b c d lock unlock p q r taken held Part Whole wide alone before after first end recorded (applied notes recorded) kept)
+
+  noted_held : (IsNotedIn : Undisturbed b c → IsNoted start recorded notes inner b.history.last c.history.last) → IsNotedHeld start recorded notes outer
+  noted_held is = λ calm. (held_stretch a b c d lock unlock p q r taken held, noted_wide (is (calm_within a b c d lock unlock p q r taken held calm)))
+
+  once_safe : (done : Result Unit SaveFault) (freed : Result Unit Failed) → IsSafeHeld Part inner (save_fault done) → IsSafe Whole outer (save_fault (once_saved done freed))
+  once_safe (Err fault) freed safe = safe_wide a b c d lock unlock p q r taken held Part Whole wide alone before after first end (save_fault (Err fault)) safe
+  once_safe (Ok done) (Ok unit) safe = safe_wide a b c d lock unlock p q r taken held Part Whole wide alone before after first end None safe
+  once_safe (Ok done) (Err failed) safe = elim (safe_wide a b c d lock unlock p q r taken held Part Whole wide alone before after first end None safe) [
+    | inl none ↦ inl none
+    | inr is ↦ inr (inl refl, is.1)
+  ]
+
+  once_saves : (done : Result Unit SaveFault) (freed : Result Unit Failed) → SavesHeld start part inner recorded notes (save_fault done) → save_fault (once_saved done freed) ≡ None → IsNotedHeld start recorded notes outer
+  once_saves (Err fault) freed is well = never_none fault well
+  once_saves (Ok done) (Err failed) is well = never_none a_save.ShelfFailed well
+  once_saves (Ok done) (Ok unit) is well = noted_held (is.ends refl)
+
+  once_locked : (locks : Count) (done : Result Unit SaveFault) (freed : Result Unit Failed) → before ≡ first → locks.after ≡ locks.before → SavesHeld start part inner recorded notes (save_fault done)
+      → HasCause before after done (λ e. e ≡ a_save.ShelfFailed) → HasCause after end freed (λ e. Unit {0}) → Unlocks c.history.ours d.history.ours freed → (IsTrue c.history.told → NotesUnlock c.history d.history freed)
+      → IsLockedToSave start whole outer locks recorded notes (save_fault (once_saved done freed))
+  once_locked locks done (Ok unit) counted uncounted is cause freed free unlocked = inr (inr (inr (inl (record {
+    told = λ told. returned_by a.history b.history c.history d.history p.past q.past r.past (noted told) same (unlocked (q.past.told ∙ p.past.told ∙ told));
+    ours = free;
+    uncounted = uncounted;
+  }))))
+  once_locked locks (Err a_save.OutOfMemory) (Err failed) counted uncounted is cause freed free unlocked = inr (inr (inr (inr (record {
+    told = λ told. not_returned_by a.history b.history c.history d.history p.past q.past r.past (noted told) same (unlocked (q.past.told ∙ p.past.told ∙ told));
+    uncounted = uncounted;
+    failed = rose_last first before after end counted cause.later (freed.rose tt);
+    first = inr refl;
+  }))))
+  once_locked locks (Err a_save.ShelfFailed) (Err failed) counted uncounted is cause freed free unlocked = inr (inr (inr (inr (record {
+    told = λ told. not_returned_by a.history b.history c.history d.history p.past q.past r.past (noted told) same (unlocked (q.past.told ∙ p.past.told ∙ told));
+    uncounted = uncounted;
+    failed = rose_last first before after end counted cause.later (freed.rose tt);
+    first = inl (inl refl, inr (rose_twice first before after end counted (cause.rose refl) (freed.rose tt)));
+  }))))
+  once_locked locks (Ok done) (Err failed) counted uncounted is cause freed free unlocked = inr (inr (inr (inr (record {
+    told = λ told. not_returned_by a.history b.history c.history d.history p.past q.past r.past (noted told) same (unlocked (q.past.told ∙ p.past.told ∙ told));
+    uncounted = uncounted;
+    failed = rose_last first before after end counted cause.later (freed.rose tt);
+    first = inl (inl refl, inl (noted_held (is.ends refl)));
+  }))))
+
+  pub saves_locked : (locks : Count) (some : IsBlank notes → ⊥) (done : Result Unit SaveFault) (freed : Result Unit Failed) → before ≡ first → locks.after ≡ locks.before
+      → SavesHeld start part inner recorded notes (save_fault done) → HasCause before after done (λ e. e ≡ a_save.ShelfFailed) → HasCause after end freed (λ e. Unit {0}) → Unlocks c.history.ours d.history.ours freed
+      → (IsTrue c.history.told → NotesUnlock c.history d.history freed) → SavesNotes start whole outer locks recorded notes (save_fault (once_saved done freed))
+  saves_locked locks some done freed counted uncounted is cause freed_cause free unlocked = record {
+    idle = λ blank. absurd (some blank);
+    safe = λ calm. once_safe done freed (is.safe (calm_within a b c d lock unlock p q r taken held calm));
+    locked = once_locked locks done freed counted uncounted is cause freed_cause free unlocked;
+    saves = λ well. inr (inr (once_saves done freed is well));
+  }

@@ -1,0 +1,197 @@
+-- What became of notes behind a part of a call in which the caller only asked, said of the whole call.
+use Rattle.std.proofs.Common.{ℕ, ◌≡◌, List, ◌∷◌, [], ◌++◌, Option, Some, IsTrue, sym, ap, ◌∙◌, subst, inl, inr, arith}
+use Rattle.std.proofs.lemmas.Bool.{cases_lt}
+use Rattle.hg_base.specs.Fault.{Rose}
+use Rattle.hg_entry.specs.Table.{Table}
+use Rattle.hg_report.specs.declared.fault.Fault.{Fault}
+use Rattle.hg_session.proofs.Locked.{unwritten_then}
+use Rattle.hg_session.specs.Acts.{Makes}
+use Rattle.hg_session.specs.Call.{Count, Fails, FailsTwice, Watched}
+use Rattle.hg_session.specs.Change.{IsKept, IsSafe, IsUnwritten, NoneOurs, Stretch, WasReturned}
+use Rattle.hg_session.specs.Locks.{NotReturned, NotTaken, came_to}
+use Rattle.hg_session.specs.Look.{OnlyReads}
+use Rattle.hg_session.specs.Saving.{IsLockedToSave, IsNoted, IsNotedHeld, SavesNotes, WasNotGivenBack, WasNotGot, WasPassedOver, noted_makes}
+use Rattle.hg_session.specs.Status.{SavesLast}
+use Rattle.hg_shelf.proofs.Histories.{passes_trans, us_apart}
+use Rattle.hg_shelf.proofs.Scenes.{goes_trans, second_part}
+use Rattle.hg_shelf.specs.History.{History, Passes}
+use Rattle.hg_shelf.specs.Images.{Course, Goes}
+use Rattle.hg_shelf.specs.declared.asked.LockAnswer.TheVariants as an_answer
+use Rattle.hg_shelf.specs.declared.asked.LockCall.{LockCall}
+use Rattle.hg_walk.specs.Notes.{NotesData, applied}
+
+module _ (a c d : Course) (only : Passes a.history c.history) (first : Goes a c) (goes : Goes c d) where
+  none_earlier : (k : ℕ) → NoneOurs d.history c.history.last k → NoneOurs d.history a.history.last k
+  none_earlier k none j from to is = elim (cases_lt j c.history.last) [
+    | inl early ↦ us_apart a.history.ours (sym is ∙ goes.past.who j early ∙ only.by_others j from early)
+    | inr late ↦ none j late to is
+  ]
+
+  told_part : IsTrue a.history.told → IsTrue c.history.told
+  told_part told = first.past.told ∙ told
+
+  -- what the lock was called for is what it was called for behind the part
+  locks_earlier : (calls : List LockCall) → d.history.locks ≡ c.history.locks ++ calls → d.history.locks ≡ a.history.locks ++ calls
+  locks_earlier calls is = is ∙ ap (λ (l : List LockCall). l ++ calls) only.locks
+
+  abbrev stretch_earlier : Stretch c.history d.history → Stretch a.history d.history
+  stretch_earlier is = record {
+    from = is.from;
+    to = is.to;
+    start = omega (arith, first.past.later, is.start);
+    order = is.order;
+    end = is.end;
+    before = none_earlier is.from is.before;
+    behind = is.behind;
+    taken = λ told.
+        let taken = is.taken (told_part told) in
+        record { behind = taken.behind; locks = locks_earlier (came_to an_answer.Taken is.from ∷ taken.behind) taken.locks; later = taken.later };
+    held = λ told. is.held (told_part told);
+  }
+
+  unwritten_earlier : IsUnwritten c.history d.history → IsUnwritten a.history d.history
+  unwritten_earlier is = unwritten_then a c d only goes is
+
+  safe_earlier : (Does : Makes) (fault : Option Fault) → IsSafe Does (record { old = c; new = d }) fault → IsSafe Does (record { old = a; new = d }) fault
+  safe_earlier Does fault (inl none) = inl (unwritten_earlier none)
+  safe_earlier Does fault (inr (may, is)) = inr (may, record { stretch = stretch_earlier is.stretch; is = is.is })
+
+  kept_earlier : (loaded made : Table) (from to : ℕ) → IsKept loaded made (record { old = c; new = d }) from to → IsKept loaded made (record { old = a; new = d }) from to
+  kept_earlier loaded made from to is = record {
+    found = is.found;
+    is = is.is;
+    shown = is.shown;
+    left =
+        elim is.left [
+          | inl each ↦ inl each
+          | inr same ↦ inr (same.0, unwritten_earlier same.1)
+        ];
+    gone =
+        elim is.gone [
+          | inl gone ↦ inl gone
+          | inr none ↦ inr (unwritten_earlier none)
+        ];
+    bytes =
+        elim is.bytes [
+          | inl written ↦ inl written
+          | inr none ↦ inr (unwritten_earlier none)
+        ];
+  }
+
+  module _ (t : Table) (notes : NotesData) where
+    noted_earlier : (from to : ℕ) → IsNoted a.history t notes (record { old = c; new = d }) from to → IsNoted a.history t notes (record { old = a; new = d }) from to
+    noted_earlier from to (inl (why, none)) = inl (why, unwritten_earlier none)
+    noted_earlier from to (inr kept) = inr (kept_earlier t (applied notes t) from to kept)
+
+    held_earlier : IsNotedHeld a.history t notes (record { old = c; new = d }) → IsNotedHeld a.history t notes (record { old = a; new = d })
+    held_earlier is calm =
+        let held = is (second_part a c d first calm) in
+        (stretch_earlier held.0, noted_earlier held.0.from held.0.to held.1)
+
+    module _ (before middle after held held_c refused : ℕ) (same : middle ≡ before) (uncounted : held_c ≡ held) (fault : Option Fault) where
+      abbrev part : Watched History
+      part = record { old = c.history; new = d.history; before = middle; after = after }
+
+      abbrev whole : Watched History
+      whole = record { old = a.history; new = d.history; before = before; after = after }
+
+      abbrev locks_c : Count
+      locks_c = record { before = held_c; after = refused }
+
+      abbrev locks : Count
+      locks = record { before = held; after = refused }
+
+      fails_earlier : Fails part → Fails whole
+      fails_earlier failed = subst (λ (n : ℕ). Rose n after) same failed
+
+      twice_earlier : FailsTwice part → FailsTwice whole
+      twice_earlier failed = subst (λ (n : ℕ). FailsTwice (record whole { before = n })) same failed
+
+      rose_earlier : Rose held_c refused → Rose held refused
+      rose_earlier rose = subst (λ (n : ℕ). Rose n refused) uncounted rose
+
+      reads_earlier : OnlyReads part (record { old = c; new = d }) locks_c → OnlyReads whole (record { old = a; new = d }) locks
+      reads_earlier is = record { passes = passes_trans a.history c.history d.history only is.passes; kept = goes_trans a c d first is.kept; held = is.held ∙ uncounted }
+
+      passed_earlier : WasPassedOver part locks_c fault → WasPassedOver whole locks fault
+      passed_earlier is = record {
+        told = λ told. let was = is.told (told_part told) in record { at = was.at; locks = locks_earlier (came_to an_answer.Refused was.at ∷ []) was.locks };
+        ours = is.ours ∙ only.ours;
+        counted = rose_earlier is.counted;
+        unwritten = unwritten_earlier is.unwritten;
+        answer = is.answer;
+      }
+
+      not_taken_earlier : NotTaken c.history d.history → NotTaken a.history d.history
+      not_taken_earlier was = record {
+        at = was.at;
+        locks =
+            elim was.locks [
+              | inl noted ↦ inl (locks_earlier (came_to an_answer.NotTaken was.at ∷ []) noted)
+              | inr none ↦ inr (none ∙ only.locks)
+            ];
+      }
+
+      not_got_earlier : WasNotGot part locks_c fault → WasNotGot whole locks fault
+      not_got_earlier is = record {
+        told = λ told. not_taken_earlier (is.told (told_part told));
+        ours = is.ours ∙ only.ours;
+        uncounted = is.uncounted ∙ uncounted;
+        failed = fails_earlier is.failed;
+        unwritten = unwritten_earlier is.unwritten;
+        answer = is.answer;
+      }
+
+      returned_earlier : WasReturned part locks_c → WasReturned whole locks
+      returned_earlier is = record {
+        told = λ told.
+            let was = is.told (told_part told) in
+            record { from = was.from; back = was.back; order = was.order; locks = locks_earlier (came_to an_answer.Taken was.from ∷ came_to an_answer.GivenBack was.back ∷ []) was.locks };
+        ours = is.ours;
+        uncounted = is.uncounted ∙ uncounted;
+      }
+
+      not_returned_earlier : NotReturned c.history d.history → NotReturned a.history d.history
+      not_returned_earlier was = record {
+        from = was.from;
+        back = was.back;
+        order = was.order;
+        locks =
+            elim was.locks [
+              | inl noted ↦ inl (locks_earlier (came_to an_answer.Taken was.from ∷ came_to an_answer.NotGivenBack was.back ∷ []) noted)
+              | inr alone ↦ inr (locks_earlier (came_to an_answer.Taken was.from ∷ []) alone)
+            ];
+      }
+
+      not_given_earlier : WasNotGivenBack a.history part (record { old = c; new = d }) locks_c t notes fault → WasNotGivenBack a.history whole (record { old = a; new = d }) locks t notes fault
+      not_given_earlier is = record {
+        told = λ told. not_returned_earlier (is.told (told_part told));
+        uncounted = is.uncounted ∙ uncounted;
+        failed = fails_earlier is.failed;
+        first =
+            elim is.first [
+              | inl (answer, inl noted) ↦ inl (answer, inl (held_earlier noted))
+              | inl (answer, inr twice) ↦ inl (answer, inr (twice_earlier twice))
+              | inr memory ↦ inr memory
+            ];
+      }
+
+      locked_earlier : IsLockedToSave a.history part (record { old = c; new = d }) locks_c t notes fault → IsLockedToSave a.history whole (record { old = a; new = d }) locks t notes fault
+      locked_earlier (inl (blank, reads)) = inl (blank, reads_earlier reads)
+      locked_earlier (inr (inl was)) = inr (inl (passed_earlier was))
+      locked_earlier (inr (inr (inl was))) = inr (inr (inl (not_got_earlier was)))
+      locked_earlier (inr (inr (inr (inl was)))) = inr (inr (inr (inl (returned_earlier was))))
+      locked_earlier (inr (inr (inr (inr was)))) = inr (inr (inr (inr (not_given_earlier was))))
+
+      pub saves_earlier : SavesNotes a.history part (record { old = c; new = d }) locks_c t notes fault → SavesLast whole (record { old = a; new = d }) locks (Some t) notes fault
+      saves_earlier is = record {
+        safe = λ calm. safe_earlier (noted_makes whole t notes) fault (is.safe (second_part a c d first calm));
+        idle = λ blank. reads_earlier (is.idle blank).0;
+        locked = locked_earlier is.locked;
+        saves = λ none. elim (is.saves none) [
+          | inl blank ↦ inl blank
+          | inr (inl rose) ↦ inr (inl (rose_earlier rose))
+          | inr (inr noted) ↦ inr (inr (held_earlier noted))
+        ];
+        kept = goes_trans a c d first goes;
+      }
