@@ -29,37 +29,37 @@ pub returns-in-Ok : goal.returns-in-Ok
 returns-in-Ok g c =
     record {
       answered = carried
-      (record {
-        tree = g.T.Tree.history;
-        tree_faults = g.T.Tree.faults;
-        shelf = g.S.Shelf.history;
-        images = g.S.Shelf.images;
-        shelf_faults = g.S.Shelf.faults;
-        held = g.S.Shelf.held;
-        oversize = g.G.Regexps.oversize;
-        out = g.O.Sink.bytes;
-        out_faults = g.O.Sink.faults;
-        err = g.E.Sink.bytes;
-        err_faults = g.E.Sink.faults;
-      })
-      c.args.words.now _ _ _ _ _ _ c.in-Ok.given c.in-Ok.ensures.ok (λ is. c.in-Ok.given-is.not-DebugScript is) c.carry.ensures;
+          (record {
+            tree = g.T.Tree.history;
+            tree_faults = g.T.Tree.faults;
+            shelf = g.S.Shelf.history;
+            images = g.S.Shelf.images;
+            shelf_faults = g.S.Shelf.faults;
+            held = g.S.Shelf.held;
+            oversize = g.G.Regexps.oversize;
+            out = g.O.Sink.bytes;
+            out_faults = g.O.Sink.faults;
+            err = g.E.Sink.bytes;
+            err_faults = g.E.Sink.faults;
+          })
+          c.args.words.now _ _ _ _ _ _ c.in-Ok.given c.in-Ok.ensures.ok (λ is. c.in-Ok.given-is.not-DebugScript is) c.carry.ensures;
       failing = λ failed. absurd (carried_other
-      (record {
-        tree = g.T.Tree.history;
-        tree_faults = g.T.Tree.faults;
-        shelf = g.S.Shelf.history;
-        images = g.S.Shelf.images;
-        shelf_faults = g.S.Shelf.faults;
-        held = g.S.Shelf.held;
-        oversize = g.G.Regexps.oversize;
-        out = g.O.Sink.bytes;
-        out_faults = g.O.Sink.faults;
-        err = g.E.Sink.bytes;
-        err_faults = g.E.Sink.faults;
-      })
-      c.args.words.now (g.I.Source.left c.args.input.now) (g.I.Source.left c.args.input.now)
-      (c.args.tree.now, c.args.shelf.now, c.args.regexps.now, c.args.out.now, c.args.err.now)
-      (c.carry.new.tree, c.carry.new.shelf, c.carry.new.regexps, c.carry.new.out, c.carry.new.err)
-      c.carry.result.status c.carry.result.fault c.in-Ok.given c.carry.ensures failed);
+          (record {
+            tree = g.T.Tree.history;
+            tree_faults = g.T.Tree.faults;
+            shelf = g.S.Shelf.history;
+            images = g.S.Shelf.images;
+            shelf_faults = g.S.Shelf.faults;
+            held = g.S.Shelf.held;
+            oversize = g.G.Regexps.oversize;
+            out = g.O.Sink.bytes;
+            out_faults = g.O.Sink.faults;
+            err = g.E.Sink.bytes;
+            err_faults = g.E.Sink.faults;
+          })
+          c.args.words.now (g.I.Source.left c.args.input.now) (g.I.Source.left c.args.input.now)
+          (c.args.tree.now, c.args.shelf.now, c.args.regexps.now, c.args.out.now, c.args.err.now)
+          (c.carry.new.tree, c.carry.new.shelf, c.carry.new.regexps, c.carry.new.out, c.carry.new.err)
+          c.carry.result.status c.carry.result.fault c.in-Ok.given c.carry.ensures failed);
       unread = λ other. refl;
     }
