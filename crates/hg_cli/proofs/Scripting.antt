@@ -180,3 +180,15 @@ module _ {T S G O E : Type 0} (views : Views T S G O E) (words : List (List ℕ)
 
   pub unread : (met : WordsFault) → (met ≡ a_words.OutOfMemory) ⊎ (command_of words ≡ Err met) → IsStopped (cause.of_words met) (seen views old new) code fault → RunsWords views words from to old new code fault
   unread met why stopped = unread_by (is_script words) met refl why stopped
+
+  -- words that are a command, and no script
+  pub carried : (given : Command) → command_of words ≡ Ok given → (given ≡ a_command.DebugScript → ⊥)
+      → Carries given (seen views old new).looked (seen views old new).saved (seen views old new).locks (seen views old new).out (seen views old new).err code fault
+      → RunsWords views words from to old new code fault
+  carried given is other done = where_false (RunsScript (Does (seen views)) from to old new code fault) (is_script words) (other_asked words given is other) (inl (given, is, done))
+
+  -- no command that was carried out meets a failing input
+  pub carried_other : (given : Command)
+      → Carries given (seen views old new).looked (seen views old new).saved (seen views old new).locks (seen views old new).out (seen views old new).err code fault
+      → fault ≡ Some a_fault.InFailed → ⊥
+  carried_other given done failed = carried_own given (seen views old new) code fault done failed

@@ -1,7 +1,7 @@
 use Rattle.hg_cli.proofs.Carried.{loadable}
-use Rattle.hg_cli.proofs.Scripting.{unread}
+use Rattle.hg_cli.proofs.Scripting.{carried, carried_other, unread}
 use Rattle.hg_cli.proofs.top.run.Goals as goal
-use Rattle.std.proofs.Common.{rules}
+use Rattle.std.proofs.Common.{refl, rules}
 
 pub carry-requires : goal.carry-requires
 carry-requires g c = loadable c.args.words.now c.in-Ok.given c.in-Ok.ensures.ok
@@ -24,3 +24,42 @@ returns-in-Err-clause-answered g c =
     })
     c.args.words.now _ _ _ _ _ _ c.in-Err.fault c.in-Err.ensures.err
     (record { answered = rw c.from.ensures at c.failed.ensures.fault; told = c.failed.ensures.told; idle = search rules; status = c.failed.ensures.status })
+
+pub returns-in-Ok : goal.returns-in-Ok
+returns-in-Ok g c =
+    record {
+      answered = carried
+          (record {
+            tree = g.T.Tree.history;
+            tree_faults = g.T.Tree.faults;
+            shelf = g.S.Shelf.history;
+            images = g.S.Shelf.images;
+            shelf_faults = g.S.Shelf.faults;
+            held = g.S.Shelf.held;
+            oversize = g.G.Regexps.oversize;
+            out = g.O.Sink.bytes;
+            out_faults = g.O.Sink.faults;
+            err = g.E.Sink.bytes;
+            err_faults = g.E.Sink.faults;
+          })
+          c.args.words.now _ _ _ _ _ _ c.in-Ok.given c.in-Ok.ensures.ok (search rules) c.carry.ensures;
+      failing = λ failed. absurd (carried_other
+          (record {
+            tree = g.T.Tree.history;
+            tree_faults = g.T.Tree.faults;
+            shelf = g.S.Shelf.history;
+            images = g.S.Shelf.images;
+            shelf_faults = g.S.Shelf.faults;
+            held = g.S.Shelf.held;
+            oversize = g.G.Regexps.oversize;
+            out = g.O.Sink.bytes;
+            out_faults = g.O.Sink.faults;
+            err = g.E.Sink.bytes;
+            err_faults = g.E.Sink.faults;
+          })
+          c.args.words.now (g.I.Source.left c.args.input.now) (g.I.Source.left c.args.input.now)
+          (c.args.tree.now, c.args.shelf.now, c.args.regexps.now, c.args.out.now, c.args.err.now)
+          (c.carry.new.tree, c.carry.new.shelf, c.carry.new.regexps, c.carry.new.out, c.carry.new.err)
+          c.carry.result.status c.carry.result.fault c.in-Ok.given c.carry.ensures failed);
+      unread = λ other. refl;
+    }
