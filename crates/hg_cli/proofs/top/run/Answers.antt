@@ -42,7 +42,7 @@ returns-in-Ok g c =
             err = g.E.Sink.bytes;
             err_faults = g.E.Sink.faults;
           })
-          c.args.words.now _ _ _ _ _ _ c.in-Ok.given c.in-Ok.ensures.ok (λ is. c.in-Ok.given-is.not-DebugScript is) c.carry.ensures;
+          c.args.words.now _ _ _ _ _ _ c.in-Ok.given c.in-Ok.ensures.ok (search rules) c.carry.ensures;
       failing = λ failed. absurd (carried_other
           (record {
             tree = g.T.Tree.history;
