@@ -4,6 +4,7 @@ many ran and how many were left out. A clock can't be set there: a thing of a ti
 
 import os
 import shutil
+import time
 
 from folder import TO_COME, put
 from scripts import roomy
@@ -44,6 +45,7 @@ class World:
         os.makedirs(f"{self.root}/.hg")
         self.data, self.failing, self.is_due, self.is_held, self.is_known, self.input = Data(), set(), False, False, True, b""
         self.time, self.clock, self.times = NOON, NOON, {}
+        self.due_clock = None
 
     def at(self, name):
         return os.path.join(self.root, os.fsdecode(name))
@@ -152,6 +154,7 @@ class World:
             self.failing.add(rest[0])
         elif word == "due":
             self.is_due = True
+            self.due_clock = time_of(rest[rest.index(b"clock") + 1]) if b"clock" in rest else None
         elif word in ("held", "free"):
             self.is_held = word == "held"
         elif word == "input":
@@ -172,7 +175,8 @@ class World:
         is_met |= "[255]" in wanted and not any(it.startswith("2>") for it in wanted)
         is_met |= b"regexps" in self.failing
         is_told = is_changing(words) and any(it.startswith(b"./") for it in words)
-        is_close = any(it < self.clock and it[0] == self.clock[0] for it in self.times.values())
+        # (or a time that is past in the case and still to come)
+        is_close = any(it < self.clock and (it[0] == self.clock[0] or it[0] > time.time()) for it in self.times.values())
         return self.is_known and not self.is_due and not is_told and not (self.failing and is_met) and not (self.is_held and self.may_save(words)) and not is_close
 
     def may_save(self, words):
@@ -186,6 +190,8 @@ class World:
         answer = self.run(words) if can else None
         self.is_known &= can or not self.may_save(words)
         self.failing -= {b"in", b"out", b"err", b"regexps"}
+        if self.is_due and self.due_clock:
+            self.set_clock(self.due_clock)
         self.is_due = False
         return answer
 
