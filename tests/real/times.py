@@ -90,6 +90,20 @@ def stamps_of(tests, root):
     return [it[5].decode() for it in rows_of(tests, root)[1] if it[3] is not None]
 
 
+def mended(tests, root, hidden, shown):
+    """What `hg` printed, with a file or link that it lists as unchanged told as changed where its bytes aren't those of the first parent and the other program
+    says so: within one tick `hg` takes a time and a size that it has seen for the thing that it saw, whoever recorded them."""
+    if hidden[0] or shown[0]:
+        return hidden
+    node, _ = rows_of(tests, root)
+    parent = manifest_of(root, node)
+    told = dict(reversed(it.split(b" ", 1)) for it in shown[1].splitlines())
+    lines = [it.split(b" ", 1) for it in hidden[1].splitlines()]
+    lines = [(b"M" if letter == b"C" and told.get(path) == b"M" and (face_of(root, path) or (None, None))[:2] != parent.get(path) else letter, path) for letter, path in lines]
+    order = b"MAR!?IC"
+    return hidden[0], b"".join(b"%s %s\n" % it for it in sorted(lines, key=lambda it: (order.index(it[0]), it[1])))
+
+
 # ---- steps of all kinds, each followed by a status of each program
 
 class Steps:
@@ -227,6 +241,8 @@ def run_steps(tests):
             asked = [it for it in sorted(programs) if it != "hg" or not rhg or number % 2]
             order = chance.sample(asked, len(asked))
             said = {name: programs[name]() for name in order}
+            if "hg" in said:
+                said["hg"] = mended(tests, root, said["hg"], said["hgtrack"])
             hidden = hiding(tests, root)
             kept += len(stamps_of(tests, root))
             what = f"times: step {number}, {step.__name__}, asked {', '.join(order)}"
