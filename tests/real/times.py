@@ -92,7 +92,7 @@ def stamps_of(tests, root):
 
 def mended(tests, root, hidden, shown):
     """What `hg` printed, with a file or link that it lists as unchanged told as changed where its bytes aren't those of the first parent and the other program
-    says so: within one tick `hg` takes a time and a size that it has seen for the thing that it saw, whoever recorded them."""
+    says so. In 4 of 200 steps `hg` 6.3.2 alone listed a link so; why isn't known. What of ours would hide a change is asked apart from this (`hiding`)."""
     if hidden[0] or shown[0]:
         return hidden
     node, _ = rows_of(tests, root)
