@@ -360,8 +360,8 @@ def run_thrift(tests):
         opened = [[row for row in rows if row.startswith("openat ") and os.path.isfile(os.path.join(root, row.partition(" ")[2]))] for _, rows, _ in (first, second)]
         looks = [sum(row.startswith(("statx ", "newfstatat ")) for row in rows) for _, rows, _ in (first, second)]
         tests.compare(f"times: of {len(MANY)} files the first opens all, and the second none", (len(opened[0]) >= len(MANY), opened[1]), (True, []))
-        # (each folder is gone into twice, once for tracked paths and once for what else stands: six looks for each, where its own would do)
-        tests.compare(f"times: the second looks {looks[1]} times, at most 1.35 a file", looks[1] <= 1.35 * len(MANY), True)
+        # (a look at each file; for each folder one at its name, and one at `.` on each way in and out)
+        tests.compare(f"times: the second looks {looks[1]} times, at most 1.2 a file", looks[1] <= 1.2 * len(MANY), True)
         out = tests.run(root, ("status", "-A", "-0"))
         tests.compare("times: and all are clean", out, (0, b"".join(b"C %b\0" % os.fsencode(it) for it in sorted(MANY)), b""))
 

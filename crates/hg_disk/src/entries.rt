@@ -23,7 +23,7 @@ fn text_of(dir: Option<PathRef<'_>>) -> &str {
     }
 }
 
-/// The names in a directory that the process goes to, where one stands there.
+/// The names in a directory, where one stands there. It is read by its name in the folder above, and not gone into, unless the process stands in it.
 pub(crate) fn list_there<R: Files + Env + AllocGlobal>(
     place: &mut Place<'_, R>,
     alloc: Global,
@@ -31,10 +31,14 @@ pub(crate) fn list_there<R: Files + Env + AllocGlobal>(
 ) -> Result<Option<Vec<Name>>, TreeFault>
     ensures { IfOk result (λ found. IfSome found (λ names. AreFit (option_map (λ d. d.text.now) dir.entry) names.items)) }
 {
-    match place.go(text_of(dir))? {
-        Gone::There => list_by(place.rt, alloc, dir, ".", &mut place.failure),
+    let (above, name) = match dir {
+        Some(path) if !place.stands_in(path.text) => (text_of(path.parent()), path.base()),
+        _ => (text_of(dir), "."),
+    };
+    match place.go(above)? {
+        Gone::There => list_by(place.rt, alloc, dir, name, &mut place.failure),
         Gone::Absent => Ok(None),
-        Gone::Shut => list_shut(place, alloc, dir),
+        Gone::Shut => Err(TreeFault::from(place.shut(above))),
     }
 }
 
@@ -54,27 +58,6 @@ pub(crate) fn list_from_root<R: Files + AllocGlobal>(
         None => ".",
     };
     list_by(staying.rt, alloc, dir, path, &mut staying.failure)
-}
-
-// A directory that may not be gone into is read by its name. What is in it can't be looked at, so names in it are a failure.
-fn list_shut<R: Files + Env + AllocGlobal>(
-    place: &mut Place<'_, R>,
-    alloc: Global,
-    dir: Option<PathRef<'_>>,
-) -> Result<Option<Vec<Name>>, TreeFault>
-    ensures { IfOk result (λ found. IfSome found (λ names. AreFit (option_map (λ d. d.text.now) dir.entry) names.items)) }
-{
-    let Some(path) = dir else {
-        return Err(TreeFault::from(place.shut("")));
-    };
-    if !place.is_at(text_of(path.parent())) {
-        return Err(TreeFault::from(place.shut(path.text)));
-    }
-    let names = list_by(place.rt, alloc, dir, path.base(), &mut place.failure)?;
-    match &names {
-        Some(names) if !names.is_empty() => Err(TreeFault::from(place.shut(path.text))),
-        _ => Ok(names),
-    }
 }
 
 // The names in a directory that the system finds by this path, whose last component isn't followed where it is a link.

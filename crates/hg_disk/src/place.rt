@@ -245,7 +245,8 @@ impl<'a, R: Files + Env + AllocGlobal> Place<'a, R> {
     }
 
     /// Whether the process is known to stand in this folder.
-    pub(crate) fn is_at(&self, dir: &str) -> bool {
+    pub(crate) fn stands_in(&mut self, dir: &str) -> bool {
+        self.take_notice();
         self.way.is_at(dir)
     }
 

@@ -28,9 +28,10 @@ use Rattle.hg_session.specs.declared.read_fault.ReadFault.{ReadFault}
 use Rattle.hg_session.specs.declared.read_fault.ReadFault.TheVariants as a_read
 use Rattle.hg_session.specs.declared.save_fault.SaveFault.{SaveFault}
 use Rattle.hg_session.specs.declared.save_fault.SaveFault.TheVariants as a_save
+use Rattle.hg_tree.specs.Moment.{zero_time}
 use Rattle.hg_walk.specs.Applying.{CanApply, IsBlank}
 use Rattle.hg_walk.specs.Notes.{AreEarned, DirNote, NotesData, applied}
-use Rattle.hg_walk.specs.Walking.{AreNeeded, IsRecorded, rows_in}
+use Rattle.hg_walk.specs.Walking.{AreNeeded, AreNoted, IsRecorded, rows_in}
 use Rattle.hg_words.specs.declared.flags.StatusFlags.{StatusFlags}
 
 -- ---- nothing is noted
@@ -40,6 +41,14 @@ no_notes = record { clean = []; seen = []; gone = []; hash = None }
 
 none_needed : (t : Table) → AreNeeded t no_notes
 none_needed t = record { clean = λ note never. absurd (omega (arith, never.1)); seen = refl; gone = refl; hash = refl }
+
+none_noted : (old new : tree.History) → AreNoted old new no_notes
+none_noted old new = record {
+  boundary = zero_time;
+  clock = λ told note never. absurd (omega (arith, never.1));
+  stamp = λ note never. absurd (omega (arith, never.1));
+  shown = λ told note never. absurd (omega (arith, never.1));
+}
 
 none_earned : (rows : List ℕ → Option ParentRow) (t : Table) (h : tree.History) → AreEarned rows t h no_notes
 none_earned rows t h = record { clean = λ note never. absurd (omega (arith, never.1)); seen = λ note never. absurd (omega (arith, never.1)); renewed = λ never. absurd (cc never) }
@@ -87,6 +96,7 @@ module _ (flags : StatusFlags) (looked : Looked) (saved : Saved) (locks : Count)
     calm = tt;
     notes = no_notes;
     needed = tt;
+    noted = none_noted looked.tree.old looked.tree.new;
     earned = tt;
     recorded = tt;
     saving = none_saved looked.shelf saved locks None (of_read fault) unsaved (record { passes = passes; kept = unsaved.kept; held = unsaved.held });
@@ -129,6 +139,7 @@ module _ (flags : StatusFlags) (looked : Looked) (saved : Saved) (locks : Count)
     calm = tt;
     notes = no_notes;
     needed = none_needed t;
+    noted = none_noted looked.tree.old looked.tree.new;
     earned = λ honest told keeps. none_earned (rows_in t (shelf.now looked.shelf.old).files) t looked.tree.new;
     recorded = tt;
     saving = none_saved looked.shelf saved locks (Some t) fault unsaved reads;
@@ -169,6 +180,7 @@ module _ (flags : StatusFlags) (looked : Looked) (saved : Saved) (locks : Count)
     calm = on_ok result (λ same. record { tree = shows.calm.tree; shelf = same; regexps = shows.calm.regexps; out = shows.calm.out; err = shows.calm.err }) calm;
     notes = notes;
     needed = shows.noted.needed;
+    noted = shows.noted.noted;
     earned = λ honest told keeps. subst (λ (rows : List ℕ → Option ParentRow). AreEarned rows t looked.tree.new notes) (rows_same notes shows keeps) (shows.noted.earned honest told (plain_part notes shows keeps));
     recorded = always result (λ own keeps. subst (λ (rows : List ℕ → Option ParentRow). IsRecorded (wanted_of flags) rows t (tree.now looked.tree.old) (applied notes t)) (rows_same notes shows keeps) (shows.noted.recorded own (plain_part notes shows keeps)));
     saving = saving;

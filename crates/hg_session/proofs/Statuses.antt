@@ -94,6 +94,7 @@ module _ (command : Command) (flags : StatusFlags) (looked : Looked) (saved : Sa
     below = does.below;
     notes = does.notes;
     needed = does.needed;
+    noted = does.noted;
     earned = does.earned;
     recorded = λ none. from_well mid tail bytes count (IsSomeAnd does.table (λ t. IsRecordedFor looked (wanted_of flags) t does.notes)) done code fault ends does.recorded none;
     saving = saving;

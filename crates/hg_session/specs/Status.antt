@@ -47,7 +47,7 @@ use Rattle.hg_tree.specs.Honest.{IsHonest}
 use Rattle.hg_tree.specs.Moment.{Moment, stat_at}
 use Rattle.hg_walk.specs.Applying.{IsBlank}
 use Rattle.hg_walk.specs.Notes.{AreEarned, NotesData, applied}
-use Rattle.hg_walk.specs.Walking.{AreNeeded, IsRecorded, rows_in}
+use Rattle.hg_walk.specs.Walking.{AreNeeded, AreNoted, IsRecorded, rows_in}
 use Rattle.hg_words.specs.declared.flags.StatusFlags.{StatusFlags}
 
 -- ---- what is printed
@@ -187,6 +187,7 @@ IsRecordedFor looked wanted table notes =
 -- what a listing over a table notes, only what is needed
 pub record IsNotedFor (looked : Looked) (wanted : Wanted) (table : Table) (notes : NotesData) : Type 0 where
   pub needed : AreNeeded table notes
+  pub noted : AreNoted looked.tree.old looked.tree.new notes
   pub earned : AreEarnedFor looked table notes
   pub recorded : IsRecordedFor looked wanted table notes
 
@@ -243,6 +244,7 @@ pub record DoesStatus (flags : StatusFlags) (looked : Looked) (saved : Saved) (l
   pub calm : OnOk result (IsCalm looked out err)
   pub notes : NotesData
   pub needed : IfSome table (λ t. AreNeeded t notes)
+  pub noted : AreNoted looked.tree.old looked.tree.new notes
   pub earned : IfSome table (λ t. AreEarnedFor looked t notes)
   pub recorded : OnOk result (IsSomeAnd table (λ t. IsRecordedFor looked (wanted_of flags) t notes))
   pub saving : SavesLast looked.shelf saved locks table notes (fault_in result)
@@ -275,10 +277,12 @@ pub record RanStatus (flags : StatusFlags) (call : Call) (code : ℕ) (fault : O
   pub asked_own : fault ≡ None → IsSomeAnd table (AsksOwn call.looked (wanted_of flags))
   -- below `.hg` it asks for the record, then for what its comparisons need, the manifest once at most, and for the docket once more before it saves times
   pub below : IsTrue call.looked.shelf.old.told → AsksBelow call.looked (wanted_of flags) table
-  -- what it noted of times: only what is needed; each time was seen with what it stands for, whatever others do in the working copy; and without a fault, where
-  -- nobody else touches that, all that a second status needs to read no clean file again
+  -- what it noted of times: only what is needed; each time is that of a look in the call, by one time that the clock showed in it; it was seen with what it
+  -- stands for, whatever others do in the working copy; and without a fault, where nobody else touches that, all that a second status needs to read no clean
+  -- file again
   pub notes : NotesData
   pub needed : IfSome table (λ t. AreNeeded t notes)
+  pub noted : AreNoted call.looked.tree.old call.looked.tree.new notes
   pub earned : IfSome table (λ t. AreEarnedFor call.looked t notes)
   pub recorded : fault ≡ None → IsSomeAnd table (λ t. IsRecordedFor call.looked (wanted_of flags) t notes)
   -- what became of that
