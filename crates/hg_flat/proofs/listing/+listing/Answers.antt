@@ -1,6 +1,6 @@
 -- A listing of what stands at a path, at the names of a directory and in a directory: `Steps` has each step, `Asks` what the tree is asked.
 use Rattle.std.proofs.lemmas.Grind.{common_steps}
-use Rattle.std.proofs.Common.{arith, List, Some, ◌∙◌, ◌+◌, [], ap, refl, sym, subst, option_map}
+use Rattle.std.proofs.Common.{arith, List, Some, ◌∙◌, ◌+◌, [], ap, refl, subst, option_map}
 use Rattle.std.specs.Prelude.{OnOk}
 use Rattle.std.proofs.lemmas.Result.{on_ok_weaker}
 use Rattle.hg_tree.specs.History.{now}
