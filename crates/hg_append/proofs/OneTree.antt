@@ -15,7 +15,9 @@ use Rattle.hg_image.specs.Rows.{Row, rows_of}
 use Rattle.hg_image.proofs.Apart.{not_after_itself}
 use Rattle.hg_mixed.specs.Children.{AreChildren, ChildData, IsChild}
 use Rattle.hg_mixed.specs.Held.{Held, is_lent, source_at, table, text_at}
-use Rattle.hg_append.specs.Tree.{AreBelow, IsTreeOf, Nothing, Node, Tree, heads, nodes}
+use Rattle.hg_append.specs.declared.kept.Kept.{Kept}
+use Rattle.hg_append.specs.Keeps.{Keeps, keeps_nothing}
+use Rattle.hg_append.specs.Tree.{AreBelowIn, AreKids, IsTreeIn, IsTreeOf, Nothing, Node, Tree, heads, kept_of, nodes}
 use Rattle.hg_append.specs.Layout.{node_size, size_of}
 use Rattle.hg_append.specs.Lost.{is_at, lost, lost_of, named_length, reached}
 
@@ -125,19 +127,26 @@ same_lists held dir xs ys a b =
 heads_first : (c d : ChildData) (xs ys : List ChildData) → c ∷ xs ≡ d ∷ ys → (c ≡ d) × (xs ≡ ys)
 heads_first c d xs ys h = (cc, cc)
 
-same_trees : (held : Held) (a b : Tree) → heads a ≡ heads b → AreBelow held a → AreBelow held b → a ≡ b
-same_trees held Nothing Nothing h p q = refl
-same_trees held Nothing (Node d u r) h p q = absurd (cc)
-same_trees held (Node c u r) Nothing h p q = absurd (cc)
-same_trees held (Node c u r) (Node d v s) h p q =
+same_kid_lists : (held : Held) (list : Option Kept) (path : List ℕ) (xs ys : List ChildData) → AreKids held list path xs → AreKids held list path ys → xs ≡ ys
+same_kid_lists held None path xs ys p q = same_lists held (Some path) xs ys p q
+same_kid_lists held (Some list) path xs ys p q = p ∙ sym q
+
+same_trees : (held : Held) (keeps : Keeps) (a b : Tree) → heads a ≡ heads b → AreBelowIn held keeps a → AreBelowIn held keeps b → a ≡ b
+same_trees held keeps Nothing Nothing h p q = refl
+same_trees held keeps Nothing (Node d u r) h p q = absurd (cc)
+same_trees held keeps (Node c u r) Nothing h p q = absurd (cc)
+same_trees held keeps (Node c u r) (Node d v s) h p q =
     let first = heads_first c d (heads r) (heads s) h in
-    let lists : heads u ≡ heads v = same_lists held (Some d.path) (heads u) (heads v) (subst (λ (x : ChildData). AreChildren held (Some x.path) (heads u)) first.0 p.0) q.0 in
-    let under : u ≡ v = same_trees held u v lists p.1.0 q.1.0 in
-    let behind : r ≡ s = same_trees held r s first.1 p.1.1 q.1.1 in
+    let lists : heads u ≡ heads v = same_kid_lists held (kept_of keeps d) d.path (heads u) (heads v) (subst (λ (x : ChildData). AreKids held (kept_of keeps x) x.path (heads u)) first.0 p.0) q.0 in
+    let under : u ≡ v = same_trees held keeps u v lists p.1.0 q.1.0 in
+    let behind : r ≡ s = same_trees held keeps r s first.1 p.1.1 q.1.1 in
     λ i. Node (first.0 i) (under i) (behind i)
 
+pub one_tree_in : (held : Held) (keeps : Keeps) (dir : Option (List ℕ)) (a b : Tree) → IsTreeIn held keeps dir a → IsTreeIn held keeps dir b → a ≡ b
+one_tree_in held keeps dir a b p q = same_trees held keeps a b (same_lists held dir (heads a) (heads b) p.children q.children) p.below q.below
+
 pub one_tree : (held : Held) (dir : Option (List ℕ)) (a b : Tree) → IsTreeOf held dir a → IsTreeOf held dir b → a ≡ b
-one_tree held dir a b p q = same_trees held a b (same_lists held dir (heads a) (heads b) p.children q.children) p.below q.below
+one_tree held dir a b p q = one_tree_in held keeps_nothing dir a b p q
 
 pub plain_size : (tree : Tree) → size_of tree ≡ sum_by node_size (nodes tree)
 plain_size Nothing = refl

@@ -35,7 +35,7 @@ use Rattle.hg_mixed.specs.Children.{ChildData, IsChild}
 use Rattle.hg_mixed.specs.Edits.{IsFormed}
 use Rattle.hg_mixed.specs.Held.{Held, table}
 use Rattle.hg_mixed.specs.Written.{fields_for}
-use Rattle.hg_append.specs.Tree.{AreBelow, IsTreeOf, Nothing, Node, Tree, count_in, heads, is_tracked, nodes}
+use Rattle.hg_append.specs.Tree.{AreBelow, Counting, IsTreeOf, Nothing, Node, Tree, count_in, heads, is_tracked, nodes}
 use Rattle.hg_append.specs.Tree as tree
 use Rattle.hg_append.specs.Layout.{behind_node, front_of, front_size, list_start, put_of, rec_of, records_of, size_of, source_text}
 use Rattle.hg_append.specs.Put.{AreSound, IsWritable}
@@ -240,7 +240,7 @@ track_counted f o h = told (has_entry f.flags) refl _ h refl
 sum_of : (a b : ℕ) (x y n m : ℕ) → a ≡ x → b ≡ y → n ≡ m → n + (a + b) ≡ m + x + y
 sum_of a b x y n m p q r = omega (arith, p, q, r)
 
-module _ (test : Row → Bool) (of : ChildData → Bool) (same : (child : ChildData) (r : Row) → IsWritable child → r.source ≡ child.source → fields_of r.rec ≡ fields_for child.entry child.cache → test r ≡ of child) where
+module _ (test : Row → Bool) (of : Counting) (same : (child : ChildData) (r : Row) → IsWritable child → r.source ≡ child.source → fields_of r.rec ≡ fields_for child.entry child.cache → test r ≡ of.test child) where
   counted_as : (at place : ℕ) (t : Tree) → AreSound t → count_by test (rows_at at place t) ≡ count_in of t
   counted_as at place Nothing sound = refl
   counted_as at place (Node child under behind) sound =

@@ -9,6 +9,7 @@ use Rattle.hg_append.specs.declared.encoding.Encoded.{Encoded}
 use Rattle.hg_append.specs.declared.fault.EncodeFault.{EncodeFault}
 use Rattle.hg_append.specs.declared.fault.EncodeFault.TheVariants as a_fault
 use Rattle.hg_append.specs.declared.lists.Put.{Put}
+use Rattle.hg_append.specs.Keeps.{keeps_nothing}
 use Rattle.hg_append.specs.Tree.{IsTreeOf, Nothing, Node, Tree, count_in, has_entry, has_source, heads}
 use Rattle.hg_append.specs.Layout.{front_size, list_start, put_of, size_of}
 use Rattle.hg_append.specs.Put.{IsPut, kept}
@@ -22,7 +23,7 @@ back_is items old front d e is none back same =
     subst (docket.ReadsAs items) same
     (subst (λ (b : List ℕ). docket.ReadsAs b d) (append-nil (docket.bytes_of d) ∙ sym (ap (λ (l : List ℕ). l ++ docket.bytes_of d) none) ∙ sym is) (back []))
 
-module _ (held : Held) (put : Put) (old new old_records new_records : List ℕ) (p : IsPut held None 0 put old new old_records new_records) where
+module _ (held : Held) (put : Put) (old new old_records new_records : List ℕ) (p : IsPut held keeps_nothing None 0 put old new old_records new_records) where
   pub too_large : 2 ^ 32 ≤ put.sums.end → (id : List ℕ) → next_name held.docket.id ≡ Some id → (e : EncodeFault) → e ≡ a_fault.TooLarge put.sums.end → HasCause held e
   too_large large id next e is =
       let end : put.sums.end ≡ kept (0 + size_of p.tree) = p.sums_are.ends in

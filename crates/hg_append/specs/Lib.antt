@@ -1,3 +1,4 @@
+pub mod Keeps
 pub mod Tree
 pub mod Layout
 pub mod Put

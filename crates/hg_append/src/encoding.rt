@@ -14,24 +14,16 @@ ghost use Rattle.hg_append.specs.Layout.{size_of};
 ghost use Rattle.hg_append.specs.Put.{kept};
 ghost use Rattle.hg_append.specs.Tree.{IsTreeOf, Tree};
 ghost use Rattle.hg_append.specs.Lost.{waste};
-ghost use Rattle.hg_append.specs.declared.encoding.Way.TheVariants as a_way;
+ghost use Rattle.hg_append.specs.declared.way.Way.TheVariants as a_way;
 ghost use Rattle.hg_append.specs.declared.fault.EncodeFault.TheVariants.{IdsSpent, TooLarge};
 
 use crate::fault::EncodeFault;
 use crate::lists::{LAST, Put, put_list};
+use crate::way::Way;
 use hg_base::{OutOfMemory, PathRef};
 use hg_docket::{Docket, Ident};
 use hg_mixed::Mixed;
 use std::alloc::Global;
-
-/// How a table is written.
-#[derive(Clone, Copy, Debug, PartialEq, Eq)]
-pub enum Way {
-    /// Behind what the data file has, of which the table keeps what it can.
-    Append,
-    /// As a new data file.
-    Rewrite,
-}
 
 /// A table as a docket and a data file.
 #[derive(Drop)]
@@ -138,7 +130,15 @@ fn write(alloc: Global, mixed: &Mixed<'_>) -> Result<Encoded, EncodeFault>
     };
     let mut bytes = room(alloc, mixed)?;
     let mut records = Vec::new(alloc);
-    let put = put_list(mixed, None, mixed.walk(None), 0, &mut bytes, &mut records)?;
+    let put = put_list(
+        mixed,
+        Way::Rewrite,
+        None,
+        mixed.walk(None),
+        0,
+        &mut bytes,
+        &mut records,
+    )?;
     let used = used_to(put.sums.end)?;
     let docket = docket_bytes(alloc, mixed, &id, put, used)?;
     Ok(Encoded {

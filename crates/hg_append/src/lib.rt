@@ -21,10 +21,13 @@
 
 mod encoding;
 mod fault;
+mod kept;
 mod laws;
 mod lists;
 mod sums;
+mod way;
 
-pub use encoding::{Encoded, Way, encode, end_of, plan};
+pub use encoding::{Encoded, encode, end_of, plan};
 pub use fault::EncodeFault;
 pub use laws::{all_lost, one_tree, plain_size};
+pub use way::Way;

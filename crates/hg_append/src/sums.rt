@@ -5,10 +5,8 @@ ghost use Rattle.hg_mixed.specs.Child.{shown_child};
 ghost use Rattle.hg_mixed.specs.Clash as clash;
 ghost use Rattle.hg_entry.specs.Entry.{view};
 ghost use Rattle.std.specs.Option.{option_map};
-ghost use Rattle.hg_append.specs.Layout as layout;
 ghost use Rattle.hg_append.specs.Put as puts;
 
-use hg_base::PathRef;
 use hg_entry::Entry;
 use hg_mixed::Child;
 
@@ -55,25 +53,14 @@ fn is_tracked(entry: Option<Entry>) -> bool
     }
 }
 
-/// The text of a copy source, nothing where there is none.
-pub fn source_text<'t>(source: Option<PathRef<'t>>) -> &'t str
-    ensures { result.now ≡ layout.source_text (option_map (λ s. s.text.now) source.entry) }
+/// The sums of a list with one node more, of whose path and copy source so much is put.
+pub fn with_node(child: &Child<'_>, path: &[u8], source: &[u8], under: Sums, sums: Sums) -> Sums
+    ensures { result ≡ puts.with_node (shown_child child.now) path.now source.now under sums }
 {
-    match source {
-        None => "",
-        Some(path) => path.text,
-    }
-}
-
-/// The sums of a list with one node more.
-pub fn with_node(child: &Child<'_>, under: Sums, sums: Sums) -> Sums
-    ensures { result ≡ puts.with_node (shown_child child.now) under sums }
-{
-    let source = source_text(child.source);
     Sums {
         end: under
             .end
-            .saturating_add(child.path.text.len() as u64)
+            .saturating_add(path.len() as u64)
             .saturating_add(source.len() as u64),
         count: sums.count.saturating_add(1),
         entries: sums

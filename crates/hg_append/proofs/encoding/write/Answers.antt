@@ -3,7 +3,11 @@ use Rattle.std.proofs.lemmas.Result.{err_from_is_err_and}
 use Rattle.hg_docket.specs.Docket.{Contents}
 use Rattle.hg_docket.specs.Number.{next_name}
 use Rattle.hg_append.proofs.Written.{fit, soundly, too_large}
+use Rattle.hg_append.proofs.Steps.{few_anew}
 use Rattle.hg_append.proofs.encoding.write.Goals as goal
+
+pub put_list-requires-clause-few : goal.put_list-requires-clause-few
+put_list-requires-clause-few c = few_anew c.args.mixed.now
 
 pub returns-in_err-used-clause-cause : goal.returns-in_err-used-clause-cause
 returns-in_err-used-clause-cause c =

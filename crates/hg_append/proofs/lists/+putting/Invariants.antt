@@ -2,6 +2,7 @@
 use Rattle.std.proofs.Common.{◌≡◌, ◌+◌, ◌-◌, ◌*◌, length}
 use Rattle.std.specs.Option.{option_map}
 use Rattle.hg_mixed.specs.Walk.{ListsAreOf, walked}
+use Rattle.hg_append.specs.Keeps.{keeps_by}
 use Rattle.hg_append.specs.Put.{IsPutPart, base_in}
 use Rattle.hg_append.proofs.Steps.{dir_length}
 use Rattle.hg_append.proofs.lists.+putting.Given as goal
@@ -17,7 +18,7 @@ decreases-put_list l = 3 * (65536 - dir_length (option_map (λ d. d.text.now) l.
 
 abbrev pub invariant-put_list-loop-child : goal.invariant-put_list-loop-child
 invariant-put_list-loop-child l = record {
-  part : IsPutPart l.mixed (option_map (λ d. d.text.now) l.dir) l.at (walked l.children) l.sums l.fn.bytes.items l.bytes.items l.fn.records.items l.records.items;
+  part : IsPutPart l.mixed (keeps_by l.mixed l.way) (option_map (λ d. d.text.now) l.dir) l.at (walked l.children) l.sums l.fn.bytes.items l.bytes.items l.fn.records.items l.records.items;
   lists : ListsAreOf l.mixed l.children;
   base : l.base_at ≡ base_in (option_map (λ d. d.text.now) l.dir);
   from : l.from ≡ length l.fn.records.items;
