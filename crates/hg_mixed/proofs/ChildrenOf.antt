@@ -18,7 +18,7 @@ use Rattle.hg_mixed.specs.Edits.{IsFormed}
 use Rattle.hg_mixed.specs.Memory.{InMemory, memory_table}
 use Rattle.hg_mixed.specs.Kids.{AreKids}
 use Rattle.hg_mixed.specs.Lists.{dir_text, has_rows_in, or_root}
-use Rattle.hg_mixed.specs.Node.{NodeData, entry_in, node_at, source_in}
+use Rattle.hg_mixed.specs.Node.{NodeData, entry_in, node_at, source_in, source_text_in, text_in}
 use Rattle.hg_mixed.proofs.Listed.{rows_none, rows_some}
 
 -- a directory that was given is a path
@@ -65,7 +65,7 @@ module _ (old was : InMemory) (same : was ≡ old) (formed : IsFormed (memory_ta
   has_kids path good false is = λ kid parent. not_some (node_at was.rows kid) (rows_none was.rows path kid is (ap or_root parent))
 
   each_child : (kids : List (List ℕ × NodeData)) → AllByRecursion (λ kid. (dir_text kid.0 ≡ or_root dir) × (node_at was.rows kid.0 ≡ Some kid.1)) kids
-      → AllByRecursion (IsNodeIn (memory_table was) dir) (children_of was.rows was.times kids)
+      → AllByRecursion (IsNodeIn (memory_table was) was.rows dir) (children_of was.rows was.times kids)
   each_child [] all = tt
   each_child (kid ∷ kids) all =
       let node : (memory_table was).nodes kid.0 ≡ true = ap is_some all.0.1 in
@@ -77,14 +77,14 @@ module _ (old was : InMemory) (same : was ≡ old) (formed : IsFormed (memory_ta
           source = sym (ap source_in all.0.1);
           cache = refl;
           kids = has_kids kid.0 good (has_rows_in was.rows kid.0) refl;
-          text = refl;
-          source_text = refl;
+          text = sym (ap text_in all.0.1);
+          source_text = sym (ap source_text_in all.0.1);
         },
         each_child kids all.1,
       )
 
-  pub children_are : (kids : List (List ℕ × NodeData)) → AreKids was.rows (or_root dir) kids → AreNodesIn (memory_table old) dir (children_of was.rows was.times kids)
-  children_are kids are = subst (λ (h : InMemory). AreNodesIn (memory_table h) dir (children_of was.rows was.times kids)) same (record {
+  pub children_are : (kids : List (List ℕ × NodeData)) → AreKids was.rows (or_root dir) kids → AreNodesIn (memory_table old) old.rows dir (children_of was.rows was.times kids)
+  children_are kids are = subst (λ (h : InMemory). AreNodesIn (memory_table h) h.rows dir (children_of was.rows was.times kids)) same (record {
     ascending = subst (IsStrictlySortedBy (slice_cmp nat_cmp)) (sym (paths_of was.rows was.times kids)) are.sorted;
     each = each_child kids are.each;
     all = λ path node parent. any_of was.rows was.times path kids ∙ are.all path (ap or_root parent) node;

@@ -8,8 +8,8 @@ use Rattle.hg_entry.specs.Table.{Table}
 use Rattle.hg_mixed.specs.Drop.{IsPrunedAt, IsPruned, after_clear, bare}
 use Rattle.hg_mixed.specs.Edits.{IsFormed, IsSame}
 use Rattle.hg_mixed.specs.Held.{table_of}
-use Rattle.hg_mixed.specs.Memory.{InMemory, memory_table}
-use Rattle.hg_mixed.specs.Node.{IsPut, NodeData, blank, entry_in, node_at, source_in}
+use Rattle.hg_mixed.specs.Memory.{AreCleared, InMemory, memory_table}
+use Rattle.hg_mixed.specs.Node.{IsPut, NodeData, cleared, entry_in, node_at, source_in}
 use Rattle.hg_mixed.proofs.Edited.{entry_node}
 
 -- two tables with the same nodes, entries, sources and caches
@@ -51,17 +51,17 @@ alike_pruned path a b left end alike ends p1 p2 hash p = record {
   caches = λ at. sym (ends.caches at) ∙ p.caches at ∙ ap (cond (p.gone at || p.stale at) None) (alike.caches at);
 }
 
-entry_clear : (b : Bool) (o : Option NodeData) → entry_in (cond b (Some blank) o) ≡ cond b None (entry_in o)
-entry_clear true o = refl
-entry_clear false o = refl
+entry_clear : (b : Bool) (first o : Option NodeData) → entry_in (cond b (Some (cleared first)) o) ≡ cond b None (entry_in o)
+entry_clear true first o = refl
+entry_clear false first o = refl
 
-source_clear : (b : Bool) (o : Option NodeData) → source_in (cond b (Some blank) o) ≡ cond b None (source_in o)
-source_clear true o = refl
-source_clear false o = refl
+source_clear : (b : Bool) (first o : Option NodeData) → source_in (cond b (Some (cleared first)) o) ≡ cond b None (source_in o)
+source_clear true first o = refl
+source_clear false first o = refl
 
-node_clear : (b : Bool) (o : Option NodeData) → (b ≡ true → is_some o ≡ true) → is_some (cond b (Some blank) o) ≡ is_some o
-node_clear true o is = sym (is refl)
-node_clear false o is = refl
+node_clear : (b : Bool) (first o : Option NodeData) → (b ≡ true → is_some o ≡ true) → is_some (cond b (Some (cleared first)) o) ≡ is_some o
+node_clear true first o is = sym (is refl)
+node_clear false first o is = refl
 
 none_or : {X : Type 0} (b : Bool) (o : Option X) → o ≡ None → cond b None o ≡ None
 none_or true o h = refl
@@ -71,17 +71,17 @@ none_of_entry : (b : Bool) (entry : Option EntryData) (source : Option (List ℕ
 none_of_entry true entry source h none = refl
 none_of_entry false entry source h none = h none
 
-module _ (path : List ℕ) (was old : InMemory) (same : was ≡ old) (mid : List (List ℕ × NodeData)) (put : IsPut path (Some blank) was.rows mid) (some : is_some (entry_in (node_at old.rows path)) ≡ true) where
+module _ (path : List ℕ) (was old : InMemory) (same : was ≡ old) (mid : List (List ℕ × NodeData)) (put : IsPut path (Some (cleared (node_at was.rows path))) was.rows mid) (some : is_some (entry_in (node_at old.rows path)) ≡ true) where
   some_was : is_some (entry_in (node_at was.rows path)) ≡ true
   some_was = ap (λ (h : InMemory). is_some (entry_in (node_at h.rows path))) same ∙ some
 
   clear_alike : AreAlike (bare mid was.times) (after_clear path (memory_table was))
   clear_alike = record {
-    entries = λ at. ap entry_in (put at) ∙ entry_clear (bytes_eq path at) (node_at was.rows at);
-    sources = λ at. ap source_in (put at) ∙ source_clear (bytes_eq path at) (node_at was.rows at);
+    entries = λ at. ap entry_in (put at) ∙ entry_clear (bytes_eq path at) (node_at was.rows path) (node_at was.rows at);
+    sources = λ at. ap source_in (put at) ∙ source_clear (bytes_eq path at) (node_at was.rows path) (node_at was.rows at);
     nodes = λ at.
         ap is_some (put at)
-        ∙ node_clear (bytes_eq path at) (node_at was.rows at)
+        ∙ node_clear (bytes_eq path at) (node_at was.rows path) (node_at was.rows at)
         (λ h. ap (λ (p : List ℕ). is_some (node_at was.rows p)) (sym (same_bytes path at h)) ∙ entry_node (node_at was.rows path) some_was);
     caches = λ at. refl;
   }
@@ -103,6 +103,11 @@ module _ (path : List ℕ) (was old : InMemory) (same : was ≡ old) (mid : List
   clear_pruned left times p = subst (λ (h : InMemory). IsPruned path (after_clear path (memory_table h)) (table_of was.p1 was.p2 was.hash left times)) same
       (alike_pruned path (bare mid was.times) (after_clear path (memory_table was)) (bare left times) (table_of was.p1 was.p2 was.hash left times) clear_alike
       (record { entries = λ at. refl; sources = λ at. refl; nodes = λ at. refl; caches = λ at. refl }) refl refl refl p)
+
+-- of a node that was cleared what is there still
+pub clear_nodes : (path : List ℕ) (was old : InMemory) → was ≡ old → (mid : List (List ℕ × NodeData)) → IsPut path (Some (cleared (node_at was.rows path))) was.rows mid → (left : List (List ℕ × NodeData))
+    → ((at : List ℕ) → is_some (node_at left at) ≡ true → node_at left at ≡ node_at mid at) → AreCleared path old.rows left
+clear_nodes path was old same mid put left kept = subst (λ (h : InMemory). AreCleared path h.rows left) same (λ at is. kept at is ∙ put at)
 
 -- ---- the law: the conditions fix what is left
 

@@ -11,8 +11,8 @@ use Rattle.hg_entry.specs.Entry.{EntryData, StampData}
 use Rattle.hg_entry.specs.Table.{Table}
 use Rattle.hg_mixed.specs.Edits.{IsFormed, IsSame, Marks, after_cache, after_copy, after_set}
 use Rattle.hg_mixed.specs.Held.{table_of}
-use Rattle.hg_mixed.specs.Memory.{InMemory, memory_table}
-use Rattle.hg_mixed.specs.Node.{IsPut, NodeData, entry_in, node_at, or_blank, planted, source_in, with_entry}
+use Rattle.hg_mixed.specs.Memory.{InMemory, IsSourceWritten, memory_table}
+use Rattle.hg_mixed.specs.Node.{AreSame, IsPut, NodeData, entry_in, node_at, or_blank, planted, source_in, with_entry, with_source}
 use Rattle.hg_mixed.specs.Times.{AreNone, IsTimed, time_at}
 
 -- ---- marks
@@ -271,13 +271,13 @@ formed_copy path source old new formed some same = record {
       let was = formed.caches at (sym (ap is_some (same.caches at)) ∙ is) in (same.nodes at ∙ was.0, same.entries at ∙ was.1);
 }
 
-entry_kept : (b : Bool) (source : Option (List ℕ)) (first o : Option NodeData) → (b ≡ true → first ≡ o) → entry_in (cond b (Some (record { entry = entry_in first; source = source })) o) ≡ entry_in o
+entry_kept : (b : Bool) (source : Option (List ℕ)) (first o : Option NodeData) → (b ≡ true → first ≡ o) → entry_in (cond b (Some (with_source source first)) o) ≡ entry_in o
 entry_kept true source first o is = ap entry_in (is refl)
 entry_kept false source first o is = refl
 
-source_put : (b : Bool) (source : Option (List ℕ)) (entry : Option EntryData) (o : Option NodeData) → source_in (cond b (Some (record { entry = entry; source = source })) o) ≡ cond b source (source_in o)
-source_put true source entry o = refl
-source_put false source entry o = refl
+source_put : (b : Bool) (source : Option (List ℕ)) (first o : Option NodeData) → source_in (cond b (Some (with_source source first)) o) ≡ cond b source (source_in o)
+source_put true source first o = refl
+source_put false source first o = refl
 
 node_kept : (b : Bool) (n : NodeData) (o : Option NodeData) → (b ≡ true → is_some o ≡ true) → is_some (cond b (Some n) o) ≡ is_some o
 node_kept true n o is = sym (is refl)
@@ -287,38 +287,56 @@ pub entry_node : (o : Option NodeData) → is_some (entry_in o) ≡ true → is_
 entry_node None h = absurd (true≢false (sym h))
 entry_node (Some node) h = refl
 
-module _ (path : List ℕ) (source : Option (List ℕ)) (old was : InMemory) (same : was ≡ old) (rows : List (List ℕ × NodeData))
-    (put : IsPut path (Some (record { entry = entry_in (node_at was.rows path); source = source })) was.rows rows) (some : is_some (entry_in (node_at old.rows path)) ≡ true) where
+module _ (path : List ℕ) (source : Option (List ℕ)) (old was : InMemory) (same : was ≡ old) (rows : List (List ℕ × NodeData)) (written : IsSourceWritten path source was.rows rows)
+    (some : is_some (entry_in (node_at old.rows path)) ≡ true) (differs : Bool)
+    (told : MatchBool differs (source_in (node_at was.rows path) ≡ source → ⊥) (source_in (node_at was.rows path) ≡ source)) where
   some_was : is_some (entry_in (node_at was.rows path)) ≡ true
   some_was = ap (λ (h : InMemory). is_some (entry_in (node_at h.rows path))) same ∙ some
 
-  copied : IsSame (table_of was.p1 was.p2 was.hash rows was.times) (after_copy path source (memory_table was))
-  copied = record {
+  put_copied : IsPut path (Some (with_source source (node_at was.rows path))) was.rows rows → IsSame (table_of was.p1 was.p2 was.hash rows was.times) (after_copy path source (memory_table was))
+  put_copied put = record {
     p1 = refl;
     p2 = refl;
     hash = refl;
     entries = λ at. ap entry_in (put at) ∙ entry_kept (bytes_eq path at) source (node_at was.rows path) (node_at was.rows at) (λ h. ap (node_at was.rows) (same_bytes path at h));
-    sources = λ at. ap source_in (put at) ∙ source_put (bytes_eq path at) source (entry_in (node_at was.rows path)) (node_at was.rows at);
+    sources = λ at. ap source_in (put at) ∙ source_put (bytes_eq path at) source (node_at was.rows path) (node_at was.rows at);
     nodes = λ at.
         ap is_some (put at)
-        ∙ node_kept (bytes_eq path at) (record { entry = entry_in (node_at was.rows path); source = source }) (node_at was.rows at)
+        ∙ node_kept (bytes_eq path at) (with_source source (node_at was.rows path)) (node_at was.rows at)
         (λ h. ap (λ (p : List ℕ). is_some (node_at was.rows p)) (sym (same_bytes path at h)) ∙ entry_node (node_at was.rows path) some_was);
     caches = λ at. refl;
   }
 
-  pub copy_table : (wanted : Option (List ℕ)) → source ≡ wanted → IsSame (table_of was.p1 was.p2 was.hash rows was.times) (after_copy path wanted (memory_table old))
-  copy_table wanted is =
-      subst (λ (s : Option (List ℕ)). IsSame (table_of was.p1 was.p2 was.hash rows was.times) (after_copy path s (memory_table old))) is
-      (subst (λ (h : InMemory). IsSame (table_of was.p1 was.p2 was.hash rows was.times) (after_copy path source (memory_table h))) same copied)
+  same_copied : source_in (node_at was.rows path) ≡ source → AreSame was.rows rows → IsSame (table_of was.p1 was.p2 was.hash rows was.times) (after_copy path source (memory_table was))
+  same_copied is are = record {
+    p1 = refl;
+    p2 = refl;
+    hash = refl;
+    entries = λ at. ap entry_in (are at);
+    sources = λ at. ap source_in (are at) ∙ sym (update_same (memory_table was).sources path source is at);
+    nodes = λ at. ap is_some (are at);
+    caches = λ at. refl;
+  }
+
+  copied : IsSame (table_of was.p1 was.p2 was.hash rows was.times) (after_copy path source (memory_table was))
+  copied = elim written [ inl kept ↦ same_copied kept.0 kept.1 | inr put ↦ put_copied put.1 ]
+
+  pub copy_table : IsSame (table_of was.p1 was.p2 was.hash rows was.times) (after_copy path source (memory_table old))
+  copy_table = subst (λ (h : InMemory). IsSame (table_of was.p1 was.p2 was.hash rows was.times) (after_copy path source (memory_table h))) same copied
 
   pub copy_formed : IsFormed (memory_table was) → IsFormed (table_of was.p1 was.p2 was.hash rows was.times)
   copy_formed formed = formed_copy path source (memory_table was) (table_of was.p1 was.p2 was.hash rows was.times) formed some_was copied
 
-  pub copy_marks : (b : Bool) → MatchBool b (source_in (node_at was.rows path) ≡ source) (source_in (node_at was.rows path) ≡ source → ⊥)
-      → Marks (IsSame (table_of was.p1 was.p2 was.hash rows was.times) (memory_table old)) old.changed (was.changed || not b)
-  copy_marks b m = subst (λ (h : InMemory). Marks (IsSame (table_of was.p1 was.p2 was.hash rows was.times) (memory_table h)) h.changed (was.changed || not b)) same
-      (marks (IsSame (table_of was.p1 was.p2 was.hash rows was.times) (memory_table was)) was.changed (not b)
-      (decided (not b) (source_in (node_at was.rows path) ≡ source) (IsSame (table_of was.p1 was.p2 was.hash rows was.times) (memory_table was))
+  pub copy_marks : Marks (IsSame (table_of was.p1 was.p2 was.hash rows was.times) (memory_table old)) old.changed (was.changed || differs)
+  copy_marks = subst (λ (h : InMemory). Marks (IsSame (table_of was.p1 was.p2 was.hash rows was.times) (memory_table h)) h.changed (was.changed || differs)) same
+      (marks (IsSame (table_of was.p1 was.p2 was.hash rows was.times) (memory_table was)) was.changed differs
+      (decided differs (source_in (node_at was.rows path) ≡ source) (IsSame (table_of was.p1 was.p2 was.hash rows was.times) (memory_table was))
       (copy_stays path source (memory_table was) (table_of was.p1 was.p2 was.hash rows was.times) copied)
-      (copy_was path source (memory_table was) (table_of was.p1 was.p2 was.hash rows was.times) copied)
-      (negated b (source_in (node_at was.rows path) ≡ source) (source_in (node_at was.rows path) ≡ source → ⊥) m)))
+      (copy_was path source (memory_table was) (table_of was.p1 was.p2 was.hash rows was.times) copied) told))
+
+-- the copy source of a node of the rows, and of the same rows
+pub written_of : (path : List ℕ) (source : Option (List ℕ)) (old was : InMemory) → was ≡ old → (rows : List (List ℕ × NodeData)) → IsSourceWritten path source was.rows rows → IsSourceWritten path source old.rows rows
+written_of path source old was same rows = subst (λ (h : InMemory). IsSourceWritten path source h.rows rows) same
+
+pub some_node : (old was : InMemory) → was ≡ old → (path : List ℕ) → is_some (entry_in (node_at old.rows path)) ≡ true → is_some (node_at was.rows path) ≡ true
+some_node old was same path some = entry_node (node_at was.rows path) (ap (λ (h : InMemory). is_some (entry_in (node_at h.rows path))) same ∙ some)

@@ -1,6 +1,7 @@
 -- One list, or all above a path, or all are taken into memory.
 use Rattle.std.proofs.Common.{ℕ, ◌≡◌, ◌+◌, ◌<◌, Bool, true, false, List, Option, Some, None, refl, sym, ap, ◌∙◌, subst, inl, inr, ◌⊎◌, arith}
 use Rattle.std.specs.Prelude.{is_some}
+use Rattle.std.specs.Option.{option_map}
 use Rattle.std.proofs.lemmas.Bool.{cases_Bool, cases_order, both_ways, false_from_ne_true}
 use Rattle.std.proofs.lemmas.List.{take_all}
 use Rattle.hg_base.specs.PathText.{is_below, is_path, is_same_dir, parent_of}
@@ -18,12 +19,13 @@ use Rattle.hg_mixed.specs.Edits.{IsFormed, IsSame}
 use Rattle.hg_mixed.specs.Lent.{CoversNone, IsLentPut, IsNoneLent, as_dir, covers, lent_at}
 use Rattle.hg_mixed.specs.Lists.{or_root}
 use Rattle.hg_mixed.specs.Memory.{InMemory, memory_table}
-use Rattle.hg_mixed.specs.Opened.{IsThere}
+use Rattle.hg_mixed.specs.Node.{node_at}
+use Rattle.hg_mixed.specs.Opened.{IsThere, node_of}
 use Rattle.hg_mixed.specs.Parted.{IsFree, IsMoved, IsParted, image_rows, whole}
 use Rattle.hg_mixed.specs.Taken.{AddsNodes, AddsSome, AreBared, AreOthersKept, AreServed, CoversLess, IsBare, IsBared, IsKid, IsOpen, IsOut, IsServed, IsServedKid, LendsKid, LendsKids, path_at}
 use Rattle.hg_mixed.proofs.Adding.{member_path}
 use Rattle.hg_mixed.proofs.ImageRows.{below_member, dir_member, row_above, row_is_path, row_rooted}
-use Rattle.hg_mixed.proofs.Moving.{Agrees, as_dir_is, as_own, as_path, bare_in, between, dir_there, formed_same, lends_less, lends_same, lent_still, merged_same, moved_all, moved_lends, moved_some, moved_trans, none_is, others_kept, placed_at, removed_here, removed_less, right_above, same_as_none, some_never}
+use Rattle.hg_mixed.proofs.Moving.{AgreeNodes, Agrees, as_dir_is, as_own, as_path, bare_in, between, dir_there, formed_same, lends_less, lends_same, lent_still, merged_same, moved_all, moved_lends, moved_some, moved_trans, none_is, one_node, others_kept, placed_at, removed_here, removed_less, right_above, same_as_none, some_never}
 
 -- ---- the lists of the nodes of a list
 
@@ -183,6 +185,12 @@ module _ (docket : Contents) (rows : List Row) (left : List (List ℕ × List Ro
   agrees at true false c d = same_as_none docket rows own at formed (none_there at c) (λ h. some_never (row_at rows at) (none_there at c) (parted.known at h c))
   agrees at false false c d = record { entries = refl; sources = refl; nodes = refl; caches = refl }
 
+  nodes_agree : (at : List ℕ) (was is : Bool) → covers left at ≡ was → covers now at ≡ is → AgreeNodes (option_map node_of (row_at rows at)) (node_at own.rows at) (node_at own.rows at) was is
+  nodes_agree at was true c d = absurd (both_ways (covers now at) (bare at) d)
+  nodes_agree at true false c d =
+      none_is (node_at own.rows at) (λ h. some_never (row_at rows at) (none_there at c) (parted.known at h c)) ∙ sym (ap (option_map node_of) (none_there at c))
+  nodes_agree at false false c d = refl
+
   same : IsSame (whole docket rows now (memory_table own)) (whole docket rows left (memory_table own))
   same = merged_same docket rows left own now own (others_kept own) (λ at. agrees at (covers left at) (covers now at) refl refl)
 
@@ -195,6 +203,7 @@ module _ (docket : Contents) (rows : List Row) (left : List (List ℕ × List Ro
       formed = formed_same (whole docket rows now (memory_table own)) (whole docket rows left (memory_table own)) same parted.formed;
     };
     same = same;
+    nodes = λ at. one_node (option_map node_of (row_at rows at)) (node_at own.rows at) (node_at own.rows at) (covers left at) (covers now at) (nodes_agree at (covers left at) (covers now at) refl refl);
     changed = refl;
   }
 

@@ -1,7 +1,7 @@
 -- The table of an image is formed, and so is one over the image of which nothing is in memory.
 use Rattle.std.proofs.Common.{ℕ, ◌≡◌, Bool, true, false, List, [], Option, Some, None, inl, inr, refl, sym, ap, ◌∙◌, subst, arith, true≢false}
 use Rattle.std.specs.Prelude.{is_some}
-use Rattle.std.specs.Option.{option_and_then}
+use Rattle.std.specs.Option.{option_and_then, option_map}
 use Rattle.std.specs.Str.{bytes_eq}
 use Rattle.std.proofs.lemmas.Bool.{cases_Bool, cond-true, cond-false}
 use Rattle.std.proofs.lemmas.List.{take_all}
@@ -21,11 +21,12 @@ use Rattle.hg_image.specs.declared.opened.Image.{Image}
 use Rattle.hg_image.specs.declared.opened.List.{List as NodeList}
 use Rattle.hg_image.proofs.Sourced.{IsSourcedByEntry, list_sourced}
 use Rattle.hg_mixed.specs.Edits.{IsFormed, IsSame}
-use Rattle.hg_mixed.specs.Held.{merged}
+use Rattle.hg_mixed.specs.Held.{merged, node_here}
 use Rattle.hg_mixed.specs.Lent.{IsLentPut, IsNoneLent, covers, lent_at}
 use Rattle.hg_mixed.specs.Memory.{InMemory, memory_table}
-use Rattle.hg_mixed.specs.Node.{node_at}
-use Rattle.hg_mixed.specs.Parted.{IsParted, image_rows, whole}
+use Rattle.hg_mixed.specs.Node.{node_at, source_in, source_text_in, text_in}
+use Rattle.hg_mixed.specs.Opened.{node_of, source_place}
+use Rattle.hg_mixed.specs.Parted.{ArePlaced, IsParted, image_rows, whole}
 use Rattle.hg_mixed.proofs.Adding.{apart}
 use Rattle.hg_mixed.proofs.ImageRows.{row_each, row_is_path, row_rooted}
 use Rattle.hg_mixed.proofs.Lents.{covered_by}
@@ -118,3 +119,29 @@ module _ (image : Image) (root : NodeList) (is_root : dir_of root ≡ None) (all
           nodes = λ at. image_node left image_table (memory_table own) at (every at) ∙ ap (λ (r : List Row). (reading.table_of d r).nodes at) (used_rows image);
           caches = λ at. image_cache left image_table (memory_table own) at (every at) ∙ ap (λ (r : List Row). (reading.table_of d r).caches at) (used_rows image);
         }
+
+  -- each text lies where the image has it
+  here_image : (own : InMemory) (at : List ℕ) → node_here (image_rows image) left own.rows at ≡ option_map node_of (row_at (image_rows image) at)
+  here_image own at = cond-true (covers left at) (option_map node_of (row_at (image_rows image) at)) (node_at own.rows at) (every at)
+
+  pub opened_placed : (own : InMemory) → ArePlaced (image_rows image) left own.rows
+  opened_placed own at = record {
+    text = λ some. ap text_in (here_image own at);
+    source = λ some. (ap source_text_in (here_image own at), ap source_in (here_image own at));
+  }
+
+  text_of : (o : Option Row) → text_in (option_map node_of o) ≡ option_map (λ row. row.rec.path_start) o
+  text_of None = refl
+  text_of (Some row) = refl
+
+  source_of : (o : Option Row) → source_text_in (option_map node_of o) ≡ option_and_then source_place o
+  source_of None = refl
+  source_of (Some row) = refl
+
+  pub opened_text : (own : InMemory) (at : List ℕ) → text_in (node_here (image_rows image) left own.rows at) ≡ option_map (λ row. row.rec.path_start) (row_at (rows image) at)
+  opened_text own at =
+      ap text_in (here_image own at) ∙ text_of (row_at (image_rows image) at) ∙ ap (λ (r : List Row). option_map (λ row. row.rec.path_start) (row_at r at)) (used_rows image)
+
+  pub opened_source : (own : InMemory) (at : List ℕ) → source_text_in (node_here (image_rows image) left own.rows at) ≡ option_and_then source_place (row_at (rows image) at)
+  opened_source own at =
+      ap source_text_in (here_image own at) ∙ source_of (row_at (image_rows image) at) ∙ ap (λ (r : List Row). option_and_then source_place (row_at r at)) (used_rows image)

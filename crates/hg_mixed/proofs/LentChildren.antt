@@ -28,16 +28,18 @@ use Rattle.hg_image.proofs.RowsOf.{rows_end, rows_whole}
 use Rattle.hg_image.proofs.Sound.{list_at}
 use Rattle.hg_mixed.specs.ChildOf.{has_below, row_child}
 use Rattle.hg_mixed.specs.Children.{AreChildren, ChildData, IsChild}
-use Rattle.hg_mixed.specs.Held.{Held, image_table, source_at, table, table_of, text_at}
+use Rattle.hg_mixed.specs.Held.{Held, image_table, table, table_of}
 use Rattle.hg_mixed.specs.Lent.{IsInImage, as_dir, covers, lent_at, level, own_rows}
 use Rattle.hg_mixed.specs.Lists.{or_root}
+use Rattle.hg_mixed.specs.Node.{source_text_in, text_in}
+use Rattle.hg_mixed.specs.Opened.{node_of}
 use Rattle.hg_mixed.specs.Parted.{IsLentIn, IsParted, image_of}
 use Rattle.hg_mixed.specs.Rest.{children_from, children_in}
 use Rattle.hg_mixed.specs.Walk.{Fills}
 use Rattle.hg_mixed.proofs.ImageRows.{at_below, at_node, level_end, level_got, level_row, none_is, own_end, own_next, parent_below, rec_in, row_above, row_path, whole}
 use Rattle.hg_mixed.proofs.Lents.{covered_by}
 use Rattle.hg_mixed.proofs.Nearest.{dir_again, list_dir, path_as_dir}
-use Rattle.hg_mixed.proofs.WholeOf.{image_cache, image_entry, image_node, image_source}
+use Rattle.hg_mixed.proofs.WholeOf.{image_cache, image_entry, image_node, image_source, node_image}
 
 -- ---- the order of the paths
 
@@ -97,8 +99,7 @@ above_further (Some d) path at above h = below_trans d path at above h
 abbrev own_of : Held → Table
 own_of held = table_of held.p1 held.p2 held.hash held.rows held.times
 
-module _ (held : Held) (parted : IsParted held.docket (image_of held) held.left (own_of held))
-    (texts : (at : List ℕ) → text_at held at ≡ None) (sources : (at : List ℕ) → source_at held at ≡ None) where
+module _ (held : Held) (parted : IsParted held.docket (image_of held) held.left (own_of held)) where
   module _ (list : NodeList) (covered : (at : List ℕ) → is_above (dir_of list) at ≡ true → covers held.left at ≡ true)
       (says : (at : List ℕ) → is_above (dir_of list) at ≡ true → row_at (rows_in list) at ≡ row_at (image_of held) at) where
     node_by : (at : List ℕ) → is_above (dir_of list) at ≡ true → (table held).nodes at ≡ is_some (row_at (rows_in list) at)
@@ -158,8 +159,8 @@ module _ (held : Held) (parted : IsParted held.docket (image_of held) held.left 
           source = sym (image_source held.left (image_table held) (own_of held) path cover ∙ ap (option_and_then (λ r. r.source)) is);
           cache = sym (image_cache held.left (image_table held) (own_of held) path cover ∙ ap (option_and_then (λ r. cache_of (fields_of r.rec))) is);
           kids = kids_by i inside above (rec.kids_count == 0) refl;
-          text = sym (texts path);
-          source_text = sym (sources path);
+          text = sym (ap text_in (node_image held path cover ∙ ap (option_map node_of) is));
+          source_text = sym (ap source_text_in (node_image held path cover ∙ ap (option_map node_of) is));
         }
 
     list_children : AreChildren held (dir_of list) (map row_child (level list 0))
@@ -186,10 +187,9 @@ module _ (held : Held) (parted : IsParted held.docket (image_of held) held.left 
       (list_children list (λ at above. lent.1 at (ap (λ (d : Option (List ℕ)). is_above d at) (sym lent.0) ∙ above)) (λ at above. lent.2 at (ap (λ (d : Option (List ℕ)). is_above d at) (sym lent.0) ∙ above)))
 
 -- the same of a table that is opened
-pub children_lent : (now held : Held) → held ≡ now → IsParted held.docket (image_of held) held.left (own_of held) → ((at : List ℕ) → text_at held at ≡ None)
-    → ((at : List ℕ) → source_at held at ≡ None) → (dir : Option (List ℕ)) (list : Option NodeList) → IsLentIn now.left (image_of now) dir list → AreChildren now dir (children_from list 0)
-children_lent now held same parted texts sources dir list lent =
-    subst (λ (h : Held). IsLentIn h.left (image_of h) dir list → AreChildren h dir (children_from list 0)) same (lent_children held parted texts sources dir list) lent
+pub children_lent : (now held : Held) → held ≡ now → IsParted held.docket (image_of held) held.left (own_of held) → (dir : Option (List ℕ)) (list : Option NodeList) → IsLentIn now.left (image_of now) dir list → AreChildren now dir (children_from list 0)
+children_lent now held same parted dir list lent =
+    subst (λ (h : Held). IsLentIn h.left (image_of h) dir list → AreChildren h dir (children_from list 0)) same (lent_children held parted dir list) lent
 
 -- ---- a list that is lent
 

@@ -21,6 +21,7 @@ pub mod Listed
 pub mod Moving
 pub mod Nearest
 pub mod Ordered
+pub mod Placed
 pub mod Planted
 pub mod Pruned
 pub mod Rows

@@ -1,11 +1,10 @@
 -- An edit of what is in memory is that edit of the table, where its path is in memory.
-use Rattle.std.proofs.Common.{ℕ, ◌≡◌, Bool, true, false, cond, ◌||◌, ◌⊎◌, inl, inr, List, [], Option, Some, None, refl, sym, ap, ◌∙◌, subst, true≢false}
+use Rattle.std.proofs.Common.{ℕ, ◌≡◌, Bool, true, false, cond, ◌||◌, ◌⊎◌, inl, inr, List, Option, Some, None, refl, sym, ap, ◌∙◌, subst, true≢false}
 use Rattle.std.specs.Prelude.{is_some, Result, Ok, Err, OnOk, OnErr}
-use Rattle.std.specs.List.{list_any}
-use Rattle.std.specs.Map.{lookup, update}
+use Rattle.std.specs.Map.{update}
 use Rattle.std.specs.Str.{bytes_eq}
 use Rattle.std.proofs.lemmas.Bool.{cases_Bool, cond-true, cond-false, both_ways, false_from_ne_true}
-use Rattle.hg_base.specs.PathText.{is_path, is_same_dir}
+use Rattle.hg_base.specs.PathText.{is_path}
 use Rattle.hg_base.specs.Within.{is_within}
 use Rattle.hg_base.proofs.Children.{below_parent}
 use Rattle.hg_base.proofs.Within.{same_bytes, within_below, within_itself, within_trans}
@@ -14,11 +13,11 @@ use Rattle.hg_entry.specs.Entry.{EntryData, StampData}
 use Rattle.hg_entry.specs.Table.{Table}
 use Rattle.hg_image.specs.Reading as reading
 use Rattle.hg_image.specs.Rows.{Row}
-use Rattle.hg_mixed.specs.Drop.{PlacesDrop}
-use Rattle.hg_mixed.specs.Edits.{IsFormed, IsSame, IsUnchanged, Marks, PlacesCopy, after_cache, after_copy, after_hash, after_ids, after_no_caches, after_set}
-use Rattle.hg_mixed.specs.Held.{Held, merged, source_at, table, text_at}
+use Rattle.hg_mixed.specs.Edits.{IsFormed, IsSame, IsUnchanged, Marks, after_cache, after_copy, after_hash, after_ids, after_no_caches, after_set}
+use Rattle.hg_mixed.specs.Held.{Held, is_lent, merged, node_in, table}
 use Rattle.hg_mixed.specs.Lent.{covers}
 use Rattle.hg_mixed.specs.Memory.{InMemory, memory_table}
+use Rattle.hg_mixed.specs.Node.{source_text_in, text_in}
 use Rattle.hg_mixed.specs.Parted.{IsMoved, IsParted, whole}
 use Rattle.hg_mixed.proofs.Covered.{way_free}
 use Rattle.hg_mixed.proofs.Edited.{formed_copy, formed_set, same_trans}
@@ -353,12 +352,15 @@ module _ (docket : Contents) (rows : List Row) (left : List (List ℕ × List Ro
 pub own_entry : (docket : Contents) (rows : List Row) (left : List (List ℕ × List Row)) (own : Table) (at : List ℕ) → covers left at ≡ false → (whole docket rows left own).entries at ≡ own.entries at
 own_entry docket rows left own at free = cond-false (covers left at) ((reading.table_of docket rows).entries at) (own.entries at) free
 
+pub own_source : (docket : Contents) (rows : List Row) (left : List (List ℕ × List Row)) (own : Table) (at : List ℕ) → covers left at ≡ false → (whole docket rows left own).sources at ≡ own.sources at
+own_source docket rows left own at free = cond-false (covers left at) ((reading.table_of docket rows).sources at) (own.sources at) free
+
 pub own_node : (docket : Contents) (rows : List Row) (left : List (List ℕ × List Row)) (own : Table) (at : List ℕ) → covers left at ≡ false → (whole docket rows left own).nodes at ≡ own.nodes at
 own_node docket rows left own at free = cond-false (covers left at) ((reading.table_of docket rows).nodes at) (own.nodes at) free
 
 -- nothing is taken
 pub moved_itself : (docket : Contents) (rows : List Row) (left : List (List ℕ × List Row)) (own : InMemory) → IsParted docket rows left (memory_table own) → IsMoved docket rows left own left own
-moved_itself docket rows left own parted = record { parted = parted; same = same_itself (whole docket rows left (memory_table own)); changed = refl }
+moved_itself docket rows left own parted = record { parted = parted; same = same_itself (whole docket rows left (memory_table own)); nodes = λ at. refl; changed = refl }
 
 -- lists are taken, and more of them
 pub moved_on : (docket : Contents) (rows : List Row) (first mid left : List (List ℕ × List Row)) (was own new : InMemory)
@@ -366,6 +368,7 @@ pub moved_on : (docket : Contents) (rows : List Row) (first mid left : List (Lis
 moved_on docket rows first mid left was own new moved more = record {
   parted = more.parted;
   same = same_trans (whole docket rows left (memory_table new)) (whole docket rows mid (memory_table own)) (whole docket rows first (memory_table was)) more.same moved.same;
+  nodes = λ at. more.nodes at ∙ moved.nodes at;
   changed = more.changed ∙ moved.changed;
 }
 
@@ -489,41 +492,12 @@ module _ (old was : Held) (same : was ≡ old) where
   pub some_of : (path : List ℕ) → is_some ((table old).entries path) ≡ true → is_some ((table was).entries path) ≡ true
   some_of path = subst (λ (h : Held). is_some ((table h).entries path) ≡ true) (sym same)
 
-  pub unchanged : (new : Held) → IsSame (table new) (table was) → new.changed ≡ was.changed → new.lent ≡ was.lent → new.texts ≡ was.texts → new.sources ≡ was.sources → new.docket ≡ was.docket
-      → new.bytes ≡ was.bytes → IsUnchanged old new
-  unchanged new tables changed lent texts sources docket bytes = subst (λ (h : Held). IsUnchanged h new) same (record {
+  pub unchanged : (new : Held) → IsSame (table new) (table was) → new.changed ≡ was.changed → ((dir : Option (List ℕ)) → is_lent new dir ≡ is_lent was dir) → ((at : List ℕ) → node_in new at ≡ node_in was at)
+      → new.docket ≡ was.docket → new.bytes ≡ was.bytes → IsUnchanged old new
+  unchanged new tables changed lent nodes docket bytes = subst (λ (h : Held). IsUnchanged h new) same (record {
     table = tables;
     changed = changed;
-    lent = λ dir. ap (list_any (is_same_dir dir)) lent;
-    places = record { texts = λ at. ap (lookup (bytes_eq at)) texts; sources = λ at. ap (lookup (bytes_eq at)) sources };
+    lent = lent;
+    places = record { texts = λ at. ap text_in (nodes at); sources = λ at. ap source_text_in (nodes at) };
     image = record { docket = docket; bytes = bytes };
   })
-
-  none_either : {X : Type 0} (b : Bool) (o : Option X) → o ≡ None → cond b o None ≡ None
-  none_either true o h = h
-  none_either false o h = refl
-
-  none_put : {X : Type 0} (b : Bool) (o : Option X) → o ≡ None → cond b None o ≡ None
-  none_put true o h = refl
-  none_put false o h = h
-
-  -- where no text counts as lent
-  module _ (new : Held) (texts : was.texts ≡ []) (sources : was.sources ≡ []) (texts_now : new.texts ≡ []) (sources_now : new.sources ≡ []) where
-    no_source : (at : List ℕ) → source_at new at ≡ None
-    no_source at = ap (lookup (bytes_eq at)) sources_now
-
-    source_none : (path at : List ℕ) → source_at new at ≡ update bytes_eq (source_at was) path None at
-    source_none path at = no_source at ∙ sym (none_put (bytes_eq path at) (source_at was at) (ap (lookup (bytes_eq at)) sources))
-
-    pub places_copy : (path : List ℕ) (P : Type 0) → PlacesCopy path P old new
-    places_copy path P = subst (λ (h : Held). PlacesCopy path P h new) same (record {
-      texts = λ at. ap (lookup (bytes_eq at)) texts_now ∙ sym (ap (lookup (bytes_eq at)) texts);
-      kept = λ p at. no_source at ∙ sym (ap (lookup (bytes_eq at)) sources);
-      changed = λ p at. source_none path at;
-    })
-
-    pub places_drop : (path : List ℕ) → PlacesDrop path old new
-    places_drop path = subst (λ (h : Held). PlacesDrop path h new) same (record {
-      texts = λ at. ap (lookup (bytes_eq at)) texts_now ∙ sym (none_either ((table new).nodes at) (text_at was at) (ap (lookup (bytes_eq at)) texts));
-      sources = source_none path;
-    })

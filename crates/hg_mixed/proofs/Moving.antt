@@ -28,7 +28,7 @@ use Rattle.hg_mixed.specs.Edits.{IsFormed, IsSame}
 use Rattle.hg_mixed.specs.Lent.{IsLentPut, as_dir, covers, lent_at}
 use Rattle.hg_mixed.specs.Lists.{or_root}
 use Rattle.hg_mixed.specs.Memory.{InMemory, memory_table}
-use Rattle.hg_mixed.specs.Node.{entry_in, node_at, source_in}
+use Rattle.hg_mixed.specs.Node.{NodeData, entry_in, node_at, source_in}
 use Rattle.hg_mixed.specs.Opened.{IsThere, node_of}
 use Rattle.hg_mixed.specs.Parted.{IsMoved, IsParted, whole}
 use Rattle.hg_mixed.specs.Taken.{AddsNodes, AddsSome, AreOthersKept, AreServed, CoversLess, IsAsBefore, IsBare, IsNotOf, IsOpen, LendsKids, path_at}
@@ -124,6 +124,19 @@ module _ (docket : Contents) (rows : List Row) (left : List (List ℕ × List Ro
     caches = λ at. one_part (reading.table_of docket rows) (memory_table own) (memory_table now) at (λ t. t.caches at) (λ a b e. e.caches) (covers left at) (covers left_now at) (agrees at);
   }
 
+-- the same of a node as a whole
+abbrev pub AgreeNodes : Option NodeData → Option NodeData → Option NodeData → Bool → Bool → Type 0
+AgreeNodes image own now true true = Unit {0}
+AgreeNodes image own now true false = now ≡ image
+AgreeNodes image own now false true = ⊥
+AgreeNodes image own now false false = now ≡ own
+
+pub one_node : (image own now : Option NodeData) (was is : Bool) → AgreeNodes image own now was is → cond is image now ≡ cond was image own
+one_node image own now true true agrees = refl
+one_node image own now true false agrees = agrees
+one_node image own now false true agrees = absurd agrees
+one_node image own now false false agrees = agrees
+
 pub others_kept : (own : InMemory) → AreOthersKept own own
 others_kept own = record { p1 = refl; p2 = refl; hash = refl; changed = refl }
 
@@ -133,6 +146,7 @@ module _ (docket : Contents) (rows : List Row) where
   moved_trans a s b t c u p q = record {
     parted = q.parted;
     same = same_trans (whole docket rows c (memory_table u)) (whole docket rows b (memory_table t)) (whole docket rows a (memory_table s)) q.same p.same;
+    nodes = λ at. q.nodes at ∙ p.nodes at;
     changed = q.changed ∙ p.changed;
   }
 
@@ -343,6 +357,7 @@ module _ (docket : Contents) (rows : List Row) (list : NodeList) (left : List (L
       formed = formed_same (whole docket rows now (memory_table own)) (whole docket rows left (memory_table own)) same parted.formed;
     };
     same = same;
+    nodes = λ at. ap (λ (b : Bool). cond b (option_map node_of (row_at rows at)) (node_at own.rows at)) (lends_same list left now lends there at);
     changed = refl;
   }
     where
@@ -376,9 +391,17 @@ module _ (docket : Contents) (rows : List Row) (list : NodeList) (left : List (L
       formed = formed_same (whole docket rows left (memory_table now)) (whole docket rows left (memory_table own)) same parted.formed;
     };
     same = same;
+    nodes = λ at. one_node (option_map node_of (row_at rows at)) (node_at own.rows at) (node_at now.rows at) (covers left at) (covers left at) (nodes_agree at (covers left at) refl);
     changed = kept.changed;
   }
     where
+      nodes_agree : (at : List ℕ) (was : Bool) → covers left at ≡ was → AgreeNodes (option_map node_of (row_at rows at)) (node_at own.rows at) (node_at now.rows at) was was
+      nodes_agree at true h = tt
+      nodes_agree at false h = elim (adds.each at) [
+        | inl stays ↦ stays.node
+        | inr right ↦ absurd (both_ways (covers left at) h (covered_right at right.0))
+      ]
+
       agrees : (at : List ℕ) (was : Bool) → covers left at ≡ was → Agrees (reading.table_of docket rows) (memory_table own) (memory_table now) at was was
       agrees at true h = tt
       agrees at false h = elim (adds.each at) [
@@ -455,6 +478,7 @@ module _ (docket : Contents) (rows : List Row) (list : NodeList) (left : List (L
         formed = formed_same (whole docket rows left_now (memory_table now)) (whole docket rows left (memory_table own)) same parted.formed;
       };
       same = same;
+      nodes = λ at. one_node (option_map node_of (row_at rows at)) (node_at own.rows at) (node_at now.rows at) (covers left at) (covers left_now at) (nodes_agree at (covers left at) (covers left_now at) refl refl);
       changed = kept.changed;
     }
       where
@@ -462,6 +486,20 @@ module _ (docket : Contents) (rows : List Row) (list : NodeList) (left : List (L
         none_there at was is not_of =
             sym (in_image at (above_of at was is))
             ∙ none_is (row_at (rows_in list) at) (λ some. both_ways (covers left_now at) is (row_covered at some not_of.none))
+
+        nodes_agree : (at : List ℕ) (was is : Bool) → covers left at ≡ was → covers left_now at ≡ is → AgreeNodes (option_map node_of (row_at rows at)) (node_at own.rows at) (node_at now.rows at) was is
+        nodes_agree at true true c d = tt
+        nodes_agree at true false c d = elim (adds.each at) [
+          | inl not_of ↦
+              none_is (node_at now.rows at) (λ h. some_never (row_at rows at) (none_there at c d not_of) (parted.known at (sym (ap is_some not_of.stays.node) ∙ h) c))
+              ∙ sym (ap (option_map node_of) (none_there at c d not_of))
+          | inr has ↦ has.node ∙ sym (ap (option_map node_of) (sym (in_image at (right_above (dir_of list) at has.dir)) ∙ has.there))
+        ]
+        nodes_agree at false true c d = both_ways (covers left at) c (removed_less (or_root (dir_of list)) left left_now gone at d)
+        nodes_agree at false false c d = elim (adds.each at) [
+          | inl not_of ↦ not_of.stays.node
+          | inr has ↦ absurd (both_ways (covers left at) c (covered_right at has.dir))
+        ]
 
         agrees : (at : List ℕ) (was is : Bool) → covers left at ≡ was → covers left_now at ≡ is → Agrees (reading.table_of docket rows) (memory_table own) (memory_table now) at was is
         agrees at true true c d = tt

@@ -16,11 +16,12 @@ use Rattle.hg_image.specs.Reading.{row_at}
 use Rattle.hg_image.specs.Rows.{Row, rows_of}
 use Rattle.hg_mixed.specs.ChildOf.{has_below, lends, with_lent}
 use Rattle.hg_mixed.specs.Children.{AreChildren, AreNodesIn, ChildData, IsChild, IsNodeIn}
-use Rattle.hg_mixed.specs.Held.{Held, image_table, source_at, table, table_of, text_at}
+use Rattle.hg_mixed.specs.Held.{Held, image_table, table, table_of}
 use Rattle.hg_mixed.specs.Lent.{as_dir, covers, lent_at}
+use Rattle.hg_mixed.specs.Node.{source_text_in, text_in}
 use Rattle.hg_mixed.specs.Parted.{IsOwn, IsParted}
 use Rattle.hg_mixed.proofs.Lents.{covered_by, covers_some}
-use Rattle.hg_mixed.proofs.WholeOf.{image_node, own_cache, own_entry, own_node, own_source}
+use Rattle.hg_mixed.proofs.WholeOf.{image_node, node_own, own_cache, own_entry, own_node, own_source}
 
 above_of : (dir at : List ℕ) → is_below dir at ≡ true → is_above (as_dir dir) at ≡ true
 above_of [] at h = refl
@@ -65,8 +66,7 @@ no_row path (r ∷ rows) h at below =
     skip true e none apart = absurd (both_ways (is_below path r.path) apart (ap (is_below path) (same_bytes r.path at e) ∙ below))
     skip false e none apart = none
 
-module _ (held : Held) (own_good : (at : List ℕ) → (table_of held.p1 held.p2 held.hash held.rows held.times).nodes at ≡ true → is_path at ≡ true) (parted : IsParted held.docket (rows_of held.docket held.bytes) held.left (table_of held.p1 held.p2 held.hash held.rows held.times))
-    (texts : (at : List ℕ) → text_at held at ≡ None) (sources : (at : List ℕ) → source_at held at ≡ None) where
+module _ (held : Held) (own_good : (at : List ℕ) → (table_of held.p1 held.p2 held.hash held.rows held.times).nodes at ≡ true → is_path at ≡ true) (parted : IsParted held.docket (rows_of held.docket held.bytes) held.left (table_of held.p1 held.p2 held.hash held.rows held.times)) where
   abbrev own : Table
   own = table_of held.p1 held.p2 held.hash held.rows held.times
 
@@ -122,7 +122,7 @@ module _ (held : Held) (own_good : (at : List ℕ) → (table_of held.p1 held.p2
             ]
         not_there kid parent node false bare_kid = true≢false (sym node ∙ own_node held.left (image_table held) own kid bare_kid ∙ none kid parent)
 
-    child_is : (child : ChildData) → IsNodeIn own dir child → IsChild held dir (with_lent held.left child)
+    child_is : (child : ChildData) → IsNodeIn own held.rows dir child → IsChild held dir (with_lent held.left child)
     child_is child is =
         let good = own_good child.path is.node in
         let bare = own_kid held.left dir in_memory child.path good is.parent in
@@ -133,8 +133,8 @@ module _ (held : Held) (own_good : (at : List ℕ) → (table_of held.p1 held.p2
           source = is.source ∙ sym (own_source held.left (image_table held) own child.path bare);
           cache = is.cache ∙ sym (own_cache held.left (image_table held) own child.path bare);
           kids = kids_of child.path good bare child.has_kids is.kids (lends held.left child.path) refl;
-          text = is.text ∙ sym (texts child.path);
-          source_text = is.source_text ∙ sym (sources child.path);
+          text = is.text ∙ sym (ap text_in (node_own held child.path bare));
+          source_text = is.source_text ∙ sym (ap source_text_in (node_own held child.path bare));
         }
 
     paths_kept : (kids : List ChildData) → map (λ child. child.path) (map (with_lent held.left) kids) ≡ map (λ child. child.path) kids
@@ -145,12 +145,12 @@ module _ (held : Held) (own_good : (at : List ℕ) → (table_of held.p1 held.p2
     any_kept at [] = refl
     any_kept at (kid ∷ kids) = ap (λ (b : Bool). bytes_eq at kid.path || b) (any_kept at kids)
 
-    each_child : (kids : List ChildData) → AllByRecursion (IsNodeIn own dir) kids → AllByRecursion (IsChild held dir) (map (with_lent held.left) kids)
+    each_child : (kids : List ChildData) → AllByRecursion (IsNodeIn own held.rows dir) kids → AllByRecursion (IsChild held dir) (map (with_lent held.left) kids)
     each_child [] all = tt
     each_child (kid ∷ kids) all = (child_is kid all.0, each_child kids all.1)
 
     -- all nodes of a directory in memory, with what the image has below them, are its children
-    pub own_children : (kids : List ChildData) → AreNodesIn own dir kids → AreChildren held dir (map (with_lent held.left) kids)
+    pub own_children : (kids : List ChildData) → AreNodesIn own held.rows dir kids → AreChildren held dir (map (with_lent held.left) kids)
     own_children kids are = record {
       ascending = subst (IsStrictlySortedBy (slice_cmp nat_cmp)) (sym (paths_kept kids)) are.ascending;
       each = each_child kids are.each;

@@ -9,11 +9,13 @@ use Rattle.hg_entry.specs.Table.{Table}
 use Rattle.hg_image.specs.Node.{fields_of}
 use Rattle.hg_image.specs.Reading as reading
 use Rattle.hg_image.specs.Reading.{row_at}
-use Rattle.hg_image.specs.Rows.{Row}
+use Rattle.hg_image.specs.Rows.{Row, rows_of}
 use Rattle.hg_image.specs.View.{row}
 use Rattle.hg_image.specs.declared.opened.NodeRef.{NodeRef}
-use Rattle.hg_mixed.specs.Held.{merged}
+use Rattle.hg_mixed.specs.Held.{Held, merged, node_in}
 use Rattle.hg_mixed.specs.Lent.{IsInImage, covers}
+use Rattle.hg_mixed.specs.Node.{node_at}
+use Rattle.hg_mixed.specs.Opened.{node_of}
 use Rattle.hg_mixed.specs.Parted.{IsParted, whole}
 use Rattle.hg_mixed.specs.Shown.{shown_in}
 
@@ -57,6 +59,14 @@ module _ (left : List (List ℕ × List Row)) (image own : Table) (at : List ℕ
     image_shown =
         ap (λ (s : Option (List ℕ)). option_map {U = EntryData × Option (List ℕ)} (λ entry. (entry, s)) ((merged (covers left) image own).entries at)) image_source
         ∙ ap (option_map {U = EntryData × Option (List ℕ)} (λ entry. (entry, image.sources at))) image_entry
+
+-- the node of the table with the places of its texts
+module _ (held : Held) (at : List ℕ) where
+  pub node_own : covers held.left at ≡ false → node_in held at ≡ node_at held.rows at
+  node_own free = cond-false (covers held.left at) (option_map node_of (row_at (rows_of held.docket held.bytes) at)) (node_at held.rows at) free
+
+  pub node_image : covers held.left at ≡ true → node_in held at ≡ option_map node_of (row_at (rows_of held.docket held.bytes) at)
+  node_image covered = cond-true (covers held.left at) (option_map node_of (row_at (rows_of held.docket held.bytes) at)) (node_at held.rows at) covered
 
 -- what a row of the image shows, none where there is none
 shown_of : (o : Option Row) → option_map {U = EntryData × Option (List ℕ)} (λ entry. (entry, option_and_then (λ r. r.source) o)) (option_and_then (λ r. entry_of (fields_of r.rec)) o)

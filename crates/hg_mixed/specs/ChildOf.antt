@@ -9,6 +9,7 @@ use Rattle.hg_mixed.specs.Children.{ChildData}
 use Rattle.hg_mixed.specs.Lent.{lent_at}
 use Rattle.hg_mixed.specs.Lists.{has_rows_in}
 use Rattle.hg_mixed.specs.Node.{NodeData}
+use Rattle.hg_mixed.specs.Opened.{source_place}
 use Rattle.hg_mixed.specs.Times.{time_at}
 
 abbrev pub child_of : List (List ℕ × NodeData) → List (List ℕ × StampData) → List ℕ × NodeData → ChildData
@@ -19,8 +20,8 @@ child_of rows times kid =
       source = kid.1.source;
       cache = time_at times kid.0;
       has_kids = has_rows_in rows kid.0;
-      text_at = None;
-      source_at = None;
+      text_at = kid.1.text_at;
+      source_at = kid.1.source_at;
     }
 
 abbrev pub children_of : List (List ℕ × NodeData) → List (List ℕ × StampData) → List (List ℕ × NodeData) → List ChildData
@@ -52,6 +53,6 @@ row_child row =
       source = row.source;
       cache = cache_of (fields_of row.rec);
       has_kids = not (row.rec.kids_count == 0);
-      text_at = None;
-      source_at = None;
+      text_at = Some row.rec.path_start;
+      source_at = source_place row;
     }

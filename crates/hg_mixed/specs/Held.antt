@@ -1,23 +1,22 @@
 -- What a table in memory holds, as contracts see it.
 use Rattle.std.specs.Prelude.{ℕ, Bool, if◌then◌else◌, List, Option, is_some}
-use Rattle.std.specs.Option.{option_and_then}
+use Rattle.std.specs.Option.{option_and_then, option_map}
 use Rattle.std.specs.List.{list_any}
-use Rattle.std.specs.Map.{lookup}
-use Rattle.std.specs.Str.{bytes_eq}
 use Rattle.hg_base.specs.PathText.{is_same_dir}
 use Rattle.hg_docket.specs.Docket.{Contents}
 use Rattle.hg_entry.specs.Entry.{StampData}
 use Rattle.hg_entry.specs.Table.{Table}
 use Rattle.hg_image.specs.Reading as reading
+use Rattle.hg_image.specs.Reading.{row_at}
 use Rattle.hg_image.specs.Rows.{Row, rows_of}
 use Rattle.hg_mixed.specs.Lent.{covers}
-use Rattle.hg_mixed.specs.Node.{NodeData, node_at}
+use Rattle.hg_mixed.specs.Node.{NodeData, node_at, source_text_in, text_in}
+use Rattle.hg_mixed.specs.Opened.{node_of}
 use Rattle.hg_mixed.specs.Times.{time_at}
 
 -- the docket and the used bytes of the image that was opened; the parents and the hash; whether an edit has changed anything; the nodes
 -- and the times of cached directories that are in memory, by path; the lists of the image that aren't in memory, each by its directory (empty for the
--- root) with all that stands below it; the directories whose list of children counts as lent (none for the root), and the places in the image of the texts that do: of paths, and
--- of copy sources by the path of their node
+-- root) with all that stands below it; the directories whose list of children counts as lent (none for the root)
 pub record Held : Type 0 where
   pub docket : Contents
   pub bytes : List ℕ
@@ -29,8 +28,6 @@ pub record Held : Type 0 where
   pub times : List (List ℕ × StampData)
   pub left : List (List ℕ × List Row)
   pub lent : List (Option (List ℕ))
-  pub texts : List (List ℕ × ℕ)
-  pub sources : List (List ℕ × ℕ)
 
 -- the table of these parts
 abbrev pub table_of : List ℕ → List ℕ → List ℕ → List (List ℕ × NodeData) → List (List ℕ × StampData) → Table
@@ -67,10 +64,17 @@ table held = merged (covers held.left) (image_table held) (table_of held.p1 held
 abbrev pub is_lent : Held → Option (List ℕ) → Bool
 is_lent held dir = list_any (is_same_dir dir) held.lent
 
+-- the node at a path, with the places of its texts: that of the image's row, or that in memory
+abbrev pub node_here : List Row → List (List ℕ × List Row) → List (List ℕ × NodeData) → List ℕ → Option NodeData
+node_here rows left own path = if covers left path then option_map node_of (row_at rows path) else node_at own path
+
+abbrev pub node_in : Held → List ℕ → Option NodeData
+node_in held path = node_here (rows_of held.docket held.bytes) held.left held.rows path
+
 -- the place of a path's text in the image, where it is lent
 abbrev pub text_at : Held → List ℕ → Option ℕ
-text_at held path = lookup (bytes_eq path) held.texts
+text_at held path = text_in (node_in held path)
 
 -- the place of the text of its copy source
 abbrev pub source_at : Held → List ℕ → Option ℕ
-source_at held path = lookup (bytes_eq path) held.sources
+source_at held path = source_text_in (node_in held path)

@@ -6,10 +6,12 @@ use Rattle.std.specs.Map.{lookup, update}
 use Rattle.std.specs.Str.{bytes_eq}
 use Rattle.hg_entry.specs.Entry.{EntryData}
 
--- what a node records: its entry, and the copy source of that
+-- what a node records: its entry, the copy source of that, and where the texts of its path and of its source lie in the image, if they are lent
 pub record NodeData : Type 0 where
   pub entry : Option EntryData
   pub source : Option (List ℕ)
+  pub text_at : Option ℕ
+  pub source_at : Option ℕ
 
 -- the node at a path, where one stands there
 abbrev pub node_at : List (List ℕ × NodeData) → List ℕ → Option NodeData
@@ -29,9 +31,23 @@ entry_in node = option_and_then (λ n. n.entry) node
 abbrev pub source_in : Option NodeData → Option (List ℕ)
 source_in node = option_and_then (λ n. n.source) node
 
--- a node without entry
+abbrev pub text_in : Option NodeData → Option ℕ
+text_in node = option_and_then (λ n. n.text_at) node
+
+abbrev pub source_text_in : Option NodeData → Option ℕ
+source_text_in node = option_and_then (λ n. n.source_at) node
+
+-- a node without entry, of which no text is lent
 abbrev pub blank : NodeData
-blank = record { entry = None; source = None }
+blank = record { entry = None; source = None; text_at = None; source_at = None }
+
+-- a node that has lost its entry, with its copy source
+abbrev pub cleared : Option NodeData → NodeData
+cleared node = record { entry = None; source = None; text_at = text_in node; source_at = None }
+
+-- a node with another copy source, of which the text isn't lent
+abbrev pub with_source : Option (List ℕ) → Option NodeData → NodeData
+with_source source node = record { entry = entry_in node; source = source; text_at = text_in node; source_at = None }
 
 abbrev pub or_blank : Option NodeData → NodeData
 or_blank None = blank
@@ -60,4 +76,4 @@ pub record AreRooted (nodes : List ℕ → Option NodeData) : Type 0 where
 
 -- a node with an entry, and with the copy source that was there
 abbrev pub with_entry : EntryData → Option NodeData → NodeData
-with_entry entry node = record { entry = Some entry; source = source_in node }
+with_entry entry node = record { entry = Some entry; source = source_in node; text_at = text_in node; source_at = source_text_in node }

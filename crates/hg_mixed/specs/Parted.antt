@@ -1,5 +1,6 @@
 -- How a table is parted between an image and memory.
 use Rattle.std.specs.Prelude.{ℕ, ◌≡◌, true, false, List, [], Option, Some, None, is_some}
+use Rattle.std.specs.Option.{option_map}
 use Rattle.hg_base.specs.PathText.{parent_of}
 use Rattle.hg_base.specs.Within.{is_above}
 use Rattle.hg_docket.specs.Docket.{Contents}
@@ -12,9 +13,11 @@ use Rattle.hg_image.specs.View.{dir_of, rows_in}
 use Rattle.hg_image.specs.declared.opened.Image.{Image}
 use Rattle.hg_image.specs.declared.opened.List.{List as NodeList}
 use Rattle.hg_mixed.specs.Edits.{IsFormed, IsSame}
-use Rattle.hg_mixed.specs.Held.{Held, merged}
+use Rattle.hg_mixed.specs.Held.{Held, merged, node_here}
 use Rattle.hg_mixed.specs.Lent.{as_dir, covers, lent_at}
 use Rattle.hg_mixed.specs.Memory.{InMemory, memory_table}
+use Rattle.hg_mixed.specs.Node.{NodeData, source_in, source_text_in, text_in}
+use Rattle.hg_mixed.specs.Opened.{node_of}
 
 -- the rows of an image, as a reading of its bytes has them
 abbrev pub image_rows : Image → List Row
@@ -32,10 +35,19 @@ pub record IsParted (docket : Contents) (rows : List Row) (left : List (List ℕ
   pub known : (at : List ℕ) → own.nodes at ≡ true → covers left at ≡ true → is_some (row_at rows at) ≡ true
   pub formed : IsFormed (whole docket rows left own)
 
+-- the texts of a node that are lent lie where the image has those of its own node, and a copy source whose text is lent is the image's
+pub record IsPlaced (image now : Option NodeData) : Type 0 where
+  pub text : is_some (text_in now) ≡ true → text_in now ≡ text_in image
+  pub source : is_some (source_text_in now) ≡ true → (source_text_in now ≡ source_text_in image) × (source_in now ≡ source_in image)
+
+abbrev pub ArePlaced : List Row → List (List ℕ × List Row) → List (List ℕ × NodeData) → Type 0
+ArePlaced rows left own = (at : List ℕ) → IsPlaced (option_map node_of (row_at rows at)) (node_here rows left own at)
+
 -- what stands where has changed, and the table hasn't
 pub record IsMoved (docket : Contents) (rows : List Row) (left : List (List ℕ × List Row)) (own : InMemory) (left_now : List (List ℕ × List Row)) (own_now : InMemory) : Type 0 where
   pub parted : IsParted docket rows left_now (memory_table own_now)
   pub same : IsSame (whole docket rows left_now (memory_table own_now)) (whole docket rows left (memory_table own))
+  pub nodes : (at : List ℕ) → node_here rows left_now own_now.rows at ≡ node_here rows left own.rows at
   pub changed : own_now.changed ≡ own.changed
 
 -- no list of a directory above a path is the image's any more, nor that of the path itself

@@ -19,7 +19,8 @@
 //! `gather` lists all nodes that have an entry or a cache, ascending by the bytes of their paths (a walk meets `a/b` before `a.c`).
 //!
 //! What a table still lends from its image is told by `is_lent`, `lent` and the places of a `Child`: the lists of children that no edit has touched,
-//! and the texts that have stayed. None counts as lent, since a table is written anew as a whole.
+//! and the texts that have stayed. A text is lent as long as its node, or its copy source, is the one that the image had. No list counts as lent, since
+//! a table is written anew as a whole.
 //!
 //! ```text
 //! let mut table = Mixed::open(alloc, image)?;

@@ -1,19 +1,20 @@
 //! The edits of what is in memory.
 
-ghost use Rattle.std.specs.Prelude.{◌≡◌, true, Some, None, IfOk, OnOk, OnErr, is_some, option_map};
+ghost use Rattle.std.specs.Prelude.{◌≡◌, ℕ, true, List, Some, None, IfOk, OnOk, OnErr, is_some, option_map};
 ghost use Rattle.hg_entry.specs.Entry.{stamp_view, view};
 ghost use Rattle.hg_mixed.specs.Clash.{IsLeast, Sets, clashes};
 ghost use Rattle.hg_mixed.specs.Drop.{IsPruned, after_clear};
 ghost use Rattle.hg_mixed.specs.Edits.{IsSame, Marks, after_cache, after_copy, after_hash, after_ids, after_no_caches, after_set};
-ghost use Rattle.hg_mixed.specs.Memory.{IsKept, memory_table};
+ghost use Rattle.hg_mixed.specs.Memory.{AreCleared, IsKept, IsSourceWritten, memory_table};
+ghost use Rattle.hg_mixed.specs.Node.{AreSame, node_at, planted, with_entry};
 
 use crate::clash::{clash, near_clash};
 use crate::fault::SetFault;
 use crate::memory::Memory;
-use crate::planting::{clear, write_source};
+use crate::planting::clear;
 use crate::pruning::prune;
-use crate::same::{copy_of, has_source, same_hash, same_ids, same_time};
-use crate::setting::put_entry;
+use crate::same::{same_hash, same_ids, same_time};
+use crate::setting::{put_entry, put_source};
 use hg_base::{Id20, OutOfMemory, Path, PathRef, Stamp};
 use hg_entry::Entry;
 
@@ -36,6 +37,11 @@ impl Memory {
         ensures clash { Sets path.entry.text.now (view entry) (memory_table self.old) result }
         ensures table { OnOk result (IsSame (memory_table self.new) (after_set path.entry.text.now (view entry) (memory_table self.old))) }
         ensures changed { OnOk result (Marks (IsSame (memory_table self.new) (memory_table self.old)) self.old.changed self.new.changed) }
+        ensures nodes { OnOk
+            result
+            ((at : List ℕ)
+            → node_at self.new.rows at
+            ≡ planted path.entry.text.now (with_entry (view entry) (node_at self.old.rows path.entry.text.now)) (node_at self.old.rows) at) }
         ensures err { OnErr result (IsKept self.old self.new) }
     {
         if let Some(other) = clash(&self.nodes, path, entry) {
@@ -58,6 +64,7 @@ impl Memory {
         requires no_entry { (memory_table self.old).entries dir.text.now ≡ None }
         ensures table { OnOk result (IsSame (memory_table self.new) (after_cache dir.entry.text.now (Some (stamp_view time)) (memory_table self.old))) }
         ensures changed { OnOk result (Marks (IsSame (memory_table self.new) (memory_table self.old)) self.old.changed self.new.changed) }
+        ensures nodes { OnOk result (AreSame self.old.rows self.new.rows) }
         ensures err { OnErr result (IsKept self.old self.new) }
     {
         let same = same_time(self.times.get(dir.text), Some(time));
@@ -76,6 +83,7 @@ impl Memory {
         requires no_entry { (memory_table self.old).entries dir.text.now ≡ None }
         ensures table { OnOk result (IsSame (memory_table self.new) (after_cache dir.entry.text.now None (memory_table self.old))) }
         ensures changed { OnOk result (Marks (IsSame (memory_table self.new) (memory_table self.old)) self.old.changed self.new.changed) }
+        ensures nodes { OnOk result (AreSame self.old.rows self.new.rows) }
         ensures err { OnErr result (IsKept self.old self.new) }
     {
         let same = same_time(self.times.get(dir.text), None);
@@ -88,6 +96,7 @@ impl Memory {
     pub fn drop_caches(&mut self) -> Result<(), OutOfMemory>
         ensures table { OnOk result (IsSame (memory_table self.new) (after_no_caches (memory_table self.old))) }
         ensures changed { OnOk result (Marks (IsSame (memory_table self.new) (memory_table self.old)) self.old.changed self.new.changed) }
+        ensures nodes { OnOk result (AreSame self.old.rows self.new.rows) }
         ensures err { OnErr result (IsKept self.old self.new) }
     {
         let same = self.times.is_empty();
@@ -107,14 +116,15 @@ impl Memory {
             result
             (IsSame (memory_table self.new) (after_copy path.entry.text.now (option_map (λ s. s.text.now) source.entry) (memory_table self.old))) }
         ensures changed { OnOk result (Marks (IsSame (memory_table self.new) (memory_table self.old)) self.old.changed self.new.changed) }
+        ensures nodes { OnOk
+            result
+            (IsSourceWritten path.entry.text.now (option_map (λ s. s.text.now) source.entry) self.old.rows self.new.rows) }
         ensures err { OnErr result (IsKept self.old self.new) }
     {
-        let same = has_source(&self.nodes, path, source);
-        match copy_of(self.alloc, source) {
+        match put_source(self.alloc, &mut self.nodes, path, source) {
             Err(fault) => Err(fault),
-            Ok(source) => {
-                write_source(&mut self.nodes, path, source);
-                self.changed |= !same;
+            Ok(differs) => {
+                self.changed |= differs;
                 Ok(())
             }
         }
@@ -124,6 +134,7 @@ impl Memory {
     pub fn set_ids(&mut self, p1: Id20, p2: Id20)
         ensures table { IsSame (memory_table self.new) (after_ids p1.0 p2.0 (memory_table self.old)) }
         ensures changed { Marks (IsSame (memory_table self.new) (memory_table self.old)) self.old.changed self.new.changed }
+        ensures nodes { AreSame self.old.rows self.new.rows }
     {
         let same = same_ids(self.p1, p1, self.p2, p2);
         self.p1 = p1;
@@ -135,6 +146,7 @@ impl Memory {
     pub fn set_hash(&mut self, hash: [u8; 20])
         ensures table { IsSame (memory_table self.new) (after_hash hash (memory_table self.old)) }
         ensures changed { Marks (IsSame (memory_table self.new) (memory_table self.old)) self.old.changed self.new.changed }
+        ensures nodes { AreSame self.old.rows self.new.rows }
     {
         let same = same_hash(self.hash, hash);
         self.hash = hash;
@@ -147,6 +159,7 @@ impl Memory {
         requires { is_some ((memory_table self.old).entries path.text.now) ≡ true }
         ensures pruned { OnOk result (IsPruned path.entry.text.now (after_clear path.entry.text.now (memory_table self.old)) (memory_table self.new)) }
         ensures changed { OnOk result (self.new.changed ≡ true) }
+        ensures nodes { OnOk result (AreCleared path.entry.text.now self.old.rows self.new.rows) }
         ensures err { OnErr result (IsKept self.old self.new) }
     {
         clear(&mut self.nodes, path);

@@ -8,7 +8,7 @@ ghost use Rattle.hg_image.specs.Reading as reading;
 ghost use Rattle.hg_image.specs.View.{row, rows};
 ghost use Rattle.hg_mixed.specs.Edits.{IsFormed, IsSame};
 ghost use Rattle.hg_mixed.specs.Held.{is_lent, table};
-ghost use Rattle.hg_mixed.specs.Shown.{AnswersLent, shown_item, shown_in};
+ghost use Rattle.hg_mixed.specs.Shown.{AnswersLent, ArePlacesOf, ArePlacesOfImage, shown_item, shown_in};
 
 use crate::lent::{Lent, Place};
 use crate::memory::Memory;
@@ -31,7 +31,7 @@ impl<'a> Model for Mixed<'a> {
     ghost use Rattle.hg_docket.specs.Docket as docket;
     ghost use Rattle.hg_mixed.specs.Held.{Held};
     ghost use Rattle.hg_mixed.specs.Memory.{memory_table};
-    ghost use Rattle.hg_mixed.specs.Parted.{IsParted, image_rows};
+    ghost use Rattle.hg_mixed.specs.Parted.{ArePlaced, IsParted, image_rows};
 
     ghost Value = { Held };
 
@@ -46,11 +46,11 @@ impl<'a> Model for Mixed<'a> {
       times = m.memory.times;
       left = m.left;
       lent = [];
-      texts = [];
-      sources = [];
     } };
 
-    ghost invariant = { λ m. IsParted (docket.view m.image.docket) (image_rows m.image) m.left (memory_table m.memory) };
+    ghost invariant = { λ m.
+        IsParted (docket.view m.image.docket) (image_rows m.image) m.left (memory_table m.memory)
+        × ArePlaced (image_rows m.image) m.left m.memory.rows };
 }
 
 impl<'a> Mixed<'a> {
@@ -60,6 +60,8 @@ impl<'a> Mixed<'a> {
         ensures changed { IfOk result (λ m. m.changed ≡ false) }
         ensures docket { IfOk result (λ m. m.docket ≡ docket.view image.entry.docket) }
         ensures bytes { IfOk result (λ m. m.bytes ≡ image.entry.bytes.now) }
+        // Each text is lent.
+        ensures places { IfOk result (ArePlacesOf (rows image.entry)) }
     {
         let mut left = Lent::new(alloc);
         left.put(alloc, "", image.root())?;
@@ -97,6 +99,7 @@ impl<'a> Mixed<'a> {
     pub fn image(&self) -> Image<'a>
         ensures docket { docket.view result.docket ≡ self.now.docket }
         ensures bytes { result.bytes.now ≡ self.now.bytes }
+        ensures places { ArePlacesOfImage self.now }
     {
         self.image
     }

@@ -8,4 +8,8 @@ use hg_entry::Entry;
 pub struct Node {
     pub entry: Option<Entry>,
     pub source: Option<Path>,
+    /// Where the text of its path lies in the image, if it is lent.
+    pub text_at: Option<u32>,
+    /// Where the text of its copy source does.
+    pub source_at: Option<u32>,
 }

@@ -1,6 +1,6 @@
 //! Nodes of an image are taken into memory.
 
-ghost use Rattle.std.specs.Prelude.{◌<◌, OnOk, OnErr};
+ghost use Rattle.std.specs.Prelude.{◌≡◌, ◌<◌, OnOk, OnErr, option_map};
 ghost use Rattle.hg_base.specs.PathText.{parent_of};
 ghost use Rattle.hg_image.specs.View.{dir_of, row};
 ghost use Rattle.hg_mixed.specs.Drop.{bare};
@@ -14,9 +14,20 @@ use crate::node::Node;
 use crate::nodes::Nodes;
 use crate::same::copy_of;
 use crate::times::Times;
-use hg_base::OutOfMemory;
+use hg_base::{OutOfMemory, PathRef};
 use hg_image::{List, NodeRef};
+use hg_node::Rec;
 use std::alloc::Global;
+
+/// Where the text of a node's copy source lies, where it has one.
+pub fn source_place(source: Option<PathRef<'_>>, rec: Rec) -> Option<u32>
+    ensures { result ≡ option_map (λ source. rec.copy_start) (option_map (λ s. s.text.now) source.entry) }
+{
+    match source {
+        None => None,
+        Some(_) => Some(rec.copy_start),
+    }
+}
 
 // Takes one node. Where memory is wanting, its path alone may have another node or time, and all is formed.
 fn add_own(
@@ -31,10 +42,14 @@ fn add_own(
     ensures err { OnErr result (IsElsewhere (row node.entry).path nodes.old times.old nodes.new times.new) }
 {
     let path = node.path();
-    let source = copy_of(alloc, node.source())?;
+    let rec = node.rec();
+    let named = node.source();
+    let source = copy_of(alloc, named)?;
     let own = Node {
         entry: node.entry(),
         source,
+        text_at: Some(rec.path_start),
+        source_at: source_place(named, rec),
     };
     match node.cache() {
         None => {

@@ -122,8 +122,8 @@ impl<'t> OwnChildren<'t> {
                     source: source_of(node),
                     cache,
                     has_kids,
-                    text_at: None,
-                    source_at: None,
+                    text_at: node.text_at,
+                    source_at: node.source_at,
                     list: None,
                     fields: written_for(node.entry, cache),
                 })
@@ -145,7 +145,7 @@ pub fn text_of<'a>(dir: Option<PathRef<'a>>) -> &'a str
 impl Memory {
     /// The nodes right in a directory, ascending by name, where no directory is the root.
     pub fn children(&self, dir: Option<PathRef<'_>>) -> OwnChildren<'_>
-        ensures nodes { AreNodesIn (memory_table self.now) (option_map (λ d. d.text.now) dir.entry) result }
+        ensures nodes { AreNodesIn (memory_table self.now) self.now.rows (option_map (λ d. d.text.now) dir.entry) result }
         ensures formed { IsFormed (memory_table self.now) }
     {
         OwnChildren {

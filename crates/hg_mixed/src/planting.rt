@@ -4,7 +4,7 @@ ghost use Rattle.std.specs.Prelude.{◌≡◌, ℕ, true, List, Some, None, is_s
 ghost use Rattle.hg_base.specs.PathText.{parent_of};
 ghost use Rattle.hg_entry.specs.Entry.{view};
 ghost use Rattle.hg_mixed.specs.Lists.{data_of};
-ghost use Rattle.hg_mixed.specs.Node.{AreRootedAbove, AreSame, IsMissing, IsPut, blank, entry_in, node_at, planted, source_in};
+ghost use Rattle.hg_mixed.specs.Node.{AreRootedAbove, AreSame, IsMissing, IsPut, blank, cleared, entry_in, node_at, planted, text_in, with_entry, with_source};
 
 use crate::node::Node;
 use crate::nodes::Nodes;
@@ -26,58 +26,81 @@ pub fn entry_at(nodes: &Nodes, path: PathRef<'_>) -> Option<Entry>
     nodes.get(path)?.entry
 }
 
-// A node without entry.
+// A node without entry, of which no text is lent.
 fn blank() -> Node
     ensures { data_of result ≡ blank }
 {
     Node {
         entry: None,
         source: None,
+        text_at: None,
+        source_at: None,
     }
 }
 
-// The copy source of a node that was taken out.
-fn source_of(node: Option<Node>) -> Option<Path>
-    ensures { result ≡ source_in (option_map data_of node) }
+// A node that was taken out, with an entry.
+fn with_entry(node: Option<Node>, entry: Entry) -> Node
+    ensures { data_of result ≡ with_entry (view entry) (option_map data_of node) }
 {
     match node {
-        None => None,
-        Some(node) => node.source,
+        None => Node {
+            entry: Some(entry),
+            source: None,
+            text_at: None,
+            source_at: None,
+        },
+        Some(node) => Node {
+            entry: Some(entry),
+            source: node.source,
+            text_at: node.text_at,
+            source_at: node.source_at,
+        },
     }
+}
+
+// The place of the text of a path's node.
+fn text_at(nodes: &Nodes, path: PathRef<'_>) -> Option<u32>
+    ensures { result ≡ text_in (node_at nodes.now path.entry.text.now) }
+{
+    nodes.get(path)?.text_at
 }
 
 /// Writes the entry of a node.
-pub fn write_entry(nodes: &mut Nodes, path: PathRef<'_>, entry: Option<Entry>)
+pub fn write_entry(nodes: &mut Nodes, path: PathRef<'_>, entry: Entry)
     requires { is_some (node_at nodes.old path.text.now) ≡ true }
-    ensures { IsPut
-        path.entry.text.now
-        (Some (record { entry = option_map view entry; source = source_in (node_at nodes.old path.entry.text.now) }))
-        nodes.old
-        nodes.new }
+    ensures { IsPut path.entry.text.now (Some (with_entry (view entry) (node_at nodes.old path.entry.text.now))) nodes.old nodes.new }
 {
-    let source = source_of(nodes.replace(path, blank()));
-    let _ = nodes.replace(path, Node { entry, source });
+    let node = with_entry(nodes.replace(path, blank()), entry);
+    let _ = nodes.replace(path, node);
 }
 
 /// Drops the entry of a node, with its copy source.
 pub fn clear(nodes: &mut Nodes, path: PathRef<'_>)
     requires { is_some (node_at nodes.old path.text.now) ≡ true }
-    ensures { IsPut path.entry.text.now (Some blank) nodes.old nodes.new }
+    ensures { IsPut path.entry.text.now (Some (cleared (node_at nodes.old path.entry.text.now))) nodes.old nodes.new }
 {
-    let _ = nodes.replace(path, blank());
+    let node = Node {
+        entry: None,
+        source: None,
+        text_at: text_at(nodes, path),
+        source_at: None,
+    };
+    let _ = nodes.replace(path, node);
 }
 
-/// Writes the copy source of a node.
+/// Writes another copy source of a node.
 pub fn write_source(nodes: &mut Nodes, path: PathRef<'_>, source: Option<Path>)
     requires { is_some (node_at nodes.old path.text.now) ≡ true }
-    ensures { IsPut
-        path.entry.text.now
-        (Some (record { entry = entry_in (node_at nodes.old path.entry.text.now); source = source }))
-        nodes.old
-        nodes.new }
+    ensures { IsPut path.entry.text.now (Some (with_source source (node_at nodes.old path.entry.text.now))) nodes.old nodes.new }
 {
     let entry = entry_at(nodes, path);
-    let _ = nodes.replace(path, Node { entry, source });
+    let node = Node {
+        entry,
+        source,
+        text_at: text_at(nodes, path),
+        source_at: None,
+    };
+    let _ = nodes.replace(path, node);
 }
 
 // The directory of the path, where nothing stands there.

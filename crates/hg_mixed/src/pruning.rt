@@ -1,6 +1,6 @@
 //! Nodes that go: those left with neither entry nor children.
 
-ghost use Rattle.std.specs.Prelude.{◌≡◌, ◌||◌, is_some};
+ghost use Rattle.std.specs.Prelude.{◌≡◌, ◌||◌, ℕ, true, List, is_some};
 ghost use Rattle.hg_mixed.specs.Drop.{IsPruned, bare};
 ghost use Rattle.hg_mixed.specs.Edits.{IsFormed};
 ghost use Rattle.hg_mixed.specs.Lists.{has_rows_in};
@@ -26,6 +26,7 @@ pub fn prune(nodes: &mut Nodes, times: &mut Times, path: PathRef<'_>)
     requires { IsFormed (bare nodes.old times.old) }
     ensures pruned { IsPruned path.entry.text.now (bare nodes.old times.old) (bare nodes.new times.new) }
     ensures formed { IsFormed (bare nodes.new times.new) }
+    ensures kept { (at : List ℕ) → is_some (node_at nodes.new at) ≡ true → node_at nodes.new at ≡ node_at nodes.old at }
 {
     if stays(nodes, path) {
         return;

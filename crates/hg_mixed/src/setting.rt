@@ -1,14 +1,15 @@
 //! The entry of a path is set.
 
-ghost use Rattle.std.specs.Prelude.{◌≡◌, ℕ, List, Some, None, OnOk, OnErr, IfOk, IsTrue, MatchBool};
+ghost use Rattle.std.specs.Prelude.{◌≡◌, ℕ, true, List, Some, None, OnOk, OnErr, IfOk, IsTrue, MatchBool, is_some, option_map};
 ghost use Rattle.hg_entry.specs.Entry.{view};
 ghost use Rattle.hg_mixed.specs.Lists.{data_of};
-ghost use Rattle.hg_mixed.specs.Node.{AreRooted, AreSame, entry_in, node_at, planted, with_entry};
+ghost use Rattle.hg_mixed.specs.Memory.{IsSourceWritten};
+ghost use Rattle.hg_mixed.specs.Node.{AreRooted, AreSame, entry_in, node_at, planted, source_in, with_entry};
 
 use crate::node::Node;
 use crate::nodes::Nodes;
-use crate::planting::{plant, write_entry};
-use crate::same::same_entry;
+use crate::planting::{plant, write_entry, write_source};
+use crate::same::{copy_of, has_source, same_entry};
 use hg_base::{OutOfMemory, PathRef};
 use hg_entry::Entry;
 use std::alloc::Global;
@@ -49,7 +50,7 @@ pub fn put_entry(
             if says(node, &entry) {
                 return Ok(false);
             }
-            write_entry(nodes, path, Some(entry));
+            write_entry(nodes, path, entry);
             Ok(true)
         }
     }
@@ -74,9 +75,40 @@ fn put_new(
     let node = Node {
         entry: Some(entry),
         source: None,
+        text_at: None,
+        source_at: None,
     };
     match plant(alloc, nodes, path, node) {
         Ok(()) => Ok(true),
         Err(fault) => Err(fault),
+    }
+}
+
+/// Writes the copy source of a path, where it is another, or leaves all as it was; answers whether it was another.
+pub fn put_source(
+    alloc: Global,
+    nodes: &mut Nodes,
+    path: PathRef<'_>,
+    source: Option<PathRef<'_>>,
+) -> Result<bool, OutOfMemory>
+    requires { is_some (node_at nodes.old path.text.now) ≡ true }
+    ensures ok { OnOk result (IsSourceWritten path.entry.text.now (option_map (λ s. s.text.now) source.entry) nodes.old nodes.new) }
+    ensures differs { IfOk
+        result
+        (λ differs. MatchBool
+        differs
+        (source_in (node_at nodes.old path.entry.text.now) ≡ option_map (λ s. s.text.now) source.entry → ⊥)
+        (source_in (node_at nodes.old path.entry.text.now) ≡ option_map (λ s. s.text.now) source.entry)) }
+    ensures err { OnErr result (AreSame nodes.old nodes.new) }
+{
+    if has_source(nodes, path, source) {
+        return Ok(false);
+    }
+    match copy_of(alloc, source) {
+        Err(fault) => Err(fault),
+        Ok(source) => {
+            write_source(nodes, path, source);
+            Ok(true)
+        }
     }
 }

@@ -11,6 +11,7 @@ ghost use Rattle.hg_mixed.specs.Walk.{Fills, IsLentAt, ListIsOf, ListsAreOf, wal
 
 use crate::child::Child;
 use crate::lent::Lent;
+use crate::opening::source_place;
 use crate::own_children::OwnChildren;
 use crate::written::fields_of_node;
 use hg_entry::Fields;
@@ -94,16 +95,18 @@ fn child_of(node: NodeRef<'_>) -> Child<'_>
     ensures list { IfSome result.list (λ l. (rows_in l ≡ rows_below node.entry) × (dir_of l ≡ Some (row node.entry).path)) }
 {
     let list = node.children();
+    let source = node.source();
+    let rec = node.rec();
     Child {
         path: node.path(),
         entry: node.entry(),
-        source: node.source(),
+        source,
         cache: node.cache(),
         has_kids: list.len() != 0,
-        text_at: None,
-        source_at: None,
+        text_at: Some(rec.path_start),
+        source_at: source_place(source, rec),
         list: Some(list),
-        fields: fields_of_node(fields(node.rec())),
+        fields: fields_of_node(fields(rec)),
     }
 }
 

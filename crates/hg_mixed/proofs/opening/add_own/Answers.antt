@@ -1,5 +1,5 @@
 use Rattle.std.proofs.Common.{◌∙◌, ap, sym, None, Some}
-use Rattle.std.specs.Prelude.{is_some}
+use Rattle.std.specs.Prelude.{is_some, option_map}
 use Rattle.std.specs.Map.{update}
 use Rattle.std.specs.Str.{bytes_eq}
 use Rattle.std.proofs.lemmas.Result.{on_err_weaker, on_ok_weaker}
@@ -15,7 +15,12 @@ returns-in-None-clause-ok c = on_ok_weaker c.put.result
     (λ placed.
     adds_own (row c.args.node) c.args.nodes.now c.args.times.now c.put.new.self c.remove.new.self c.args.node.is_path c.requires.formed c.requires.dir
     (λ at. placed at
-    ∙ (λ i. update bytes_eq (node_at c.args.nodes.now) (c.path-path.ensures i) (Some (record { entry = c.entry.ensures i; source = (c.in_ok-source.ensures ∙ c.source.ensures) i })) at))
+    ∙ (λ i. update bytes_eq (node_at c.args.nodes.now) (c.path-path.ensures i) (Some (record {
+      entry = c.entry.ensures i;
+      source = (c.in_ok-source.ensures ∙ c.source-named.ensures) i;
+      text_at = Some (c.rec-rec.ensures i).path_start;
+      source_at = (c.source_place.ensures ∙ (λ k. option_map (λ source. (c.rec-rec.ensures k).copy_start) (c.source-named.ensures k))) i;
+    })) at))
     (λ h. source_false (has_entry c.args.node.rec.flags) _ _ h)
     (λ at. c.remove.ensures at
     ∙ (λ i. update bytes_eq (time_at c.args.times.now) (c.path-path.ensures i) (c.in-None.ensures i) at)))
@@ -33,7 +38,12 @@ returns-in_ok-put-in-Some-clause-ok c = on_ok_weaker c.put-in-Some-2.result
     (λ timed.
     adds_own (row c.args.node) c.args.nodes.now c.args.times.now c.put-in-Some.new.self c.put-in-Some-2.new.self c.args.node.is_path c.requires.formed c.requires.dir
     (λ at. c.in_ok-put-in-Some.ensures.ok at
-    ∙ (λ i. update bytes_eq (node_at c.args.nodes.now) (c.path-path.ensures i) (Some (record { entry = c.entry.ensures i; source = (c.in_ok-source.ensures ∙ c.source.ensures) i })) at))
+    ∙ (λ i. update bytes_eq (node_at c.args.nodes.now) (c.path-path.ensures i) (Some (record {
+      entry = c.entry.ensures i;
+      source = (c.in_ok-source.ensures ∙ c.source-named.ensures) i;
+      text_at = Some (c.rec-rec.ensures i).path_start;
+      source_at = (c.source_place.ensures ∙ (λ k. option_map (λ source. (c.rec-rec.ensures k).copy_start) (c.source-named.ensures k))) i;
+    })) at))
     (λ h. source_false (has_entry c.args.node.rec.flags) _ _ h)
     (λ at. timed at
     ∙ (λ i. update bytes_eq (time_at c.args.times.now) (c.path-path.ensures i) (c.in-Some.ensures i) at)))
@@ -44,7 +54,12 @@ returns-in_ok-put-in-Some-clause-err c = on_err_weaker c.put-in-Some-2.result
     (λ same.
     adds_untimed (row c.args.node) c.args.nodes.now c.args.times.now c.put-in-Some.new.self c.put-in-Some-2.new.self c.args.node.is_path c.requires.formed c.requires.dir
     (λ at. c.in_ok-put-in-Some.ensures.ok at
-    ∙ (λ i. update bytes_eq (node_at c.args.nodes.now) (c.path-path.ensures i) (Some (record { entry = c.entry.ensures i; source = (c.in_ok-source.ensures ∙ c.source.ensures) i })) at))
+    ∙ (λ i. update bytes_eq (node_at c.args.nodes.now) (c.path-path.ensures i) (Some (record {
+      entry = c.entry.ensures i;
+      source = (c.in_ok-source.ensures ∙ c.source-named.ensures) i;
+      text_at = Some (c.rec-rec.ensures i).path_start;
+      source_at = (c.source_place.ensures ∙ (λ k. option_map (λ source. (c.rec-rec.ensures k).copy_start) (c.source-named.ensures k))) i;
+    })) at))
     (λ h. source_false (has_entry c.args.node.rec.flags) _ _ h)
     (ap is_some (sym c.in-Some.ensures))
     same)

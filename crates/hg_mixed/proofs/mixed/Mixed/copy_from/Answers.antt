@@ -2,14 +2,19 @@ use Rattle.std.proofs.Common.{refl}
 use Rattle.std.specs.Option.{option_map}
 use Rattle.std.proofs.lemmas.Result.{on_ok_weaker}
 use Rattle.hg_mixed.specs.Edits.{after_copy}
-use Rattle.hg_mixed.proofs.Lifted.{copy_marks, copy_parted, copy_table, edit_of, kept_parted, marks_of, ok_always, ok_both, ok_or_err, places_copy, some_of}
+use Rattle.hg_mixed.proofs.Lifted.{copy_marks, copy_parted, copy_table, edit_of, kept_parted, marks_of, ok_both, ok_or_err, some_of}
+use Rattle.hg_mixed.proofs.Placed.{copy_placed, copy_places, same_placed}
 use Rattle.hg_mixed.proofs.mixed.Mixed.copy_from.Goals as goal
 
 pub invariant_of-self-in-Ok : goal.invariant_of-self-in-Ok
-invariant_of-self-in-Ok c =
-    ok_or_err c.copy_from.result
-    (λ same. copy_parted _ _ _ _ _ _ c.copy_from.new.self c.take_for.ensures.moved c.args.path.text.now c.in-Ok.ensures.free.above (option_map (λ s. s.text.now) c.args.source) same (some_of _ _ c.self.view_is c.args.path.text.now c.requires))
-    (λ kept. kept_parted _ _ _ _ _ _ c.copy_from.new.self c.take_for.ensures.moved kept.table) c.copy_from.ensures.table c.copy_from.ensures.err
+invariant_of-self-in-Ok c = (
+  ok_or_err c.copy_from.result
+      (λ same. copy_parted _ _ _ _ _ _ c.copy_from.new.self c.take_for.ensures.moved c.args.path.text.now c.in-Ok.ensures.free.above (option_map (λ s. s.text.now) c.args.source) same (some_of _ _ c.self.view_is c.args.path.text.now c.requires))
+      (λ kept. kept_parted _ _ _ _ _ _ c.copy_from.new.self c.take_for.ensures.moved kept.table) c.copy_from.ensures.table c.copy_from.ensures.err,
+  ok_or_err c.copy_from.result
+      (λ written. copy_placed _ _ _ _ _ _ c.copy_from.new.self c.take_for.ensures.moved c.args.path.text.now c.in-Ok.ensures.free.above (option_map (λ s. s.text.now) c.args.source) written c.self.invariant.1)
+      (λ kept. same_placed _ _ _ _ _ _ c.copy_from.new.self c.take_for.ensures.moved kept.nodes c.self.invariant.1) c.copy_from.ensures.nodes c.copy_from.ensures.err,
+)
 
 pub returns-in-Ok-clause-table : goal.returns-in-Ok-clause-table
 returns-in-Ok-clause-table c =
@@ -24,4 +29,8 @@ returns-in-Ok-clause-changed c =
     c.copy_from.ensures.table c.copy_from.ensures.changed
 
 pub returns-in-Ok-clause-places : goal.returns-in-Ok-clause-places
-returns-in-Ok-clause-places c = ok_always c.copy_from.result (places_copy _ _ c.self.view_is _ refl refl refl refl c.args.path.text.now _)
+returns-in-Ok-clause-places c =
+    ok_both c.copy_from.result
+    (λ written same. copy_places _ _ _ _ _ _ c.copy_from.new.self c.take_for.ensures.moved c.args.path.text.now c.in-Ok.ensures.free.above (option_map (λ s. s.text.now) c.args.source) written same
+    _ _ c.self.view_is _ (λ at. refl) (λ at. refl) (λ s. s) (λ s. s))
+    c.copy_from.ensures.nodes c.copy_from.ensures.table

@@ -2,13 +2,18 @@ use Rattle.std.proofs.Common.{refl, ◌∙◌}
 use Rattle.std.proofs.lemmas.Result.{on_err_weaker, on_ok_weaker}
 use Rattle.hg_mixed.specs.Edits.{after_no_caches}
 use Rattle.hg_mixed.proofs.Lifted.{edit_of, kept_parted, kept_table, marks_of, no_caches_marks, no_caches_parted, no_caches_table, ok_both, ok_or_err, unchanged}
+use Rattle.hg_mixed.proofs.Placed.{places_of, same_keeps, same_nodes, same_placed}
 use Rattle.hg_mixed.proofs.mixed.Mixed.drop_caches.Goals as goal
 
 pub invariant_of-self-in-Ok : goal.invariant_of-self-in-Ok
-invariant_of-self-in-Ok c =
-    ok_or_err c.drop_caches.result
-    (λ same. no_caches_parted _ _ _ _ _ _ c.drop_caches.new.self c.take_all.ensures.moved c.in-Ok.ensures.all same)
-    (λ kept. kept_parted _ _ _ _ _ _ c.drop_caches.new.self c.take_all.ensures.moved kept.table) c.drop_caches.ensures.table c.drop_caches.ensures.err
+invariant_of-self-in-Ok c = (
+  ok_or_err c.drop_caches.result
+      (λ same. no_caches_parted _ _ _ _ _ _ c.drop_caches.new.self c.take_all.ensures.moved c.in-Ok.ensures.all same)
+      (λ kept. kept_parted _ _ _ _ _ _ c.drop_caches.new.self c.take_all.ensures.moved kept.table) c.drop_caches.ensures.table c.drop_caches.ensures.err,
+  ok_or_err c.drop_caches.result
+      (λ nodes. same_placed _ _ _ _ _ _ c.drop_caches.new.self c.take_all.ensures.moved nodes c.self.invariant.1)
+      (λ kept. same_placed _ _ _ _ _ _ c.drop_caches.new.self c.take_all.ensures.moved kept.nodes c.self.invariant.1) c.drop_caches.ensures.nodes c.drop_caches.ensures.err,
+)
 
 pub returns-in-Ok-clause-table : goal.returns-in-Ok-clause-table
 returns-in-Ok-clause-table c =
@@ -25,5 +30,9 @@ returns-in-Ok-clause-changed c =
 pub returns-in-Ok-clause-err : goal.returns-in-Ok-clause-err
 returns-in-Ok-clause-err c =
     on_err_weaker c.drop_caches.result
-    (λ kept. unchanged _ _ c.self.view_is _ (kept_table _ _ _ _ _ _ c.drop_caches.new.self c.take_all.ensures.moved kept.table) (kept.changed ∙ c.take_all.ensures.moved.changed) refl refl refl refl refl)
+    (λ kept. unchanged _ _ c.self.view_is _ (kept_table _ _ _ _ _ _ c.drop_caches.new.self c.take_all.ensures.moved kept.table) (kept.changed ∙ c.take_all.ensures.moved.changed) (λ dir. refl) (same_nodes _ _ _ _ _ _ c.drop_caches.new.self c.take_all.ensures.moved kept.nodes) refl refl)
     c.drop_caches.ensures.err
+
+pub returns-in-Ok-clause-places : goal.returns-in-Ok-clause-places
+returns-in-Ok-clause-places c =
+    on_ok_weaker c.drop_caches.result (λ nodes. places_of _ _ c.self.view_is _ (same_keeps _ _ _ _ _ _ c.drop_caches.new.self c.take_all.ensures.moved nodes)) c.drop_caches.ensures.nodes

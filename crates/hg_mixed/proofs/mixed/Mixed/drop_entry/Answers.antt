@@ -1,14 +1,19 @@
 use Rattle.std.proofs.Common.{refl}
 use Rattle.std.proofs.lemmas.Result.{on_ok_weaker}
 use Rattle.hg_mixed.proofs.DroppedWhole.{drop_of, drop_parted, drop_table}
-use Rattle.hg_mixed.proofs.Lifted.{kept_parted, ok_always, ok_or_err, places_drop}
+use Rattle.hg_mixed.proofs.Lifted.{kept_parted, ok_both, ok_or_err}
+use Rattle.hg_mixed.proofs.Placed.{drop_placed, drop_places, same_placed}
 use Rattle.hg_mixed.proofs.mixed.Mixed.drop_entry.Goals as goal
 
 pub invariant_of-self-in-Ok : goal.invariant_of-self-in-Ok
-invariant_of-self-in-Ok c =
-    ok_or_err c.drop_entry.result
-    (λ pruned. drop_parted _ _ _ _ _ _ c.drop_entry.new.self c.take_for.ensures.moved c.args.path.text.now c.in-Ok.ensures.free pruned)
-    (λ kept. kept_parted _ _ _ _ _ _ c.drop_entry.new.self c.take_for.ensures.moved kept.table) c.drop_entry.ensures.pruned c.drop_entry.ensures.err
+invariant_of-self-in-Ok c = (
+  ok_or_err c.drop_entry.result
+      (λ pruned. drop_parted _ _ _ _ _ _ c.drop_entry.new.self c.take_for.ensures.moved c.args.path.text.now c.in-Ok.ensures.free pruned)
+      (λ kept. kept_parted _ _ _ _ _ _ c.drop_entry.new.self c.take_for.ensures.moved kept.table) c.drop_entry.ensures.pruned c.drop_entry.ensures.err,
+  ok_or_err c.drop_entry.result
+      (λ nodes. drop_placed _ _ _ _ _ _ c.drop_entry.new.self c.take_for.ensures.moved c.args.path.text.now c.in-Ok.ensures.free.above c.self.invariant.1 nodes)
+      (λ kept. same_placed _ _ _ _ _ _ c.drop_entry.new.self c.take_for.ensures.moved kept.nodes c.self.invariant.1) c.drop_entry.ensures.nodes c.drop_entry.ensures.err,
+)
 
 pub returns-in-Ok-clause-pruned : goal.returns-in-Ok-clause-pruned
 returns-in-Ok-clause-pruned c =
@@ -17,4 +22,8 @@ returns-in-Ok-clause-pruned c =
     c.drop_entry.ensures.pruned
 
 pub returns-in-Ok-clause-places : goal.returns-in-Ok-clause-places
-returns-in-Ok-clause-places c = ok_always c.drop_entry.result (places_drop _ _ c.self.view_is _ refl refl refl refl c.args.path.text.now)
+returns-in-Ok-clause-places c =
+    ok_both c.drop_entry.result
+    (λ nodes pruned. drop_places _ _ _ _ _ _ c.drop_entry.new.self c.take_for.ensures.moved c.args.path.text.now c.in-Ok.ensures.free.above c.self.invariant.1 nodes pruned
+    _ _ c.self.view_is _ (λ at. refl) (λ at. refl) (λ at. refl))
+    c.drop_entry.ensures.nodes c.drop_entry.ensures.pruned

@@ -3,14 +3,19 @@ use Rattle.hg_entry.specs.Entry.{stamp_view}
 use Rattle.std.proofs.lemmas.Result.{on_ok_weaker}
 use Rattle.hg_mixed.specs.Edits.{after_cache}
 use Rattle.hg_mixed.proofs.Lifted.{cache_marks, cache_parted, cache_table, edit_of, kept_parted, marks_of, node_of, none_of, ok_both, ok_or_err}
+use Rattle.hg_mixed.proofs.Placed.{places_of, same_keeps, same_placed}
 use Rattle.hg_mixed.proofs.mixed.Mixed.note_dir.Goals as goal
 
 pub invariant_of-self-in-Ok : goal.invariant_of-self-in-Ok
-invariant_of-self-in-Ok c =
-    ok_or_err c.note_dir.result
-    (λ same. cache_parted _ _ _ _ _ _ c.note_dir.new.self c.take_for.ensures.moved c.args.dir.text.now c.in-Ok.ensures.free.above (Some (stamp_view c.args.time)) same (node_of _ _ c.self.view_is c.args.dir.text.now c.requires.node)
-    (none_of _ _ c.self.view_is c.args.dir.text.now c.requires.no_entry))
-    (λ kept. kept_parted _ _ _ _ _ _ c.note_dir.new.self c.take_for.ensures.moved kept.table) c.note_dir.ensures.table c.note_dir.ensures.err
+invariant_of-self-in-Ok c = (
+  ok_or_err c.note_dir.result
+      (λ same. cache_parted _ _ _ _ _ _ c.note_dir.new.self c.take_for.ensures.moved c.args.dir.text.now c.in-Ok.ensures.free.above (Some (stamp_view c.args.time)) same (node_of _ _ c.self.view_is c.args.dir.text.now c.requires.node)
+      (none_of _ _ c.self.view_is c.args.dir.text.now c.requires.no_entry))
+      (λ kept. kept_parted _ _ _ _ _ _ c.note_dir.new.self c.take_for.ensures.moved kept.table) c.note_dir.ensures.table c.note_dir.ensures.err,
+  ok_or_err c.note_dir.result
+      (λ nodes. same_placed _ _ _ _ _ _ c.note_dir.new.self c.take_for.ensures.moved nodes c.self.invariant.1)
+      (λ kept. same_placed _ _ _ _ _ _ c.note_dir.new.self c.take_for.ensures.moved kept.nodes c.self.invariant.1) c.note_dir.ensures.nodes c.note_dir.ensures.err,
+)
 
 pub returns-in-Ok-clause-table : goal.returns-in-Ok-clause-table
 returns-in-Ok-clause-table c =
@@ -23,3 +28,7 @@ returns-in-Ok-clause-changed c =
     ok_both c.note_dir.result
     (λ same marks. marks_of _ _ c.self.view_is _ c.note_dir.new.self.changed (cache_marks _ _ _ _ _ _ c.note_dir.new.self c.take_for.ensures.moved c.args.dir.text.now c.in-Ok.ensures.free.above (Some (stamp_view c.args.time)) same marks))
     c.note_dir.ensures.table c.note_dir.ensures.changed
+
+pub returns-in-Ok-clause-places : goal.returns-in-Ok-clause-places
+returns-in-Ok-clause-places c =
+    on_ok_weaker c.note_dir.result (λ nodes. places_of _ _ c.self.view_is _ (same_keeps _ _ _ _ _ _ c.note_dir.new.self c.take_for.ensures.moved nodes)) c.note_dir.ensures.nodes

@@ -1,14 +1,26 @@
-use Rattle.std.proofs.Common.{◌∙◌, ap}
+use Rattle.std.proofs.Common.{◌≡◌, ◌∙◌, None, ap}
 use Rattle.std.specs.Option.{option_map}
-use Rattle.hg_mixed.proofs.ImageFormed.{opened_parted, opened_same}
+use Rattle.hg_image.specs.View.{dir_of}
+use Rattle.hg_mixed.proofs.ImageFormed.{opened_parted, opened_placed, opened_same, opened_source, opened_text}
 use Rattle.hg_mixed.proofs.mixed.Mixed.open.Goals as goal
 
 pub invariant_of-result : goal.invariant_of-result
-invariant_of-result c =
-    opened_parted c.args.image c.root.result (ap (option_map (λ d. d.text.now)) c.root.ensures.dir) c.root.ensures.rows c.new-left.result c.put.new.self c.new-left.ensures.none c.in_ok-put.ensures.ok
-    c.new.result c.new.ensures.nodes
+invariant_of-result c = (
+  opened_parted c.args.image c.root.result (ap (option_map (λ d. d.text.now)) c.root.ensures.dir) c.root.ensures.rows c.new-left.result c.put.new.self c.new-left.ensures.none c.in_ok-put.ensures.ok
+      c.new.result c.new.ensures.nodes,
+  opened_placed c.args.image c.root.result (ap (option_map (λ d. d.text.now)) c.root.ensures.dir) c.root.ensures.rows c.new-left.result c.put.new.self c.new-left.ensures.none c.in_ok-put.ensures.ok
+      c.new.result,
+)
 
 pub returns-clause-table : goal.returns-clause-table
 returns-clause-table c =
     opened_same c.args.image c.root.result (ap (option_map (λ d. d.text.now)) c.root.ensures.dir) c.root.ensures.rows c.new-left.result c.put.new.self c.new-left.ensures.none c.in_ok-put.ensures.ok
     c.new.result c.new.ensures.nodes (c.new.ensures.p1 ∙ ap (λ d. d.p1.0) c.docket.ensures) (c.new.ensures.p2 ∙ ap (λ d. d.p2.0) c.docket.ensures) (c.new.ensures.hash ∙ ap (λ d. d.hash) c.docket.ensures)
+
+pub returns-clause-places : goal.returns-clause-places
+returns-clause-places c =
+    let is : dir_of c.root.result ≡ None = ap (option_map (λ d. d.text.now)) c.root.ensures.dir in
+    record {
+      texts = λ at. opened_text c.args.image c.root.result is c.root.ensures.rows c.new-left.result c.put.new.self c.new-left.ensures.none c.in_ok-put.ensures.ok c.new.result at;
+      sources = λ at. opened_source c.args.image c.root.result is c.root.ensures.rows c.new-left.result c.put.new.self c.new-left.ensures.none c.in_ok-put.ensures.ok c.new.result at;
+    }

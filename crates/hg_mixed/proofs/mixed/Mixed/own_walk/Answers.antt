@@ -12,7 +12,7 @@ pub returns-clause-children : goal.returns-clause-children
 returns-clause-children c =
     let dir : Option (List ℕ) = option_map (λ d. d.text.now) c.args.dir in
     subst (λ (h : Held). AreChildren h dir (map (with_lent c.self.inside.left) c.children.result)) c.self.view_is
-    (own_children _ c.children.ensures.formed.paths c.self.invariant (λ at. refl) (λ at. refl) dir (subst (λ (h : Held). IsOwn h.left dir) (sym c.self.view_is) c.requires) c.children.result c.children.ensures.nodes)
+    (own_children _ c.children.ensures.formed.paths c.self.invariant.0 dir (subst (λ (h : Held). IsOwn h.left dir) (sym c.self.view_is) c.requires) c.children.result c.children.ensures.nodes)
 
 pub returns-clause-lists : goal.returns-clause-lists
-returns-clause-lists c = begun_own c.args.self.now _ c.self.view_is c.self.invariant _ refl refl
+returns-clause-lists c = begun_own c.args.self.now _ c.self.view_is c.self.invariant.0 _ refl refl

@@ -4,13 +4,18 @@ use Rattle.hg_entry.specs.Entry.{view}
 use Rattle.hg_mixed.specs.Edits.{after_set}
 use Rattle.hg_mixed.proofs.ClashWhole.{sets_whole}
 use Rattle.hg_mixed.proofs.Lifted.{edit_of, kept_parted, marks_of, ok_both, ok_or_err, set_marks, set_parted, set_table}
+use Rattle.hg_mixed.proofs.Placed.{places_of, same_placed, set_keeps, set_placed}
 use Rattle.hg_mixed.proofs.mixed.Mixed.set.Goals as goal
 
 pub invariant_of-self-in-Ok : goal.invariant_of-self-in-Ok
-invariant_of-self-in-Ok c =
-    ok_or_err c.set.result
-    (λ same. set_parted _ _ _ _ _ _ c.set.new.self c.take_near.ensures.moved c.args.path.text.now c.in-Ok.ensures.near.free (view c.args.entry) same c.args.path.is_path)
-    (λ kept. kept_parted _ _ _ _ _ _ c.set.new.self c.take_near.ensures.moved kept.table) c.set.ensures.table c.set.ensures.err
+invariant_of-self-in-Ok c = (
+  ok_or_err c.set.result
+      (λ same. set_parted _ _ _ _ _ _ c.set.new.self c.take_near.ensures.moved c.args.path.text.now c.in-Ok.ensures.near.free (view c.args.entry) same c.args.path.is_path)
+      (λ kept. kept_parted _ _ _ _ _ _ c.set.new.self c.take_near.ensures.moved kept.table) c.set.ensures.table c.set.ensures.err,
+  ok_or_err c.set.result
+      (λ nodes. set_placed _ _ _ _ _ _ c.set.new.self c.take_near.ensures.moved c.args.path.text.now (view c.args.entry) nodes c.self.invariant.1)
+      (λ kept. same_placed _ _ _ _ _ _ c.set.new.self c.take_near.ensures.moved kept.nodes c.self.invariant.1) c.set.ensures.nodes c.set.ensures.err,
+)
 
 pub returns-in-Ok-clause-clash : goal.returns-in-Ok-clause-clash
 returns-in-Ok-clause-clash c = sets_whole _ _ c.self.view_is _ _ _ _ _ _ c.take_near.ensures.moved c.args.path.text.now c.in-Ok.ensures.near refl (view c.args.entry) c.set.result c.set.ensures.clash
@@ -26,3 +31,8 @@ returns-in-Ok-clause-changed c =
     ok_both c.set.result
     (λ same marks. marks_of _ _ c.self.view_is _ c.set.new.self.changed (set_marks _ _ _ _ _ _ c.set.new.self c.take_near.ensures.moved c.args.path.text.now c.in-Ok.ensures.near.free (view c.args.entry) same marks))
     c.set.ensures.table c.set.ensures.changed
+
+pub returns-in-Ok-clause-places : goal.returns-in-Ok-clause-places
+returns-in-Ok-clause-places c =
+    on_ok_weaker c.set.result
+    (λ nodes. places_of _ _ c.self.view_is _ (set_keeps _ _ _ _ _ _ c.set.new.self c.take_near.ensures.moved c.args.path.text.now (view c.args.entry) nodes)) c.set.ensures.nodes
