@@ -25,31 +25,33 @@ abbrev pub IsVisibleDir : Moment → Option (List ℕ) → Type 0
 IsVisibleDir moment None = Unit {0}
 IsVisibleDir moment (Some dir) = IsTrue (is_dir (moment.things dir)) × IsVisible moment dir
 
--- a directory at a path or below it that meets E. Where nobody else makes a step it stands there, with no repository between
-pub record IsDirFrom (E : List ℕ → Type 0) (old new : History) (from : List ℕ) (asked : Option (List ℕ)) : Type 0 where
+-- a directory at a path or below it that meets E. Where nobody else makes a step since a state of the tree it stood there then, with no repository
+-- between
+pub record IsDirFrom (E : List ℕ → Type 0) (since new : History) (from : List ℕ) (asked : Option (List ℕ)) : Type 0 where
   pub path : List ℕ
   pub is : asked ≡ Some path
   pub entered : E path
   pub inside : IsTrue (is_from (Some from) path)
-  pub stands : IsOurs old new → IsTrue (is_dir ((now old).things path))
-  pub visible : IsOurs old new → IsVisibleFrom (now old) (Some from) path
+  pub stands : IsOurs since new → IsTrue (is_dir ((now since).things path))
+  pub visible : IsOurs since new → IsVisibleFrom (now since) (Some from) path
 
 -- the same at one of some names of a directory, or below it
 abbrev pub IsDirAmong : (List ℕ → Type 0) → History → History → Option (List ℕ) → List (List ℕ) → Option (List ℕ) → Type 0
-IsDirAmong E old new dir names asked = (name : List ℕ) × IsTrue (is_among name names) × IsDirFrom E old new (joined dir name) asked
+IsDirAmong E since new dir names asked = (name : List ℕ) × IsTrue (is_among name names) × IsDirFrom E since new (joined dir name) asked
 
--- a directory that meets E in a directory, at any depth. Where nobody else makes a step it stands there, with no repository between
-pub record IsDirBelow (E : List ℕ → Type 0) (old new : History) (dir asked : Option (List ℕ)) : Type 0 where
+-- a directory that meets E in a directory, at any depth. Where nobody else makes a step since a state of the tree it stood there then, with no
+-- repository between
+pub record IsDirBelow (E : List ℕ → Type 0) (since new : History) (dir asked : Option (List ℕ)) : Type 0 where
   pub path : List ℕ
   pub is : asked ≡ Some path
   pub entered : E path
   pub inside : IsTrue (is_inside dir path)
-  pub stands : IsOurs old new → IsTrue (is_dir ((now old).things path))
-  pub visible : IsOurs old new → IsVisibleFrom (now old) dir path
+  pub stands : IsOurs since new → IsTrue (is_dir ((now since).things path))
+  pub visible : IsOurs since new → IsVisibleFrom (now since) dir path
 
 -- the directory itself, or one in it
 abbrev pub IsDirIn : (List ℕ → Type 0) → History → History → Option (List ℕ) → Option (List ℕ) → Type 0
-IsDirIn E old new dir asked = (asked ≡ dir) ⊎ IsDirBelow E old new dir asked
+IsDirIn E since new dir asked = (asked ≡ dir) ⊎ IsDirBelow E since new dir asked
 
 -- nothing more was asked
 abbrev pub AsksNothing : History → History → Type 0

@@ -1,5 +1,5 @@
 -- What a status lists besides the tracked paths, and all its rows in order.
-use Rattle.std.specs.Prelude.{ℕ, ◌≡◌, Bool, List, None}
+use Rattle.std.specs.Prelude.{ℕ, ◌≡◌, List, None}
 use Rattle.std.specs.List.{dedup}
 use Rattle.std.specs.List.Sorted.{IsPermutation, IsSorted}
 use Rattle.std.specs.Ordering.{eq_by_cmp}
@@ -13,12 +13,12 @@ use Rattle.hg_tree.specs.History.{History, now}
 use Rattle.hg_tree.specs.declared.fault.TreeFault.{TreeFault}
 use Rattle.hg_flat.specs.Kept.{Kept}
 use Rattle.hg_flat.specs.Listing.{Gives, IsUnknownIn}
-use Rattle.hg_flat.specs.Passed.{ListsSince}
+use Rattle.hg_flat.specs.Passed.{Known, ListsSince}
 
 -- the rows of what else stands in the working copy were put behind those so far, and then all in order, each once
-pub record ListsOthers (kept : Kept) (passed : List ℕ → Bool) (wanted : Wanted) (state : List Piece) (old new : History) (before rows : List Row) : Type 0 where
+pub record ListsOthers (kept : Kept) (known : Known) (wanted : Wanted) (state : List Piece) (old new : History) (before rows : List Row) : Type 0 where
   pub whole : List Row
-  pub listed : ListsSince kept passed (Gives wanted state) old new (IsUnknownIn kept (now old) None) before whole
+  pub listed : ListsSince kept known (Gives wanted state) old new (IsUnknownIn kept (now old) None) before whole
   pub sorted : List Row
   pub moved : IsPermutation whole sorted
   pub order : IsSorted whole_order sorted

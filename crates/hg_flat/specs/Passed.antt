@@ -1,8 +1,9 @@
--- What a listing may pass over, since a look before it was enough.
-use Rattle.std.specs.Prelude.{ℕ, ◌≡◌, ◌≤◌, Bool, false, List, IsTrue}
+-- What a listing knows of paths from looks before it, so that it needs none of its own there.
+use Rattle.std.specs.Prelude.{ℕ, ◌≡◌, ◌≤◌, Bool, true, false, List, Option, IsTrue}
+use Rattle.hg_base.specs.declared.stat.Kind.{Kind}
 use Rattle.hg_tree.specs.History.{History}
 use Rattle.hg_tree.specs.Moment.{IsFormed, is_dir}
-use Rattle.hg_tree.specs.Still.{Untouched}
+use Rattle.hg_tree.specs.Still.{Untouched, kind_at}
 use Rattle.hg_compare.specs.declared.letter.Letter.{Letter}
 use Rattle.hg_listing.specs.declared.row.Row.{Row}
 use Rattle.hg_flat.specs.Kept.{Kept}
@@ -15,10 +16,34 @@ pub record WasNoDir (h : History) (start : ℕ) (path : List ℕ) : Type 0 where
   pub past : moment ≤ h.last
   pub none : is_dir ((h.at moment).things path) ≡ false
 
--- since this moment no directory stood once at each path that was passed
-pub record ArePassed (passed : List ℕ → Bool) (h : History) (start : ℕ) : Type 0 where
+-- at a moment from one on a directory stood at a path
+pub record WasDir (h : History) (start : ℕ) (path : List ℕ) : Type 0 where
+  pub moment : ℕ
+  pub begun : start ≤ moment
+  pub past : moment ≤ h.last
+  pub is : is_dir ((h.at moment).things path) ≡ true
+
+-- at a moment from one on a thing of this kind stood at a path, or nothing
+pub record WasKind (h : History) (start : ℕ) (path : List ℕ) (kind : Option Kind) : Type 0 where
+  pub moment : ℕ
+  pub begun : start ≤ moment
+  pub past : moment ≤ h.last
+  pub is : kind ≡ kind_at (h.at moment) path
+
+-- what is known of paths from looks before: at which no directory stood once, and at which one did
+pub record Known : Type 0 where
+  pub none : List ℕ → Bool
+  pub dir : List ℕ → Bool
+
+-- nothing is known of any path
+abbrev pub nothing_known : Known
+nothing_known = record { none = λ path. false; dir = λ path. false }
+
+-- since this moment it was so once at each path of which it is known
+pub record AreKnown (known : Known) (h : History) (start : ℕ) : Type 0 where
   pub begun : start ≤ h.last
-  pub each : IsTrue h.told → (path : List ℕ) → IsTrue (passed path) → WasNoDir h start path
+  pub none : IsTrue h.told → (path : List ℕ) → IsTrue (known.none path) → WasNoDir h start path
+  pub dirs : IsTrue h.told → (path : List ℕ) → IsTrue (known.dir path) → WasDir h start path
 
 -- since this moment it was once a working copy as a file system can hold it
 pub record WasFormed (h : History) (start : ℕ) : Type 0 where
@@ -28,12 +53,12 @@ pub record WasFormed (h : History) (start : ℕ) : Type 0 where
   pub formed : IsFormed (h.at moment)
 
 -- rows of paths without an entry were put behind the rows so far; of the paths that nobody touches since a moment, just those that meet P,
--- for each moment since which the paths that were passed may be left out
-abbrev pub ListsSince : Kept → (List ℕ → Bool) → (List ℕ → Letter → Type 0) → History → History → (List ℕ → Type 0) → List Row → List Row → Type 0
-ListsSince kept passed L old new P before after =
-    (start : ℕ) → ArePassed passed old start → ListsUnknown kept L (Untouched new start) P before after
+-- for each moment since which what is known was so once
+abbrev pub ListsSince : Kept → Known → (List ℕ → Letter → Type 0) → History → History → (List ℕ → Type 0) → List Row → List Row → Type 0
+ListsSince kept known L old new P before after =
+    (start : ℕ) → AreKnown known old start → ListsUnknown kept L (Untouched new start) P before after
 
 -- the same for moments since which the working copy was once well-formed
-abbrev pub ListsFormed : Kept → (List ℕ → Bool) → (List ℕ → Letter → Type 0) → History → History → (List ℕ → Type 0) → List Row → List Row → Type 0
-ListsFormed kept passed L old new P before after =
-    (start : ℕ) → ArePassed passed old start → (IsTrue old.told → WasFormed old start) → ListsUnknown kept L (Untouched new start) P before after
+abbrev pub ListsFormed : Kept → Known → (List ℕ → Letter → Type 0) → History → History → (List ℕ → Type 0) → List Row → List Row → Type 0
+ListsFormed kept known L old new P before after =
+    (start : ℕ) → AreKnown known old start → (IsTrue old.told → WasFormed old start) → ListsUnknown kept L (Untouched new start) P before after

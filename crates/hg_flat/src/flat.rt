@@ -93,13 +93,13 @@ impl Flat {
 }
 
 impl Entries for Flat {
-    ghost use Rattle.std.specs.Prelude.{false};
+    ghost use Rattle.hg_flat.specs.Passed.{nothing_known};
     ghost use Rattle.hg_flat.specs.Shown.{kept_of};
 
     ghost kept = { kept_of };
 
     // Nothing was looked at before.
-    ghost passed = { λ flat path. false };
+    ghost known = { λ flat. nothing_known };
 
     // The row at `next` is looked at first, which is made the one behind the row that was found.
     fn has(&self, path: &str, next: &mut usize) -> bool {
@@ -115,6 +115,10 @@ impl Entries for Flat {
     }
 
     fn was_passed(&self, _path: &str, _next: &mut usize) -> bool {
+        false
+    }
+
+    fn was_entered(&self, _path: &str, _next: &mut usize) -> bool {
         false
     }
 }

@@ -1,16 +1,16 @@
 //! Everything that stands in the working copy, directory by directory.
 
-ghost use Rattle.std.specs.Prelude.{◌≡◌, ◌↔◌, IsTrue, IfOk, OnOk, Some, option_map, codes};
+ghost use Rattle.std.specs.Prelude.{◌≡◌, ◌↔◌, ℕ, IsTrue, IfOk, OnOk, Some, option_map, codes};
 ghost use Rattle.hg_base.specs.PathText.{is_path, joined, parent_of};
 ghost use Rattle.hg_ignore.specs.Asked.{state_asked};
 ghost use Rattle.hg_ignore.specs.Kept.{DirIgnored};
-ghost use Rattle.hg_tree.specs.History.{Passes, now};
+ghost use Rattle.hg_tree.specs.History.{History, Passes, now};
 ghost use Rattle.hg_tree.specs.Still.{Untouched};
 ghost use Rattle.hg_tree.specs.Moment.{AreFit, AreNames, has_dir, is_among, is_dir, stat_at};
 ghost use Rattle.hg_listing.specs.Cause.{HasListingCause};
 ghost use Rattle.hg_flat.specs.Asked.{AsksFor, AsksNothing, IsDirAmong, IsDirFrom, IsDirIn};
 ghost use Rattle.hg_flat.specs.Listing.{Gives, HoldsFor, IsEntered, IsUnknownAmong, IsUnknownFrom, IsUnknownIn, holds_repository, shows_dir};
-ghost use Rattle.hg_flat.specs.Passed.{ListsFormed, ListsSince};
+ghost use Rattle.hg_flat.specs.Passed.{AreKnown, ListsFormed, ListsSince, WasKind};
 
 use crate::entries::Entries;
 use crate::untracked::{add_untracked, is_ignored, leaves_out};
@@ -26,6 +26,15 @@ fn is_dir_stat(found: Option<Stat>) -> bool
     match found {
         None => false,
         Some(stat) => stat.kind == Kind::Dir,
+    }
+}
+
+fn kind_of_stat(found: Option<Stat>) -> Option<Kind>
+    ensures { result ≡ option_map (λ stat. stat.kind) found }
+{
+    match found {
+        None => None,
+        Some(stat) => Some(stat.kind),
     }
 }
 
@@ -77,7 +86,32 @@ fn is_nested<T: Tree>(
     holds_hg(alloc, tree, dir)
 }
 
-// What stands at a path or below it. A path that was passed isn't asked again, and nothing stands below it.
+// The kind of what stands at a path, where anything does. Where a directory was seen before, one is taken to stand there without a look.
+fn kind_at<T: Tree, K: Entries>(
+    tree: &mut T,
+    entries: &K,
+    path: PathRef<'_>,
+    next: &mut usize,
+) -> Result<Option<Kind>, TreeFault>
+    ensures passes { Passes (T.history tree.old) (T.history tree.new) }
+    ensures was { IfOk
+        result
+        (λ kind. (start : ℕ)
+        → AreKnown (K.known entries.now) (T.history tree.old) start
+        → IsTrue (T.history tree.old).told
+        → WasKind (T.history tree.new) start path.entry.text.now kind) }
+    ensures asked { IsTrue (T.history tree.old).told → AsksNothing (T.history tree.old) (T.history tree.new) }
+    ensures cause { HasListingCause (T.faults tree.old) (T.faults tree.new) result }
+{
+    if entries.was_entered(path.as_str(), next) {
+        return Ok(Some(Kind::Dir));
+    }
+    let found = tree.stat(path)?;
+    Ok(kind_of_stat(found))
+}
+
+// What stands at a path or below it. A path that was passed isn't asked again, and nothing stands below it; nor is one asked at which a directory was
+// seen, and what stands below it is listed.
 #[cycle(listing)]
 fn look<T: Tree, K: Entries>(
     alloc: Global,
@@ -96,7 +130,7 @@ fn look<T: Tree, K: Entries>(
         result
         (ListsFormed
         (K.kept entries.now)
-        (K.passed entries.now)
+        (K.known entries.now)
         (Gives wanted (state_asked matcher.old))
         (T.history tree.old)
         (T.history tree.new)
@@ -104,17 +138,20 @@ fn look<T: Tree, K: Entries>(
         rows.old.items
         rows.new.items) }
     ensures asked { IsTrue (T.history tree.old).told
-        → AsksFor (IsDirFrom (IsEntered wanted (state_asked matcher.old)) (T.history tree.old) (T.history tree.new) path) (T.history tree.old) (T.history tree.new) }
+        → (since : History)
+        → Passes since (T.history tree.old)
+        → AreKnown (K.known entries.now) (T.history tree.old) since.last
+        → AsksFor (IsDirFrom (IsEntered wanted (state_asked matcher.old)) since (T.history tree.new) path) (T.history tree.old) (T.history tree.new) }
     ensures same { state_asked matcher.new ≡ state_asked matcher.old }
     ensures cause { HasListingCause (T.faults tree.old) (T.faults tree.new) result }
 {
     if entries.was_passed(path.as_str(), next) {
         return Ok(());
     }
-    let Some(stat) = tree.stat(path.as_ref())? else {
+    let Some(kind) = kind_at(tree, entries, path.as_ref(), next)? else {
         return Ok(());
     };
-    match stat.kind {
+    match kind {
         Kind::File | Kind::Link => add_untracked(entries, path, matcher, above, wanted, next, rows),
         Kind::Dir => {
             let dir = path.as_ref();
@@ -158,7 +195,7 @@ fn look_each<T: Tree, K: Entries>(
         result
         (ListsFormed
         (K.kept entries.now)
-        (K.passed entries.now)
+        (K.known entries.now)
         (Gives wanted (state_asked matcher.old))
         (T.history tree.old)
         (T.history tree.new)
@@ -166,8 +203,11 @@ fn look_each<T: Tree, K: Entries>(
         rows.old.items
         rows.new.items) }
     ensures asked { IsTrue (T.history tree.old).told
+        → (since : History)
+        → Passes since (T.history tree.old)
+        → AreKnown (K.known entries.now) (T.history tree.old) since.last
         → AsksFor
-        (IsDirAmong (IsEntered wanted (state_asked matcher.old)) (T.history tree.old) (T.history tree.new) (option_map (λ d. d.text.now) dir.entry) names.now)
+        (IsDirAmong (IsEntered wanted (state_asked matcher.old)) since (T.history tree.new) (option_map (λ d. d.text.now) dir.entry) names.now)
         (T.history tree.old)
         (T.history tree.new) }
     ensures same { state_asked matcher.new ≡ state_asked matcher.old }
@@ -188,7 +228,7 @@ fn look_each<T: Tree, K: Entries>(
 ///
 /// `ignored` says whether the directory is ignored, `next` where the search for an entry begins; the rows are put behind those so far, in no stated
 /// order. A path that was passed is left out without a look: at some moment no directory stood there, so nothing stands below it that nobody touched
-/// since then.
+/// since then. A path at which a directory was seen is listed without a look.
 #[cycle(listing)]
 pub fn visit<T: Tree, K: Entries>(
     alloc: Global,
@@ -207,7 +247,7 @@ pub fn visit<T: Tree, K: Entries>(
         result
         (ListsSince
         (K.kept entries.now)
-        (K.passed entries.now)
+        (K.known entries.now)
         (Gives wanted (state_asked matcher.old))
         (T.history tree.old)
         (T.history tree.new)
@@ -215,8 +255,11 @@ pub fn visit<T: Tree, K: Entries>(
         rows.old.items
         rows.new.items) }
     ensures asked { IsTrue (T.history tree.old).told
+        → (since : History)
+        → Passes since (T.history tree.old)
+        → AreKnown (K.known entries.now) (T.history tree.old) since.last
         → AsksFor
-        (IsDirIn (IsEntered wanted (state_asked matcher.old)) (T.history tree.old) (T.history tree.new) (option_map (λ d. d.text.now) dir.entry))
+        (IsDirIn (IsEntered wanted (state_asked matcher.old)) since (T.history tree.new) (option_map (λ d. d.text.now) dir.entry))
         (T.history tree.old)
         (T.history tree.new) }
     ensures same { state_asked matcher.new ≡ state_asked matcher.old }

@@ -6,7 +6,7 @@ ghost use Rattle.hg_flat.specs.Asked.{AsksFor, IsDirIn};
 ghost use Rattle.hg_flat.specs.Course.{pieces_of, warned_of};
 ghost use Rattle.hg_flat.specs.Listing.{Gives, IsEntered, IsUnknownIn};
 ghost use Rattle.hg_flat.specs.Others.{IsOfListing, ListsOthers};
-ghost use Rattle.hg_flat.specs.Passed.{ListsSince};
+ghost use Rattle.hg_flat.specs.Passed.{AreKnown, ListsSince};
 ghost use Rattle.hg_flat.specs.Patterns.{needs_patterns};
 ghost use Rattle.hg_listing.specs.Cause.{HasListingCause, HasStatusCause};
 
@@ -34,7 +34,7 @@ fn add_others<T: Tree, K: Entries>(
         result
         (ListsSince
         (K.kept entries.now)
-        (K.passed entries.now)
+        (K.known entries.now)
         (Gives wanted (pieces_of (option_map (λ i. i.now) ignore.entry)))
         (T.history tree.old)
         (T.history tree.new)
@@ -42,11 +42,14 @@ fn add_others<T: Tree, K: Entries>(
         rows.old.items
         rows.new.items) }
     ensures asked { IsTrue (T.history tree.old).told
+        → (since : trees.History)
+        → trees.Passes since (T.history tree.old)
+        → AreKnown (K.known entries.now) (T.history tree.old) since.last
         → AsksFor
         (λ dir. (needs_patterns wanted ≡ true)
         × IsDirIn
         (IsEntered wanted (pieces_of (option_map (λ i. i.now) ignore.entry)))
-        (T.history tree.old)
+        since
         (T.history tree.new)
         None
         dir)
@@ -87,7 +90,7 @@ pub fn list_others<T: Tree, K: Entries>(
         result
         (λ listed. ListsOthers
         (K.kept entries.now)
-        (K.passed entries.now)
+        (K.known entries.now)
         wanted
         (pieces_of ignore)
         (T.history tree.old)
@@ -96,9 +99,12 @@ pub fn list_others<T: Tree, K: Entries>(
         listed.rows) }
     ensures warned { IfOk result (λ listed. listed.warnings ≡ warned_of ignore) }
     ensures asked { IsTrue (T.history tree.old).told
+        → (since : trees.History)
+        → trees.Passes since (T.history tree.old)
+        → AreKnown (K.known entries.now) (T.history tree.old) since.last
         → AsksFor
         (λ dir. (needs_patterns wanted ≡ true)
-        × IsDirIn (IsEntered wanted (pieces_of ignore)) (T.history tree.old) (T.history tree.new) None dir)
+        × IsDirIn (IsEntered wanted (pieces_of ignore)) since (T.history tree.new) None dir)
         (T.history tree.old)
         (T.history tree.new) }
     ensures kind { IfErr result IsOfListing }
