@@ -1,5 +1,5 @@
 -- What a walk keeps of the nodes that it looked at, for the listing behind.
-use Rattle.std.specs.Prelude.{ℕ, ◌≡◌, ◌<◌, Bool, false, ◌&&◌, ◌||◌, List, [], ◌∷◌, is_some, length}
+use Rattle.std.specs.Prelude.{ℕ, ◌≡◌, ◌<◌, Bool, true, false, ◌&&◌, ◌||◌, List, [], ◌∷◌, is_some, length}
 use Rattle.std.specs.List.{HoldsAt}
 use Rattle.std.specs.List.Sorted.{IsStrictlySortedBy}
 use Rattle.std.specs.Ordering.{nat_cmp}
@@ -44,3 +44,8 @@ known_of children marks = record { none = was_passed children marks; dir = was_e
 pub record IsPlaceOf (children : List Child) (path : List ℕ) (at : ℕ) : Type 0 where
   pub within : at < length children
   pub is : HoldsAt (λ child. path_of child ≡ path) children at
+
+-- a child below a directory stands at a place
+pub record IsPlaceBelow (children : List Child) (dir : List ℕ) (at : ℕ) : Type 0 where
+  pub within : at < length children
+  pub is : HoldsAt (λ child. is_below dir (path_of child) ≡ true) children at
