@@ -14,11 +14,11 @@ use Rattle.hg_flat.specs.Listing.{IsUnknownAmong, IsUnknownFrom, IsUnknownIn, Is
 
 -- ---- what follows from the kind
 
-dir_by : Option Kind → Bool
+abbrev pub dir_by : Option Kind → Bool
 dir_by None = false
 dir_by (Some kind) = is_dir_kind kind
 
-file_by : Option Kind → Bool
+abbrev pub file_by : Option Kind → Bool
 file_by None = false
 file_by (Some kind) = is_file_or_link_kind kind
 
@@ -35,12 +35,10 @@ file_thing a_thing.Dir = refl
 file_thing a_thing.Other = refl
 
 dir_is : (o : Option Placed) → dir_by (option_map (λ placed. kind_of placed.thing) o) ≡ is_dir o
-unfolding dir_by
 dir_is None = refl
 dir_is (Some placed) = dir_thing placed.thing
 
 file_is : (o : Option Placed) → file_by (option_map (λ placed. kind_of placed.thing) o) ≡ is_file_or_link o
-unfolding file_by
 file_is None = refl
 file_is (Some placed) = file_thing placed.thing
 
@@ -49,6 +47,13 @@ dir_alike m n path same = sym (dir_is (m.things path)) ∙ ap dir_by same ∙ di
 
 pub file_alike : (m n : Moment) (path : List ℕ) → kind_at m path ≡ kind_at n path → is_file_or_link (m.things path) ≡ is_file_or_link (n.things path)
 file_alike m n path same = sym (file_is (m.things path)) ∙ ap file_by same ∙ file_is (n.things path)
+
+-- what stands at a path by the kind that was seen there
+pub dir_seen : (m : Moment) (path : List ℕ) (kind : Option Kind) → kind_at m path ≡ kind → is_dir (m.things path) ≡ dir_by kind
+dir_seen m path kind is = sym (dir_is (m.things path)) ∙ ap dir_by is
+
+pub file_seen : (m : Moment) (path : List ℕ) (kind : Option Kind) → kind_at m path ≡ kind → is_file_or_link (m.things path) ≡ file_by kind
+file_seen m path kind is = sym (file_is (m.things path)) ∙ ap file_by is
 
 -- ---- a path that is alike
 

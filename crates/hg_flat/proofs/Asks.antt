@@ -7,6 +7,8 @@ use Rattle.std.proofs.lemmas.List.{append-nil, append_assoc, map-append, take-ap
 use Rattle.std.proofs.lemmas.List.Elements.{Contains-append_cases, Contains-append_left, Contains-append_right, Contains-push, Contains-push_cases}
 use Rattle.std.proofs.lemmas.List.Folds.{list_any-append, list_any_more}
 use Rattle.std.proofs.lemmas.Slice.Eq.{bytes_eq-Decides}
+use Rattle.hg_base.specs.declared.stat.Kind.{Kind}
+use Rattle.hg_base.specs.declared.stat.Kind.TheVariants as a_kind
 use Rattle.hg_base.specs.PathText.{has_slash, is_below, is_same_dir, joined}
 use Rattle.hg_base.proofs.Below.{below_compared, below_itself, below_joined, below_name, below_of_joined}
 use Rattle.hg_base.proofs.Components.{joined_same}
@@ -15,12 +17,14 @@ use Rattle.hg_tree.specs.History.{Asks, Extends, History, IsOurs, Passes, now}
 use Rattle.hg_tree.specs.Moment.{AreFit, Moment, is_among, is_dir}
 use Rattle.hg_tree.specs.declared.asked.Asked.{Asked}
 use Rattle.hg_tree.specs.declared.asked.Asked.TheVariants as an_ask
-use Rattle.hg_tree.specs.Still.{Untouched}
-use Rattle.hg_tree.proofs.Spans.{now_same, ours_first, ours_second, passes_trans}
+use Rattle.hg_tree.specs.Still.{Untouched, kind_at}
+use Rattle.hg_tree.proofs.Spans.{now_same, ours_first, ours_second, ours_unstepped, passes_trans}
 use Rattle.hg_tree.proofs.Stillness.{ours_untouched}
 use Rattle.hg_compare.specs.Same.{Reads}
 use Rattle.hg_flat.specs.Asked.{AsksFor, AsksNothing, AsksReads, IsDirAmong, IsDirBelow, IsDirFrom, IsDirIn}
 use Rattle.hg_flat.specs.Listing.{HoldsFor, IsVisibleFrom, holds_repository, is_from, is_inside}
+use Rattle.hg_flat.specs.Passed.{WasKind}
+use Rattle.hg_flat.proofs.Alike.{dir_seen}
 use Rattle.hg_flat.proofs.Among.{fit_of}
 use Rattle.hg_flat.proofs.Unknowns.{back, from_below, from_cases, from_same, inside_joined, same_of, visible_up}
 
@@ -91,44 +95,15 @@ asks_before W a b c asks none = record { dirs = asks.dirs; asked = none ∙ asks
 
 -- ---- a path, and what stands below it
 
--- what is asked behind a span is asked over the whole
-from_later : (E : List ℕ → Type 0) (old mid new : History) → Passes old mid → Extends mid new → (from : List ℕ) (dir : Option (List ℕ)) → IsDirFrom E mid new from dir → IsDirFrom E old new from dir
-from_later E old mid new first second from dir d = record {
-  path = d.path;
-  is = d.is;
-  entered = d.entered;
-  inside = d.inside;
-  stands = λ ours.
-      subst (λ (m : Moment). IsTrue (is_dir (m.things d.path))) (now_same old mid first (ours_first old mid new second ours))
-      (d.stands (ours_second old mid new first.past ours));
-  visible = λ ours.
-      subst (λ (m : Moment). IsVisibleFrom m (Some from) d.path) (now_same old mid first (ours_first old mid new second ours))
-      (d.visible (ours_second old mid new first.past ours));
-}
-
-pub below_later : (E : List ℕ → Type 0) (old mid new : History) → Passes old mid → Extends mid new → (from dir : Option (List ℕ)) → IsDirBelow E mid new from dir → IsDirBelow E old new from dir
-below_later E old mid new first second from dir d = record {
-  path = d.path;
-  is = d.is;
-  entered = d.entered;
-  inside = d.inside;
-  stands = λ ours.
-      subst (λ (m : Moment). IsTrue (is_dir (m.things d.path))) (now_same old mid first (ours_first old mid new second ours))
-      (d.stands (ours_second old mid new first.past ours));
-  visible = λ ours.
-      subst (λ (m : Moment). IsVisibleFrom m from d.path) (now_same old mid first (ours_first old mid new second ours))
-      (d.visible (ours_second old mid new first.past ours));
-}
-
 -- what is asked over a span is so over a longer one
-from_longer : (E : List ℕ → Type 0) (old mid new : History) → Extends mid new → (from : List ℕ) (dir : Option (List ℕ)) → IsDirFrom E old mid from dir → IsDirFrom E old new from dir
-from_longer E old mid new second from dir d = record {
+from_longer : (E : List ℕ → Type 0) (since mid new : History) → Extends mid new → (from : List ℕ) (dir : Option (List ℕ)) → IsDirFrom E since mid from dir → IsDirFrom E since new from dir
+from_longer E since mid new second from dir d = record {
   path = d.path;
   is = d.is;
   entered = d.entered;
   inside = d.inside;
-  stands = λ ours. d.stands (ours_first old mid new second ours);
-  visible = λ ours. d.visible (ours_first old mid new second ours);
+  stands = λ ours. d.stands (ours_first since mid new second ours);
+  visible = λ ours. d.visible (ours_first since mid new second ours);
 }
 
 itself_visible : (moment : Moment) (path : List ℕ) → IsVisibleFrom moment (Some path) path
@@ -138,28 +113,37 @@ itself_visible moment path d from below =
       | inr under ↦ absurd (back path d under below)
     ]
 
+-- where nobody else steps since then, what was seen at a path since then is there still
+seen_then : (since mid : History) → Passes since mid → (path : List ℕ) → WasKind mid since.last path (Some a_kind.Dir) → IsOurs since mid → is_dir ((now since).things path) ≡ true
+seen_then since mid past path was ours =
+    let none : mid.last ≡ since.last = ours_unstepped since mid past ours in
+    let at : was.moment ≡ since.last = omega (arith, was.begun, was.past, none) in
+    dir_seen (now since) path (Some a_kind.Dir)
+    (ap (λ (m : Moment). kind_at m path) (sym (ap mid.at at ∙ past.past.stay since.last (omega arith))) ∙ sym was.is)
+
 -- a directory that was seen at a path
-pub look_asks : (E : List ℕ → Type 0) (old mid new : History) → Passes old mid → Extends mid new → (path text : List ℕ) → text ≡ path → (IsTrue old.told → is_dir ((now mid).things path) ≡ true) → E path → AsksNothing old mid
-    → AsksFor (IsDirIn E mid new (Some text)) mid new → AsksFor (IsDirFrom E old new path) old new
-look_asks E old mid new first second path text same sees here none asks =
-    asks_then (IsDirFrom E old new path) old mid new none
-    (asks_weaker (IsDirIn E mid new (Some text)) (IsDirFrom E old new path) mid new
+pub look_asks : (E : List ℕ → Type 0) (since old mid new : History) → Passes since old → Passes old mid → Extends mid new → (path text again : List ℕ) → text ≡ path → again ≡ path → (kind : Option Kind) → kind ≡ Some a_kind.Dir → WasKind mid since.last again kind
+    → E path → AsksNothing old mid → AsksFor (IsDirIn E since new (Some text)) mid new → AsksFor (IsDirFrom E since new path) old new
+look_asks E since old mid new before first second path text again same too kind is was here none asks =
+    asks_then (IsDirFrom E since new path) old mid new none
+    (asks_weaker (IsDirIn E since new (Some text)) (IsDirFrom E since new path) mid new
     (λ dir.
     elim [
-      | inl is ↦ record {
+      | inl at ↦ record {
         path = path;
-        is = is ∙ ap Some same;
+        is = at ∙ ap Some same;
         entered = here;
         inside = from_same path path refl;
         stands = λ ours.
-            subst (λ (m : Moment). is_dir (m.things path) ≡ true) (now_same old mid first (ours_first old mid new second ours)) (sees ours.told);
-        visible = λ ours. itself_visible (now old) path;
+            seen_then since mid (passes_trans since old mid before first) path (subst (λ (q : List ℕ). WasKind mid since.last q (Some a_kind.Dir)) too (subst (WasKind mid since.last again) is was))
+            (ours_first since mid new second ours);
+        visible = λ ours. itself_visible (now since) path;
       }
-      | inr below ↦ in_path dir (subst (λ (t : List ℕ). IsDirBelow E old new (Some t) dir) same (below_later E old mid new first second (Some text) dir below))
+      | inr below ↦ in_path dir (subst (λ (t : List ℕ). IsDirBelow E since new (Some t) dir) same below)
     ])
     asks)
   where
-    in_path : (dir : Option (List ℕ)) → IsDirBelow E old new (Some path) dir → IsDirFrom E old new path dir
+    in_path : (dir : Option (List ℕ)) → IsDirBelow E since new (Some path) dir → IsDirFrom E since new path dir
     in_path dir d = record { path = d.path; is = d.is; entered = d.entered; inside = from_below path d.path d.inside; stands = d.stands; visible = d.visible }
 
 -- ---- the names one by one
@@ -214,9 +198,9 @@ among_take name names i among =
     ap (is_among name) (sym (take-append-drop i names)) ∙ list_any-append (bytes_eq name) (take i names) (drop i names) ∙ or_left (is_among name (take i names)) (is_among name (drop i names)) among
 
 -- what was asked for the first names was asked for the names
-pub each_asks : (E : List ℕ → Type 0) (old new : History) (dir : Option (List ℕ)) (names : List (List ℕ)) (i : ℕ) → AsksFor (IsDirAmong E old new dir (take i names)) old new → AsksFor (IsDirAmong E old new dir names) old new
-each_asks E old new dir names i asks =
-    asks_weaker (IsDirAmong E old new dir (take i names)) (IsDirAmong E old new dir names) old new (λ asked (name, among, from). (name, among_take name names i among, from)) asks
+pub each_asks : (E : List ℕ → Type 0) (since old new : History) (dir : Option (List ℕ)) (names : List (List ℕ)) (i : ℕ) → AsksFor (IsDirAmong E since new dir (take i names)) old new → AsksFor (IsDirAmong E since new dir names) old new
+each_asks E since old new dir names i asks =
+    asks_weaker (IsDirAmong E since new dir (take i names)) (IsDirAmong E since new dir names) old new (λ asked (name, among, from). (name, among_take name names i among, from)) asks
 
 plain_of : (dir : Option (List ℕ)) (names : List (List ℕ)) (name : List ℕ) → AreFit dir names → is_among name names ≡ true → has_slash name ≡ false
 plain_of dir names name fit among = component_plain name (fit_of dir names name fit among).component
@@ -228,9 +212,9 @@ among_here name names i below is =
 among_before : (name : List ℕ) (names : List (List ℕ)) (i : ℕ) (d : List ℕ) → i < length names → is_among name (take i names) ≡ true → is_among name (take (i + 1) names) ≡ true
 among_before name names i d below among = list_any_more (bytes_eq name) names i d below ∙ or_left _ _ among
 
-apart_names : (E : List ℕ → Type 0) (mid : History) (old new : History) (dir : Option (List ℕ)) (names : List (List ℕ)) (i : ℕ) (name : List ℕ) → AreFit dir names → i < length names → name ≡ get_or names i name
-    → (x y : Option (List ℕ)) → IsDirAmong E old mid dir (take i names) x → IsDirFrom E mid new (joined dir name) y → is_same_dir x y ≡ false
-apart_names E mid old new dir names i name fit below is x y (other, among, f) g =
+apart_names : (E : List ℕ → Type 0) (since mid new : History) (dir : Option (List ℕ)) (names : List (List ℕ)) (i : ℕ) (name : List ℕ) → AreFit dir names → i < length names → name ≡ get_or names i name
+    → (x y : Option (List ℕ)) → IsDirAmong E since mid dir (take i names) x → IsDirFrom E since new (joined dir name) y → is_same_dir x y ≡ false
+apart_names E since mid new dir names i name fit below is x y (other, among, f) g =
     rw (f.is, g.is) (elim (cases_Bool (bytes_eq f.path g.path)) [
       | inl same ↦ absurd (clash (same_of f.path g.path same))
       | inr apart ↦ apart
@@ -254,27 +238,27 @@ plain_at dir names i name text fit below is same =
     subst (λ (t : List ℕ). has_slash t ≡ false) (sym same) (plain_of dir names name fit (among_take name names (i + 1) (among_here name names i below is)))
 
 -- one name more
-pub each_more_asks : (E : List ℕ → Type 0) (old mid new : History) → Passes old mid → Extends mid new → (dir : Option (List ℕ)) (names : List (List ℕ)) (i : ℕ) (name text path : List ℕ) → AreFit dir names → i < length names
+pub each_more_asks : (E : List ℕ → Type 0) (since old mid new : History) → Extends mid new → (dir : Option (List ℕ)) (names : List (List ℕ)) (i : ℕ) (name text path : List ℕ) → AreFit dir names → i < length names
     → name ≡ get_or names i name → text ≡ name → path ≡ joined dir text
-    → AsksFor (IsDirAmong E old mid dir (take i names)) old mid → AsksFor (IsDirFrom E mid new path) mid new → AsksFor (IsDirAmong E old new dir (take (i + 1) names)) old new
-each_more_asks E old mid new first second dir names i name text path fit below is same at before one =
-    asks_weaker (λ asked. IsDirAmong E old mid dir (take i names) asked ⊎ IsDirFrom E mid new (joined dir name) asked) (IsDirAmong E old new dir (take (i + 1) names)) old new
+    → AsksFor (IsDirAmong E since mid dir (take i names)) old mid → AsksFor (IsDirFrom E since new path) mid new → AsksFor (IsDirAmong E since new dir (take (i + 1) names)) old new
+each_more_asks E since old mid new second dir names i name text path fit below is same at before one =
+    asks_weaker (λ asked. IsDirAmong E since mid dir (take i names) asked ⊎ IsDirFrom E since new (joined dir name) asked) (IsDirAmong E since new dir (take (i + 1) names)) old new
     (λ asked.
     elim [
-      | inl (other, among, f) ↦ (other, among_before other names i name below among, from_longer E old mid new second (joined dir other) asked f)
-      | inr f ↦ (name, among_here name names i below is, from_later E old mid new first second (joined dir name) asked f)
+      | inl (other, among, f) ↦ (other, among_before other names i name below among, from_longer E since mid new second (joined dir other) asked f)
+      | inr f ↦ (name, among_here name names i below is, f)
     ])
-    (asks_trans (IsDirAmong E old mid dir (take i names)) (IsDirFrom E mid new (joined dir name)) old mid new (apart_names E mid old new dir names i name fit below is) before
-    (subst (λ (p : List ℕ). AsksFor (IsDirFrom E mid new p) mid new) (at ∙ ap (joined dir) same) one))
+    (asks_trans (IsDirAmong E since mid dir (take i names)) (IsDirFrom E since new (joined dir name)) old mid new (apart_names E since mid new dir names i name fit below is) before
+    (subst (λ (p : List ℕ). AsksFor (IsDirFrom E since new p) mid new) (at ∙ ap (joined dir) same) one))
 
 -- ---- a directory, and what stands in it
 
-pub dir_asks : (E : List ℕ → Type 0) (old new : History) (dir : Option (List ℕ)) → AsksFor (λ asked. asked ≡ dir) old new → AsksFor (IsDirIn E old new dir) old new
-dir_asks E old new dir asks = asks_weaker (λ asked. asked ≡ dir) (IsDirIn E old new dir) old new (λ asked is. inl is) asks
+pub dir_asks : (E : List ℕ → Type 0) (since old new : History) (dir : Option (List ℕ)) → AsksFor (λ asked. asked ≡ dir) old new → AsksFor (IsDirIn E since new dir) old new
+dir_asks E since old new dir asks = asks_weaker (λ asked. asked ≡ dir) (IsDirIn E since new dir) old new (λ asked is. inl is) asks
 
 -- the directory alone over a longer span, in which nothing more is asked
-pub dir_asks_on : (E : List ℕ → Type 0) (old mid new : History) (dir : Option (List ℕ)) → AsksFor (λ asked. asked ≡ dir) old mid → AsksNothing mid new → AsksFor (IsDirIn E old new dir) old new
-dir_asks_on E old mid new dir asks none = dir_asks E old new dir (asks_before (λ asked. asked ≡ dir) old mid new asks none)
+pub dir_asks_on : (E : List ℕ → Type 0) (since old mid new : History) (dir : Option (List ℕ)) → AsksFor (λ asked. asked ≡ dir) old mid → AsksNothing mid new → AsksFor (IsDirIn E since new dir) old new
+dir_asks_on E since old mid new dir asks none = dir_asks E since old new dir (asks_before (λ asked. asked ≡ dir) old mid new asks none)
 
 not_inside : (dir : Option (List ℕ)) (path : List ℕ) → is_inside dir path ≡ true → is_same_dir dir (Some path) ≡ false
 not_inside None path inside = refl
@@ -285,38 +269,37 @@ not_inside (Some dir) path inside =
       | inr apart ↦ apart
     ]
 
-pub visit_asks : (E : List ℕ → Type 0) (old mid later new : History) → Passes old mid → Passes mid later → Extends later new → (dir : Option (List ℕ)) (names again : List (List ℕ)) (holds : Bool) → AreFit dir names → again ≡ names
+pub visit_asks : (E : List ℕ → Type 0) (since old mid later new : History) → Passes since old → Passes old mid → Passes mid later → Extends later new → (dir : Option (List ℕ)) (names again : List (List ℕ)) (holds : Bool) → AreFit dir names → again ≡ names
     → HoldsFor (Untouched later mid.last) (now mid) dir holds → holds ≡ false
-    → AsksFor (λ asked. asked ≡ dir) old mid → AsksNothing mid later → AsksFor (IsDirAmong E later new dir again) later new → AsksFor (IsDirIn E old new dir) old new
-visit_asks E old mid later new first second third dir names again holds fit same found never own none asks =
-    asks_weaker (λ asked. (asked ≡ dir) ⊎ IsDirAmong E later new dir names asked) (IsDirIn E old new dir) old new
+    → AsksFor (λ asked. asked ≡ dir) old mid → AsksNothing mid later → AsksFor (IsDirAmong E since new dir again) later new → AsksFor (IsDirIn E since new dir) old new
+visit_asks E since old mid later new before first second third dir names again holds fit same found never own none asks =
+    asks_weaker (λ asked. (asked ≡ dir) ⊎ IsDirAmong E since new dir names asked) (IsDirIn E since new dir) old new
     (λ asked. elim [ inl is ↦ inl is | inr (name, among, f) ↦ inr (in_dir asked name among f) ])
-    (asks_trans (λ asked. asked ≡ dir) (IsDirAmong E later new dir names) old later new apart (asks_before (λ asked. asked ≡ dir) old mid later own none)
-    (subst (λ (l : List (List ℕ)). AsksFor (IsDirAmong E later new dir l) later new) same asks))
+    (asks_trans (λ asked. asked ≡ dir) (IsDirAmong E since new dir names) old later new apart (asks_before (λ asked. asked ≡ dir) old mid later own none)
+    (subst (λ (l : List (List ℕ)). AsksFor (IsDirAmong E since new dir l) later new) same asks))
   where
-    past : Passes old later
-    past = passes_trans old mid later first second
+    past : Passes since mid
+    past = passes_trans since old mid before first
 
-    no_repository : (path : List ℕ) → is_inside dir path ≡ true → IsOurs old new → holds_repository (now old) dir ≡ false
+    no_repository : (path : List ℕ) → is_inside dir path ≡ true → IsOurs since new → holds_repository (now since) dir ≡ false
     no_repository path inside ours =
-        let start : IsOurs old later = ours_first old later new third ours in
-        let within : IsOurs mid later = ours_second old mid later first.past start in
-        ap (λ (m : Moment). holds_repository m dir) (sym (now_same old mid first (ours_first old mid later second.past start)))
+        let start : IsOurs since later = ours_first since later new third ours in
+        let within : IsOurs mid later = ours_second since mid later past.past start in
+        ap (λ (m : Moment). holds_repository m dir) (sym (now_same since mid past (ours_first since mid later second.past start)))
         ∙ sym (found path (ours_untouched mid later second within path) inside) ∙ never
 
-    in_dir : (asked : Option (List ℕ)) (name : List ℕ) → is_among name names ≡ true → IsDirFrom E later new (joined dir name) asked → IsDirBelow E old new dir asked
+    in_dir : (asked : Option (List ℕ)) (name : List ℕ) → is_among name names ≡ true → IsDirFrom E since new (joined dir name) asked → IsDirBelow E since new dir asked
     in_dir asked name among f =
-        let g : IsDirFrom E old new (joined dir name) asked = from_later E old later new past third (joined dir name) asked f in
-        let inside : is_inside dir g.path ≡ true = inside_joined dir name g.path g.inside in record {
-          path = g.path;
-          is = g.is;
-          entered = g.entered;
+        let inside : is_inside dir f.path ≡ true = inside_joined dir name f.path f.inside in record {
+          path = f.path;
+          is = f.is;
+          entered = f.entered;
           inside = inside;
-          stands = g.stands;
-          visible = λ ours. visible_up (now old) dir name g.path (plain_of dir names name fit among) (no_repository g.path inside ours) g.inside (g.visible ours);
+          stands = f.stands;
+          visible = λ ours. visible_up (now since) dir name f.path (plain_of dir names name fit among) (no_repository f.path inside ours) f.inside (f.visible ours);
         }
 
-    apart : (x y : Option (List ℕ)) → x ≡ dir → IsDirAmong E later new dir names y → is_same_dir x y ≡ false
+    apart : (x y : Option (List ℕ)) → x ≡ dir → IsDirAmong E since new dir names y → is_same_dir x y ≡ false
     apart x y is (name, among, f) = rw (is, f.is) (not_inside dir f.path (inside_joined dir name f.path f.inside))
 
 -- ---- paths that are read

@@ -9,14 +9,14 @@ use Rattle.hg_tree.specs.declared.asked.Asked.{Asked}
 use Rattle.hg_tree.specs.declared.asked.Asked.TheVariants as an_ask
 use Rattle.hg_tree.proofs.Histories.{extends_same, extends_trans}
 use Rattle.hg_tree.proofs.Spans.{ours_first, passes_trans}
-use Rattle.hg_flat.specs.Asked.{AsksAll, AsksBehind, AsksFor, AsksReads, IsDirBelow, IsDirIn, IsListedDir, IsPatternsRead, IsTaken, IsVisibleDir, pattern_reads}
+use Rattle.hg_flat.specs.Asked.{AsksAll, AsksBehind, AsksFor, AsksReads, IsDirIn, IsListedDir, IsPatternsRead, IsTaken, IsVisibleDir, pattern_reads}
 use Rattle.hg_flat.specs.Course.{AsksPatterns}
 use Rattle.hg_flat.specs.Listing.{IsEntered}
 use Rattle.hg_flat.specs.Parent.{Asking, WasAsked}
 use Rattle.hg_flat.specs.Patterns.{needs_patterns}
 use Rattle.hg_listing.specs.declared.row.Wanted.{Wanted}
 use Rattle.hg_flat.proofs.Asking.{asked_later, asked_longer}
-use Rattle.hg_flat.proofs.Asks.{asks_none, below_later, reads_none}
+use Rattle.hg_flat.proofs.Asks.{asks_none, reads_none}
 
 -- ---- the patterns
 
@@ -55,31 +55,28 @@ behind first asks V W a b c d first_past second_past third_past is reads lists w
   within = λ dir has. weaker dir (lists.within dir has);
 }
 
-module _ (E : List ℕ → Type 0) (old mid new : History) (first : Passes old mid) (second : Passes mid new) where
-  visible_in : (dir : Option (List ℕ)) → IsDirIn E mid new None dir → IsOurs old new → IsVisibleDir (now old) dir
-  visible_in dir (inl is) ours = subst (IsVisibleDir (now old)) (sym is) tt
-  visible_in dir (inr below) ours =
-      let d : IsDirBelow E old new None dir = below_later E old mid new first second.past None dir below in
-      subst (IsVisibleDir (now old)) (sym d.is) (d.stands ours, λ above under. d.visible ours above refl under)
+visible_in : (E : List ℕ → Type 0) (old new : History) (dir : Option (List ℕ)) → IsDirIn E old new None dir → IsOurs old new → IsVisibleDir (now old) dir
+visible_in E old new dir (inl is) ours = subst (IsVisibleDir (now old)) (sym is) tt
+visible_in E old new dir (inr d) ours = subst (IsVisibleDir (now old)) (sym d.is) (d.stands ours, λ above under. d.visible ours above refl under)
 
 -- a directory that is gone into isn't ignored, or I is wanted
-taken_in : (wanted : Wanted) (state : List Piece) (old mid new : History) (moment : Moment) (dir : Option (List ℕ)) → IsDirIn (IsEntered wanted state) mid new None dir → state ≡ Ignore moment → wanted.i ≡ false → IsTaken moment dir
-taken_in wanted state old mid new moment dir (inl is) at unwanted = subst (IsTaken moment) (sym is) tt
-taken_in wanted state old mid new moment dir (inr d) at unwanted =
+taken_in : (wanted : Wanted) (state : List Piece) (old new : History) (moment : Moment) (dir : Option (List ℕ)) → IsDirIn (IsEntered wanted state) old new None dir → state ≡ Ignore moment → wanted.i ≡ false → IsTaken moment dir
+taken_in wanted state old new moment dir (inl is) at unwanted = subst (IsTaken moment) (sym is) tt
+taken_in wanted state old new moment dir (inr d) at unwanted =
     subst (IsTaken moment) (sym d.is) (subst (λ (s : List Piece). Ignored s d.path → ⊥) at (d.entered unwanted))
 
 module _ (wanted : Wanted) (asks : Asking) (state : List Piece) (old mid later new : History) (first : Passes old mid) (second : Passes mid later) (third : Passes later new)
     (still : IsOurs old mid → needs_patterns wanted ≡ true → state ≡ Ignore (now old)) where
   -- what the listing goes into
   abbrev Entered : Option (List ℕ) → Type 0
-  Entered dir = (needs_patterns wanted ≡ true) × IsDirIn (IsEntered wanted state) later new None dir
+  Entered dir = (needs_patterns wanted ≡ true) × IsDirIn (IsEntered wanted state) old new None dir
 
   listed : (dir : Option (List ℕ)) → Entered dir → IsListedDir wanted old new dir
   listed dir (needed, within) = (
     needed,
     λ ours. (
-      visible_in (IsEntered wanted state) old later new (passes_trans old mid later first second) third dir within ours,
-      λ unwanted. taken_in wanted state old later new (now old) dir within (still (ours_first old mid new (passes_trans mid later new second third).past ours) needed) unwanted,
+      visible_in (IsEntered wanted state) old new dir within ours,
+      λ unwanted. taken_in wanted state old new (now old) dir within (still (ours_first old mid new (passes_trans mid later new second third).past ours) needed) unwanted,
     ),
   )
 

@@ -1,9 +1,9 @@
 use Rattle.std.proofs.Common.{◌≡◌, ◌+◌, ◌-◌, ◌*◌, IsTrue, length, take, option_map}
 use Rattle.hg_ignore.specs.Asked.{state_asked}
-use Rattle.hg_tree.specs.History.{Passes, now}
+use Rattle.hg_tree.specs.History.{History, Passes, now}
 use Rattle.hg_flat.specs.Asked.{AsksFor, IsDirAmong}
 use Rattle.hg_flat.specs.Listing.{Gives, IsEntered, IsUnknownAmong}
-use Rattle.hg_flat.specs.Passed.{ListsFormed}
+use Rattle.hg_flat.specs.Passed.{AreKnown, ListsFormed}
 use Rattle.hg_flat.proofs.Rooms.{room}
 use Rattle.hg_flat.proofs.listing.+listing.Given as goal
 
@@ -21,10 +21,11 @@ decreases-visit g l = 3 * room (option_map (λ d. d.text.now) l.dir) + 2
 abbrev pub invariant-look_each-loop-name : goal.invariant-look_each-loop-name
 invariant-look_each-loop-name g l = record {
   passes : Passes (g.T.Tree.history l.initial.tree) (g.T.Tree.history l.tree);
-  listed : ListsFormed (g.K.Entries.kept l.entries) (g.K.Entries.passed l.entries) (Gives l.wanted (state_asked l.initial.matcher)) (g.T.Tree.history l.initial.tree) (g.T.Tree.history l.tree)
+  listed : ListsFormed (g.K.Entries.kept l.entries) (g.K.Entries.known l.entries) (Gives l.wanted (state_asked l.initial.matcher)) (g.T.Tree.history l.initial.tree) (g.T.Tree.history l.tree)
       (IsUnknownAmong (g.K.Entries.kept l.entries) (now (g.T.Tree.history l.initial.tree)) (option_map (λ d. d.text.now) l.dir) (take l.name-index l.names)) l.initial.rows.items l.rows.items;
   asked : IsTrue (g.T.Tree.history l.initial.tree).told
-      → AsksFor (IsDirAmong (IsEntered l.wanted (state_asked l.initial.matcher)) (g.T.Tree.history l.initial.tree) (g.T.Tree.history l.tree) (option_map (λ d. d.text.now) l.dir) (take l.name-index l.names))
+      → (since : History) → Passes since (g.T.Tree.history l.initial.tree) → AreKnown (g.K.Entries.known l.entries) (g.T.Tree.history l.initial.tree) since.last
+      → AsksFor (IsDirAmong (IsEntered l.wanted (state_asked l.initial.matcher)) since (g.T.Tree.history l.tree) (option_map (λ d. d.text.now) l.dir) (take l.name-index l.names))
       (g.T.Tree.history l.initial.tree) (g.T.Tree.history l.tree);
   same : state_asked l.matcher ≡ state_asked l.initial.matcher;
   still : g.T.Tree.faults l.tree ≡ g.T.Tree.faults l.initial.tree;

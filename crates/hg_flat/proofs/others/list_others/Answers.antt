@@ -21,7 +21,7 @@ returns-clause-listed g c =
       whole = c.add_others.new.rows.items;
       listed =
           subst
-          (λ (o : Option (List Piece)). ListsSince kept (g.K.Entries.passed c.args.entries.now) (Gives c.args.wanted (pieces_of o)) old new (IsUnknownIn kept (trees.now old) None) c.args.rows.items c.add_others.new.rows.items)
+          (λ (o : Option (List Piece)). ListsSince kept (g.K.Entries.known c.args.entries.now) (Gives c.args.wanted (pieces_of o)) old new (IsUnknownIn kept (trees.now old) None) c.args.rows.items c.add_others.new.rows.items)
           c.as_ref.ensures.value c.in_ok-add_others.ensures.listed;
       sorted = c.sort.new.self.items;
       moved = c.in_ok-sort.ensures.permutation;
@@ -30,22 +30,22 @@ returns-clause-listed g c =
     }
 
 pub returns-in_err-add_others-clause-asked : goal.returns-in_err-add_others-clause-asked
-returns-in_err-add_others-clause-asked g c = λ told.
+returns-in_err-add_others-clause-asked g c = λ told since past are.
     let old = g.T.Tree.history c.args.tree.now in
     let new = g.T.Tree.history c.add_others.new.tree in
-    subst (λ (o : Option (List Piece)). AsksFor (λ dir. (needs_patterns c.args.wanted ≡ true) × IsDirIn (IsEntered c.args.wanted (pieces_of o)) old new None dir) old new)
-    c.as_ref.ensures.value (c.add_others.ensures.asked told)
+    subst (λ (o : Option (List Piece)). AsksFor (λ dir. (needs_patterns c.args.wanted ≡ true) × IsDirIn (IsEntered c.args.wanted (pieces_of o)) since new None dir) old new)
+    c.as_ref.ensures.value (c.add_others.ensures.asked told since past are)
 
 pub returns-in_err-sort-clause-asked : goal.returns-in_err-sort-clause-asked
-returns-in_err-sort-clause-asked g c = λ told.
+returns-in_err-sort-clause-asked g c = λ told since past are.
     let old = g.T.Tree.history c.args.tree.now in
     let new = g.T.Tree.history c.add_others.new.tree in
-    subst (λ (o : Option (List Piece)). AsksFor (λ dir. (needs_patterns c.args.wanted ≡ true) × IsDirIn (IsEntered c.args.wanted (pieces_of o)) old new None dir) old new)
-    c.as_ref.ensures.value (c.add_others.ensures.asked told)
+    subst (λ (o : Option (List Piece)). AsksFor (λ dir. (needs_patterns c.args.wanted ≡ true) × IsDirIn (IsEntered c.args.wanted (pieces_of o)) since new None dir) old new)
+    c.as_ref.ensures.value (c.add_others.ensures.asked told since past are)
 
 pub returns-clause-asked : goal.returns-clause-asked
-returns-clause-asked g c = λ told.
+returns-clause-asked g c = λ told since past are.
     let old = g.T.Tree.history c.args.tree.now in
     let new = g.T.Tree.history c.add_others.new.tree in
-    subst (λ (o : Option (List Piece)). AsksFor (λ dir. (needs_patterns c.args.wanted ≡ true) × IsDirIn (IsEntered c.args.wanted (pieces_of o)) old new None dir) old new)
-    c.as_ref.ensures.value (c.add_others.ensures.asked told)
+    subst (λ (o : Option (List Piece)). AsksFor (λ dir. (needs_patterns c.args.wanted ≡ true) × IsDirIn (IsEntered c.args.wanted (pieces_of o)) since new None dir) old new)
+    c.as_ref.ensures.value (c.add_others.ensures.asked told since past are)

@@ -1,4 +1,4 @@
-use Rattle.std.proofs.Common.{false, refl, sym, subst, ◌∙◌}
+use Rattle.std.proofs.Common.{refl, sym, subst, ◌∙◌}
 use Rattle.std.proofs.lemmas.Result.{IfErr-weaker, IfOk-weaker, err_from_is_err_and}
 use Rattle.hg_shelf.specs.History as shelves
 use Rattle.hg_tree.specs.History as trees
@@ -6,6 +6,7 @@ use Rattle.hg_tree.proofs.Histories.{extends_same}
 use Rattle.hg_tree.proofs.Spans.{ours_first, passes_trans}
 use Rattle.hg_flat.specs.Course.{pieces_of}
 use Rattle.hg_flat.specs.Parent.{asked_by, parent_rows}
+use Rattle.hg_flat.specs.Passed.{nothing_known}
 use Rattle.hg_flat.specs.Patterns.{Warns, ignored_at}
 use Rattle.hg_flat.specs.Shown.{flat_in}
 use Rattle.hg_flat.specs.declared.listed.Listed.{Listed}
@@ -16,7 +17,7 @@ use Rattle.hg_flat.proofs.Judging.{marks_alike}
 use Rattle.hg_flat.proofs.Leaving.{left_all}
 use Rattle.hg_flat.proofs.Refusing.{had, is_kept, state_still, warns}
 use Rattle.hg_flat.proofs.Spanning.{counts_listing, counts_still, if_ok_on, met_listing, met_patterns, met_whole, not_parent, of_listing_none}
-use Rattle.hg_flat.proofs.Steps.{passed_none}
+use Rattle.hg_flat.proofs.Steps.{known_none}
 use Rattle.hg_flat.proofs.Storing.{store_longer, store_none}
 use Rattle.hg_flat.proofs.Whole.{Left, whole_listing, whole_served}
 use Rattle.hg_flat.proofs.status.plain_status.Goals as goal
@@ -35,7 +36,7 @@ returns-clause-still g c =
     (λ listed others.
     whole_listing asks (marks_alike c.args.wanted (flat_in flat)) (Unit {0}) flat.p1.0 flat.p2.0 flat.rows.items flat.own c.args.wanted c.args.p1.now old mid later new c.read_patterns.ensures.passes c.add_each.ensures.passes c.list_others.ensures.passes files start.last
     (shelves.now start).files c.add_each.new.rows.items listed.rows (rw c.new-rows.ensures.items at c.in_ok-add_each.ensures.added) c.in_ok-ignore.ignore c.in_ok-ignore.ensures.kept
-    (λ path. false) (passed_none (λ path. false) (λ path. refl) later mid.last c.add_each.ensures.passes.past.later) others tt)
+    nothing_known (known_none later mid.last c.add_each.ensures.passes.past.later) others tt)
     c.list_others.ensures.listed
 
 pub returns-clause-full : goal.returns-clause-full
@@ -70,7 +71,7 @@ returns-clause-served g c =
     (λ listed others.
     whole_served asks (marks_alike c.args.wanted (flat_in flat)) (Unit {0}) flat.p1.0 flat.p2.0 flat.rows.items flat.own c.args.wanted c.args.p1.now old mid later new c.read_patterns.ensures.passes c.add_each.ensures.passes c.list_others.ensures.passes files start.last
     (shelves.now start).files c.add_each.new.rows.items listed.rows (rw c.new-rows.ensures.items at c.in_ok-add_each.ensures.added) c.in_ok-ignore.ignore c.in_ok-ignore.ensures.kept
-    (λ path. false) (passed_none (λ path. false) (λ path. refl) later mid.last c.add_each.ensures.passes.past.later) others (λ m path asked. asked))
+    nothing_known (known_none later mid.last c.add_each.ensures.passes.past.later) others (λ m path asked. asked))
     c.list_others.ensures.listed
 
 -- ---- the patterns
@@ -180,11 +181,12 @@ returns-clause-asked g c = λ told.
     let mid = g.T.Tree.history c.read_patterns.new.tree in
     let later = g.T.Tree.history c.add_each.new.tree in
     let new = g.T.Tree.history c.list_others.new.tree in
+    let past = passes_trans old mid later c.read_patterns.ensures.passes c.add_each.ensures.passes in
     all_asks c.args.wanted (asked_by c.args.wanted (flat_in c.args.flat.now)) (pieces_of c.in_ok-ignore.ignore) old mid later new c.read_patterns.ensures.passes c.add_each.ensures.passes c.list_others.ensures.passes
     (state_still c.args.wanted old mid c.in_ok-ignore.ignore c.in_ok-ignore.ensures.kept)
     (c.read_patterns.ensures.asked told)
     (c.add_each.ensures.asked (c.read_patterns.ensures.passes.past.told ∙ told))
-    (c.list_others.ensures.asked (c.add_each.ensures.passes.past.told ∙ c.read_patterns.ensures.passes.past.told ∙ told))
+    (c.list_others.ensures.asked (past.past.told ∙ told) old past (known_none later old.last past.past.later))
 
 pub returns-clause-asked_own : goal.returns-clause-asked_own
 returns-clause-asked_own g c = λ ours.
@@ -192,13 +194,14 @@ returns-clause-asked_own g c = λ ours.
     let mid = g.T.Tree.history c.read_patterns.new.tree in
     let later = g.T.Tree.history c.add_each.new.tree in
     let new = g.T.Tree.history c.list_others.new.tree in
+    let past = passes_trans old mid later c.read_patterns.ensures.passes c.add_each.ensures.passes in
     if_ok_on c.list_others.result _ _
     (λ listed others.
     own_asks c.args.wanted (asked_by c.args.wanted (flat_in c.args.flat.now)) (pieces_of c.in_ok-ignore.ignore) old mid later new c.read_patterns.ensures.passes c.add_each.ensures.passes c.list_others.ensures.passes
     (state_still c.args.wanted old mid c.in_ok-ignore.ignore c.in_ok-ignore.ensures.kept)
     (c.in_ok-ignore.ensures.asked_own (ours_first old mid new (passes_trans mid later new c.add_each.ensures.passes c.list_others.ensures.passes).past ours))
     (c.add_each.ensures.asked (c.read_patterns.ensures.passes.past.told ∙ ours.told))
-    (c.list_others.ensures.asked (c.add_each.ensures.passes.past.told ∙ c.read_patterns.ensures.passes.past.told ∙ ours.told)))
+    (c.list_others.ensures.asked (past.past.told ∙ ours.told) old past (known_none later old.last past.past.later)))
     c.list_others.ensures.listed
 
 -- ---- what is asked below `.hg`
