@@ -8,7 +8,7 @@ use Rattle.std.specs.declared.cmp.Ordering.TheVariants.{Equal, Less}
 use Rattle.std.specs.Cmp.{tied_itself}
 use Rattle.std.specs.Cmp.Lexicographic.{nat_list_cmp_total, slice_cmp}
 use Rattle.std.specs.Str.{bytes_eq}
-use Rattle.std.proofs.lemmas.Bool.{and_from, and_parts, cases_lt}
+use Rattle.std.proofs.lemmas.Bool.{and_from, cases_lt}
 use Rattle.std.proofs.lemmas.List.Elements.{All-contains, All-from_recursion, Contains-append_cases, Contains-append_left, Contains-append_right, Contains-push, Contains-push_cases}
 use Rattle.std.proofs.lemmas.List.Sorted.{searchable_from_sorted}
 use Rattle.std.proofs.lemmas.Map.Lookups.{exact_bytes}
@@ -283,11 +283,16 @@ passed_at children marks path at child mark below within of is =
     marked_at (λ c m. bytes_eq (path_of c) path && is_no_dir m) children marks at child mark below within
     (and_from (bytes_eq (path_of (get_or children at child)) path) (is_no_dir (get_or marks at mark)) ((bytes_eq-Decides (path_of (get_or children at child)) path).1 of) is)
 
-pub entered_at : (children : List Child) (marks : List Mark) (dir : List ℕ) (at : ℕ) (child : Child) (mark : Mark) → at < length marks → IsPlaceBelow children dir at → stands (get_or marks at mark) ≡ true
-    → was_entered children marks dir ≡ true
-entered_at children marks dir at child mark within place is =
-    marked_at (λ c m. is_below dir (path_of c) && stands m) children marks at child mark place.within within
-    (and_from (is_below dir (path_of (get_or children at child))) (stands (get_or marks at mark)) (place.is child) is)
+pub entered_at : (children : List Child) (marks : List Mark) (dir : List ℕ) (at : ℕ) (mark : Mark) → at < length marks → IsPlaceBelow children dir at → stands (get_or marks at mark) ≡ true → was_entered children marks dir ≡ true
+entered_at children marks dir at mark within place is = by children marks at within place.within place.is is
+  where
+    by : (children : List Child) (marks : List Mark) (at : ℕ) → at < length marks → at < length children → ((d : Child) → is_below dir (path_of (get_or children at d)) ≡ true) → stands (get_or marks at mark) ≡ true
+        → was_entered children marks dir ≡ true
+    by [] marks at within below under is = absurd (omega (arith, below))
+    by (first ∷ rest) [] at within below under is = absurd (omega (arith, within))
+    by (first ∷ rest) (m ∷ marks) zero within below under is = ap (λ (b : Bool). b || was_entered rest marks dir) (and_from (is_below dir (path_of first)) (stands m) (under first) is)
+    by (first ∷ rest) (m ∷ marks) (suc at) within below under is =
+        marked_later (is_below dir (path_of first) && stands m) (was_entered rest marks dir) (by rest marks at (omega (arith, within)) (omega (arith, below)) under is)
 
 -- a node that is known to be below a directory
 pub below_at : (children : List Child) (dir : List ℕ) (at : ℕ) (child : Child) → at < length children → child ≡ get_or children at child → is_below dir (path_of child) ≡ true → IsPlaceBelow children dir at

@@ -1,5 +1,5 @@
 -- The patterns that are read behind a call that asks nothing of the files are read over the span of both.
-use Rattle.std.proofs.Common.{ℕ, ◌≡◌, List, ◌++◌, Option, Some, None, IsTrue, sym, ap, ◌∙◌, inl, inr, arith}
+use Rattle.std.proofs.Common.{ℕ, ◌≡◌, List, ◌++◌, Option, Some, None, ap, ◌∙◌, inl, inr, arith}
 use Rattle.hg_ignore.specs.Patterns.{ReadSo, Saw}
 use Rattle.hg_ignore.specs.Source.{FileDuring, ReadDuring}
 use Rattle.hg_ignore.specs.State.{Ignore, Piece}
@@ -45,6 +45,7 @@ module _ (old mid new : History) (first : Passes old mid) (second : Passes mid n
   }
 
   read_so : (Seen : Moment → Type 0) (P : List ℕ → Type 0) → ReadSo mid new Seen P → ReadSo old new Seen P
+  unfolding saw
   read_so Seen P r = record { seen = saw _ r.seen; read = saw _ r.read; order = λ told. r.order (first.past.told ∙ told) }
 
   pub lacks_behind : (fault : StatusFault) → LacksPatterns mid new fault → LacksPatterns old new fault

@@ -184,7 +184,7 @@ each_longer P Q on (child ∷ xs) (mark ∷ marks) (own, rest) = (on child mark 
 
 one_more_mark : (P : Child → Mark → Type 0) (xs : List Child) (marks : List Mark) (child : Child) (mark : Mark) → AreMarked P xs marks → P child mark → AreMarked P (xs ++ child ∷ []) (marks ++ mark ∷ [])
 one_more_mark P [] [] child mark is own = (own, tt)
-one_more_mark P [] (other ∷ marks) child mark is own = absurd is
+one_more_mark P [] (sign ∷ marks) child mark is own = absurd is
 one_more_mark P (other ∷ xs) [] child mark is own = absurd is
 one_more_mark P (other ∷ xs) (first ∷ marks) child mark (here, rest) own = (here, one_more_mark P xs marks child mark rest own)
 

@@ -1,8 +1,7 @@
 -- The look at all paths of a record: its rows, what is known by it, and what is noted.
-use Rattle.std.proofs.Common.{ℕ, ◌≡◌, ◌&&◌, ◌||◌, Bool, true, false, not, cond, List, [], ◌∷◌, ◌++◌, Option, Some, None, Result, Ok, Err, option_map, is_some, refl, sym, ap, ◌∙◌, subst, arith, true≢false}
-use Rattle.std.specs.Prelude.{ℤ, pos, negsuc, int_lt, nat_lt, ◌==◌, IfOk, IsTrue}
+use Rattle.std.proofs.Common.{ℕ, ◌≡◌, ◌&&◌, ◌||◌, Bool, true, false, not, cond, List, [], ◌∷◌, ◌++◌, Option, Some, None, option_map, is_some, refl, sym, ap, ◌∙◌, subst, arith, true≢false}
+use Rattle.std.specs.Prelude.{IsTrue}
 use Rattle.std.specs.List.{Contains, find}
-use Rattle.std.specs.Ordering.{int_eq}
 use Rattle.std.specs.Str.{bytes_eq}
 use Rattle.std.proofs.lemmas.Bool.{and_parts}
 use Rattle.std.proofs.lemmas.List.Elements.{Contains-append_left, Contains-append_right, Contains-push}
@@ -26,7 +25,7 @@ use Rattle.hg_mixed.specs.Edits.{IsFormed}
 use Rattle.hg_mixed.specs.Gathered.{AreGathered, path_of}
 use Rattle.hg_mixed.specs.Held.{Held, table}
 use Rattle.hg_mixed.specs.declared.child.Child.{Child}
-use Rattle.hg_mtime.specs.Stamps.{dated, stamp_of}
+use Rattle.hg_mtime.specs.Stamps.{stamp_of}
 use Rattle.hg_mtime.specs.Vouching.{vouches}
 use Rattle.hg_mtime.proofs.Tests.{noted_vouch}
 use Rattle.hg_shelf.specs.History as shelves
@@ -49,26 +48,6 @@ use Rattle.hg_walk.specs.Tracked.{NotesAll, TellsAll, WasClockOf}
 use Rattle.hg_walk.specs.Walking.{AreNeeded, IsRecorded, first_id, rows_in, vouches_for, walk_status}
 use Rattle.hg_walk.specs.declared.mark.Mark.{Mark}
 use Rattle.hg_walk.proofs.Rows.{marked_node, node_of, own_rows, rows_flat, shows}
-
--- ---- the boundary
-
-unless : (b : Bool) (o : Option StampData) → o ≡ None → cond b o None ≡ None
-unless true o is = is
-unless false o is = refl
-
-below_none : (seconds low : ℤ) (n : ℕ) → low ≡ negsuc n → (nanos : ℕ) (x y z : Bool) → cond ((int_lt seconds low || (int_eq seconds low && x)) && not (int_eq seconds low && y)) (dated seconds nanos z) None ≡ None
-below_none (pos m) low n is nanos x y z =
-    subst (λ (l : ℤ). cond ((int_lt (pos m) l || (int_eq (pos m) l && x)) && not (int_eq (pos m) l && y)) (dated (pos m) nanos z) None ≡ None) (sym is) refl
-below_none (negsuc m) low n is nanos x y z = unless ((int_lt (negsuc m) low || (int_eq (negsuc m) low && x)) && not (int_eq (negsuc m) low && y)) None refl
-
--- no time that may be recorded is before one from before 1970
-pub lowest_none : (low : Time) (n : ℕ) → low.seconds ≡ negsuc n → (time : Time) → stamp_of time low ≡ None
-lowest_none low n is time = below_none time.seconds low.seconds n is time.nanos (nat_lt time.nanos low.nanos) (time.nanos == 0) (int_eq time.seconds low.seconds)
-
--- what a call answers where a tree tells
-pub told_ok : {X Y : Type 0} (r : Result X Y) (A B : Type 0) (P : X → Type 0) → (B → A) → (A → IfOk r P) → IfOk r (λ x. B → P x)
-told_ok (Ok x) A B P back is = λ b. is (back b)
-told_ok (Err y) A B P back is = tt
 
 -- ---- a path that is clean
 
@@ -156,20 +135,20 @@ module _ (wanted : Wanted) (held : Held) (children : List Child) (are : AreGathe
   }
 
   module _ (boundary : Time) (notes : List CleanNote) (n : AreNotesOf whole t boundary children notes) where
-    abbrev all : NotesData
-    all = record { clean = notes; seen = []; gone = []; hash = None }
+    abbrev made : NotesData
+    made = record { clean = notes; seen = []; gone = []; hash = None }
 
     keeps : KeepsPlain files start.last → KeepsRows whole
     keeps plain path = keeps_row files start.last (first_id t) plain path
 
-    earned : IsHonest later → IsTrue old.told → WasClockOf old boundary all → KeepsPlain files start.last → AreEarned (rows_then whole) t later all
+    earned : IsHonest later → IsTrue old.told → WasClockOf old boundary made → KeepsPlain files start.last → AreEarned (rows_then whole) t later made
     earned honest told clock plain = record {
       clean = λ note has. n.earned honest told (clock note has) (keeps plain) note has;
       seen = λ note has. let (k, below, same) = has in absurd (omega (arith, below));
       renewed = λ some. absurd (true≢false (sym some));
     }
 
-    needed : AreNeeded t all
+    needed : AreNeeded t made
     needed = record { clean = n.needed; seen = refl; gone = refl; hash = refl }
 
     -- the entry behind the notes vouches for what the look showed
@@ -205,13 +184,13 @@ module _ (wanted : Wanted) (held : Held) (children : List Child) (are : AreGathe
     some_stamp None none = absurd (true≢false (sym none))
     some_stamp (Some stamp) some = (stamp, refl)
 
-    recorded : trees.IsOurs old later → KeepsPlain files start.last → (wants_bytes wanted ≡ true → boundary ≡ (trees.now old).clock) → IsRecorded wanted (rows_then whole) t (trees.now old) (applied all t)
+    recorded : trees.IsOurs old later → KeepsPlain files start.last → (wants_bytes wanted ≡ true → boundary ≡ (trees.now old).clock) → IsRecorded wanted (rows_then whole) t (trees.now old) (applied made t)
     recorded ours plain clock wants path entry stat has shown clean some =
         let stamp = some_stamp (stamp_of stat.mtime (trees.now old).clock) some in
         (λ i. vouches_for (with_clean (clean_at notes path) (has i)) (is_some (t.sources path)) (shown i))
         ∙ vouched ours plain wants (clock wants) path entry stat has shown clean stamp.0 stamp.1 (clean_at notes path) refl (vouches entry (is_some (t.sources path)) stat) refl
 
-    notes_whole : NotesAll whole t boundary all
+    notes_whole : NotesAll whole t boundary made
     notes_whole = record { needed = needed; stamp = n.stamp; shown = n.shown; earned = earned; recorded = recorded }
 
   -- what is noted behind nothing

@@ -98,7 +98,11 @@ impl<'t> Keeper<'t> {
     // Where the nodes below a directory begin, if there are any: mostly at `next`, or right behind it where that is the place of the directory itself.
     // Paths as `dir-a` and `dir.a` stand between `dir` and those below it.
     fn place_below(&self, dir: &str, next: usize) -> usize {
-        let next = if self.is_at(next, dir) { next.saturating_add(1) } else { next };
+        let next = if self.is_at(next, dir) {
+            next.saturating_add(1)
+        } else {
+            next
+        };
         if self.is_below_at(next, dir) {
             return next;
         }

@@ -80,16 +80,7 @@ pub(crate) fn tell_all<'t, T: Tree, S: Shelf>(
     let mut rows = Vec::new(alloc);
     let mut notes = Notes::new(alloc);
     tell_each(
-        alloc,
-        &children,
-        &p1,
-        tree,
-        shelf,
-        wanted,
-        boundary,
-        &mut marks,
-        &mut rows,
-        &mut notes,
+        alloc, &children, &p1, tree, shelf, wanted, boundary, &mut marks, &mut rows, &mut notes,
     )?;
     let keeper = Keeper::of(children, marks);
     Ok(Tracked {
