@@ -1,5 +1,5 @@
 -- A status from its parts: the rows of the paths with an entry, and those of what else stands, behind a read of the patterns.
-use Rattle.std.proofs.Common.{ℕ, ◌≡◌, Bool, false, true, List, [], Option, None, is_some, option_map, ap, sym, subst}
+use Rattle.std.proofs.Common.{ℕ, ◌≡◌, false, true, List, [], Option, None, is_some, option_map, ap, sym, subst}
 use Rattle.hg_base.specs.declared.id.Id20.{Id20}
 use Rattle.hg_entry.specs.Entry.{view}
 use Rattle.hg_entry.specs.Table.{Flat, marks_of}

@@ -1,6 +1,6 @@
 -- A listing of what stands at a path, at the names of a directory and in a directory: `Steps` has each step, `Asks` what the tree is asked.
 use Rattle.std.proofs.lemmas.Grind.{common_steps}
-use Rattle.std.proofs.Common.{arith, List, Some, ◌∙◌, ◌+◌, [], ap, refl, sym, subst, option_map}
+use Rattle.std.proofs.Common.{arith, List, Some, ◌∙◌, ◌+◌, [], ap, refl, subst, option_map}
 use Rattle.std.specs.Prelude.{OnOk}
 use Rattle.std.proofs.lemmas.Result.{on_ok_weaker}
 use Rattle.hg_tree.specs.History.{now}
@@ -33,11 +33,9 @@ look-returns-in_default-clause-listed g t c = λ start are formed.
 
 pub look-returns-in-File-clause-listed : goal.look-returns-in-File-clause-listed
 look-returns-in-File-clause-listed g t c =
-    let old = g.T.Tree.history c.args.tree.now in
-    let mid = g.T.Tree.history c.kind_at.new.tree in
     on_ok_weaker c.add_untracked.result
     (λ row start are formed.
-    look_file (g.K.Entries.kept c.args.entries.now) c.args.wanted (state_asked c.args.matcher.now) old mid mid c.kind_at.ensures.passes.past (extends_same mid) start are.begun c.args.path c.as_ref.result.text.now c.as_ref.ensures c.in_ok-kind.field-0
+    look_file (g.K.Entries.kept c.args.entries.now) c.args.wanted (state_asked c.args.matcher.now) (g.T.Tree.history c.args.tree.now) (g.T.Tree.history c.kind_at.new.tree) (g.T.Tree.history c.kind_at.new.tree) c.kind_at.ensures.passes.past (extends_same (g.T.Tree.history c.kind_at.new.tree)) start are.begun c.args.path c.as_ref.result.text.now c.as_ref.ensures c.in_ok-kind.field-0
     (c.in_ok-kind.ensures.was start are) formed c.args.rows.now.items c.add_untracked.new.rows.items (file_kind c.in_ok-kind.field-0 c.in-Some.kind c.in-Some.is c.in-File.is) row)
     c.add_untracked.ensures.row
 
@@ -49,18 +47,16 @@ look-returns-then-leaves_out-clause-listed g t c =
 
 pub look-returns-else-leaves_out-clause-listed : goal.look-returns-else-leaves_out-clause-listed
 look-returns-else-leaves_out-clause-listed g t c =
-    let old = g.T.Tree.history c.args.tree.now in
-    let mid = g.T.Tree.history c.kind_at.new.tree in
-    let new = g.T.Tree.history c.visit.new.tree in
     on_ok_weaker c.visit.result
     (λ lists start are formed.
-    look_dir (g.K.Entries.kept c.args.entries.now) c.args.wanted (state_asked c.args.matcher.now) old mid new c.kind_at.ensures.passes.past c.visit.ensures.passes.past start are.begun c.args.path c.as_ref.result.text.now c.as_ref.ensures
+    look_dir (g.K.Entries.kept c.args.entries.now) c.args.wanted (state_asked c.args.matcher.now) (g.T.Tree.history c.args.tree.now) (g.T.Tree.history c.kind_at.new.tree) (g.T.Tree.history c.visit.new.tree)
+    c.kind_at.ensures.passes.past c.visit.ensures.passes.past start are.begun c.args.path c.as_ref.result.text.now c.as_ref.ensures
     c.in_ok-kind.field-0 (c.in_ok-kind.ensures.was start are) formed c.args.rows.now.items c.visit.new.rows.items c.as_ref-dir.result.text.now (ap dir_by c.in-Some.is ∙ ap is_dir_kind c.in-Dir.is) c.as_ref-dir.ensures
-    (lists start (known_later (g.K.Entries.known c.args.entries.now) old mid start c.kind_at.ensures.passes.past are)))
+    (lists start (known_later (g.K.Entries.known c.args.entries.now) (g.T.Tree.history c.args.tree.now) (g.T.Tree.history c.kind_at.new.tree) start c.kind_at.ensures.passes.past are)))
     (subst
     (λ (s : List Piece). OnOk c.visit.result
-    (ListsSince (g.K.Entries.kept c.args.entries.now) (g.K.Entries.known c.args.entries.now) (Gives c.args.wanted s) mid new
-    (IsUnknownIn (g.K.Entries.kept c.args.entries.now) (now mid) (Some c.as_ref-dir.result.text.now)) c.args.rows.now.items c.visit.new.rows.items))
+    (ListsSince (g.K.Entries.kept c.args.entries.now) (g.K.Entries.known c.args.entries.now) (Gives c.args.wanted s) (g.T.Tree.history c.kind_at.new.tree) (g.T.Tree.history c.visit.new.tree)
+    (IsUnknownIn (g.K.Entries.kept c.args.entries.now) (now (g.T.Tree.history c.kind_at.new.tree)) (Some c.as_ref-dir.result.text.now)) c.args.rows.now.items c.visit.new.rows.items))
     c.is_ignored-ignored.ensures.same c.visit.ensures.listed)
 
 pub look-returns-in-Other-clause-listed : goal.look-returns-in-Other-clause-listed
