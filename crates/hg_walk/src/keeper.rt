@@ -62,7 +62,7 @@ impl<'t> Keeper<'t> {
         self.children[at].path.text == path
     }
 
-    // The place of the node of a path; the one at `next` is looked at first, which is made that place, or the one behind where it would stand.
+    // The place of the node of a path; the one at `next` is looked at first, which is made that place, or where the node would stand.
     fn find(&self, path: &str, next: &mut usize) -> Option<usize>
         ensures found { IfSome result (λ at. IsPlaceOf self.now.children.items path.now at) }
         ensures none { result ≡ None → (child : Child) → Contains self.now.children.items child → path_of child ≡ path.now → ⊥ }
