@@ -1,21 +1,19 @@
 -- What is found of a path that a look shows is right, and what is noted of it is earned.
-use Rattle.std.proofs.Common.{ℕ, ◌≡◌, ◌≤◌, Bool, true, false, not, ◌&&◌, ◌||◌, cond, List, Option, Some, None, Result, Ok, Err, option_map, refl, sym, ap, ◌∙◌, subst, arith}
+use Rattle.std.proofs.Common.{ℕ, ◌≡◌, Bool, true, false, not, ◌&&◌, ◌||◌, cond, List, Option, Some, None, Result, Ok, Err, option_map, refl, sym, ap, ◌∙◌, subst, arith}
 use Rattle.std.specs.Prelude.{IfSome, IsTrue, is_some}
-use Rattle.std.proofs.lemmas.Bool.{and_parts}
 use Rattle.hg_base.specs.declared.id.Id20.{Id20}
 use Rattle.hg_base.specs.declared.stat.Stat.{Stat}
 use Rattle.hg_base.specs.declared.time.Time.{Time}
 use Rattle.hg_compare.specs.Alike.{contents_name, is_alike}
 use Rattle.hg_compare.specs.Same.{StaysShown, parent_row}
 use Rattle.hg_compare.specs.Tracked.{ParentRow, equal_bools, is_file_or_link, is_unchanged, tracked_letter}
-use Rattle.hg_compare.specs.declared.letter.Letter.{Letter}
 use Rattle.hg_compare.specs.declared.letter.Letter.TheVariants as a_letter
 use Rattle.hg_compare.specs.declared.looked.Looked.{Looked}
 use Rattle.hg_compare.specs.declared.looked.Looked.TheVariants as a_look
 use Rattle.hg_entry.specs.Entry.{EntryData, StampData}
 use Rattle.hg_entry.specs.Steps.{seen_clean}
-use Rattle.hg_entry.specs.Table.{Table, marks_of}
-use Rattle.hg_flat.specs.Course.{ComparesFound, IsComparedBy, IsFound, Proceeds, compared_letter, contents_then, letter_of, upto}
+use Rattle.hg_entry.specs.Table.{marks_of}
+use Rattle.hg_flat.specs.Course.{ComparesFound, IsComparedBy, IsFound, contents_then, letter_of, upto}
 use Rattle.hg_flat.specs.Met.{Status}
 use Rattle.hg_flat.specs.Parent.{HasContents, IsServed, manifest_at, parent_rows, row_among, row_of}
 use Rattle.hg_flat.specs.declared.parent.Parent.{Parent}
@@ -32,7 +30,7 @@ use Rattle.hg_tree.specs.Moment.{Moment, stat_at}
 use Rattle.hg_tree.specs.declared.thing.Placed.{Placed}
 use Rattle.hg_tree.specs.declared.thing.Thing.{Thing}
 use Rattle.hg_tree.specs.declared.thing.Thing.TheVariants as a_thing
-use Rattle.hg_walk.specs.Finding.{IsEarnedBy, HasLetter, IsReached, KeepsOwn, Look, WasClock, is_vouched, rows_then, stamp_after}
+use Rattle.hg_walk.specs.Finding.{HasLetter, WasClock, rows_then, stamp_after}
 use Rattle.hg_walk.specs.Trust.{IsEarned}
 use Rattle.hg_walk.proofs.Noted.{noted_is_earned}
 

@@ -9,6 +9,7 @@ pub mod Noted
 pub mod OneNote
 pub mod Parts
 pub mod Rows
+pub mod Starts
 pub mod Tells
 pub mod TellsEach
 pub mod TellsNotes

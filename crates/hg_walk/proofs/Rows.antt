@@ -8,11 +8,12 @@ use Rattle.std.specs.declared.cmp.Ordering.TheVariants.{Equal, Less}
 use Rattle.std.specs.Cmp.{tied_itself}
 use Rattle.std.specs.Cmp.Lexicographic.{nat_list_cmp_total, slice_cmp}
 use Rattle.std.specs.Str.{bytes_eq}
-use Rattle.std.proofs.lemmas.Bool.{and_parts, cases_lt}
+use Rattle.std.proofs.lemmas.Bool.{and_from, cases_lt}
 use Rattle.std.proofs.lemmas.List.Elements.{All-contains, All-from_recursion, Contains-append_cases, Contains-append_left, Contains-append_right, Contains-push, Contains-push_cases}
 use Rattle.std.proofs.lemmas.List.Sorted.{searchable_from_sorted}
 use Rattle.std.proofs.lemmas.Map.Lookups.{exact_bytes}
 use Rattle.std.proofs.lemmas.Slice.Eq.{bytes_eq-Decides}
+use Rattle.hg_base.specs.PathText.{is_below}
 use Rattle.hg_entry.specs.Entry.{EntryData, view}
 use Rattle.hg_entry.specs.Table.{Table, flat_of}
 use Rattle.hg_entry.specs.declared.entry.Entry.{Entry}
@@ -25,8 +26,10 @@ use Rattle.hg_mixed.specs.Edits.{IsFormed}
 use Rattle.hg_mixed.specs.Gathered.{AreGathered, Shows, is_recorded, path_of, paths_of}
 use Rattle.hg_mixed.specs.Held.{Held, table}
 use Rattle.hg_mixed.specs.declared.child.Child.{Child}
-use Rattle.hg_walk.specs.Passing.{AreInOrder, IsPlaceOf, has_entry, is_marked}
+use Rattle.hg_walk.specs.Marks.{is_no_dir, stands}
+use Rattle.hg_walk.specs.Passing.{AreInOrder, IsPlaceBelow, IsPlaceOf, any_marked, has_entry, was_entered, was_passed}
 use Rattle.hg_walk.specs.Telling.{AreMarked, rows_with, tracked_row, tracked_rows}
+use Rattle.hg_walk.specs.declared.mark.Mark.{Mark}
 
 none_there : {A : Type 0} (x : A) → Contains [] x → ⊥
 none_there x (n, below, is) = absurd (omega (arith, below))
@@ -261,33 +264,47 @@ no_entry children path none = by (row_at (tracked_rows children) path) refl
         let from = row_from children row found.0 in
         absurd (none from.0 from.2 (sym (ap (λ (r : FlatRow). r.path) from.4) ∙ found.1))
 
-marked_here : (a b : Bool) (rest : Bool) → a ≡ true → b ≡ true → ((a && b) || rest) ≡ true
-marked_here true true rest first second = refl
-marked_here true false rest first second = absurd (true≢false (sym second))
-marked_here false b rest first second = absurd (true≢false (sym first))
-
 marked_later : (a rest : Bool) → rest ≡ true → (a || rest) ≡ true
 marked_later true rest is = refl
 marked_later false rest is = is
 
-pub marked_at : (children : List Child) (marks : List Bool) (path : List ℕ) (at : ℕ) (child : Child) (mark : Bool) → at < length children → at < length marks → path_of (get_or children at child) ≡ path → get_or marks at mark ≡ true
-    → is_marked children marks path ≡ true
-marked_at [] marks path at child mark below within of is = absurd (omega (arith, below))
-marked_at (first ∷ rest) [] path at child mark below within of is = absurd (omega (arith, within))
-marked_at (first ∷ rest) (m ∷ marks) path zero child mark below within of is =
-    marked_here (bytes_eq (path_of first) path) m (is_marked rest marks path) ((bytes_eq-Decides (path_of first) path).1 of) is
-marked_at (first ∷ rest) (m ∷ marks) path (suc at) child mark below within of is =
-    marked_later (bytes_eq (path_of first) path && m) (is_marked rest marks path)
-    (marked_at rest marks path at child mark (omega (arith, below)) (omega (arith, within)) of is)
+-- a child and the mark at its place that meet a test
+pub marked_at : (test : Child → Mark → Bool) (children : List Child) (marks : List Mark) (at : ℕ) (child : Child) (mark : Mark) → at < length children → at < length marks → test (get_or children at child) (get_or marks at mark) ≡ true
+    → any_marked test children marks ≡ true
+marked_at test [] marks at child mark below within is = absurd (omega (arith, below))
+marked_at test (first ∷ rest) [] at child mark below within is = absurd (omega (arith, within))
+marked_at test (first ∷ rest) (m ∷ marks) zero child mark below within is = ap (λ (b : Bool). b || any_marked test rest marks) is
+marked_at test (first ∷ rest) (m ∷ marks) (suc at) child mark below within is =
+    marked_later (test first m) (any_marked test rest marks) (marked_at test rest marks at child mark (omega (arith, below)) (omega (arith, within)) is)
 
--- the node of a marked path, and what its mark says
-pub marked_node : (Is : Child → Bool → Type 0) (children : List Child) (marks : List Bool) (path : List ℕ) → AreMarked Is children marks → is_marked children marks path ≡ true → (child : Child) × Is child true × (path_of child ≡ path)
-marked_node Is [] marks path are is = absurd (true≢false (sym is))
-marked_node Is (first ∷ rest) [] path are is = absurd (true≢false (sym is))
-marked_node Is (first ∷ rest) (m ∷ marks) path are is =
-    elim (or_cases (bytes_eq (path_of first) path && m) (is_marked rest marks path) is) [
-      | inl here ↦
-          let both = and_parts (bytes_eq (path_of first) path) m here in
-          (first, subst (Is first) both.1 are.0, (bytes_eq-Decides (path_of first) path).0 both.0)
-      | inr later ↦ marked_node Is rest marks path are.1 later
-    ]
+pub passed_at : (children : List Child) (marks : List Mark) (path : List ℕ) (at : ℕ) (child : Child) (mark : Mark) → at < length children → at < length marks → path_of (get_or children at child) ≡ path → is_no_dir (get_or marks at mark) ≡ true
+    → was_passed children marks path ≡ true
+passed_at children marks path at child mark below within of is =
+    marked_at (λ c m. bytes_eq (path_of c) path && is_no_dir m) children marks at child mark below within
+    (and_from (bytes_eq (path_of (get_or children at child)) path) (is_no_dir (get_or marks at mark)) ((bytes_eq-Decides (path_of (get_or children at child)) path).1 of) is)
+
+pub entered_at : (children : List Child) (marks : List Mark) (dir : List ℕ) (at : ℕ) (mark : Mark) → at < length marks → IsPlaceBelow children dir at → stands (get_or marks at mark) ≡ true → was_entered children marks dir ≡ true
+entered_at children marks dir at mark within place is = by children marks at within place.within place.is is
+  where
+    by : (children : List Child) (marks : List Mark) (at : ℕ) → at < length marks → at < length children → ((d : Child) → is_below dir (path_of (get_or children at d)) ≡ true) → stands (get_or marks at mark) ≡ true
+        → was_entered children marks dir ≡ true
+    by [] marks at within below under is = absurd (omega (arith, below))
+    by (first ∷ rest) [] at within below under is = absurd (omega (arith, within))
+    by (first ∷ rest) (m ∷ marks) zero within below under is = ap (λ (b : Bool). b || was_entered rest marks dir) (and_from (is_below dir (path_of first)) (stands m) (under first) is)
+    by (first ∷ rest) (m ∷ marks) (suc at) within below under is =
+        marked_later (is_below dir (path_of first) && stands m) (was_entered rest marks dir) (by rest marks at (omega (arith, within)) (omega (arith, below)) under is)
+
+-- a node that is known to be below a directory
+pub below_at : (children : List Child) (dir : List ℕ) (at : ℕ) (child : Child) → at < length children → child ≡ get_or children at child → is_below dir (path_of child) ≡ true → IsPlaceBelow children dir at
+below_at children dir at child below is under = record {
+  within = below;
+  is = λ d. ap (λ (c : Child). is_below dir (path_of c)) (get_or_same children at d child below ∙ sym is) ∙ under;
+}
+
+-- the node whose mark meets a test
+pub marked_node : (Is : Child → Mark → Type 0) (test : Child → Mark → Bool) (children : List Child) (marks : List Mark) → AreMarked Is children marks → any_marked test children marks ≡ true
+    → (child : Child) × (mark : Mark) × Is child mark × (test child mark ≡ true)
+marked_node Is test [] marks are is = absurd (true≢false (sym is))
+marked_node Is test (first ∷ rest) [] are is = absurd (true≢false (sym is))
+marked_node Is test (first ∷ rest) (m ∷ marks) are is =
+    elim (or_cases (test first m) (any_marked test rest marks) is) [ inl here ↦ (first, m, are.0, here) | inr later ↦ marked_node Is test rest marks are.1 later ]

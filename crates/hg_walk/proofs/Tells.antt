@@ -1,35 +1,24 @@
 -- What is told of one path of a record: which paths are compared, their letters, and what is noted of them.
-use Rattle.std.proofs.Common.{ℕ, ◌≡◌, ◌≤◌, Bool, true, false, not, ◌&&◌, ◌||◌, cond, zero, suc, List, [], ◌∷◌, ◌++◌, Option, Some, None, option_map, refl, sym, ap, ◌∙◌, subst, arith, inl, inr}
-use Rattle.std.specs.Prelude.{IsTrue, is_some}
-use Rattle.std.specs.List.{Contains, find}
-use Rattle.std.specs.Str.{bytes_eq}
+use Rattle.std.proofs.Common.{ℕ, ◌≡◌, Bool, true, false, not, ◌&&◌, ◌||◌, List, [], Option, Some, None, option_map, refl, sym, ap, ◌∙◌, arith}
+use Rattle.std.specs.Prelude.{is_some}
 use Rattle.std.proofs.lemmas.Bool.{and_parts}
-use Rattle.std.proofs.lemmas.List.Elements.{Contains-append_cases}
-use Rattle.std.proofs.lemmas.Slice.Eq.{bytes_eq-Decides}
-use Rattle.hg_base.specs.declared.id.Id20.{Id20}
-use Rattle.hg_base.specs.declared.stat.Kind.{Kind}
-use Rattle.hg_base.specs.declared.stat.Kind.TheVariants as a_kind
 use Rattle.hg_base.specs.declared.stat.Stat.{Stat}
-use Rattle.hg_base.specs.declared.time.Time.{Time}
 use Rattle.hg_compare.specs.Same.{Reads}
-use Rattle.hg_compare.specs.Tracked.{is_file_or_link, is_unchanged, tracked_letter}
+use Rattle.hg_compare.specs.Tracked.{is_file_or_link}
 use Rattle.hg_compare.specs.declared.letter.Letter.{Letter}
-use Rattle.hg_compare.specs.declared.letter.Letter.TheVariants as a_letter
-use Rattle.hg_entry.specs.Entry.{EntryData, StampData, stamp_view, view}
-use Rattle.hg_entry.specs.Steps.{is_file, seen_clean}
+use Rattle.hg_entry.specs.Entry.{view}
 use Rattle.hg_entry.specs.Table.{Table, flat_of, marks_of}
 use Rattle.hg_entry.specs.declared.entry.Entry.{Entry}
 use Rattle.hg_flat.specs.Asked.{AsksReads}
 use Rattle.hg_flat.specs.Course.{IsFound}
 use Rattle.hg_flat.specs.Judged.{IsLeftAsked}
-use Rattle.hg_flat.specs.Listing.{IsAskedRow, is_compared_row, is_file_or_link_kind, marked_letter, wants_bytes, wants_tracked}
-use Rattle.hg_flat.specs.Met.{Status}
+use Rattle.hg_flat.specs.Listing.{IsAskedRow, is_compared_row, is_file_or_link_kind, marked_letter}
 use Rattle.hg_flat.specs.Parent.{IsAsked, WasAsked, is_plain_entry}
 use Rattle.hg_flat.specs.declared.kept.FlatRow.{FlatRow}
 use Rattle.hg_flat.specs.declared.parent.Parent.{Parent}
 use Rattle.hg_flat.proofs.Asks.{reads_none, reads_pieces}
 use Rattle.hg_flat.proofs.Faces.{stat_alike, stays_shown}
-use Rattle.hg_flat.proofs.Judging.{AsksAlike, left_ended, letter_by, letter_by_moved, marks_alike}
+use Rattle.hg_flat.proofs.Judging.{AsksAlike, left_ended, letter_by_moved, marks_alike}
 use Rattle.hg_flat.proofs.Letters.{found_read, there_is}
 use Rattle.hg_listing.specs.declared.row.Wanted.{Wanted}
 use Rattle.hg_mixed.specs.Gathered.{path_of}
@@ -41,7 +30,7 @@ use Rattle.hg_tree.specs.Moment.{Moment, stat_at, stat_of, zero_time}
 use Rattle.hg_tree.specs.declared.thing.Thing.{Thing}
 use Rattle.hg_tree.specs.declared.thing.Thing.TheVariants as a_thing
 use Rattle.hg_tree.proofs.Stillness.{alike_between}
-use Rattle.hg_walk.specs.Finding.{HasLetter, Look}
+use Rattle.hg_walk.specs.Finding.{HasLetter}
 use Rattle.hg_walk.specs.Right.{AreRight}
 use Rattle.hg_walk.specs.Telling.{IsAtChild, IsChildOf, IsLetterOf, ShowsNow, copied_in, tracked_row}
 use Rattle.hg_walk.specs.Walking.{asked_unvouched, first_id, rows_in, vouches_for, walk_status}

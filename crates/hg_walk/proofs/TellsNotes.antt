@@ -1,10 +1,10 @@
 -- What is noted of one path of a record, and of one behind others.
-use Rattle.std.proofs.Common.{ℕ, ◌≡◌, ◌≤◌, Bool, true, false, not, ◌&&◌, ◌||◌, cond, zero, suc, List, [], ◌∷◌, ◌++◌, Option, Some, None, option_map, refl, sym, ap, ◌∙◌, subst, arith, inl, inr}
+use Rattle.std.proofs.Common.{ℕ, ◌≡◌, ◌≤◌, Bool, true, false, not, ◌&&◌, ◌||◌, cond, List, [], ◌∷◌, ◌++◌, Option, Some, None, option_map, refl, sym, ap, ◌∙◌, subst, arith, inl, inr}
 use Rattle.std.specs.Prelude.{IfSome, IsTrue, is_some}
 use Rattle.std.specs.Option.{option_or}
-use Rattle.std.specs.List.{Contains, find}
+use Rattle.std.specs.List.{Contains}
 use Rattle.std.specs.Str.{bytes_eq}
-use Rattle.std.proofs.lemmas.Bool.{and_parts, or_parts}
+use Rattle.std.proofs.lemmas.Bool.{or_parts}
 use Rattle.std.proofs.lemmas.List.Elements.{Contains-append_cases}
 use Rattle.std.proofs.lemmas.List.Folds.{find-append}
 use Rattle.std.proofs.lemmas.Slice.Eq.{bytes_eq-Decides}
@@ -35,16 +35,14 @@ use Rattle.hg_mtime.specs.Vouching.{vouches}
 use Rattle.hg_shelf.specs.History as shelves
 use Rattle.hg_shelf.proofs.Histories as shelf
 use Rattle.hg_tree.specs.History as trees
-use Rattle.hg_tree.specs.Honest.{IsHonest}
 use Rattle.hg_tree.specs.Moment.{Moment, stat_at}
 use Rattle.hg_tree.proofs.Faces.{past_honest}
 use Rattle.hg_tree.proofs.Spans.{now_same, ours_first, ours_second, ours_unstepped}
 use Rattle.hg_tree.proofs.Stillness.{ours_untouched}
-use Rattle.hg_walk.specs.Finding.{IsEarnedBy, IsNoted, IsNotedIfClean, Look, WasClock, rows_then}
-use Rattle.hg_walk.specs.Notes.{AreClean, CleanNote, IsCleanNote, clean_at}
+use Rattle.hg_walk.specs.Finding.{IsEarnedBy, IsNoted, IsNotedIfClean, Look, rows_then}
+use Rattle.hg_walk.specs.Notes.{CleanNote, IsCleanNote, clean_at}
 use Rattle.hg_walk.specs.Telling.{AreNotesOf, IsAtChild, IsChildOf, KeepsRows, ShowsNow, WasShown, copied_in, notes_of, tracked_row}
 use Rattle.hg_walk.specs.Walking.{IsNeededNote, walk_status}
-use Rattle.hg_walk.specs.declared.telling.Seen.{Seen}
 use Rattle.hg_walk.proofs.Growing.{earned_on, found, only_one}
 use Rattle.hg_walk.proofs.Tells.{child_copied, child_entry}
 

@@ -1,11 +1,12 @@
--- The look at all paths of a record, over the span that begins before the clock is asked: its rows, what was passed, and what is noted.
-use Rattle.std.proofs.Common.{ℕ, ◌≡◌, ◌&&◌, ◌||◌, Bool, true, false, not, cond, List, [], ◌∷◌, ◌++◌, Option, Some, None, Result, Ok, Err, option_map, is_some, refl, sym, ap, ◌∙◌, subst, arith, true≢false}
-use Rattle.std.specs.Prelude.{ℤ, pos, negsuc, int_lt, nat_lt, ◌==◌, IfOk, IsTrue, MatchBool}
+-- The look at all paths of a record: its rows, what is known by it, and what is noted.
+use Rattle.std.proofs.Common.{ℕ, ◌≡◌, ◌&&◌, ◌||◌, Bool, true, false, not, cond, List, [], ◌∷◌, ◌++◌, Option, Some, None, option_map, is_some, refl, sym, ap, ◌∙◌, subst, arith, true≢false}
+use Rattle.std.specs.Prelude.{IsTrue}
 use Rattle.std.specs.List.{Contains, find}
-use Rattle.std.specs.Ordering.{int_eq}
 use Rattle.std.specs.Str.{bytes_eq}
+use Rattle.std.proofs.lemmas.Bool.{and_parts}
 use Rattle.std.proofs.lemmas.List.Elements.{Contains-append_left, Contains-append_right, Contains-push}
 use Rattle.std.proofs.lemmas.Slice.Eq.{bytes_eq-Decides}
+use Rattle.hg_base.specs.PathText.{is_below}
 use Rattle.hg_base.specs.declared.id.Id20.{Id20}
 use Rattle.hg_base.specs.declared.stat.Stat.{Stat}
 use Rattle.hg_base.specs.declared.time.Time.{Time}
@@ -14,11 +15,9 @@ use Rattle.hg_compare.specs.declared.letter.Letter.TheVariants as a_letter
 use Rattle.hg_entry.specs.Entry.{EntryData, StampData}
 use Rattle.hg_entry.specs.Steps.{is_file}
 use Rattle.hg_entry.specs.Table.{Table, marks_of}
-use Rattle.hg_flat.specs.Judged.{IsLeftAsked}
 use Rattle.hg_flat.specs.Listing.{wants_bytes}
 use Rattle.hg_flat.specs.Met.{Status}
-use Rattle.hg_flat.specs.Passed.{ArePassed, WasNoDir}
-use Rattle.hg_flat.proofs.Judging.{adds_moved, left_ended}
+use Rattle.hg_flat.specs.Passed.{AreKnown, WasNoDir}
 use Rattle.hg_flat.proofs.Leaving.{keeps_row}
 use Rattle.hg_listing.specs.declared.row.Row.{Row}
 use Rattle.hg_listing.specs.declared.row.Wanted.{Wanted}
@@ -26,7 +25,7 @@ use Rattle.hg_mixed.specs.Edits.{IsFormed}
 use Rattle.hg_mixed.specs.Gathered.{AreGathered, path_of}
 use Rattle.hg_mixed.specs.Held.{Held, table}
 use Rattle.hg_mixed.specs.declared.child.Child.{Child}
-use Rattle.hg_mtime.specs.Stamps.{dated, stamp_of}
+use Rattle.hg_mtime.specs.Stamps.{stamp_of}
 use Rattle.hg_mtime.specs.Vouching.{vouches}
 use Rattle.hg_mtime.proofs.Tests.{noted_vouch}
 use Rattle.hg_shelf.specs.History as shelves
@@ -37,39 +36,18 @@ use Rattle.hg_tree.specs.Moment.{Moment, stat_at, stat_of}
 use Rattle.hg_tree.specs.declared.thing.Placed.{Placed}
 use Rattle.hg_tree.specs.declared.thing.Thing.{Thing}
 use Rattle.hg_tree.specs.declared.thing.Thing.TheVariants as a_thing
-use Rattle.hg_tree.proofs.Spans.{now_same, ours_first, ours_second, ours_unstepped}
-use Rattle.hg_tree.proofs.Stillness.{alike_between}
+use Rattle.hg_tree.proofs.Spans.{ours_unstepped}
 use Rattle.hg_walk.specs.Applying.{IsBlank}
 use Rattle.hg_walk.specs.Finding.{rows_then}
 use Rattle.hg_walk.specs.Notes.{AreEarned, CleanNote, NotesData, applied, clean_at, with_clean}
-use Rattle.hg_walk.specs.Passing.{is_marked}
+use Rattle.hg_walk.specs.Marks.{is_no_dir, stands}
+use Rattle.hg_walk.specs.Passing.{known_of}
 use Rattle.hg_walk.specs.Right.{AreRight}
-use Rattle.hg_walk.specs.Telling.{AreMarked, AreNotesOf, AreOf, IsMarked, KeepsRows, MarksEach, TellsEach, tracked_rows, with_clean_notes}
-use Rattle.hg_walk.specs.Tracked.{IsBoundary, NotesAll, TellsAll}
-use Rattle.hg_walk.specs.Walking.{AreNeeded, AreNoted, IsRecorded, asked_unvouched, first_id, rows_in, vouches_for, walk_status}
-use Rattle.hg_walk.proofs.Parts.{right_in_second}
+use Rattle.hg_walk.specs.Telling.{AreMarked, AreNotesOf, AreOf, IsMarked, KeepsRows, MarksEach, TellsEach, with_clean_notes}
+use Rattle.hg_walk.specs.Tracked.{NotesAll, TellsAll, WasClockOf}
+use Rattle.hg_walk.specs.Walking.{AreNeeded, IsRecorded, first_id, rows_in, vouches_for, walk_status}
+use Rattle.hg_walk.specs.declared.mark.Mark.{Mark}
 use Rattle.hg_walk.proofs.Rows.{marked_node, node_of, own_rows, rows_flat, shows}
-use Rattle.hg_walk.proofs.Tells.{unvouched_alike}
-
--- ---- the boundary
-
-unless : (b : Bool) (o : Option StampData) → o ≡ None → cond b o None ≡ None
-unless true o is = is
-unless false o is = refl
-
-below_none : (seconds low : ℤ) (n : ℕ) → low ≡ negsuc n → (nanos : ℕ) (x y z : Bool) → cond ((int_lt seconds low || (int_eq seconds low && x)) && not (int_eq seconds low && y)) (dated seconds nanos z) None ≡ None
-below_none (pos m) low n is nanos x y z =
-    subst (λ (l : ℤ). cond ((int_lt (pos m) l || (int_eq (pos m) l && x)) && not (int_eq (pos m) l && y)) (dated (pos m) nanos z) None ≡ None) (sym is) refl
-below_none (negsuc m) low n is nanos x y z = unless ((int_lt (negsuc m) low || (int_eq (negsuc m) low && x)) && not (int_eq (negsuc m) low && y)) None refl
-
--- no time that may be recorded is before one from before 1970
-pub lowest_none : (low : Time) (n : ℕ) → low.seconds ≡ negsuc n → (time : Time) → stamp_of time low ≡ None
-lowest_none low n is time = below_none time.seconds low.seconds n is time.nanos (nat_lt time.nanos low.nanos) (time.nanos == 0) (int_eq time.seconds low.seconds)
-
--- what a call answers where a tree tells
-pub told_ok : {X Y : Type 0} (r : Result X Y) (A B : Type 0) (P : X → Type 0) → (B → A) → (A → IfOk r P) → IfOk r (λ x. B → P x)
-told_ok (Ok x) A B P back is = λ b. is (back b)
-told_ok (Err y) A B P back is = tt
 
 -- ---- a path that is clean
 
@@ -118,15 +96,12 @@ note_found : (notes : List CleanNote) (path : List ℕ) (found : CleanNote) → 
 note_found [] path found is = absurd (true≢false (sym (ap is_some is)))
 note_found (note ∷ rest) path found is = find_step note rest path found (bytes_eq note.path path) refl (note_found rest path found) is
 
--- ---- over the whole span
+-- ---- over all paths
 
 module _ (wanted : Wanted) (held : Held) (children : List Child) (are : AreGathered held (λ path. true) children) (formed : IsFormed (table held)) (id : Id20) (is_id : id.0 ≡ held.p1)
-    (old mid later : trees.History) (first : trees.Passes old mid) (second : trees.Passes mid later) (start files : shelves.History) where
+    (old later : trees.History) (passes : trees.Passes old later) (start files : shelves.History) where
   abbrev t : Table
   t = table held
-
-  abbrev part : Status
-  part = walk_status wanted t mid later start files
 
   abbrev whole : Status
   whole = walk_status wanted t old later start files
@@ -137,100 +112,68 @@ module _ (wanted : Wanted) (held : Held) (children : List Child) (are : AreGathe
     each = λ child has. let s = shows held children are child has in record { entry = s.entry; source = s.source };
   }
 
-  added_whole : (rows : List Row) → TellsEach (AreRight (rows_then part) t mid later) part children [] rows → TellsEach (AreRight (rows_then whole) t old later) whole children [] rows
-  added_whole rows added =
-      adds_moved (asked_unvouched wanted t) (unvouched_alike wanted t) (AreRight (rows_then part) t mid later) (AreRight (rows_then whole) t old later) (right_in_second (rows_then whole) t old mid later first.past) (IsLeftAsked (asked_unvouched wanted t) (first_id t) later mid.last files start.last)
-      (IsLeftAsked (asked_unvouched wanted t) (first_id t) later old.last files start.last) (shelves.now start).files (first_id t) (trees.now mid) (trees.now old) wanted (tracked_rows children) [] rows
-      (left_ended (asked_unvouched wanted t) (unvouched_alike wanted t) (first_id t) old mid later first.past second.past files start.last)
-      (λ path left. alike_between old mid later path first.past second.past left.own) added
-
-  passed_whole : (marks : List Bool) → AreMarked (IsMarked wanted mid later) children marks → ArePassed (is_marked children marks) later old.last
-  passed_whole marks marked = record {
-    begun = omega (arith, first.past.later, second.past.later);
-    each = λ told path is.
-        let node = marked_node (IsMarked wanted mid later) children marks path marked is in
-        let was = node.1.none (sym second.past.told ∙ told) refl in
-        subst (WasNoDir later old.last) node.2
-        (record { moment = was.moment; begun = omega (arith, was.begun, first.past.later); past = was.past; none = was.none });
+  known_whole : (marks : List Mark) → AreMarked (IsMarked wanted old later) children marks → AreKnown (known_of children marks) later old.last
+  known_whole marks marked = record {
+    begun = passes.past.later;
+    none = λ told path is.
+        let node = marked_node (IsMarked wanted old later) (λ child mark. bytes_eq (path_of child) path && is_no_dir mark) children marks marked is in
+        let both = and_parts (bytes_eq (path_of node.0) path) (is_no_dir node.1) node.3 in
+        subst (WasNoDir later old.last) ((bytes_eq-Decides (path_of node.0) path).0 both.0) (node.2.none (sym passes.past.told ∙ told) both.1);
+    dirs = λ told path is.
+        let node = marked_node (IsMarked wanted old later) (λ child mark. is_below path (path_of child) && stands mark) children marks marked is in
+        let both = and_parts (is_below path (path_of node.0)) (stands node.1) node.3 in
+        node.2.above (sym passes.past.told ∙ told) both.1 path both.0;
   }
 
-  pub tells_whole : (marks : List Bool) (rows : List Row) → ((t : Table) → AreOf t id children → TellsEach (AreRight (rows_in t (shelves.now start).files) t mid later) (walk_status wanted t mid later start files) children [] rows)
-      → MarksEach wanted mid later children [] marks → TellsAll whole t children marks rows
+  pub tells_whole : (marks : List Mark) (rows : List Row) → ((t : Table) → AreOf t id children → TellsEach (AreRight (rows_in t (shelves.now start).files) t old later) (walk_status wanted t old later start files) children [] rows)
+      → MarksEach wanted old later children [] marks → TellsAll whole t children marks rows
   tells_whole marks rows added marked = record {
     own = own_rows children are.own;
     flat = rows_flat held children are formed t.p1 t.p2 refl refl;
-    added = added_whole rows (added t of_record);
-    passed = passed_whole marks (subst (AreMarked (IsMarked wanted mid later) children) (sym marked.1) marked.2);
+    added = added t of_record;
+    known = known_whole marks (subst (AreMarked (IsMarked wanted old later) children) (sym marked.1) marked.2);
   }
 
-  module _ (boundary : Time) (is : IsBoundary (wants_bytes wanted) mid boundary) (notes : List CleanNote) (n : AreNotesOf part t boundary children notes) where
-    -- where there is a note the boundary is the clock's
-    clock_by : (b : Bool) → MatchBool b (IsTrue mid.told → boundary ≡ (trees.now mid).clock) ((time : Time) → stamp_of time boundary ≡ None) → (note : CleanNote) → Contains notes note → IsTrue mid.told → boundary ≡ (trees.now mid).clock
-    clock_by true so note has told = so told
-    clock_by false never note has told = absurd (true≢false (sym (ap is_some (n.stamp note has)) ∙ ap is_some (never note.stat.mtime)))
+  module _ (boundary : Time) (notes : List CleanNote) (n : AreNotesOf whole t boundary children notes) where
+    abbrev made : NotesData
+    made = record { clean = notes; seen = []; gone = []; hash = None }
 
-    clock_at : (note : CleanNote) → Contains notes note → IsTrue mid.told → boundary ≡ (trees.now mid).clock
-    clock_at = clock_by (wants_bytes wanted) is
-
-    noted : AreNoted old later (record { clean = notes; seen = []; gone = []; hash = None })
-    noted = record {
-      boundary = boundary;
-      clock = λ told note has. record {
-        at = mid.last;
-        from = first.past.later;
-        to = second.past.later;
-        so = clock_at note has (first.past.told ∙ told) ∙ sym (ap (λ (m : Moment). m.clock) (second.past.stay mid.last (omega arith)));
-      };
-      stamp = n.stamp;
-      shown = λ told note has. let was = n.shown (first.past.told ∙ told) note has in record { at = was.at; from = omega (arith, was.from, first.past.later); to = was.to; so = was.shows };
-    }
-
-    clock_true : (b : Bool) → b ≡ true → MatchBool b (IsTrue mid.told → boundary ≡ (trees.now mid).clock) ((time : Time) → stamp_of time boundary ≡ None) → IsTrue mid.told → boundary ≡ (trees.now mid).clock
-    clock_true true asked so = so
-    clock_true false asked never = absurd (true≢false (sym asked))
-
-    keeps : KeepsPlain files start.last → KeepsRows part
+    keeps : KeepsPlain files start.last → KeepsRows whole
     keeps plain path = keeps_row files start.last (first_id t) plain path
 
-    earned : IsHonest later → IsTrue old.told → KeepsPlain files start.last → AreEarned (rows_then whole) t later (record { clean = notes; seen = []; gone = []; hash = None })
-    earned honest told plain = record {
-      clean = λ note has.
-          let told_mid = first.past.told ∙ told in
-          n.earned honest told_mid (record { at = mid.last; within = omega arith; is = clock_at note has told_mid }) (keeps plain) note has;
+    earned : IsHonest later → IsTrue old.told → WasClockOf old boundary made → KeepsPlain files start.last → AreEarned (rows_then whole) t later made
+    earned honest told clock plain = record {
+      clean = λ note has. n.earned honest told (clock note has) (keeps plain) note has;
       seen = λ note has. let (k, below, same) = has in absurd (omega (arith, below));
       renewed = λ some. absurd (true≢false (sym some));
     }
 
-    needed : AreNeeded t (record { clean = notes; seen = []; gone = []; hash = None })
+    needed : AreNeeded t made
     needed = record { clean = n.needed; seen = refl; gone = refl; hash = refl }
 
     -- the entry behind the notes vouches for what the look showed
-    vouched : trees.IsOurs old later → KeepsPlain files start.last → wants_bytes wanted ≡ true → (path : List ℕ) (entry : EntryData) (stat : Stat) → t.entries path ≡ Some entry → stat_at (trees.now old) path ≡ Some stat
-        → tracked_letter (rows_then whole path) (marks_of entry) (is_some (t.sources path)) ((trees.now old).things path) ≡ Some a_letter.C
+    vouched : trees.IsOurs old later → KeepsPlain files start.last → wants_bytes wanted ≡ true → boundary ≡ (trees.now old).clock → (path : List ℕ) (entry : EntryData) (stat : Stat) → t.entries path ≡ Some entry
+        → stat_at (trees.now old) path ≡ Some stat → tracked_letter (rows_then whole path) (marks_of entry) (is_some (t.sources path)) ((trees.now old).things path) ≡ Some a_letter.C
         → (stamp : StampData) → stamp_of stat.mtime (trees.now old).clock ≡ Some stamp → (o : Option CleanNote) → clean_at notes path ≡ o → (b : Bool) → vouches entry (is_some (t.sources path)) stat ≡ b
         → vouches_for (with_clean o (Some entry)) (is_some (t.sources path)) (Some stat) ≡ true
-    vouched ours plain wants path entry stat has shown clean stamp stamped None none true vouch = vouch
-    vouched ours plain wants path entry stat has shown clean stamp stamped (Some note) some true vouch =
+    vouched ours plain wants clock path entry stat has shown clean stamp stamped None none true vouch = vouch
+    vouched ours plain wants clock path entry stat has shown clean stamp stamped (Some note) some true vouch =
         let found = note_found notes path note some in
         let need = n.needed note found.0 in
-        let was = n.shown (first.past.told ∙ ours.told) note found.0 in
-        let last : was.at ≡ mid.last = omega (arith, was.from, was.to, ours_unstepped mid later second (ours_second old mid later first.past ours)) in
-        let same : later.at was.at ≡ trees.now old =
-        ap later.at last ∙ second.past.stay mid.last (omega arith) ∙ now_same old mid first (ours_first old mid later second.past ours) in
+        let was = n.shown ours.told note found.0 in
+        let last : was.at ≡ old.last = omega (arith, was.from, was.to, ours_unstepped old later passes ours) in
+        let same : later.at was.at ≡ trees.now old = ap later.at last ∙ passes.past.stay old.last (omega arith) in
         let one : Some note.stat ≡ Some stat = sym was.shows ∙ ap (λ (m : Moment). stat_at m note.path) same ∙ ap (stat_at (trees.now old)) found.1 ∙ shown in
         let entries : Some need.entry ≡ Some entry = sym need.is ∙ ap t.entries found.1 ∙ has in
         let stat_is : note.stat ≡ stat = cc one in
         let entry_is : need.entry ≡ entry = cc entries in
         absurd (true≢false (sym vouch ∙ (λ i. vouches (sym entry_is i) (is_some (t.sources (sym found.1 i))) (sym stat_is i)) ∙ need.unvouched))
-    vouched ours plain wants path entry stat has shown clean stamp stamped o is_o false unvouched =
-        let ours_part = ours_second old mid later first.past ours in
-        let same : trees.now mid ≡ trees.now old = now_same old mid first (ours_first old mid later second.past ours) in
+    vouched ours plain wants clock path entry stat has shown clean stamp stamped o is_o false unvouched =
         let node = node_of held children are path entry has in
         let child = node.0 in
         let at : path_of child ≡ path = node.3 in
-        let clock : boundary ≡ (trees.now old).clock = clock_true (wants_bytes wanted) wants is (first.past.told ∙ ours.told) ∙ ap (λ (m : Moment). m.clock) same in
-        let found = n.recorded ours_part (keeps plain) wants child entry stat stamp node.2 (ap t.entries at ∙ has) ((λ i. stat_at (same i) (at i)) ∙ shown)
-        ((λ i. tracked_letter (rows_then whole (at i)) (marks_of entry) (is_some (t.sources (at i))) ((same i).things (at i))) ∙ clean)
+        let found = n.recorded ours (keeps plain) wants child entry stat stamp node.2 (ap t.entries at ∙ has) (ap (stat_at (trees.now old)) at ∙ shown)
+        ((λ i. tracked_letter (rows_then whole (at i)) (marks_of entry) (is_some (t.sources (at i))) ((trees.now old).things (at i))) ∙ clean)
         (ap (λ (p : List ℕ). vouches entry (is_some (t.sources p)) stat) at ∙ unvouched) (ap (stamp_of stat.mtime) clock ∙ stamped) in
         let this : o ≡ Some (record { path = path_of child; stat = stat; stamp = stamp }) = sym is_o ∙ ap (clean_at notes) (sym at) ∙ found in
         let marks = clean_marks (rows_then whole path) entry (is_some (t.sources path)) ((trees.now old).things path) clean in
@@ -241,18 +184,18 @@ module _ (wanted : Wanted) (held : Held) (children : List Child) (are : AreGathe
     some_stamp None none = absurd (true≢false (sym none))
     some_stamp (Some stamp) some = (stamp, refl)
 
-    recorded : trees.IsOurs old later → KeepsPlain files start.last → IsRecorded wanted (rows_then whole) t (trees.now old) (applied (record { clean = notes; seen = []; gone = []; hash = None }) t)
-    recorded ours plain wants path entry stat has shown clean some =
+    recorded : trees.IsOurs old later → KeepsPlain files start.last → (wants_bytes wanted ≡ true → boundary ≡ (trees.now old).clock) → IsRecorded wanted (rows_then whole) t (trees.now old) (applied made t)
+    recorded ours plain clock wants path entry stat has shown clean some =
         let stamp = some_stamp (stamp_of stat.mtime (trees.now old).clock) some in
         (λ i. vouches_for (with_clean (clean_at notes path) (has i)) (is_some (t.sources path)) (shown i))
-        ∙ vouched ours plain wants path entry stat has shown clean stamp.0 stamp.1 (clean_at notes path) refl (vouches entry (is_some (t.sources path)) stat) refl
+        ∙ vouched ours plain wants (clock wants) path entry stat has shown clean stamp.0 stamp.1 (clean_at notes path) refl (vouches entry (is_some (t.sources path)) stat) refl
 
-    notes_whole : NotesAll whole t (record { clean = notes; seen = []; gone = []; hash = None })
-    notes_whole = record { needed = needed; noted = noted; earned = earned; recorded = recorded }
+    notes_whole : NotesAll whole t boundary made
+    notes_whole = record { needed = needed; stamp = n.stamp; shown = n.shown; earned = earned; recorded = recorded }
 
   -- what is noted behind nothing
-  pub notes_all : (boundary : Time) → IsBoundary (wants_bytes wanted) mid boundary → (blank all : NotesData) → IsBlank blank → blank.hash ≡ None
-      → (((more : List CleanNote) × (all ≡ with_clean_notes more blank) × ((t : Table) → AreOf t id children → AreNotesOf (walk_status wanted t mid later start files) t boundary children more))) → NotesAll whole t all
-  notes_all boundary is blank all none no_hash (more, behind, notes) =
-      subst (NotesAll whole t) (sym (behind ∙ (λ i. record { clean = none.clean i ++ more; seen = none.seen i; gone = none.gone i; hash = no_hash i })))
-      (notes_whole boundary is more (notes t of_record))
+  pub notes_all : (boundary : Time) → (blank all : NotesData) → IsBlank blank → blank.hash ≡ None
+      → (((more : List CleanNote) × (all ≡ with_clean_notes more blank) × ((t : Table) → AreOf t id children → AreNotesOf (walk_status wanted t old later start files) t boundary children more))) → NotesAll whole t boundary all
+  notes_all boundary blank all none no_hash (more, behind, notes) =
+      subst (NotesAll whole t boundary) (sym (behind ∙ (λ i. record { clean = none.clean i ++ more; seen = none.seen i; gone = none.gone i; hash = no_hash i })))
+      (notes_whole boundary more (notes t of_record))

@@ -1,10 +1,15 @@
 -- A walk from its parts: a read of the patterns, the look at all paths with an entry, and the listing of what else stands.
-use Rattle.std.proofs.Common.{ℕ, Bool, false, List, Option, IsTrue, sym, ap, ◌∙◌, subst, arith}
+use Rattle.std.proofs.Common.{ℕ, ◌≡◌, ◌≤◌, Bool, true, false, List, Option, None, IsTrue, is_some, true≢false, sym, ap, ◌∙◌, subst, arith}
+use Rattle.std.specs.Prelude.{MatchBool}
+use Rattle.std.specs.List.{Contains}
 use Rattle.std.proofs.lemmas.Bool.{and_parts}
+use Rattle.hg_base.specs.declared.time.Time.{Time}
 use Rattle.hg_entry.specs.Table.{Flat, Table, flat_of}
 use Rattle.hg_flat.specs.Course.{IsKeptState, pieces_of}
+use Rattle.hg_flat.specs.Listing.{wants_bytes}
 use Rattle.hg_flat.specs.Others.{ListsOthers}
 use Rattle.hg_flat.specs.Parent.{IsAsked, IsLeft, IsServed, asked_by}
+use Rattle.hg_flat.specs.Passed.{AreKnown, Known}
 use Rattle.hg_flat.specs.Patterns.{ignored_at}
 use Rattle.hg_flat.proofs.Fullness.{Narrows, full_of}
 use Rattle.hg_flat.proofs.Leaving.{left_all}
@@ -14,6 +19,7 @@ use Rattle.hg_listing.specs.Full.{IsFull, IsFullFor}
 use Rattle.hg_listing.specs.declared.row.Row.{Row}
 use Rattle.hg_listing.specs.declared.row.Wanted.{Wanted}
 use Rattle.hg_mixed.specs.declared.child.Child.{Child}
+use Rattle.hg_mtime.specs.Stamps.{stamp_of}
 use Rattle.hg_shelf.specs.History as shelves
 use Rattle.hg_shelf.specs.Polite.{KeepsPlain}
 use Rattle.hg_tree.specs.History as trees
@@ -21,12 +27,13 @@ use Rattle.hg_tree.specs.Honest.{IsHonest}
 use Rattle.hg_tree.specs.Moment.{Moment, stat_at}
 use Rattle.hg_tree.proofs.Faces.{past_honest}
 use Rattle.hg_tree.proofs.Spans.{now_same, ours_first, ours_second, passes_trans}
-use Rattle.hg_walk.specs.Notes.{AreEarned, NotesData, applied}
-use Rattle.hg_walk.specs.Passing.{has_entry, is_marked}
+use Rattle.hg_walk.specs.Notes.{AreEarned, CleanNote, NotesData, applied}
+use Rattle.hg_walk.specs.Passing.{has_entry, known_of}
 use Rattle.hg_walk.specs.Right.{AreRight}
 use Rattle.hg_walk.specs.Telling.{tracked_rows}
-use Rattle.hg_walk.specs.Tracked.{NotesAll, TellsAll}
+use Rattle.hg_walk.specs.Tracked.{IsBoundary, NotesAll, TellsAll}
 use Rattle.hg_walk.specs.Walking.{AreNoted, IsLeftBy, IsRecorded, asked_unvouched, first_id, rows_in, walk_status}
+use Rattle.hg_walk.specs.declared.mark.Mark.{Mark}
 use Rattle.hg_walk.proofs.Growing.{dir_on, earned_on}
 use Rattle.hg_walk.proofs.Parts.{right_in_first, right_in_second}
 use Rattle.hg_walk.proofs.Tells.{unvouched_alike}
@@ -35,13 +42,21 @@ use Rattle.hg_walk.proofs.Tells.{unvouched_alike}
 pub unvouched_narrows : (wanted : Wanted) (t : Table) → Narrows (asked_unvouched wanted t) wanted (flat_of t)
 unvouched_narrows wanted t moment path asked = (and_parts (asked_by wanted (flat_of t) moment path) _ asked).0
 
-module _ (wanted : Wanted) (t : Table) (children : List Child) (marks : List Bool) (rows : List Row) (old mid later new : trees.History) (first : trees.Passes old mid) (second : trees.Passes mid later) (third : trees.Passes later new)
+-- what is known since a moment is known since an earlier one
+pub known_earlier : (known : Known) (h : trees.History) (start begun : ℕ) → begun ≤ start → AreKnown known h start → AreKnown known h begun
+known_earlier known h start begun within are = record {
+  begun = omega (arith, within, are.begun);
+  none = λ told path is. let was = are.none told path is in record { moment = was.moment; begun = omega (arith, within, was.begun); past = was.past; none = was.none };
+  dirs = λ told path is. let was = are.dirs told path is in record { moment = was.moment; begun = omega (arith, within, was.begun); past = was.past; is = was.is };
+}
+
+module _ (wanted : Wanted) (t : Table) (children : List Child) (marks : List Mark) (rows : List Row) (old mid later new : trees.History) (first : trees.Passes old mid) (second : trees.Passes mid later) (third : trees.Passes later new)
     (start files : shelves.History) where
   whole : trees.Passes old new
   whole = passes_trans old mid new first (passes_trans mid later new second third)
 
   module _ (told : TellsAll (walk_status wanted t mid later start files) t children marks rows) (ignore : Option (List Piece)) (kept : IsKeptState wanted old mid ignore) (d : List Row)
-      (others : ListsOthers (has_entry children) (is_marked children marks) wanted (pieces_of ignore) later new rows d) where
+      (others : ListsOthers (has_entry children) (known_of children marks) wanted (pieces_of ignore) later new rows d) where
     pub still : AreRight (rows_in t (shelves.now start).files) t old new
         → IsFullFor (IsLeftBy wanted t new old.last files start.last) (flat_of t) (trees.now old) (rows_in t (shelves.now start).files) (ignored_at (trees.now old)) wanted d
     still right =
@@ -49,7 +64,7 @@ module _ (wanted : Wanted) (t : Table) (children : List Child) (marks : List Boo
         (λ (f : Flat). IsFullFor (IsLeft wanted f (asked_unvouched wanted t) (first_id t) new old.last files start.last) f (trees.now old) (rows_in t (shelves.now start).files) (ignored_at (trees.now old)) wanted d)
         told.flat
         (whole_listing (asked_unvouched wanted t) (unvouched_alike wanted t) (AreRight (rows_in t (shelves.now start).files) t mid later) t.p1 t.p2 (tracked_rows children) told.own wanted (first_id t) old mid later new first second third files start.last
-        (shelves.now start).files rows d told.added ignore kept (is_marked children marks) told.passed others
+        (shelves.now start).files rows d told.added ignore kept (known_of children marks) told.known others
         (right_in_second (rows_in t (shelves.now start).files) t old mid later first.past (right_in_first (rows_in t (shelves.now start).files) t old later new third.past right)))
 
     -- all that a comparison asked for was there, whatever the times
@@ -57,7 +72,7 @@ module _ (wanted : Wanted) (t : Table) (children : List Child) (marks : List Boo
         → IsServed (shelves.now start).files (first_id t) (trees.now old) path
     served path left asked =
         whole_served (asked_unvouched wanted t) (unvouched_alike wanted t) (AreRight (rows_in t (shelves.now start).files) t mid later) t.p1 t.p2 (tracked_rows children) told.own wanted (first_id t) old mid later new first second third files start.last
-        (shelves.now start).files rows d told.added ignore kept (is_marked children marks) told.passed others
+        (shelves.now start).files rows d told.added ignore kept (known_of children marks) told.known others
         (subst (Narrows (asked_unvouched wanted t) wanted) (sym told.flat) (unvouched_narrows wanted t)) path
         (subst (λ (f : Flat). IsLeft wanted f (asked_unvouched wanted t) (first_id t) new old.last files start.last path) (sym told.flat) left) asked
 
@@ -69,30 +84,49 @@ module _ (wanted : Wanted) (t : Table) (children : List Child) (marks : List Boo
 
   -- ---- what is noted
 
-  module _ (notes : NotesData) (all : NotesAll (walk_status wanted t mid later start files) t notes) where
+  module _ (notes : NotesData) (boundary : Time) (all : NotesAll (walk_status wanted t mid later start files) t boundary notes) (at : trees.History) (before : trees.Passes old at) (behind : trees.Passes at mid)
+      (is : IsBoundary (wants_bytes wanted) at boundary) where
+    -- where there is a note the boundary is the clock's
+    clock_by : (b : Bool) → MatchBool b (IsTrue at.told → boundary ≡ (trees.now at).clock) ((time : Time) → stamp_of time boundary ≡ None) → (note : CleanNote) → Contains notes.clean note → IsTrue at.told
+        → boundary ≡ (trees.now at).clock
+    clock_by true so note has told = so told
+    clock_by false never note has told = absurd (true≢false (sym (ap is_some (all.stamp note has)) ∙ ap is_some (never note.stat.mtime)))
+
+    clock_at : (note : CleanNote) → Contains notes.clean note → IsTrue old.told → boundary ≡ (trees.now at).clock
+    clock_at note has told = clock_by (wants_bytes wanted) is note has (before.past.told ∙ told)
+
+    -- as it is where bytes decide letters
+    clock_true : (b : Bool) → b ≡ true → MatchBool b (IsTrue at.told → boundary ≡ (trees.now at).clock) ((time : Time) → stamp_of time boundary ≡ None) → IsTrue at.told → boundary ≡ (trees.now at).clock
+    clock_true true wants so = so
+    clock_true false wants never = absurd (true≢false (sym wants))
+
+    ends : trees.Passes at new
+    ends = passes_trans at mid new behind (passes_trans mid later new second third)
+
     pub noted : AreNoted old new notes
     noted = record {
-      boundary = all.noted.boundary;
-      clock = λ told note has.
-          let was = all.noted.clock (first.past.told ∙ told) note has in record {
-            at = was.at;
-            from = omega (arith, first.past.later, was.from);
-            to = omega (arith, was.to, third.past.later);
-            so = was.so ∙ ap (λ (m : Moment). m.clock) (sym (third.past.stay was.at was.to));
-          };
-      stamp = all.noted.stamp;
+      boundary = boundary;
+      clock = λ told note has. record {
+        at = at.last;
+        from = before.past.later;
+        to = ends.past.later;
+        so = clock_at note has told ∙ ap (λ (m : Moment). m.clock) (sym (ends.past.stay at.last (omega arith)));
+      };
+      stamp = all.stamp;
       shown = λ told note has.
-          let was = all.noted.shown (first.past.told ∙ told) note has in record {
+          let was = all.shown (first.past.told ∙ told) note has in record {
             at = was.at;
             from = omega (arith, first.past.later, was.from);
             to = omega (arith, was.to, third.past.later);
-            so = ap (λ (m : Moment). stat_at m note.path) (third.past.stay was.at was.to) ∙ was.so;
+            so = ap (λ (m : Moment). stat_at m note.path) (third.past.stay was.at was.to) ∙ was.shows;
           };
+      order = λ told note has. let was = all.shown (first.past.told ∙ told) note has in omega (arith, was.from, behind.past.later);
     }
 
     pub earned : IsHonest new → IsTrue old.told → KeepsPlain files start.last → AreEarned (rows_in t (shelves.now start).files) t new notes
     earned honest told keeps =
-        let e = all.earned (past_honest later new third.past honest) (first.past.told ∙ told) keeps in record {
+        let e = all.earned (past_honest later new third.past honest) (first.past.told ∙ told)
+        (λ note has. record { at = at.last; within = behind.past.later; is = clock_at note has told ∙ ap (λ (m : Moment). m.clock) (sym (behind.past.stay at.last (omega arith))) }) keeps in record {
           clean = λ note has entry is. earned_on (rows_in t (shelves.now start).files) later new third.past note.path _ note.stamp (e.clean note has entry is);
           seen = λ note has. dir_on later new third.past note.dir note.stamp _ false t.nodes (e.seen note has);
           renewed = e.renewed;
@@ -100,6 +134,10 @@ module _ (wanted : Wanted) (t : Table) (children : List Child) (marks : List Boo
 
     pub recorded : trees.IsOurs old new → KeepsPlain files start.last → IsRecorded wanted (rows_in t (shelves.now start).files) t (trees.now old) (applied notes t)
     recorded ours keeps =
-        let before = ours_first old later new third.past ours in
-        subst (λ (m : Moment). IsRecorded wanted (rows_in t (shelves.now start).files) t m (applied notes t)) (now_same old mid first (ours_first old mid later second.past before))
-        (all.recorded (ours_second old mid later first.past before) keeps)
+        let until = ours_first old later new third.past ours in
+        let own : trees.IsOurs old mid = ours_first old mid later second.past until in
+        subst (λ (m : Moment). IsRecorded wanted (rows_in t (shelves.now start).files) t m (applied notes t)) (now_same old mid first own)
+        (all.recorded (ours_second old mid later first.past until) keeps
+        (λ wants.
+        clock_true (wants_bytes wanted) wants is (before.past.told ∙ ours.told)
+        ∙ ap (λ (m : Moment). m.clock) (sym (now_same at mid behind (ours_second old at mid before.past own)))))

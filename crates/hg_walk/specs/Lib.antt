@@ -3,6 +3,7 @@ pub mod EditLaws
 pub mod Finding
 pub mod Keeping
 pub mod Laws
+pub mod Marks
 pub mod Notes
 pub mod Noting
 pub mod Passing

@@ -1,7 +1,8 @@
--- The pass over the paths of a record: the row of each that has an entry, where no directory stood, and what is noted of times.
+-- The pass over the paths of a record: the row of each that has an entry, what a look showed there, and what is noted of times.
 use Rattle.std.specs.Prelude.{ℕ, ◌≡◌, ◌≤◌, Bool, true, false, IsTrue, List, [], ◌∷◌, ◌++◌, Option, Some, None, is_some}
 use Rattle.std.specs.Option.{option_map}
 use Rattle.std.specs.List.{Contains}
+use Rattle.hg_base.specs.PathText.{is_below}
 use Rattle.hg_base.specs.declared.id.Id20.{Id20}
 use Rattle.hg_base.specs.declared.stat.Stat.{Stat}
 use Rattle.hg_base.specs.declared.time.Time.{Time}
@@ -16,7 +17,7 @@ use Rattle.hg_flat.specs.Judged.{AddsBy, IsLeftAsked, IsLetterBy}
 use Rattle.hg_flat.specs.Listing.{wants_bytes, wants_tracked}
 use Rattle.hg_flat.specs.Met.{Status}
 use Rattle.hg_flat.specs.Parent.{KeepsRow}
-use Rattle.hg_flat.specs.Passed.{WasNoDir}
+use Rattle.hg_flat.specs.Passed.{WasDir, WasNoDir}
 use Rattle.hg_flat.specs.declared.kept.FlatRow.{FlatRow}
 use Rattle.hg_flat.specs.declared.parent.Parent.{Parent}
 use Rattle.hg_listing.specs.declared.row.Row.{Row}
@@ -28,10 +29,12 @@ use Rattle.hg_mtime.specs.Vouching.{vouches}
 use Rattle.hg_shelf.specs.History as shelves
 use Rattle.hg_tree.specs.History as trees
 use Rattle.hg_tree.specs.Honest.{IsHonest}
-use Rattle.hg_tree.specs.Moment.{is_dir, stat_at}
+use Rattle.hg_tree.specs.Moment.{stat_at}
 use Rattle.hg_walk.specs.Finding.{WasClock, rows_then}
+use Rattle.hg_walk.specs.Marks.{is_no_dir, mark_of, stands}
 use Rattle.hg_walk.specs.Notes.{AreClean, CleanNote, NotesData, clean_at}
 use Rattle.hg_walk.specs.Walking.{IsNeededNote, first_id}
+use Rattle.hg_walk.specs.declared.mark.Mark.{Mark}
 use Rattle.hg_walk.specs.declared.telling.Seen.{Seen}
 
 -- ---- the paths of a record
@@ -72,28 +75,29 @@ TellsEach Premise s children old new =
     AddsBy s.asks Premise (IsLeftAsked s.asks s.id s.tree_new s.tree_old.last s.shelf_new s.shelf_old.last) (shelves.now s.shelf_old).files s.id
     (trees.now s.tree_old) s.wanted (tracked_rows children) old new
 
--- ---- where no directory stood
+-- ---- what looks showed
 
 abbrev pub is_tracked : Option Entry → Bool
 is_tracked None = false
 is_tracked (Some entry) = entry.w
 
--- a mark of a child: where it is set no directory stood there at a moment of the call; it is set where a look is taken and shows none
-pub record IsMarked (wanted : Wanted) (old new : trees.History) (child : Child) (mark : Bool) : Type 0 where
-  pub none : IsTrue old.told → mark ≡ true → WasNoDir new old.last (path_of child)
-  pub looked : trees.IsOurs old new → wants_tracked wanted ≡ true → is_tracked child.entry ≡ true
-      → is_dir ((trees.now old).things (path_of child)) ≡ false → mark ≡ true
+-- what a look showed of a child: where it showed no directory none stood there at a moment of the call, and where it showed a thing a directory stood at
+-- each path above at one; where nobody else steps, each path with an entry has the mark of what stands there
+pub record IsMarked (wanted : Wanted) (old new : trees.History) (child : Child) (mark : Mark) : Type 0 where
+  pub none : IsTrue old.told → is_no_dir mark ≡ true → WasNoDir new old.last (path_of child)
+  pub above : IsTrue old.told → stands mark ≡ true → (dir : List ℕ) → IsTrue (is_below dir (path_of child)) → WasDir new old.last dir
+  pub looked : trees.IsOurs old new → wants_tracked wanted ≡ true → is_tracked child.entry ≡ true → mark ≡ mark_of (stat_at (trees.now old) (path_of child))
 
 -- one mark for each child, in their order
-abbrev pub AreMarked : (Child → Bool → Type 0) → List Child → List Bool → Type 0
+abbrev pub AreMarked : (Child → Mark → Type 0) → List Child → List Mark → Type 0
 AreMarked Is [] [] = Unit {0}
 AreMarked Is [] (mark ∷ marks) = ⊥
 AreMarked Is (child ∷ children) [] = ⊥
 AreMarked Is (child ∷ children) (mark ∷ marks) = Is child mark × AreMarked Is children marks
 
 -- they were put behind the marks so far
-abbrev pub MarksEach : Wanted → trees.History → trees.History → List Child → List Bool → List Bool → Type 0
-MarksEach wanted old new children before after = (marks : List Bool) × (after ≡ before ++ marks) × AreMarked (IsMarked wanted old new) children marks
+abbrev pub MarksEach : Wanted → trees.History → trees.History → List Child → List Mark → List Mark → Type 0
+MarksEach wanted old new children before after = (marks : List Mark) × (after ≡ before ++ marks) × AreMarked (IsMarked wanted old new) children marks
 
 -- ---- what is noted
 

@@ -84,12 +84,13 @@ pub record WasMoment (old new : trees.History) (P : Moment → Type 0) : Type 0 
   pub to : at ≤ new.last
   pub so : P (new.at at)
 
--- the time of each note is that of a look in the walk, by one boundary, which was the clock's in it
+-- the time of each note is that of a look in the walk, by one boundary, which was the clock's in it, at no later a moment
 pub record AreNoted (old new : trees.History) (notes : NotesData) : Type 0 where
   pub boundary : Time
   pub clock : IsTrue old.told → (note : CleanNote) → Contains notes.clean note → WasMoment old new (λ moment. boundary ≡ moment.clock)
   pub stamp : (note : CleanNote) → Contains notes.clean note → stamp_of note.stat.mtime boundary ≡ Some note.stamp
   pub shown : IsTrue old.told → (note : CleanNote) → Contains notes.clean note → WasMoment old new (λ moment. stat_at moment note.path ≡ Some note.stat)
+  pub order : (told : IsTrue old.told) (note : CleanNote) (has : Contains notes.clean note) → (clock told note has).at ≤ (shown told note has).at
 
 -- where bytes decide letters that are wanted, a record vouches behind the walk for each path that is clean at a moment with a time that may be recorded
 -- then: the second walk reads no byte of it

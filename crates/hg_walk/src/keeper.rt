@@ -6,16 +6,32 @@ ghost use Rattle.std.specs.Str.{bytes_eq};
 ghost use Rattle.hg_mixed.specs.Gathered.{paths_of};
 ghost use Rattle.hg_walk.specs.Passing.{AreInOrder};
 
+use crate::mark::Mark;
+use hg_base::is_below;
 use hg_flat::Entries;
 use hg_mixed::Child;
+use std::cmp::Ordering;
 
-/// The nodes of a record in order, and of each whether a look showed no directory there.
+/// The nodes of a record in order, and of each what a look showed there.
 #[derive(Drop)]
 pub(crate) struct Keeper<'t> {
     children: Vec<Child<'t>>,
-    passed: Vec<bool>,
+    marks: Vec<Mark>,
     ghost ascending: { AreInOrder children.items } by { Prim.hlevel props },
     ghost own: { IsDistinct bytes_eq (paths_of children.items) } by { Prim.hlevel props },
+}
+
+// Whether the path is before all paths below the directory, in the order of their bytes.
+fn is_before_below(path: &str, dir: &str) -> bool {
+    let (path, dir) = (path.as_bytes(), dir.as_bytes());
+    if path.len() <= dir.len() {
+        return path <= dir;
+    }
+    match path[..dir.len()].cmp(dir) {
+        Ordering::Less => true,
+        Ordering::Equal => path[dir.len()] < b'/',
+        Ordering::Greater => false,
+    }
 }
 
 impl<'t> Keeper<'t> {
@@ -24,16 +40,16 @@ impl<'t> Keeper<'t> {
     ghost use Rattle.std.specs.Str.{bytes_eq};
     ghost use Rattle.hg_mixed.specs.Gathered.{path_of, paths_of};
     ghost use Rattle.hg_mixed.specs.declared.child.Child.{Child};
-    ghost use Rattle.hg_walk.specs.Passing.{AreInOrder, IsPlaceOf};
+    ghost use Rattle.hg_walk.specs.Passing.{AreInOrder, IsPlaceBelow, IsPlaceOf};
 
     // These nodes, with a mark for each.
-    pub(crate) fn of(children: Vec<Child<'t>>, passed: Vec<bool>) -> Keeper<'t>
+    pub(crate) fn of(children: Vec<Child<'t>>, marks: Vec<Mark>) -> Keeper<'t>
         requires ascending { AreInOrder children.items }
         requires own { IsDistinct bytes_eq (paths_of children.items) }
         ensures children { result.children.items ≡ children.entry.items }
-        ensures passed { result.passed.items ≡ passed.items }
+        ensures marks { result.marks.items ≡ marks.items }
     {
-        Keeper { children, passed }
+        Keeper { children, marks }
     }
 
     // Whether the node at this place is of the path.
@@ -46,7 +62,7 @@ impl<'t> Keeper<'t> {
         self.children[at].path.text == path
     }
 
-    // The place of the node of a path; the one at `next` is looked at first, which is made that place.
+    // The place of the node of a path; the one at `next` is looked at first, which is made that place, or where the node would stand.
     fn find(&self, path: &str, next: &mut usize) -> Option<usize>
         ensures found { IfSome result (λ at. IsPlaceOf self.now.children.items path.now at) }
         ensures none { result ≡ None → (child : Child) → Contains self.now.children.items child → path_of child ≡ path.now → ⊥ }
@@ -62,17 +78,45 @@ impl<'t> Keeper<'t> {
                 *next = at;
                 Some(at)
             },
-            Err(_) => None,
+            Err(at) => {
+                *next = at;
+                None
+            },
         }
+    }
+
+    // Whether the node at this place is of a path below the directory.
+    fn is_below_at(&self, at: usize, dir: &str) -> bool
+        ensures { IsTrue result → IsPlaceBelow self.now.children.items dir.now at }
+    {
+        if at >= self.children.len() {
+            return false;
+        }
+        is_below(dir, self.children[at].path.text)
+    }
+
+    // Where the nodes below a directory begin, if there are any: mostly at `next`, or right behind it where that is the place of the directory itself.
+    // Paths as `dir-a` and `dir.a` stand between `dir` and those below it.
+    fn place_below(&self, dir: &str, next: usize) -> usize {
+        let next = if self.is_at(next, dir) {
+            next.saturating_add(1)
+        } else {
+            next
+        };
+        if self.is_below_at(next, dir) {
+            return next;
+        }
+        self.children
+            .partition_point(|child| is_before_below(child.path.text, dir))
     }
 }
 
 impl Entries for Keeper<'_> {
-    ghost use Rattle.hg_walk.specs.Passing.{has_entry, is_marked};
+    ghost use Rattle.hg_walk.specs.Passing.{has_entry, known_of};
 
     ghost kept = { λ keeper. has_entry keeper.children.items };
 
-    ghost passed = { λ keeper. is_marked keeper.children.items keeper.passed.items };
+    ghost known = { λ keeper. known_of keeper.children.items keeper.marks.items };
 
     fn has(&self, path: &str, next: &mut usize) -> bool {
         let Some(at) = self.find(path, next) else {
@@ -90,10 +134,29 @@ impl Entries for Keeper<'_> {
         if self.children[at].entry.is_none() {
             return false;
         }
-        if at >= self.passed.len() || !self.passed[at] {
+        if at >= self.marks.len() || !self.marks[at].is_no_dir() {
             return false;
         }
         *next = at.saturating_add(1);
         true
+    }
+
+    // A thing below the directory was seen. The first node below it with an entry decides, whose place is kept for the next question; nodes of
+    // directories are stepped over.
+    fn was_entered(&self, path: &str, next: &mut usize) -> bool {
+        let first = self.place_below(path, *next);
+        *next = first;
+        for at in first..self.children.len() {
+            if at >= self.marks.len() || !self.is_below_at(at, path) {
+                return false;
+            }
+            if self.marks[at].stands() {
+                return true;
+            }
+            if self.children[at].entry.is_some() {
+                return false;
+            }
+        }
+        false
     }
 }

@@ -31,6 +31,7 @@ mod edits;
 mod finding;
 mod keeper;
 mod laws;
+mod mark;
 mod notes;
 mod noting;
 mod telling;

@@ -1,24 +1,25 @@
 //! The pass over the paths of a record: each that has an entry is looked at, and its row is put where its letter is wanted.
 
-ghost use Rattle.std.specs.Prelude.{◌≡◌, ◌∷◌, [], ℕ, true, not, List, Some, IsTrue, IfErr, IfOk, OnOk};
+ghost use Rattle.std.specs.Prelude.{◌≡◌, ◌∷◌, [], ℕ, true, List, Some, IsTrue, IfErr, IfOk, OnOk};
 ghost use Rattle.std.specs.Option.{option_map};
 ghost use Rattle.hg_entry.specs.Table.{Table};
 ghost use Rattle.hg_flat.specs.Asked.{AsksReads};
 ghost use Rattle.hg_flat.specs.Course.{MetParent, Proceeds};
-ghost use Rattle.hg_flat.specs.Listing.{is_dir_kind};
 ghost use Rattle.hg_flat.specs.Parent.{WasAsked};
 ghost use Rattle.hg_flat.specs.Stored.{AsksStore};
 ghost use Rattle.hg_listing.specs.Cause.{HasShelfCause, HasStatusCause};
 ghost use Rattle.hg_shelf.specs.History as shelves;
 ghost use Rattle.hg_shelf.specs.Images as images;
 ghost use Rattle.hg_tree.specs.History as trees;
+ghost use Rattle.hg_walk.specs.Marks.{mark_of};
 ghost use Rattle.hg_walk.specs.Right.{AreRight};
 ghost use Rattle.hg_walk.specs.Telling.{AreNotesOf, AreOf, IsAtChild, IsChildOf, IsLetterOf, IsMarked, MarksEach, NotesBehind, ShowsNow, TellsEach, copied_in, notes_of, tracked_row, with_clean_notes};
 ghost use Rattle.hg_walk.specs.Walking.{asked_unvouched, rows_in, walk_status};
 
 use crate::finding::find;
+use crate::mark::Mark;
 use crate::notes::Notes;
-use hg_base::{Id20, Kind, OutOfMemory, Path, PathRef, Stamp, Stat, Time};
+use hg_base::{Id20, OutOfMemory, Path, PathRef, Stamp, Stat, Time};
 use hg_compare::Letter;
 use hg_entry::Entry;
 use hg_flat::{Parent, letter_by_marks, put_wanted, wants_bytes, wants_tracked};
@@ -42,20 +43,14 @@ pub(crate) struct Told {
     pub letter: Option<Letter>,
     /// What is noted of it.
     pub seen: Option<Seen>,
-    /// Whether a look showed no directory there.
-    pub passed: bool,
+    /// What a look showed there.
+    pub mark: Mark,
 }
 
 fn is_copy(child: &Child<'_>) -> bool
     ensures { result ≡ copied_in child.now }
 {
     child.source.is_some()
-}
-
-fn is_no_dir(there: &Stat) -> bool
-    ensures { result ≡ not (is_dir_kind there.now.kind) }
-{
-    !matches!(there.kind, Kind::Dir)
 }
 
 fn seen_by(there: &Stat, stamp: Option<Stamp>) -> Option<Seen>
@@ -112,7 +107,7 @@ fn tell_there<T: Tree, S: Shelf>(
         boundary
         (child.now ∷ [])
         (notes_of child.now.path.text.now told.seen)) }
-    ensures passed { IfOk result (λ told. told.passed ≡ not (is_dir_kind there.now.kind)) }
+    ensures marked { IfOk result (λ told. told.mark ≡ mark_of (Some there.now)) }
     ensures met { IfErr
         result
         (λ fault. (t : Table) (start : trees.History) (begun : shelves.History) → IsAtChild (walk_status wanted t start (T.history tree.old) begun (S.history shelf.old)) t parent.old child.now
@@ -143,14 +138,14 @@ fn tell_there<T: Tree, S: Shelf>(
         return Ok(Told {
             letter: Some(letter),
             seen: None,
-            passed: is_no_dir(there),
+            mark: Mark::of(there),
         });
     }
     if !wants_bytes(wanted) {
         return Ok(Told {
             letter: None,
             seen: None,
-            passed: is_no_dir(there),
+            mark: Mark::of(there),
         });
     }
     let found = find(
@@ -159,7 +154,7 @@ fn tell_there<T: Tree, S: Shelf>(
     Ok(Told {
         letter: Some(found.letter),
         seen: seen_by(there, found.stamp),
-        passed: is_no_dir(there),
+        mark: Mark::of(there),
     })
 }
 
@@ -200,7 +195,7 @@ fn tell_tracked<T: Tree, S: Shelf>(
         boundary
         (child.now ∷ [])
         (notes_of child.now.path.text.now told.seen)) }
-    ensures marked { IfOk result (λ told. IsMarked wanted (T.history tree.old) (T.history tree.new) child.now told.passed) }
+    ensures marked { IfOk result (λ told. IsMarked wanted (T.history tree.old) (T.history tree.new) child.now told.mark) }
     ensures met { IfErr
         result
         (λ fault. (t : Table) (start : trees.History) (begun : shelves.History) → IsAtChild (walk_status wanted t start (T.history tree.old) begun (S.history shelf.old)) t parent.old child.now
@@ -226,21 +221,21 @@ fn tell_tracked<T: Tree, S: Shelf>(
         return Ok(Told {
             letter: Some(Letter::R),
             seen: None,
-            passed: false,
+            mark: Mark::Unasked,
         });
     }
     if !wants_tracked(wanted) {
         return Ok(Told {
             letter: None,
             seen: None,
-            passed: false,
+            mark: Mark::Unasked,
         });
     }
     let Some(there) = tree.stat(child.path)? else {
         return Ok(Told {
             letter: Some(Letter::Gone),
             seen: None,
-            passed: true,
+            mark: Mark::Nothing,
         });
     };
     tell_there(
@@ -263,7 +258,7 @@ fn note_seen(
     }
 }
 
-// Tells of one child, and answers whether a look showed no directory at its path.
+// Tells of one child, and answers what a look showed at its path.
 fn tell_one<T: Tree, S: Shelf>(
     alloc: Global,
     child: &Child<'_>,
@@ -274,7 +269,7 @@ fn tell_one<T: Tree, S: Shelf>(
     boundary: Time,
     rows: &mut Vec<Row>,
     notes: &mut Notes,
-) -> Result<bool, StatusFault>
+) -> Result<Mark, StatusFault>
     ensures passes { trees.Passes (T.history tree.old) (T.history tree.new) }
     ensures passes_shelf { shelves.Passes (S.history shelf.old) (S.history shelf.new) }
     ensures kept { images.Goes (images.course (S.history shelf.old) (S.images shelf.old)) (images.course (S.history shelf.new) (S.images shelf.new)) }
@@ -327,16 +322,16 @@ fn tell_one<T: Tree, S: Shelf>(
     ensures cause_shelf { HasShelfCause (S.faults shelf.old) (S.faults shelf.new) result }
 {
     let Some(entry) = &child.entry else {
-        return Ok(false);
+        return Ok(Mark::Unasked);
     };
     let told = tell_tracked(alloc, child, entry, tree, shelf, parent, wanted, boundary)?;
     put_wanted(alloc, child.path, child.source, told.letter, wanted, rows)?;
     note_seen(alloc, child.path, told.seen, notes)?;
-    Ok(told.passed)
+    Ok(told.mark)
 }
 
-// Looks at each path with an entry, in order. A mark is put for each child: that a look showed no directory at its path. `boundary` is a time of the
-// tree's clock from before.
+// Looks at each path with an entry, in order. A mark is put for each child: what a look showed at its path. `boundary` is a time of the tree's clock from
+// before.
 pub(crate) fn tell_each<T: Tree, S: Shelf>(
     alloc: Global,
     children: &[Child<'_>],
@@ -345,7 +340,7 @@ pub(crate) fn tell_each<T: Tree, S: Shelf>(
     shelf: &mut S,
     wanted: Wanted,
     boundary: Time,
-    passed: &mut Vec<bool>,
+    marks: &mut Vec<Mark>,
     rows: &mut Vec<Row>,
     notes: &mut Notes,
 ) -> Result<(), StatusFault>
@@ -365,7 +360,7 @@ pub(crate) fn tell_each<T: Tree, S: Shelf>(
         rows.new.items) }
     ensures marked { OnOk
         result
-        (MarksEach wanted (T.history tree.old) (T.history tree.new) children.now passed.old.items passed.new.items) }
+        (MarksEach wanted (T.history tree.old) (T.history tree.new) children.now marks.old.items marks.new.items) }
     ensures noted { OnOk
         result
         (NotesBehind
@@ -410,7 +405,7 @@ pub(crate) fn tell_each<T: Tree, S: Shelf>(
             rows,
             notes,
         )?;
-        passed.push(mark)?;
+        marks.push(mark)?;
     }
     Ok(())
 }

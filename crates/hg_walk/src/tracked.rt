@@ -1,10 +1,8 @@
 //! The look of a walk at all paths of a record that have an entry.
 
 ghost use Rattle.std.specs.Prelude.{◌≡◌, ℕ, List, IsTrue, IfErr, IfOk};
-ghost use Rattle.hg_base.specs.Fault.{HasCause};
-ghost use Rattle.hg_flat.specs.Asked.{AsksNothing, AsksReads};
+ghost use Rattle.hg_flat.specs.Asked.{AsksReads};
 ghost use Rattle.hg_flat.specs.Course.{MetParent};
-ghost use Rattle.hg_flat.specs.Listing.{wants_bytes};
 ghost use Rattle.hg_flat.specs.Parent.{WasAsked};
 ghost use Rattle.hg_flat.specs.Stored.{AsksStore};
 ghost use Rattle.hg_listing.specs.Cause.{HasShelfCause, HasStatusCause};
@@ -12,14 +10,13 @@ ghost use Rattle.hg_mixed.specs.Held.{table};
 ghost use Rattle.hg_shelf.specs.History as shelves;
 ghost use Rattle.hg_shelf.specs.Images as images;
 ghost use Rattle.hg_tree.specs.History as trees;
-ghost use Rattle.hg_walk.specs.Tracked.{IsBoundary, NotesAll, TellsAll};
+ghost use Rattle.hg_walk.specs.Tracked.{NotesAll, TellsAll};
 ghost use Rattle.hg_walk.specs.Walking.{asked_unvouched, walk_status};
 
 use crate::keeper::Keeper;
 use crate::notes::Notes;
 use crate::telling::tell_each;
-use hg_base::{Failed, Time};
-use hg_flat::wants_bytes;
+use hg_base::Time;
 use hg_listing::{Row, StatusFault, Wanted};
 use hg_mixed::{Mixed, gather};
 use hg_shelf::Shelf;
@@ -34,29 +31,14 @@ pub(crate) struct Tracked<'t> {
     pub notes: Notes,
 }
 
-// The clock, where bytes may decide letters; else nothing is noted, and the lowest time does.
-fn boundary_of<T: Tree>(tree: &mut T, wanted: Wanted) -> Result<Time, Failed>
-    ensures passes { trees.Passes (T.history tree.old) (T.history tree.new) }
-    ensures boundary { IfOk result (IsBoundary (wants_bytes wanted) (T.history tree.new)) }
-    ensures asked { IsTrue (T.history tree.old).told → AsksNothing (T.history tree.old) (T.history tree.new) }
-    ensures cause { HasCause (T.faults tree.old) (T.faults tree.new) result (λ e. Unit {0}) }
-{
-    if !wants_bytes(wanted) {
-        return Ok(Time {
-            seconds: i64::MIN,
-            nanos: 0,
-        });
-    }
-    tree.now()
-}
-
-/// Looks at each path with an entry, in order, and notes the times of clean files. The clock is asked before the first look.
+/// Looks at each path with an entry, in order, and notes the times of clean files that are before the boundary.
 pub(crate) fn tell_all<'t, T: Tree, S: Shelf>(
     alloc: Global,
     mixed: &'t Mixed<'_>,
     tree: &mut T,
     shelf: &mut S,
     wanted: Wanted,
+    boundary: Time,
 ) -> Result<Tracked<'t>, StatusFault>
     ensures passes { trees.Passes (T.history tree.old) (T.history tree.new) }
     ensures passes_shelf { shelves.Passes (S.history shelf.old) (S.history shelf.new) }
@@ -68,13 +50,14 @@ pub(crate) fn tell_all<'t, T: Tree, S: Shelf>(
         (walk_status wanted (table mixed.now) (T.history tree.old) (T.history tree.new) (S.history shelf.old) (S.history shelf.new))
         (table mixed.now)
         tracked.keeper.children.items
-        tracked.keeper.passed.items
+        tracked.keeper.marks.items
         tracked.rows.items) }
     ensures noted { IfOk
         result
         (λ tracked. NotesAll
         (walk_status wanted (table mixed.now) (T.history tree.old) (T.history tree.new) (S.history shelf.old) (S.history shelf.new))
         (table mixed.now)
+        boundary
         tracked.notes) }
     ensures met { IfErr
         result
@@ -91,25 +74,15 @@ pub(crate) fn tell_all<'t, T: Tree, S: Shelf>(
     ensures cause { HasStatusCause (T.faults tree.old) (T.faults tree.new) result }
     ensures cause_shelf { HasShelfCause (S.faults shelf.old) (S.faults shelf.new) result }
 {
-    let boundary = boundary_of(tree, wanted)?;
     let (p1, _) = mixed.parents();
     let children = gather(alloc, mixed)?;
-    let mut passed = Vec::new(alloc);
+    let mut marks = Vec::new(alloc);
     let mut rows = Vec::new(alloc);
     let mut notes = Notes::new(alloc);
     tell_each(
-        alloc,
-        &children,
-        &p1,
-        tree,
-        shelf,
-        wanted,
-        boundary,
-        &mut passed,
-        &mut rows,
-        &mut notes,
+        alloc, &children, &p1, tree, shelf, wanted, boundary, &mut marks, &mut rows, &mut notes,
     )?;
-    let keeper = Keeper::of(children, passed);
+    let keeper = Keeper::of(children, marks);
     Ok(Tracked {
         keeper,
         rows,

@@ -1,8 +1,10 @@
 //! A status by the record itself, which reads no file whose entry vouches for it.
 
 ghost use Rattle.std.specs.Prelude.{◌≡◌, false, true, ℕ, List, IsTrue, IfErr, IfOk, OnOk};
+ghost use Rattle.hg_base.specs.Fault.{HasCause};
 ghost use Rattle.hg_entry.specs.Table.{flat_of};
-ghost use Rattle.hg_flat.specs.Asked.{AsksAll, AsksBehind, IsListedDir, pattern_reads};
+ghost use Rattle.hg_flat.specs.Asked.{AsksAll, AsksBehind, AsksNothing, IsListedDir, pattern_reads};
+ghost use Rattle.hg_flat.specs.Listing.{wants_bytes};
 ghost use Rattle.hg_flat.specs.Met.{Met};
 ghost use Rattle.hg_flat.specs.Parent.{IsAsked, IsServed, WasAsked};
 ghost use Rattle.hg_flat.specs.Patterns.{CountsOversize, HadPatterns, Warns, ignored_at, is_of_parent, needs_patterns};
@@ -17,11 +19,13 @@ ghost use Rattle.hg_tree.specs.History as trees;
 ghost use Rattle.hg_tree.specs.Honest.{IsHonest};
 ghost use Rattle.hg_walk.specs.Notes.{AreEarned, applied};
 ghost use Rattle.hg_walk.specs.Right.{AreRight};
+ghost use Rattle.hg_walk.specs.Tracked.{IsBoundary};
 ghost use Rattle.hg_walk.specs.Walking.{AreNeeded, AreNoted, IsLeftBy, IsRecorded, asked_unvouched, first_id, rows_in, walk_status};
 
 use crate::tracked::{Tracked, tell_all};
 use crate::walked::Walked;
-use hg_flat::{list_others, read_patterns};
+use hg_base::{Failed, Time};
+use hg_flat::{list_others, read_patterns, wants_bytes};
 use hg_ignore::Regexps;
 use hg_listing::{StatusFault, Wanted};
 use hg_mixed::Mixed;
@@ -29,8 +33,24 @@ use hg_shelf::Shelf;
 use hg_tree::Tree;
 use std::alloc::Global;
 
+// The clock, where bytes may decide letters; else nothing is noted, and the lowest time does.
+fn boundary_of<T: Tree>(tree: &mut T, wanted: Wanted) -> Result<Time, Failed>
+    ensures passes { trees.Passes (T.history tree.old) (T.history tree.new) }
+    ensures boundary { IfOk result (IsBoundary (wants_bytes wanted) (T.history tree.new)) }
+    ensures asked { IsTrue (T.history tree.old).told → AsksNothing (T.history tree.old) (T.history tree.new) }
+    ensures cause { HasCause (T.faults tree.old) (T.faults tree.new) result (λ e. Unit {0}) }
+{
+    if !wants_bytes(wanted) {
+        return Ok(Time {
+            seconds: i64::MIN,
+            nanos: 0,
+        });
+    }
+    tree.now()
+}
+
 /// Lists each path with a wanted letter, as `hg_flat::plain_status` does, but that a path for which its entry vouches is C and isn't read. Of each path that
-/// is compared and clean the time is noted, where the clock at the start of the walk lets it be recorded.
+/// is compared and clean the time is noted, where the clock, which is asked first of all, lets it be recorded.
 pub fn walk<T: Tree, S: Shelf, G: Regexps>(
     alloc: Global,
     mixed: &Mixed<'_>,
@@ -130,8 +150,9 @@ pub fn walk<T: Tree, S: Shelf, G: Regexps>(
     ensures cause_shelf { HasShelfCause (S.faults shelf.old) (S.faults shelf.new) result }
     ensures oversize { CountsOversize (G.oversize regexps.old) (G.oversize regexps.new) result }
 {
+    let boundary = boundary_of(tree, wanted)?;
     let ignore = read_patterns(alloc, tree, regexps, wanted)?;
-    let tracked = tell_all(alloc, mixed, tree, shelf, wanted)?;
+    let tracked = tell_all(alloc, mixed, tree, shelf, wanted, boundary)?;
     let Tracked {
         keeper,
         rows,

@@ -1,4 +1,4 @@
-use Rattle.std.proofs.Common.{◌≡◌, ◌<◌, ◌+◌, Bool, List, [], ◌∷◌, ◌++◌, length, take, refl, sym, ap, ◌∙◌, subst}
+use Rattle.std.proofs.Common.{◌≡◌, ◌<◌, ◌+◌, List, [], ◌∷◌, ◌++◌, length, take, refl, sym, ap, ◌∙◌, subst}
 use Rattle.std.specs.List.{Contains}
 use Rattle.std.proofs.lemmas.List.{append-nil, append_assoc, take_all, take_more}
 use Rattle.std.proofs.lemmas.Result.{err_from_is_err_and}
@@ -14,6 +14,7 @@ use Rattle.hg_tree.proofs.Spans.{passes_same, passes_trans}
 use Rattle.hg_walk.specs.Right.{AreRight}
 use Rattle.hg_walk.specs.Telling.{AreNotesOf, MarksEach, TellsEach, with_clean_notes}
 use Rattle.hg_walk.specs.Walking.{asked_unvouched, rows_in, walk_status}
+use Rattle.hg_walk.specs.declared.mark.Mark.{Mark}
 use Rattle.hg_walk.proofs.Parts.{right_in_first}
 use Rattle.hg_walk.proofs.TellsEach.{marks_more, marks_none, tells_more, tells_none}
 use Rattle.hg_walk.proofs.TellsNotes.{notes_empty, notes_more}
@@ -30,7 +31,7 @@ loop-child-init g c =
       kept = goes_same _;
       held = refl;
       added = λ t of. tells_none c.args.wanted t (AreRight (rows_in t (shelves.now files).files) t old old) old old files files c.args.rows.now.items;
-      marked = marks_none c.args.wanted old old c.args.passed.now.items;
+      marked = marks_none c.args.wanted old old c.args.marks.now.items;
       noted = ([], (λ i. record c.args.notes.now { clean = sym (append-nil c.args.notes.now.clean) i }), λ t of. notes_empty (walk_status c.args.wanted t old old files files) t c.args.boundary);
       asked = λ told t of. reads_none (WasAsked (asked_unvouched c.args.wanted t) old old) old old refl;
       unasked = λ t of none. refl;
@@ -66,9 +67,9 @@ loop-child-preserved g c =
           c.tell_one.ensures.passes_shelf.past c.loop-child.invariant.passes_shelf.past.later so_far (child ∷ []) c.args.rows.now.items c.loop-child.rows.items c.tell_one.new.rows.items
           (c.loop-child.invariant.added t of) (c.in_ok-mark.ensures.row t old begun (record { of = of.each child has; goes = c.loop-child.invariant.goes t of })));
       marked =
-          subst (λ (l : List Bool). MarksEach c.args.wanted old new (take (c.loop-child.child-index + 1) c.args.children.now) c.args.passed.now.items l) (sym c.in_ok-push.ensures.items)
-          (subst (λ (l : List Child). MarksEach c.args.wanted old new l c.args.passed.now.items (c.loop-child.passed.items ++ c.in_ok-mark.mark ∷ [])) (sym one_more)
-          (marks_more c.args.wanted old mid new c.loop-child.invariant.passes c.tell_one.ensures.passes so_far child c.in_ok-mark.mark c.args.passed.now.items c.loop-child.passed.items c.loop-child.invariant.marked
+          subst (λ (l : List Mark). MarksEach c.args.wanted old new (take (c.loop-child.child-index + 1) c.args.children.now) c.args.marks.now.items l) (sym c.in_ok-push.ensures.items)
+          (subst (λ (l : List Child). MarksEach c.args.wanted old new l c.args.marks.now.items (c.loop-child.marks.items ++ c.in_ok-mark.mark ∷ [])) (sym one_more)
+          (marks_more c.args.wanted old mid new c.loop-child.invariant.passes c.tell_one.ensures.passes so_far child c.in_ok-mark.mark c.args.marks.now.items c.loop-child.marks.items c.loop-child.invariant.marked
           c.in_ok-mark.ensures.marked));
       noted =
           let before = c.loop-child.invariant.noted in

@@ -22,7 +22,7 @@ invariant-loop-child g l = record {
   added : (t : Table) → AreOf t l.p1 l.children
       → TellsEach (AreRight (rows_in t (shelves.now (g.S.Shelf.history l.initial.shelf)).files) t (g.T.Tree.history l.initial.tree) (g.T.Tree.history l.tree))
       (walk_status l.wanted t (g.T.Tree.history l.initial.tree) (g.T.Tree.history l.tree) (g.S.Shelf.history l.initial.shelf) (g.S.Shelf.history l.shelf)) (take l.child-index l.children) l.initial.rows.items l.rows.items;
-  marked : MarksEach l.wanted (g.T.Tree.history l.initial.tree) (g.T.Tree.history l.tree) (take l.child-index l.children) l.initial.passed.items l.passed.items;
+  marked : MarksEach l.wanted (g.T.Tree.history l.initial.tree) (g.T.Tree.history l.tree) (take l.child-index l.children) l.initial.marks.items l.marks.items;
   noted : NotesBehind
       (λ t more. AreOf t l.p1 l.children
       → AreNotesOf (walk_status l.wanted t (g.T.Tree.history l.initial.tree) (g.T.Tree.history l.tree) (g.S.Shelf.history l.initial.shelf) (g.S.Shelf.history l.shelf)) t l.boundary (take l.child-index l.children) more)

@@ -4,6 +4,7 @@ use Rattle.hg_shelf.specs.History as shelves
 use Rattle.hg_shelf.proofs.Histories as shelf
 use Rattle.hg_tree.specs.History as trees
 use Rattle.hg_tree.proofs.Histories.{extends_same}
+use Rattle.hg_tree.proofs.Spans.{passes_same}
 use Rattle.hg_compare.specs.declared.letter.Letter.TheVariants as a_letter
 use Rattle.hg_flat.specs.Judged.{IsLeftAsked}
 use Rattle.hg_flat.specs.Parent.{WasAsked}
@@ -16,7 +17,8 @@ use Rattle.hg_walk.specs.Right.{AreRight}
 use Rattle.hg_walk.specs.Telling.{notes_of, tracked_row}
 use Rattle.hg_walk.specs.Walking.{asked_unvouched, rows_in, walk_status}
 use Rattle.hg_walk.proofs.Tells.{asked_row, letter_later}
-use Rattle.hg_walk.proofs.TellsEach.{marked_by_look, marked_by_none, unmarked_removed, unmarked_unlooked}
+use Rattle.hg_walk.specs.declared.mark.Mark.TheVariants as a_mark
+use Rattle.hg_walk.proofs.TellsEach.{marked_by_look, unmarked_removed, unmarked_unlooked}
 use Rattle.hg_walk.proofs.TellsNotes.{notes_gone, notes_later, notes_removed, notes_unlooked}
 use Rattle.hg_walk.proofs.telling.tell_tracked.Goals as goal
 
@@ -110,7 +112,7 @@ pub returns-in_default-clause-marked : goal.returns-in_default-clause-marked
 returns-in_default-clause-marked g c =
     let old = g.T.Tree.history c.args.tree.now in
     let mid = g.T.Tree.history c.stat.new.self in
-    marked_by_none c.args.wanted old mid c.args.child.now c.stat.ensures.passes (λ told. sym (c.in_ok-there.ensures.found told) ∙ c.in_default.is)
+    marked_by_look c.args.wanted old mid mid c.args.child.now None a_mark.Nothing c.stat.ensures.passes (passes_same mid) c.in_ok-there.ensures.formed (λ told. sym (c.in_ok-there.ensures.found told) ∙ c.in_default.is) refl
 
 pub returns-in_default-clause-asked : goal.returns-in_default-clause-asked
 returns-in_default-clause-asked g c = λ told t of.
@@ -189,9 +191,10 @@ returns-clause-marked g c =
     let mid = g.T.Tree.history c.stat.new.self in
     let new = g.T.Tree.history c.tell_there.new.tree in
     IfOk-weaker c.tell_there.result _ _
-    (λ told passed.
-    marked_by_look c.args.wanted old mid new c.args.child.now c.in-Some.there told.passed c.stat.ensures.passes c.tell_there.ensures.passes (λ is. sym (c.in_ok-there.ensures.found is) ∙ c.in-Some.is) passed)
-    c.tell_there.ensures.passed
+    (λ told marked.
+    marked_by_look c.args.wanted old mid new c.args.child.now (Some c.in-Some.there) told.mark c.stat.ensures.passes c.tell_there.ensures.passes c.in_ok-there.ensures.formed
+    (λ is. sym (c.in_ok-there.ensures.found is) ∙ c.in-Some.is) marked)
+    c.tell_there.ensures.marked
 
 pub returns-clause-asked : goal.returns-clause-asked
 returns-clause-asked g c = λ told t of.

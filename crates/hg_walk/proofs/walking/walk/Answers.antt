@@ -1,7 +1,7 @@
-use Rattle.std.proofs.Common.{Err, refl, sym, subst, ◌∙◌}
+use Rattle.std.proofs.Common.{[], append-nil, Err, inl, refl, sym, subst, ◌∙◌}
 use Rattle.std.proofs.lemmas.Result.{err_from_is_err_and}
 use Rattle.hg_tree.proofs.Histories.{extends_same}
-use Rattle.hg_tree.proofs.Spans.{ours_first, passes_trans}
+use Rattle.hg_tree.proofs.Spans.{ours_first, ours_second, passes_trans}
 use Rattle.hg_flat.specs.Course.{pieces_of}
 use Rattle.hg_flat.specs.Patterns.{Warns}
 use Rattle.hg_flat.proofs.Asking.{never_each}
@@ -10,131 +10,147 @@ use Rattle.hg_flat.proofs.Refusing.{had, is_kept, state_still, warns}
 use Rattle.hg_flat.proofs.Spanning.{counts_listing, counts_still, met_listing, met_patterns, met_whole, not_parent, of_listing_none}
 use Rattle.hg_flat.proofs.Storing.{store_longer, store_none}
 use Rattle.hg_mixed.specs.Held.{table}
+use Rattle.hg_walk.specs.Passing.{known_of}
 use Rattle.hg_walk.specs.Walking.{asked_unvouched, first_id, walk_status}
 use Rattle.hg_walk.specs.declared.walked.Walked.{Walked}
-use Rattle.hg_walk.proofs.Walks.{earned, full, noted, recorded, served, still}
+use Rattle.hg_walk.proofs.Starts.{asks_behind, kept_behind, lacks_behind, own_behind}
+use Rattle.hg_walk.proofs.Walks.{earned, full, known_earlier, noted, recorded, served, still}
 use Rattle.hg_walk.proofs.walking.walk.Goals as goal
 
 pub returns-clause-still : goal.returns-clause-still
 returns-clause-still g c =
     let old = g.T.Tree.history c.args.tree.now in
+    let at = g.T.Tree.history c.boundary_of.new.tree in
     let mid = g.T.Tree.history c.read_patterns.new.tree in
     let later = g.T.Tree.history c.tell_all.new.tree in
     let new = g.T.Tree.history c.list_others.new.tree in
     let start = g.S.Shelf.history c.args.shelf.now in
     let files = g.S.Shelf.history c.tell_all.new.shelf in
     let t = table c.args.mixed.now in
-    still c.args.wanted t c.in_ok-tracked.tracked.keeper.children.items c.in_ok-tracked.tracked.keeper.passed.items c.in_ok-tracked.tracked.rows.items old mid later new c.read_patterns.ensures.passes c.tell_all.ensures.passes c.list_others.ensures.passes start files c.in_ok-tracked.ensures.told c.in_ok-ignore.ignore c.in_ok-ignore.ensures.kept c.in_ok-listed.listed.rows c.in_ok-listed.ensures.listed
+    still c.args.wanted t c.in_ok-tracked.tracked.keeper.children.items c.in_ok-tracked.tracked.keeper.marks.items c.in_ok-tracked.tracked.rows.items old mid later new (passes_trans old at mid c.boundary_of.ensures.passes c.read_patterns.ensures.passes) c.tell_all.ensures.passes c.list_others.ensures.passes start files c.in_ok-tracked.ensures.told c.in_ok-ignore.ignore (kept_behind old at mid c.boundary_of.ensures.passes c.read_patterns.ensures.passes c.args.wanted c.in_ok-ignore.ignore c.in_ok-ignore.ensures.kept) c.in_ok-listed.listed.rows c.in_ok-listed.ensures.listed
 
 pub returns-clause-full : goal.returns-clause-full
 returns-clause-full g c =
     let old = g.T.Tree.history c.args.tree.now in
+    let at = g.T.Tree.history c.boundary_of.new.tree in
     let mid = g.T.Tree.history c.read_patterns.new.tree in
     let later = g.T.Tree.history c.tell_all.new.tree in
     let new = g.T.Tree.history c.list_others.new.tree in
     let start = g.S.Shelf.history c.args.shelf.now in
     let files = g.S.Shelf.history c.tell_all.new.shelf in
     let t = table c.args.mixed.now in
-    full c.args.wanted t c.in_ok-tracked.tracked.keeper.children.items c.in_ok-tracked.tracked.keeper.passed.items c.in_ok-tracked.tracked.rows.items old mid later new c.read_patterns.ensures.passes c.tell_all.ensures.passes c.list_others.ensures.passes start files c.in_ok-tracked.ensures.told c.in_ok-ignore.ignore c.in_ok-ignore.ensures.kept c.in_ok-listed.listed.rows c.in_ok-listed.ensures.listed
+    full c.args.wanted t c.in_ok-tracked.tracked.keeper.children.items c.in_ok-tracked.tracked.keeper.marks.items c.in_ok-tracked.tracked.rows.items old mid later new (passes_trans old at mid c.boundary_of.ensures.passes c.read_patterns.ensures.passes) c.tell_all.ensures.passes c.list_others.ensures.passes start files c.in_ok-tracked.ensures.told c.in_ok-ignore.ignore (kept_behind old at mid c.boundary_of.ensures.passes c.read_patterns.ensures.passes c.args.wanted c.in_ok-ignore.ignore c.in_ok-ignore.ensures.kept) c.in_ok-listed.listed.rows c.in_ok-listed.ensures.listed
 
 pub returns-clause-served : goal.returns-clause-served
 returns-clause-served g c =
     let old = g.T.Tree.history c.args.tree.now in
+    let at = g.T.Tree.history c.boundary_of.new.tree in
     let mid = g.T.Tree.history c.read_patterns.new.tree in
     let later = g.T.Tree.history c.tell_all.new.tree in
     let new = g.T.Tree.history c.list_others.new.tree in
     let start = g.S.Shelf.history c.args.shelf.now in
     let files = g.S.Shelf.history c.tell_all.new.shelf in
     let t = table c.args.mixed.now in
-    served c.args.wanted t c.in_ok-tracked.tracked.keeper.children.items c.in_ok-tracked.tracked.keeper.passed.items c.in_ok-tracked.tracked.rows.items old mid later new c.read_patterns.ensures.passes c.tell_all.ensures.passes c.list_others.ensures.passes start files c.in_ok-tracked.ensures.told c.in_ok-ignore.ignore c.in_ok-ignore.ensures.kept c.in_ok-listed.listed.rows c.in_ok-listed.ensures.listed
+    served c.args.wanted t c.in_ok-tracked.tracked.keeper.children.items c.in_ok-tracked.tracked.keeper.marks.items c.in_ok-tracked.tracked.rows.items old mid later new (passes_trans old at mid c.boundary_of.ensures.passes c.read_patterns.ensures.passes) c.tell_all.ensures.passes c.list_others.ensures.passes start files c.in_ok-tracked.ensures.told c.in_ok-ignore.ignore (kept_behind old at mid c.boundary_of.ensures.passes c.read_patterns.ensures.passes c.args.wanted c.in_ok-ignore.ignore c.in_ok-ignore.ensures.kept) c.in_ok-listed.listed.rows c.in_ok-listed.ensures.listed
 
 pub returns-clause-noted : goal.returns-clause-noted
 returns-clause-noted g c =
     let old = g.T.Tree.history c.args.tree.now in
+    let at = g.T.Tree.history c.boundary_of.new.tree in
     let mid = g.T.Tree.history c.read_patterns.new.tree in
     let later = g.T.Tree.history c.tell_all.new.tree in
     let new = g.T.Tree.history c.list_others.new.tree in
     let start = g.S.Shelf.history c.args.shelf.now in
     let files = g.S.Shelf.history c.tell_all.new.shelf in
     let t = table c.args.mixed.now in
-    noted c.args.wanted t c.in_ok-tracked.tracked.keeper.children.items c.in_ok-tracked.tracked.keeper.passed.items c.in_ok-tracked.tracked.rows.items old mid later new c.read_patterns.ensures.passes c.tell_all.ensures.passes c.list_others.ensures.passes start files c.in_ok-tracked.tracked.notes c.in_ok-tracked.ensures.noted
+    noted c.args.wanted t c.in_ok-tracked.tracked.keeper.children.items c.in_ok-tracked.tracked.keeper.marks.items c.in_ok-tracked.tracked.rows.items old mid later new (passes_trans old at mid c.boundary_of.ensures.passes c.read_patterns.ensures.passes) c.tell_all.ensures.passes c.list_others.ensures.passes start files c.in_ok-tracked.tracked.notes c.in_ok-boundary.boundary c.in_ok-tracked.ensures.noted at c.boundary_of.ensures.passes c.read_patterns.ensures.passes c.in_ok-boundary.ensures.boundary
 
 pub returns-clause-earned : goal.returns-clause-earned
 returns-clause-earned g c =
     let old = g.T.Tree.history c.args.tree.now in
+    let at = g.T.Tree.history c.boundary_of.new.tree in
     let mid = g.T.Tree.history c.read_patterns.new.tree in
     let later = g.T.Tree.history c.tell_all.new.tree in
     let new = g.T.Tree.history c.list_others.new.tree in
     let start = g.S.Shelf.history c.args.shelf.now in
     let files = g.S.Shelf.history c.tell_all.new.shelf in
     let t = table c.args.mixed.now in
-    earned c.args.wanted t c.in_ok-tracked.tracked.keeper.children.items c.in_ok-tracked.tracked.keeper.passed.items c.in_ok-tracked.tracked.rows.items old mid later new c.read_patterns.ensures.passes c.tell_all.ensures.passes c.list_others.ensures.passes start files c.in_ok-tracked.tracked.notes c.in_ok-tracked.ensures.noted
+    earned c.args.wanted t c.in_ok-tracked.tracked.keeper.children.items c.in_ok-tracked.tracked.keeper.marks.items c.in_ok-tracked.tracked.rows.items old mid later new (passes_trans old at mid c.boundary_of.ensures.passes c.read_patterns.ensures.passes) c.tell_all.ensures.passes c.list_others.ensures.passes start files c.in_ok-tracked.tracked.notes c.in_ok-boundary.boundary c.in_ok-tracked.ensures.noted at c.boundary_of.ensures.passes c.read_patterns.ensures.passes c.in_ok-boundary.ensures.boundary
 
 pub returns-clause-recorded : goal.returns-clause-recorded
 returns-clause-recorded g c =
     let old = g.T.Tree.history c.args.tree.now in
+    let at = g.T.Tree.history c.boundary_of.new.tree in
     let mid = g.T.Tree.history c.read_patterns.new.tree in
     let later = g.T.Tree.history c.tell_all.new.tree in
     let new = g.T.Tree.history c.list_others.new.tree in
     let start = g.S.Shelf.history c.args.shelf.now in
     let files = g.S.Shelf.history c.tell_all.new.shelf in
     let t = table c.args.mixed.now in
-    recorded c.args.wanted t c.in_ok-tracked.tracked.keeper.children.items c.in_ok-tracked.tracked.keeper.passed.items c.in_ok-tracked.tracked.rows.items old mid later new c.read_patterns.ensures.passes c.tell_all.ensures.passes c.list_others.ensures.passes start files c.in_ok-tracked.tracked.notes c.in_ok-tracked.ensures.noted
+    recorded c.args.wanted t c.in_ok-tracked.tracked.keeper.children.items c.in_ok-tracked.tracked.keeper.marks.items c.in_ok-tracked.tracked.rows.items old mid later new (passes_trans old at mid c.boundary_of.ensures.passes c.read_patterns.ensures.passes) c.tell_all.ensures.passes c.list_others.ensures.passes start files c.in_ok-tracked.tracked.notes c.in_ok-boundary.boundary c.in_ok-tracked.ensures.noted at c.boundary_of.ensures.passes c.read_patterns.ensures.passes c.in_ok-boundary.ensures.boundary
 
 -- ---- the patterns
 
 pub list_others-requires : goal.list_others-requires
 list_others-requires g c =
     let old = g.T.Tree.history c.args.tree.now in
+    let at = g.T.Tree.history c.boundary_of.new.tree in
     let mid = g.T.Tree.history c.read_patterns.new.tree in
-    is_kept c.args.wanted old mid c.in_ok-ignore.ignore c.in_ok-ignore.ensures.kept
+    is_kept c.args.wanted old mid c.in_ok-ignore.ignore (kept_behind old at mid c.boundary_of.ensures.passes c.read_patterns.ensures.passes c.args.wanted c.in_ok-ignore.ignore c.in_ok-ignore.ensures.kept)
 
 pub returns-clause-warns : goal.returns-clause-warns
 returns-clause-warns g c =
     let old = g.T.Tree.history c.args.tree.now in
+    let at = g.T.Tree.history c.boundary_of.new.tree in
     let mid = g.T.Tree.history c.read_patterns.new.tree in
     let later = g.T.Tree.history c.tell_all.new.tree in
     let new = g.T.Tree.history c.list_others.new.tree in
     subst (Warns c.args.wanted old new) (sym c.in_ok-listed.ensures.warned)
-    (warns old mid new c.read_patterns.ensures.passes (passes_trans mid later new c.tell_all.ensures.passes c.list_others.ensures.passes).past c.args.wanted c.in_ok-ignore.ignore c.in_ok-ignore.ensures.kept)
+    (warns old mid new (passes_trans old at mid c.boundary_of.ensures.passes c.read_patterns.ensures.passes) (passes_trans mid later new c.tell_all.ensures.passes c.list_others.ensures.passes).past c.args.wanted c.in_ok-ignore.ignore (kept_behind old at mid c.boundary_of.ensures.passes c.read_patterns.ensures.passes c.args.wanted c.in_ok-ignore.ignore c.in_ok-ignore.ensures.kept))
 
 pub returns-in_err-ignore-clause-met : goal.returns-in_err-ignore-clause-met
 returns-in_err-ignore-clause-met g c =
     let old = g.T.Tree.history c.args.tree.now in
+    let at = g.T.Tree.history c.boundary_of.new.tree in
     let mid = g.T.Tree.history c.read_patterns.new.tree in
-    let p = err_from_is_err_and c.from_residual.result c.from_residual.ensures.1 in
+    let p = err_from_is_err_and c.from_residual-in_err-ignore.result c.from_residual-in_err-ignore.ensures.1 in
     rw (p.1, p.2)
-    (met_patterns (walk_status c.args.wanted (table c.args.mixed.now) old mid (g.S.Shelf.history c.args.shelf.now) (g.S.Shelf.history c.args.shelf.now)) c.in_err-ignore.field-0.0 c.in_err-ignore.ensures.needed c.in_err-ignore.ensures.met)
+    (met_patterns (walk_status c.args.wanted (table c.args.mixed.now) old mid (g.S.Shelf.history c.args.shelf.now) (g.S.Shelf.history c.args.shelf.now)) c.in_err-ignore.field-0.0 c.in_err-ignore.ensures.needed
+    (lacks_behind old at mid c.boundary_of.ensures.passes c.read_patterns.ensures.passes c.in_err-ignore.field-0.0 c.in_err-ignore.ensures.met))
 
 pub returns-in_err-ignore-clause-behind : goal.returns-in_err-ignore-clause-behind
 returns-in_err-ignore-clause-behind g c =
     let old = g.T.Tree.history c.args.tree.now in
+    let at = g.T.Tree.history c.boundary_of.new.tree in
     let mid = g.T.Tree.history c.read_patterns.new.tree in
-    let p = err_from_is_err_and c.from_residual.result c.from_residual.ensures.1 in
+    let p = err_from_is_err_and c.from_residual-in_err-ignore.result c.from_residual-in_err-ignore.ensures.1 in
     rw (p.1, p.2)
-    (λ is. absurd (not_parent old mid c.in_err-ignore.field-0.0 c.in_err-ignore.ensures.met is))
+    (λ is. absurd (not_parent at mid c.in_err-ignore.field-0.0 c.in_err-ignore.ensures.met is))
 
 pub returns-in_err-tracked-clause-met : goal.returns-in_err-tracked-clause-met
 returns-in_err-tracked-clause-met g c =
     let old = g.T.Tree.history c.args.tree.now in
+    let at = g.T.Tree.history c.boundary_of.new.tree in
     let mid = g.T.Tree.history c.read_patterns.new.tree in
     let later = g.T.Tree.history c.tell_all.new.tree in
     let p = err_from_is_err_and c.from_residual-in_err-tracked.result c.from_residual-in_err-tracked.ensures.1 in
     rw (p.1, p.2)
-    (met_whole c.args.wanted (asked_unvouched c.args.wanted (table c.args.mixed.now)) (first_id (table c.args.mixed.now)) old mid later c.read_patterns.ensures.passes (g.S.Shelf.history c.args.shelf.now) (g.S.Shelf.history c.tell_all.new.shelf) c.in_err-tracked.field-0.0 c.in_err-tracked.ensures.met)
+    (met_whole c.args.wanted (asked_unvouched c.args.wanted (table c.args.mixed.now)) (first_id (table c.args.mixed.now)) old mid later (passes_trans old at mid c.boundary_of.ensures.passes c.read_patterns.ensures.passes) (g.S.Shelf.history c.args.shelf.now) (g.S.Shelf.history c.tell_all.new.shelf) c.in_err-tracked.field-0.0 c.in_err-tracked.ensures.met)
 
 pub returns-in_err-tracked-clause-behind : goal.returns-in_err-tracked-clause-behind
 returns-in_err-tracked-clause-behind g c =
     let old = g.T.Tree.history c.args.tree.now in
+    let at = g.T.Tree.history c.boundary_of.new.tree in
     let mid = g.T.Tree.history c.read_patterns.new.tree in
     let later = g.T.Tree.history c.tell_all.new.tree in
     let p = err_from_is_err_and c.from_residual-in_err-tracked.result c.from_residual-in_err-tracked.ensures.1 in
     rw (p.1, p.2)
-    (λ is. had old mid later c.read_patterns.ensures.passes c.tell_all.ensures.passes.past c.args.wanted c.in_ok-ignore.ignore c.in_ok-ignore.ensures.kept)
+    (λ is. had old mid later (passes_trans old at mid c.boundary_of.ensures.passes c.read_patterns.ensures.passes) c.tell_all.ensures.passes.past c.args.wanted c.in_ok-ignore.ignore (kept_behind old at mid c.boundary_of.ensures.passes c.read_patterns.ensures.passes c.args.wanted c.in_ok-ignore.ignore c.in_ok-ignore.ensures.kept))
 
 pub returns-in_err-tracked-clause-oversize : goal.returns-in_err-tracked-clause-oversize
 returns-in_err-tracked-clause-oversize g c =
     let old = g.T.Tree.history c.args.tree.now in
+    let at = g.T.Tree.history c.boundary_of.new.tree in
     let mid = g.T.Tree.history c.read_patterns.new.tree in
     let later = g.T.Tree.history c.tell_all.new.tree in
     let p = err_from_is_err_and c.from_residual-in_err-tracked.result c.from_residual-in_err-tracked.ensures.1 in
@@ -144,6 +160,7 @@ returns-in_err-tracked-clause-oversize g c =
 pub returns-in_err-listed-clause-met : goal.returns-in_err-listed-clause-met
 returns-in_err-listed-clause-met g c =
     let old = g.T.Tree.history c.args.tree.now in
+    let at = g.T.Tree.history c.boundary_of.new.tree in
     let mid = g.T.Tree.history c.read_patterns.new.tree in
     let later = g.T.Tree.history c.tell_all.new.tree in
     let new = g.T.Tree.history c.list_others.new.tree in
@@ -165,108 +182,137 @@ returns-in_err-listed-clause-oversize g c =
 
 -- ---- what the tree is asked
 
+pub returns-in_err-boundary-clause-asked : goal.returns-in_err-boundary-clause-asked
+returns-in_err-boundary-clause-asked g c =
+    let old = g.T.Tree.history c.args.tree.now in
+    let at = g.T.Tree.history c.boundary_of.new.tree in
+    let asks = asked_unvouched c.args.wanted (table c.args.mixed.now) in
+    λ told. asks_first c.args.wanted asks old at c.boundary_of.ensures.passes.past ([], inl refl, c.boundary_of.ensures.asked told ∙ sym (append-nil old.asked))
+
 pub returns-in_err-ignore-clause-asked : goal.returns-in_err-ignore-clause-asked
 returns-in_err-ignore-clause-asked g c =
     let old = g.T.Tree.history c.args.tree.now in
+    let at = g.T.Tree.history c.boundary_of.new.tree in
     let mid = g.T.Tree.history c.read_patterns.new.tree in
     let asks = asked_unvouched c.args.wanted (table c.args.mixed.now) in
-    λ told. asks_first c.args.wanted asks old mid c.read_patterns.ensures.passes.past (c.read_patterns.ensures.asked told)
+    λ told. asks_first c.args.wanted asks old mid (passes_trans old at mid c.boundary_of.ensures.passes c.read_patterns.ensures.passes).past (asks_behind old at mid c.boundary_of.ensures.passes c.read_patterns.ensures.passes c.args.wanted (c.boundary_of.ensures.asked told) (c.read_patterns.ensures.asked (c.boundary_of.ensures.passes.past.told ∙ told)))
 
 pub returns-in_err-tracked-clause-asked : goal.returns-in_err-tracked-clause-asked
 returns-in_err-tracked-clause-asked g c =
     let old = g.T.Tree.history c.args.tree.now in
+    let at = g.T.Tree.history c.boundary_of.new.tree in
     let mid = g.T.Tree.history c.read_patterns.new.tree in
     let later = g.T.Tree.history c.tell_all.new.tree in
     let asks = asked_unvouched c.args.wanted (table c.args.mixed.now) in
-    λ told. asks_second c.args.wanted asks old mid later c.read_patterns.ensures.passes.past c.tell_all.ensures.passes.past (c.read_patterns.ensures.asked told) (c.tell_all.ensures.asked (c.read_patterns.ensures.passes.past.told ∙ told))
+    λ told. asks_second c.args.wanted asks old mid later (passes_trans old at mid c.boundary_of.ensures.passes c.read_patterns.ensures.passes).past c.tell_all.ensures.passes.past (asks_behind old at mid c.boundary_of.ensures.passes c.read_patterns.ensures.passes c.args.wanted (c.boundary_of.ensures.asked told) (c.read_patterns.ensures.asked (c.boundary_of.ensures.passes.past.told ∙ told))) (c.tell_all.ensures.asked ((c.read_patterns.ensures.passes.past.told ∙ c.boundary_of.ensures.passes.past.told) ∙ told))
 
 pub returns-in_err-listed-clause-asked : goal.returns-in_err-listed-clause-asked
 returns-in_err-listed-clause-asked g c =
     let old = g.T.Tree.history c.args.tree.now in
+    let at = g.T.Tree.history c.boundary_of.new.tree in
     let mid = g.T.Tree.history c.read_patterns.new.tree in
     let later = g.T.Tree.history c.tell_all.new.tree in
     let new = g.T.Tree.history c.list_others.new.tree in
     let asks = asked_unvouched c.args.wanted (table c.args.mixed.now) in
     λ told.
-    all_asks c.args.wanted asks (pieces_of c.in_ok-ignore.ignore) old mid later new c.read_patterns.ensures.passes c.tell_all.ensures.passes c.list_others.ensures.passes (state_still c.args.wanted old mid c.in_ok-ignore.ignore c.in_ok-ignore.ensures.kept)
-    (c.read_patterns.ensures.asked told) (c.tell_all.ensures.asked (c.read_patterns.ensures.passes.past.told ∙ told)) (c.list_others.ensures.asked (c.tell_all.ensures.passes.past.told ∙ c.read_patterns.ensures.passes.past.told ∙ told))
+    all_asks c.args.wanted asks (pieces_of c.in_ok-ignore.ignore) old mid later new (passes_trans old at mid c.boundary_of.ensures.passes c.read_patterns.ensures.passes) c.tell_all.ensures.passes c.list_others.ensures.passes (state_still c.args.wanted old mid c.in_ok-ignore.ignore (kept_behind old at mid c.boundary_of.ensures.passes c.read_patterns.ensures.passes c.args.wanted c.in_ok-ignore.ignore c.in_ok-ignore.ensures.kept))
+    (asks_behind old at mid c.boundary_of.ensures.passes c.read_patterns.ensures.passes c.args.wanted (c.boundary_of.ensures.asked told) (c.read_patterns.ensures.asked (c.boundary_of.ensures.passes.past.told ∙ told))) (c.tell_all.ensures.asked ((c.read_patterns.ensures.passes.past.told ∙ c.boundary_of.ensures.passes.past.told) ∙ told)) (c.list_others.ensures.asked (c.tell_all.ensures.passes.past.told ∙ (c.read_patterns.ensures.passes.past.told ∙ c.boundary_of.ensures.passes.past.told) ∙ told) old (passes_trans old mid later (passes_trans old at mid c.boundary_of.ensures.passes c.read_patterns.ensures.passes) c.tell_all.ensures.passes)
+    (known_earlier (known_of c.in_ok-tracked.tracked.keeper.children.items c.in_ok-tracked.tracked.keeper.marks.items) later mid.last old.last (passes_trans old at mid c.boundary_of.ensures.passes c.read_patterns.ensures.passes).past.later c.in_ok-tracked.ensures.told.known))
 
 pub returns-clause-asked : goal.returns-clause-asked
 returns-clause-asked g c =
     let old = g.T.Tree.history c.args.tree.now in
+    let at = g.T.Tree.history c.boundary_of.new.tree in
     let mid = g.T.Tree.history c.read_patterns.new.tree in
     let later = g.T.Tree.history c.tell_all.new.tree in
     let new = g.T.Tree.history c.list_others.new.tree in
     let asks = asked_unvouched c.args.wanted (table c.args.mixed.now) in
     λ told.
-    all_asks c.args.wanted asks (pieces_of c.in_ok-ignore.ignore) old mid later new c.read_patterns.ensures.passes c.tell_all.ensures.passes c.list_others.ensures.passes (state_still c.args.wanted old mid c.in_ok-ignore.ignore c.in_ok-ignore.ensures.kept)
-    (c.read_patterns.ensures.asked told) (c.tell_all.ensures.asked (c.read_patterns.ensures.passes.past.told ∙ told)) (c.list_others.ensures.asked (c.tell_all.ensures.passes.past.told ∙ c.read_patterns.ensures.passes.past.told ∙ told))
+    all_asks c.args.wanted asks (pieces_of c.in_ok-ignore.ignore) old mid later new (passes_trans old at mid c.boundary_of.ensures.passes c.read_patterns.ensures.passes) c.tell_all.ensures.passes c.list_others.ensures.passes (state_still c.args.wanted old mid c.in_ok-ignore.ignore (kept_behind old at mid c.boundary_of.ensures.passes c.read_patterns.ensures.passes c.args.wanted c.in_ok-ignore.ignore c.in_ok-ignore.ensures.kept))
+    (asks_behind old at mid c.boundary_of.ensures.passes c.read_patterns.ensures.passes c.args.wanted (c.boundary_of.ensures.asked told) (c.read_patterns.ensures.asked (c.boundary_of.ensures.passes.past.told ∙ told))) (c.tell_all.ensures.asked ((c.read_patterns.ensures.passes.past.told ∙ c.boundary_of.ensures.passes.past.told) ∙ told)) (c.list_others.ensures.asked (c.tell_all.ensures.passes.past.told ∙ (c.read_patterns.ensures.passes.past.told ∙ c.boundary_of.ensures.passes.past.told) ∙ told) old (passes_trans old mid later (passes_trans old at mid c.boundary_of.ensures.passes c.read_patterns.ensures.passes) c.tell_all.ensures.passes)
+    (known_earlier (known_of c.in_ok-tracked.tracked.keeper.children.items c.in_ok-tracked.tracked.keeper.marks.items) later mid.last old.last (passes_trans old at mid c.boundary_of.ensures.passes c.read_patterns.ensures.passes).past.later c.in_ok-tracked.ensures.told.known))
 
 pub returns-clause-asked_own : goal.returns-clause-asked_own
 returns-clause-asked_own g c =
     let old = g.T.Tree.history c.args.tree.now in
+    let at = g.T.Tree.history c.boundary_of.new.tree in
     let mid = g.T.Tree.history c.read_patterns.new.tree in
     let later = g.T.Tree.history c.tell_all.new.tree in
     let new = g.T.Tree.history c.list_others.new.tree in
     let asks = asked_unvouched c.args.wanted (table c.args.mixed.now) in
     λ ours.
-    own_asks c.args.wanted asks (pieces_of c.in_ok-ignore.ignore) old mid later new c.read_patterns.ensures.passes c.tell_all.ensures.passes c.list_others.ensures.passes (state_still c.args.wanted old mid c.in_ok-ignore.ignore c.in_ok-ignore.ensures.kept)
-    (c.in_ok-ignore.ensures.asked_own (ours_first old mid new (passes_trans mid later new c.tell_all.ensures.passes c.list_others.ensures.passes).past ours))
-    (c.tell_all.ensures.asked (c.read_patterns.ensures.passes.past.told ∙ ours.told)) (c.list_others.ensures.asked (c.tell_all.ensures.passes.past.told ∙ c.read_patterns.ensures.passes.past.told ∙ ours.told))
+    own_asks c.args.wanted asks (pieces_of c.in_ok-ignore.ignore) old mid later new (passes_trans old at mid c.boundary_of.ensures.passes c.read_patterns.ensures.passes) c.tell_all.ensures.passes c.list_others.ensures.passes (state_still c.args.wanted old mid c.in_ok-ignore.ignore (kept_behind old at mid c.boundary_of.ensures.passes c.read_patterns.ensures.passes c.args.wanted c.in_ok-ignore.ignore c.in_ok-ignore.ensures.kept))
+    (own_behind old at mid c.boundary_of.ensures.passes c.read_patterns.ensures.passes c.args.wanted (c.boundary_of.ensures.asked ours.told) (ours_first old mid new (passes_trans mid later new c.tell_all.ensures.passes c.list_others.ensures.passes).past ours)
+    (c.in_ok-ignore.ensures.asked_own (ours_second old at mid c.boundary_of.ensures.passes.past (ours_first old mid new (passes_trans mid later new c.tell_all.ensures.passes c.list_others.ensures.passes).past ours))))
+    (c.tell_all.ensures.asked ((c.read_patterns.ensures.passes.past.told ∙ c.boundary_of.ensures.passes.past.told) ∙ ours.told)) (c.list_others.ensures.asked (c.tell_all.ensures.passes.past.told ∙ (c.read_patterns.ensures.passes.past.told ∙ c.boundary_of.ensures.passes.past.told) ∙ ours.told) old (passes_trans old mid later (passes_trans old at mid c.boundary_of.ensures.passes c.read_patterns.ensures.passes) c.tell_all.ensures.passes)
+    (known_earlier (known_of c.in_ok-tracked.tracked.keeper.children.items c.in_ok-tracked.tracked.keeper.marks.items) later mid.last old.last (passes_trans old at mid c.boundary_of.ensures.passes c.read_patterns.ensures.passes).past.later c.in_ok-tracked.ensures.told.known))
 
 -- ---- what is asked below `.hg`
 
 pub returns-in_err-tracked-clause-unasked : goal.returns-in_err-tracked-clause-unasked
 returns-in_err-tracked-clause-unasked g c =
     let old = g.T.Tree.history c.args.tree.now in
+    let at = g.T.Tree.history c.boundary_of.new.tree in
     let mid = g.T.Tree.history c.read_patterns.new.tree in
     let later = g.T.Tree.history c.tell_all.new.tree in
     let asks = asked_unvouched c.args.wanted (table c.args.mixed.now) in
-    λ never. c.tell_all.ensures.unasked (never_each asks old mid later later c.read_patterns.ensures.passes.past c.tell_all.ensures.passes.past (extends_same later) never)
+    λ never. c.tell_all.ensures.unasked (never_each asks old mid later later (passes_trans old at mid c.boundary_of.ensures.passes c.read_patterns.ensures.passes).past c.tell_all.ensures.passes.past (extends_same later) never)
 
 pub returns-in_err-listed-clause-unasked : goal.returns-in_err-listed-clause-unasked
 returns-in_err-listed-clause-unasked g c =
     let old = g.T.Tree.history c.args.tree.now in
+    let at = g.T.Tree.history c.boundary_of.new.tree in
     let mid = g.T.Tree.history c.read_patterns.new.tree in
     let later = g.T.Tree.history c.tell_all.new.tree in
     let new = g.T.Tree.history c.list_others.new.tree in
     let asks = asked_unvouched c.args.wanted (table c.args.mixed.now) in
-    λ never. c.tell_all.ensures.unasked (never_each asks old mid later new c.read_patterns.ensures.passes.past c.tell_all.ensures.passes.past c.list_others.ensures.passes.past never)
+    λ never. c.tell_all.ensures.unasked (never_each asks old mid later new (passes_trans old at mid c.boundary_of.ensures.passes c.read_patterns.ensures.passes).past c.tell_all.ensures.passes.past c.list_others.ensures.passes.past never)
 
 pub returns-clause-unasked : goal.returns-clause-unasked
 returns-clause-unasked g c =
     let old = g.T.Tree.history c.args.tree.now in
+    let at = g.T.Tree.history c.boundary_of.new.tree in
     let mid = g.T.Tree.history c.read_patterns.new.tree in
     let later = g.T.Tree.history c.tell_all.new.tree in
     let new = g.T.Tree.history c.list_others.new.tree in
     let asks = asked_unvouched c.args.wanted (table c.args.mixed.now) in
-    λ never. c.tell_all.ensures.unasked (never_each asks old mid later new c.read_patterns.ensures.passes.past c.tell_all.ensures.passes.past c.list_others.ensures.passes.past never)
+    λ never. c.tell_all.ensures.unasked (never_each asks old mid later new (passes_trans old at mid c.boundary_of.ensures.passes c.read_patterns.ensures.passes).past c.tell_all.ensures.passes.past c.list_others.ensures.passes.past never)
+
+pub returns-in_err-boundary-clause-asked_store : goal.returns-in_err-boundary-clause-asked_store
+returns-in_err-boundary-clause-asked_store g c =
+    let old = g.T.Tree.history c.args.tree.now in
+    let at = g.T.Tree.history c.boundary_of.new.tree in
+    λ told. store_none (walk_status c.args.wanted (table c.args.mixed.now) old at (g.S.Shelf.history c.args.shelf.now) (g.S.Shelf.history c.args.shelf.now)) refl
 
 pub returns-in_err-ignore-clause-asked_store : goal.returns-in_err-ignore-clause-asked_store
 returns-in_err-ignore-clause-asked_store g c =
     let old = g.T.Tree.history c.args.tree.now in
+    let at = g.T.Tree.history c.boundary_of.new.tree in
     let mid = g.T.Tree.history c.read_patterns.new.tree in
     λ told. store_none (walk_status c.args.wanted (table c.args.mixed.now) old mid (g.S.Shelf.history c.args.shelf.now) (g.S.Shelf.history c.args.shelf.now)) refl
 
 pub returns-in_err-tracked-clause-asked_store : goal.returns-in_err-tracked-clause-asked_store
 returns-in_err-tracked-clause-asked_store g c =
     let old = g.T.Tree.history c.args.tree.now in
+    let at = g.T.Tree.history c.boundary_of.new.tree in
     let mid = g.T.Tree.history c.read_patterns.new.tree in
     let later = g.T.Tree.history c.tell_all.new.tree in
-    λ told. store_longer (walk_status c.args.wanted (table c.args.mixed.now) mid later (g.S.Shelf.history c.args.shelf.now) (g.S.Shelf.history c.tell_all.new.shelf)) old later c.read_patterns.ensures.passes.past c.tell_all.ensures.passes.past (extends_same later) (c.tell_all.ensures.store told)
+    λ told. store_longer (walk_status c.args.wanted (table c.args.mixed.now) mid later (g.S.Shelf.history c.args.shelf.now) (g.S.Shelf.history c.tell_all.new.shelf)) old later (passes_trans old at mid c.boundary_of.ensures.passes c.read_patterns.ensures.passes).past c.tell_all.ensures.passes.past (extends_same later) (c.tell_all.ensures.store told)
 
 pub returns-in_err-listed-clause-asked_store : goal.returns-in_err-listed-clause-asked_store
 returns-in_err-listed-clause-asked_store g c =
     let old = g.T.Tree.history c.args.tree.now in
+    let at = g.T.Tree.history c.boundary_of.new.tree in
     let mid = g.T.Tree.history c.read_patterns.new.tree in
     let later = g.T.Tree.history c.tell_all.new.tree in
     let new = g.T.Tree.history c.list_others.new.tree in
-    λ told. store_longer (walk_status c.args.wanted (table c.args.mixed.now) mid later (g.S.Shelf.history c.args.shelf.now) (g.S.Shelf.history c.tell_all.new.shelf)) old new c.read_patterns.ensures.passes.past c.tell_all.ensures.passes.past c.list_others.ensures.passes.past (c.tell_all.ensures.store told)
+    λ told. store_longer (walk_status c.args.wanted (table c.args.mixed.now) mid later (g.S.Shelf.history c.args.shelf.now) (g.S.Shelf.history c.tell_all.new.shelf)) old new (passes_trans old at mid c.boundary_of.ensures.passes c.read_patterns.ensures.passes).past c.tell_all.ensures.passes.past c.list_others.ensures.passes.past (c.tell_all.ensures.store told)
 
 pub returns-clause-asked_store : goal.returns-clause-asked_store
 returns-clause-asked_store g c =
     let old = g.T.Tree.history c.args.tree.now in
+    let at = g.T.Tree.history c.boundary_of.new.tree in
     let mid = g.T.Tree.history c.read_patterns.new.tree in
     let later = g.T.Tree.history c.tell_all.new.tree in
     let new = g.T.Tree.history c.list_others.new.tree in
-    λ told. store_longer (walk_status c.args.wanted (table c.args.mixed.now) mid later (g.S.Shelf.history c.args.shelf.now) (g.S.Shelf.history c.tell_all.new.shelf)) old new c.read_patterns.ensures.passes.past c.tell_all.ensures.passes.past c.list_others.ensures.passes.past (c.tell_all.ensures.store told)
+    λ told. store_longer (walk_status c.args.wanted (table c.args.mixed.now) mid later (g.S.Shelf.history c.args.shelf.now) (g.S.Shelf.history c.tell_all.new.shelf)) old new (passes_trans old at mid c.boundary_of.ensures.passes c.read_patterns.ensures.passes).past c.tell_all.ensures.passes.past c.list_others.ensures.passes.past (c.tell_all.ensures.store told)

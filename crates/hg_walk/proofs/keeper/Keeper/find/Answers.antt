@@ -13,5 +13,5 @@ returns-in-Ok-clause-found c =
 
 pub returns-in-Err-clause-none : goal.returns-in-Err-clause-none
 returns-in-Err-clause-none c = λ is.
-    searched_none c.deref.result.now c.args.self.now.children.items c.args.path.now c.in-Err.field-0 c.deref.ensures.value c.args.self.now.ascending
+    searched_none c.deref.result.now c.args.self.now.children.items c.args.path.now c.in-Err.at c.deref.ensures.value c.args.self.now.ascending
     (c.in-Err.ensures.position (λ child. slice_cmp nat_cmp (path_of child) c.args.path.now) (always_returns_same _ _ _ (λ a r q called. search rules)))
