@@ -1,8 +1,8 @@
 //! The folder that the process stands in, and how it gets to another one below the root.
 //!
 //! A folder is gone into by its name in the folder above, where a look at that name showed a directory and a look at `.` behind it shows
-//! the same device and inode; so no link is ever followed. Upwards `.` has to be what it was on the way down. Where it isn't, or where a
-//! name has gone meanwhile, the way begins at the root again.
+//! the same device and inode; so no link is ever followed. Where one goes up, by one folder or by many, `.` has to be at last what it was on
+//! the way down. Where it isn't, or where a name has gone meanwhile, the way begins at the root again.
 
 ghost use Rattle.std.specs.Prelude.{IfOk, IfSome, OnErr, IsTrue, length};
 ghost use Rattle.hg_base.specs.Reads.{IsWithin};
@@ -280,13 +280,33 @@ impl<'a, R: Files + Env + AllocGlobal> Place<'a, R> {
 
     // Goes up until the folder stands here or below.
     fn climb(&mut self, dir: &str) {
-        for _ in 0..self.way.depth() {
-            if self.way.is_lost() || self.way.rest_of(dir).is_some() {
-                return;
+        if self.way.is_lost() {
+            return;
+        }
+        let depth = self.way.depth();
+        for _ in 0..depth {
+            if self.way.rest_of(dir).is_some() {
+                break;
             }
             self.way.leave();
-            let _ = self.step("..");
         }
+        let levels = depth.saturating_sub(self.way.depth());
+        if levels > 0 {
+            self.way.lose();
+            let _ = self.rise(levels);
+        }
+    }
+
+    // Goes up by so many folders. It is the last one alone that is looked at.
+    fn rise(&mut self, levels: usize) -> io::Result<()>
+        requires { IsTrue self.old.way.lost }
+        ensures kept { Kept self.old.way self.new.way }
+        ensures lost { OnErr result (IsTrue self.new.way.lost) }
+    {
+        for _ in 1..levels {
+            env::set_current_dir(self.rt, "..")?;
+        }
+        self.step("..")
     }
 
     // Where another folder has the root's name, the way stays lost.
