@@ -48,6 +48,7 @@ none_noted old new = record {
   clock = λ told note never. absurd (omega (arith, never.1));
   stamp = λ note never. absurd (omega (arith, never.1));
   shown = λ told note never. absurd (omega (arith, never.1));
+  order = λ told note never. absurd (omega (arith, never.1));
 }
 
 none_earned : (rows : List ℕ → Option ParentRow) (t : Table) (h : tree.History) → AreEarned rows t h no_notes

@@ -277,9 +277,9 @@ pub record RanStatus (flags : StatusFlags) (call : Call) (code : ℕ) (fault : O
   pub asked_own : fault ≡ None → IsSomeAnd table (AsksOwn call.looked (wanted_of flags))
   -- below `.hg` it asks for the record, then for what its comparisons need, the manifest once at most, and for the docket once more before it saves times
   pub below : IsTrue call.looked.shelf.old.told → AsksBelow call.looked (wanted_of flags) table
-  -- what it noted of times: only what is needed; each time is that of a look in the call, by one time that the clock showed in it; it was seen with what it
-  -- stands for, whatever others do in the working copy; and without a fault, where nobody else touches that, all that a second status needs to read no clean
-  -- file again
+  -- what it noted of times: only what is needed; each time is that of a look in the call, by one time that the clock showed in it no later than at the look;
+  -- it was seen with what it stands for, whatever others do in the working copy; and without a fault, where nobody else touches that, all that a second status
+  -- needs to read no clean file again
   pub notes : NotesData
   pub needed : IfSome table (λ t. AreNeeded t notes)
   pub noted : AreNoted call.looked.tree.old call.looked.tree.new notes
