@@ -1,18 +1,15 @@
 -- What a call leaves of a shelf in memory is the same where each change counts as the caller's.
-use Rattle.std.proofs.Common.{ℕ, zero, suc, ◌≡◌, ◌+◌, ◌-◌, ◌^◌, ◌++◌, ◌⊎◌, Bool, true, false, List, [], ◌∷◌, length, map, take, min, Result, Ok, Err, inl, inr, refl, sym, ap, ◌∙◌, subst, arith}
-use Rattle.std.specs.Prelude.{if◌then◌else◌, IfOk, OnErr, OnOk}
+use Rattle.std.proofs.Common.{ℕ, zero, suc, ◌≡◌, ◌++◌, List, [], ◌∷◌, length, map, take, Result, Ok, Err, inl, inr, refl, sym, ap, ◌∙◌, subst}
+use Rattle.std.specs.Prelude.{IfOk, OnErr, OnOk}
 use Rattle.std.specs.List.{take-map}
 use Rattle.std.proofs.lemmas.List.{length-map, map-append}
 use Rattle.hg_alone.specs.Alone.{as_own, shelf_alone}
-use Rattle.hg_base.specs.Calls.{answered, failed}
+use Rattle.hg_base.specs.Calls.{failed}
 use Rattle.hg_shelf.proofs.Courses.{found_of}
 use Rattle.hg_shelf.specs.History.{Files, now}
 use Rattle.hg_shelf.specs.Images.{Scene}
-use Rattle.hg_shelf.specs.Memory.{Fails, FailsAsking, FailsLocking, Lacks, Memory, after_call, after_due, after_failure, after_own, asking, by_us, coming, coming_of, empty, history_of, locking, next, replayed}
+use Rattle.hg_shelf.specs.Memory.{Fails, FailsAsking, Lacks, Memory, after_call, after_due, after_failure, after_own, asking, by_us, coming, coming_of, empty, history_of, next, replayed}
 use Rattle.hg_shelf.specs.declared.asked.Asked.{Asked}
-use Rattle.hg_shelf.specs.declared.asked.LockAnswer.{LockAnswer}
-use Rattle.hg_shelf.specs.declared.asked.LockCall.{LockCall}
-use Rattle.hg_shelf.specs.declared.asked.LockAnswer.TheVariants as an_answer
 use Rattle.hg_shelf.specs.declared.outside.Change.{Change}
 use Rattle.hg_shelf.specs.declared.outside.Due.{Due}
 use Rattle.hg_shelf.specs.declared.outside.Step.{Step}

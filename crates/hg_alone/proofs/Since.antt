@@ -1,13 +1,13 @@
 -- What a call leaves of a tree in memory, told from the last change of others on.
-use Rattle.std.proofs.Common.{ℕ, zero, suc, ◌≡◌, ◌+◌, ◌-◌, ◌<◌, ◌≤◌, ◌++◌, ◌⊎◌, Bool, true, false, List, [], ◌∷◌, Option, Some, None, length, take, Result, Ok, Err, inl, inr, refl, sym, ap, ◌∙◌, subst, arith}
+use Rattle.std.proofs.Common.{ℕ, zero, suc, ◌≡◌, ◌+◌, ◌-◌, ◌<◌, ◌≤◌, ◌++◌, ◌⊎◌, Bool, true, false, List, [], ◌∷◌, Option, None, length, take, Result, Ok, Err, inl, inr, refl, sym, ap, ◌∙◌, subst, arith}
 use Rattle.std.specs.Prelude.{IfErr, IfOk, OnErr, OnOk}
-use Rattle.std.proofs.lemmas.List.{append-nil, length_push, length-append}
+use Rattle.std.proofs.lemmas.List.{append-nil, length_push}
 use Rattle.hg_alone.specs.Alone.{before_own, tree_alone, upto_others}
 use Rattle.hg_base.specs.declared.fault.Failed.{Failed}
 use Rattle.hg_base.specs.declared.stat.Kind.{Kind}
 use Rattle.hg_base.specs.declared.time.Time.{Time}
 use Rattle.hg_tree.specs.History.{AreFormed, Extends, History, Passes, now}
-use Rattle.hg_tree.specs.Memory.{Fails, Lacks, LeavesListed, LeavesOwn, LeavesRead, Memory, after_call, after_due, after_failure, by_us, coming, coming_of, history_of, noting, replayed, with_own}
+use Rattle.hg_tree.specs.Memory.{Fails, LeavesListed, LeavesOwn, LeavesRead, Memory, after_call, after_due, after_failure, by_us, coming, coming_of, history_of, noting, replayed, with_own}
 use Rattle.hg_tree.specs.Moment.{Moment, bytes_at, empty_at}
 use Rattle.hg_tree.specs.Own.{Acts, CannotPut, IsPut, IsUnlink, Puts, Unlinks}
 use Rattle.hg_tree.specs.declared.asked.Asked.{Asked}

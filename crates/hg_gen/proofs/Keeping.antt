@@ -11,10 +11,9 @@ use Rattle.hg_gen.specs.Copy.{contents_of, text_of}
 use Rattle.hg_gen.specs.Manifest.{IsManifest, is_in_parent}
 use Rattle.hg_gen.specs.Recorded.{AreContents, ArePut, IsRecorded, IsStored, files_of, parent}
 use Rattle.hex.proofs.OnLiterals.{hex_on_literals}
-use Rattle.hg_manifest.specs.Load.{file_manifest, manifest_in}
+use Rattle.hg_manifest.specs.Load.{manifest_in}
 use Rattle.hg_manifest.specs.Plain.{most, plain_name}
-use Rattle.hg_manifest.specs.Rows.{Rows, manifest_of}
-use Rattle.hg_manifest.specs.declared.fault.ManifestFault.{ManifestFault}
+use Rattle.hg_manifest.specs.Rows.{manifest_of}
 use Rattle.hg_manifest.specs.declared.fault.ManifestFault.TheVariants as a_fault
 use Rattle.hg_save.proofs.Readings.{reads_published}
 use Rattle.hg_save.specs.Record.{data_name}

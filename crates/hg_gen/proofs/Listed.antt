@@ -1,14 +1,14 @@
 -- The manifest of the parent, from the names of contents that are gathered by path.
-use Rattle.std.proofs.Common.{ℕ, zero, suc, ◌≡◌, ◌+◌, ◌*◌, ◌/◌, ◌%◌, ◌^◌, ◌<◌, ◌≤◌, Bool, true, false, cond, ◌||◌, ◌&&◌, List, [], ◌∷◌, ◌++◌, length, eqb, Option, Some, None, Ordering, Less, inl, inr, refl, sym, ap, ◌∙◌, subst, arith, true≢false}
-use Rattle.std.specs.Prelude.{String, IfSome, codes, is_some, map, option_map}
+use Rattle.std.proofs.Common.{ℕ, suc, ◌≡◌, ◌+◌, ◌*◌, ◌/◌, ◌%◌, ◌^◌, ◌<◌, ◌≤◌, Bool, true, false, cond, ◌||◌, List, [], ◌∷◌, ◌++◌, length, eqb, Option, Some, None, Less, inl, inr, refl, sym, ap, ◌∙◌, subst, arith, true≢false}
+use Rattle.std.specs.Prelude.{String, IfSome, is_some, map, option_map}
 use Rattle.std.specs.BTreeMap.{BTreeMap, Updates, get, get_by_text, keys}
 use Rattle.std.specs.Cmp.Lexicographic.{slice_cmp}
 use Rattle.std.specs.Fmt.{decimal}
-use Rattle.std.specs.List.{All, AllByRecursion, list_any}
+use Rattle.std.specs.List.{All, AllByRecursion}
 use Rattle.std.specs.List.Sorted.{IsStrictlySortedBy}
 use Rattle.std.specs.Map.{keys_of, lookup}
 use Rattle.std.specs.Ordering.{is_eq, is_lt, nat_cmp}
-use Rattle.std.specs.Str.{IsAscii, bytes_eq, is_utf8}
+use Rattle.std.specs.Str.{IsAscii, bytes_eq}
 use Rattle.std.specs.String.{string_bytes, string_cmp}
 use Rattle.std.proofs.lemmas.Bool.{and_from, cases_Bool, cases_lt, cond-true, cond-false}
 use Rattle.std.proofs.lemmas.Fmt.{IsAscii-decimal, length-decimal-le}
@@ -19,14 +19,13 @@ use Rattle.std.proofs.lemmas.Map.Text.{btree_map_updates_text, is_eq-slice_cmp}
 use Rattle.std.proofs.lemmas.Str.{IsAscii-append, IsUtf8-from_ascii, is_utf8-from_IsUtf8}
 use Rattle.std.proofs.lemmas.Str.Ascii.{IsAscii-cons}
 use Rattle.hex.specs.Hex.{encode_lower}
-use Rattle.hg_base.specs.PathText.{has_nul, is_path}
+use Rattle.hg_base.specs.PathText.{has_nul}
 use Rattle.hg_gen.specs.Copy.{contents_of, dir_of, name_of, path_of}
 use Rattle.hg_gen.specs.Manifest.{AreNamed, IsManifest, IsPlain, Named, in_parent, is_in_parent, lines_of, named_in, names_in, pair}
 use Rattle.hg_gen.proofs.Naming.{file_path, files_differ, other_bytes, solid_decimal}
 use Rattle.hg_gen.proofs.Packing.{forty_long, id_spelled, name_of_id, pack}
 use Rattle.hg_gen.proofs.Reading.{AreSound, IsSound, manifest_read, row_of}
-use Rattle.hg_manifest.specs.Plain.{most}
-use Rattle.hg_manifest.specs.Rows.{Rows, is_before, manifest_of}
+use Rattle.hg_manifest.specs.Rows.{is_before, manifest_of}
 use Rattle.hg_manifest.specs.declared.row.FileRow.{FileRow}
 use Rattle.hg_tree.proofs.Planting.{equal_bytes, same_bytes}
 

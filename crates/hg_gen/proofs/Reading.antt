@@ -1,15 +1,14 @@
 -- The manifest of lines that ascend by their paths is their rows.
-use Rattle.std.proofs.Common.{ℕ, zero, suc, ◌≡◌, ◌+◌, ◌-◌, ◌*◌, ◌<◌, ◌≤◌, Bool, true, false, cond, not, ◌||◌, List, [], ◌∷◌, ◌++◌, length, take, drop, eqb, Option, Some, None, Result, Ok, Err, inl, inr, refl, sym, ap, ◌∙◌, subst, arith}
-use Rattle.std.specs.Prelude.{if◌then◌else◌, map, option_map}
+use Rattle.std.proofs.Common.{ℕ, zero, suc, ◌≡◌, ◌+◌, ◌<◌, ◌≤◌, Bool, true, false, cond, not, ◌||◌, List, [], ◌∷◌, ◌++◌, length, take, drop, eqb, Option, Some, None, Ok, Err, refl, ap, ◌∙◌, arith}
+use Rattle.std.specs.Prelude.{map}
 use Rattle.std.specs.List.{after_first, before_first, position_or_len}
-use Rattle.std.specs.Str.{is_utf8}
 use Rattle.std.proofs.lemmas.List.{drop_at, length-append, take_at}
 use Rattle.std.proofs.Math.Seq.{drop-append-add}
-use Rattle.hg_base.specs.PathText.{has_nul, is_path}
+use Rattle.hg_base.specs.PathText.{has_nul}
 use Rattle.hg_base.specs.declared.id.Id20.{Id20}
 use Rattle.hg_gen.specs.Manifest.{Named, lines_of}
-use Rattle.hg_manifest.specs.Line.{Ending, Line, ending, id_of, is_file_path, is_nul, line_behind, line_from, line_of}
-use Rattle.hg_manifest.specs.Rows.{Rows, is_before, manifest_of, rows_at, rows_from, with_row}
+use Rattle.hg_manifest.specs.Line.{Line, ending, id_of, is_file_path, is_nul, line_behind, line_from, line_of}
+use Rattle.hg_manifest.specs.Rows.{is_before, manifest_of, rows_at, rows_from, with_row}
 use Rattle.hg_manifest.specs.declared.fault.ManifestFault.TheVariants as a_fault
 use Rattle.hg_manifest.specs.declared.row.FileRow.{FileRow}
 

@@ -1,4 +1,4 @@
-use Rattle.std.proofs.Common.{List, ℕ, ◌++◌, ◌∙◌, ap, sym}
+use Rattle.std.proofs.Common.{List, ℕ, ◌++◌, ◌∙◌, ap}
 use Rattle.std.specs.Prelude.{map}
 use Rattle.hg_gen.specs.Manifest.{lines_of, pair}
 use Rattle.hg_gen.proofs.Listed.{next_line, no_line}

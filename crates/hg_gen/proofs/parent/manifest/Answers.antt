@@ -1,4 +1,4 @@
-use Rattle.std.proofs.Common.{◌≤◌, ◌*◌, refl, arith}
+use Rattle.std.proofs.Common.{◌*◌, refl, arith}
 use Rattle.hg_gen.proofs.Listed.{manifest_is}
 use Rattle.hg_gen.proofs.parent.manifest.Goals as goal
 

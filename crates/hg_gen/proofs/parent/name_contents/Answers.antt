@@ -1,4 +1,4 @@
-use Rattle.std.proofs.Common.{◌≡◌, ◌∙◌, ◌<◌, ◌^◌, true, false, ap, arith, rules}
+use Rattle.std.proofs.Common.{◌≡◌, ◌∙◌, ◌<◌, true, false, arith, rules}
 use Rattle.std.specs.String.{string_bytes}
 use Rattle.hg_gen.specs.Copy.{contents_of, path_of}
 use Rattle.hg_gen.specs.Manifest.{is_in_parent, names_in}

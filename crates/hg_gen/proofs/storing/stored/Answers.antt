@@ -1,4 +1,4 @@
-use Rattle.std.proofs.Common.{◌∙◌, List, ℕ, subst, sym}
+use Rattle.std.proofs.Common.{subst, sym}
 use Rattle.hg_gen.specs.Manifest.{IsManifest}
 use Rattle.hg_gen.specs.Recorded.{files_of}
 use Rattle.hg_gen.proofs.Keeping.{stored_so}

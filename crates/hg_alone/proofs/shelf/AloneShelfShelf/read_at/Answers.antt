@@ -1,4 +1,3 @@
-use Rattle.std.proofs.Common.{◌≡◌}
 use Rattle.hg_alone.proofs.Owned.{found}
 use Rattle.hg_base.specs.Reads.{ReadsBytes}
 use Rattle.hg_shelf.specs.declared.asked.Asked.TheVariants as an_ask
