@@ -1,14 +1,22 @@
 -- One file more below `.hg`.
-use Rattle.std.proofs.Common.{◌≡◌, ℕ, zero, suc, ◌+◌, ◌*◌, ◌-◌, ◌^◌, ◌<◌, false, List, [], ◌∷◌, ◌++◌, length, get_or, inl, inr, Some, sym, ap, subst, ◌∙◌, arith}
+use Rattle.std.proofs.Common.{◌≡◌, ℕ, zero, suc, ◌+◌, ◌*◌, ◌-◌, ◌^◌, ◌<◌, Bool, false, cond, List, [], ◌∷◌, ◌++◌, length, get_or, inl, inr, Some, Ok, Err, refl, sym, ap, subst, ◌∙◌, arith, le-ltb}
 use Rattle.std.specs.Prelude.{codes, replicate}
 use Rattle.std.specs.Fmt.{decimal}
 use Rattle.std.specs.Str.{bytes_eq}
 use Rattle.std.proofs.lemmas.Bool.{both_ways, cases_lt, cond-true, cond-false}
 use Rattle.std.proofs.lemmas.Fmt.{decimal_injective, first_decimal}
-use Rattle.std.proofs.lemmas.List.{append_cancel_left, take_all}
+use Rattle.std.proofs.lemmas.List.{append-nil, append_cancel_left, take_all}
 use Rattle.hg_append.specs.declared.encoding.Encoded.{Encoded}
 use Rattle.hg_gen.specs.Copy.{contents_of, text_of}
-use Rattle.hg_gen.specs.Recorded.{AreContents, ArePut, IsRecorded, IsStored, files_of, is_in_parent}
+use Rattle.hg_gen.specs.Manifest.{IsManifest, is_in_parent}
+use Rattle.hg_gen.specs.Recorded.{AreContents, ArePut, IsRecorded, IsStored, files_of, parent}
+use Rattle.hex.proofs.OnLiterals.{hex_on_literals}
+use Rattle.hg_manifest.specs.Load.{manifest_in}
+use Rattle.hg_manifest.specs.Plain.{most, plain_name}
+use Rattle.hg_manifest.specs.Rows.{manifest_of}
+use Rattle.hg_manifest.specs.declared.fault.ManifestFault.TheVariants as a_fault
+use Rattle.hg_save.proofs.Readings.{reads_published}
+use Rattle.hg_save.specs.Record.{data_name}
 use Rattle.hg_gen.proofs.Naming.{other_bytes}
 use Rattle.hg_shelf.proofs.Replay.{replayed_push}
 use Rattle.hg_shelf.specs.History.{Files}
@@ -86,8 +94,21 @@ put_three e manifest first second third last one two three at =
     ap (λ (f : Files). f at) three
     ∙ ap (λ (f : Files). with_file (codes "dirstate") e.docket.items f at) (two ∙ ap (with_file (codes "dirstate.0000000000000000") e.bytes.items) one)
 
-pub stored_so : (dirs : ℕ) (e : Encoded) (manifest : List ℕ) (old new : Files) → IsRecorded dirs e → AreContents (16 * dirs) old → ArePut e manifest old new → IsStored dirs new
-stored_so dirs e manifest old new recorded contents put = record {
+-- the manifest's name
+parent_name : plain_name parent ≡ codes "plain/m-1111111111111111111111111111111111111111"
+unfolding hex_on_literals
+parent_name = refl
+
+manifest_found : (dirs : ℕ) (manifest : List ℕ) (files : Files) (is : IsManifest dirs manifest) → files (codes "plain/m-1111111111111111111111111111111111111111") ≡ Some manifest
+    → manifest_in (record { 0 = parent }) (files (plain_name parent)) ≡ Ok is.rows
+manifest_found dirs manifest files is there =
+    ap (λ (name : List ℕ). manifest_in (record { 0 = parent }) (files name)) parent_name
+    ∙ ap (manifest_in (record { 0 = parent })) there
+    ∙ ap (λ (t : Bool). cond t (Err (a_fault.ManifestTooLarge (length manifest))) (manifest_of manifest)) (le-ltb most (length manifest) is.few)
+    ∙ is.reads
+
+pub stored_so : (dirs : ℕ) (e : Encoded) (manifest : List ℕ) (old new : Files) → IsRecorded dirs e → IsManifest dirs manifest → AreContents (16 * dirs) old → ArePut e manifest old new → IsStored dirs new
+stored_so dirs e manifest old new recorded is contents put = record {
   docket = e.docket.items;
   nodes = e.bytes.items;
   table = recorded.table;
@@ -95,5 +116,16 @@ stored_so dirs e manifest old new recorded contents put = record {
   nodes_is = put (codes "dirstate.0000000000000000");
   reads = recorded.reads;
   is = recorded.is;
+  recorded =
+      reads_published [] e new recorded.over
+      (record {
+        docket = ([], put (codes "dirstate") ∙ ap Some (sym (append-nil e.docket.items)));
+        file = ([], ap (λ (id : List ℕ). new (data_name id)) recorded.id ∙ put (codes "dirstate.0000000000000000") ∙ ap Some (sym (append-nil e.bytes.items)));
+      })
+      ∙ ap Some recorded.reads;
+  rows = is.rows;
+  manifest = manifest_found dirs manifest new is (put (codes "plain/m-1111111111111111111111111111111111111111"));
+  named = is.named;
+  plain = is.plain;
   contents = λ i below there. put (contents_name i) ∙ contents i below there;
 }

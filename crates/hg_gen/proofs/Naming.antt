@@ -89,7 +89,7 @@ solid_digits [] h = refl
 solid_digits (d ∷ ds) h =
     or_from (eqb d 0) (has_nul ds) (ne_eqb d 0 (λ e. let low : digit_value 0 < 10 = subst (λ (x : ℕ). digit_value x < 10) e h.0 in absurd (omega (arith, low)))) (solid_digits ds h.1)
 
-solid_decimal : (n : ℕ) → n < 2 ^ 64 → has_nul (decimal n) ≡ false
+pub solid_decimal : (n : ℕ) → n < 2 ^ 64 → has_nul (decimal n) ≡ false
 solid_decimal n small = solid_digits (decimal n) (decimal_is_IsNumeral n small).0.1
 
 dir_component : (dir : ℕ) → dir < 2 ^ 64 → is_component (dir_of dir) ≡ true

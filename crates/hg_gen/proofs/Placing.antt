@@ -1,18 +1,21 @@
 -- One file more in a working copy.
 use Rattle.std.proofs.Common.{◌≡◌, ℕ, ◌+◌, ◌-◌, ◌/◌, ◌%◌, ◌^◌, ◌<◌, Bool, true, false, cond, List, [], ◌∷◌, ◌++◌, ◌⊎◌, inl, inr, Option, Some, None, refl, sym, ap, subst, ◌∙◌, arith, eqb, ◌||◌, not, true≢false}
+use Rattle.std.specs.List.{AllByRecursion}
 use Rattle.std.specs.Prelude.{is_some}
 use Rattle.std.specs.Str.{bytes_eq}
 use Rattle.std.proofs.lemmas.Bool.{both_ways, cases_Bool, cases_lt, cond-true, cond-false}
 use Rattle.hg_base.specs.PathText.{is_below}
 use Rattle.hg_base.specs.declared.time.Time.{Time}
-use Rattle.hg_gen.specs.Copy.{AreFiles, bytes_of, dir_of, is_exec, is_on_disk, on_disk, path_of, placed, seconds}
+use Rattle.hg_gen.specs.Copy.{AreFiles, IsGiven, bytes_of, dir_of, is_exec, is_on_disk, on_disk, path_of, placed, seconds}
 use Rattle.hg_gen.proofs.Naming.{above_dir, dir_above, file_above, file_no_dir, files_differ, only_above, other_bytes}
 use Rattle.hg_tree.proofs.After.{replayed_push}
 use Rattle.hg_tree.proofs.Planting.{equal_bytes, same_bytes}
 use Rattle.hg_tree.proofs.Shown.{now_is}
 use Rattle.hg_tree.specs.Change.{after_place, by_others}
-use Rattle.hg_tree.specs.History.{now}
-use Rattle.hg_tree.specs.Memory.{Memory, history_of}
+use Rattle.hg_tree.specs.History.{now, others}
+use Rattle.hg_tree.specs.Memory.{Memory, history_of, maker}
+use Rattle.hg_tree.specs.declared.asked.Change.{Change}
+use Rattle.hg_tree.specs.declared.asked.Outside.{Outside}
 use Rattle.hg_tree.specs.Moment.{Moment, Things, empty_at, is_dir, is_dir_thing}
 use Rattle.hg_tree.specs.declared.asked.Outside.TheVariants as a_change
 use Rattle.hg_tree.specs.declared.thing.Placed.{Placed}
@@ -28,6 +31,14 @@ placed_now old new path thing time is =
     ∙ now_is (record old { changes = old.changes ++ by_others (a_change.Place path thing time) ∷ [] })
     ∙ replayed_push old.changes (by_others (a_change.Place path thing time)) (empty_at old.start)
     ∙ ap (λ (m : Moment). record { clock = m.clock; things = after_place path thing time m.things }) (sym (now_is old))
+
+-- one change of others more
+all_more : (changes : List Change) (what : Outside) → AllByRecursion (λ change. maker change ≡ others) changes → AllByRecursion (λ change. maker change ≡ others) (changes ++ by_others what ∷ [])
+all_more [] what all = (refl, tt)
+all_more (change ∷ changes) what all = (all.0, all_more changes what all.1)
+
+pub given_more : (old new : Memory) (what : Outside) → new ≡ record old { changes = old.changes ++ by_others what ∷ [] } → IsGiven old → IsGiven new
+given_more old new what is given = subst IsGiven (sym is) (record { due = given.due; changes = all_more old.changes what given.changes })
 
 -- a working copy without files
 pub none_placed : AreFiles 0 (λ path. None)

@@ -1,9 +1,12 @@
 -- The working copy of a number of directories: which things stand at which paths.
 use Rattle.std.specs.Prelude.{ℕ, pos, ◌≡◌, ◌<◌, ◌+◌, ◌*◌, ◌-◌, ◌/◌, ◌%◌, ◌==◌, ◌⊎◌, ◌||◌, Bool, true, not, if◌then◌else◌, List, [], ◌∷◌, ◌++◌, length, replicate, drop, codes, Option, Some, None, is_some}
 use Rattle.std.specs.Fmt.{decimal}
+use Rattle.std.specs.List.{AllByRecursion}
 use Rattle.std.proofs.Common.{lit<}
 use Rattle.hg_base.specs.PathText.{joined}
 use Rattle.hg_base.specs.declared.time.Time.{Time}
+use Rattle.hg_tree.specs.History.{others}
+use Rattle.hg_tree.specs.Memory.{Memory, maker}
 use Rattle.hg_tree.specs.Moment.{Moment, Things}
 use Rattle.hg_tree.specs.declared.thing.Placed.{Placed}
 use Rattle.hg_tree.specs.declared.thing.Thing.{Thing}
@@ -68,3 +71,8 @@ pub record AreFiles (files : ℕ) (things : Things) : Type 0 where
 pub record IsCopy (dirs : ℕ) (moment : Moment) : Type 0 where
   pub clock : moment.clock ≡ seconds 2000
   pub things : AreFiles (16 * dirs) moment.things
+
+-- all that was done to a tree was done by others, and nothing more is to be
+pub record IsGiven (tree : Memory) : Type 0 where
+  pub due : tree.due ≡ []
+  pub changes : AllByRecursion (λ change. maker change ≡ others) tree.changes

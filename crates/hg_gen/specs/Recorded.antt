@@ -1,20 +1,25 @@
 -- What is recorded of the working copy of a number of directories, and what the plain store keeps of its parent.
-use Rattle.std.specs.Prelude.{ℕ, ◌≡◌, ◌<◌, ◌*◌, ◌%◌, ◌==◌, ◌||◌, Bool, true, false, not, if◌then◌else◌, List, [], ◌++◌, replicate, codes, Option, Some, None, Ok, is_some}
+use Rattle.std.specs.Prelude.{ℕ, ◌≡◌, ◌<◌, ◌*◌, ◌%◌, ◌==◌, ◌||◌, Bool, true, false, not, if◌then◌else◌, List, [], ◌++◌, replicate, codes, Option, Some, None, Ok, IfSome, is_some}
+use Rattle.std.specs.Map.{lookup}
+use Rattle.std.specs.Str.{bytes_eq}
 use Rattle.hg_append.specs.declared.encoding.Encoded.{Encoded}
 use Rattle.hg_docket.specs.Docket.{empty_docket, empty_hash, view}
 use Rattle.hg_entry.specs.Entry.{EntryData}
 use Rattle.hg_entry.specs.Table.{Table}
 use Rattle.hg_gen.specs.Copy.{contents_of, path_of, text_of}
+use Rattle.hg_gen.specs.Manifest.{AreNamed, IsPlain, is_in_parent, named_in}
 use Rattle.hg_image.specs.Reading.{reading_of}
 use Rattle.hg_image.specs.View.{rows}
 use Rattle.hg_image.specs.declared.opened.Image.{Image}
 use Rattle.hg_mixed.specs.Edits.{IsOfSameImage}
 use Rattle.hg_mixed.specs.Held.{Held, table}
+use Rattle.hg_manifest.specs.Load.{manifest_in}
+use Rattle.hg_manifest.specs.Plain.{plain_name}
+use Rattle.hg_manifest.specs.Rows.{Rows}
+use Rattle.hg_save.specs.Record.{reading}
+use Rattle.hg_save.specs.Saved.{IsOver}
 use Rattle.hg_shelf.specs.History.{Files, now}
 use Rattle.hg_shelf.specs.Memory.{Memory, history_of, with_file}
-
-abbrev pub is_in_parent : ℕ → Bool
-is_in_parent file = not (file % 16 == 9 || file % 16 == 11)
 
 abbrev pub is_tracked : ℕ → Bool
 is_tracked file = not (file % 16 == 9 || file % 16 == 13)
@@ -53,8 +58,8 @@ files_of memory = (now (history_of memory)).files
 abbrev pub AreContents : ℕ → Files → Type 0
 AreContents count files = (i : ℕ) → i < count → is_in_parent i ≡ true → files (codes "plain/f-" ++ contents_of i) ≡ Some (text_of i)
 
--- the files below `.hg` of a working copy of so many directories: a docket and its data file, which record the table, and the contents of the parent's
--- files
+-- the files below `.hg` of a working copy of so many directories: a docket and its data file, which record the table, the manifest of the parent, and the
+-- contents of its files
 pub record IsStored (dirs : ℕ) (files : Files) : Type 0 where
   pub docket : List ℕ
   pub nodes : List ℕ
@@ -63,6 +68,11 @@ pub record IsStored (dirs : ℕ) (files : Files) : Type 0 where
   pub nodes_is : files (codes "dirstate.0000000000000000") ≡ Some nodes
   pub reads : reading_of docket nodes ≡ Ok table
   pub is : IsTable dirs table
+  pub recorded : reading files ≡ Some (Ok table)
+  pub rows : Rows
+  pub manifest : manifest_in (record { 0 = parent }) (files (plain_name parent)) ≡ Ok rows
+  pub named : AreNamed (16 * dirs) (named_in rows)
+  pub plain : (at : List ℕ) → IfSome (lookup (bytes_eq at) rows) IsPlain
   pub contents : AreContents (16 * dirs) files
 
 -- the parents and the hash stay, and the image that a table was opened over
@@ -83,6 +93,7 @@ pub record IsRecorded (dirs : ℕ) (e : Encoded) : Type 0 where
   pub id : e.id ≡ codes "0000000000000000"
   pub reads : reading_of e.docket.items e.bytes.items ≡ Ok table
   pub is : IsTable dirs table
+  pub over : IsOver [] e
 
 -- a manifest, a data file and a docket were put beside some files
 abbrev pub ArePut : Encoded → List ℕ → Files → Files → Type 0

@@ -16,12 +16,14 @@
 //! let mut made = make(alloc, 50)?;   // 50 directories with 700 files
 //! ```
 //!
-//! `specs/Copy.antt` says which things stand where, `specs/Recorded.antt` what is recorded of them.
+//! `specs/Copy.antt` says which things stand where, `specs/Recorded.antt` what is recorded of them, `specs/Manifest.antt`
+//! what the parent has.
 #![tactic(auto)]
 
 mod lot;
 mod making;
 mod names;
+mod parent;
 mod recording;
 mod storing;
 mod working_copy;

@@ -3,6 +3,7 @@
 ghost use Rattle.std.specs.Prelude.{◌≡◌};
 ghost use Rattle.hg_entry.specs.Entry.{view};
 ghost use Rattle.hg_gen.specs.Copy as copy;
+ghost use Rattle.hg_gen.specs.Manifest as manifest;
 ghost use Rattle.hg_gen.specs.Recorded as recorded;
 
 use crate::names::WIDTH;
@@ -10,7 +11,7 @@ use hg_entry::Entry;
 
 /// Whether the parent has a file.
 pub(crate) fn is_in_parent(file: u32) -> bool
-    ensures { result ≡ recorded.is_in_parent file }
+    ensures { result ≡ manifest.is_in_parent file }
 {
     !matches!(file % WIDTH, 9 | 11)
 }

@@ -1,7 +1,7 @@
 //! The copy as a whole.
 
-ghost use Rattle.std.specs.Prelude.{◌≡◌, ◌≤◌, IfOk};
-ghost use Rattle.hg_gen.specs.Copy.{IsCopy};
+ghost use Rattle.std.specs.Prelude.{◌≡◌, ◌≤◌, [], IfOk};
+ghost use Rattle.hg_gen.specs.Copy.{IsCopy, IsGiven};
 ghost use Rattle.hg_gen.specs.Recorded.{IsStored, files_of};
 ghost use Rattle.hg_tree.specs.History.{now};
 ghost use Rattle.hg_tree.specs.Memory.{history_of};
@@ -28,6 +28,9 @@ pub fn make(alloc: Global, n: u32) -> Result<Made, OutOfMemory>
     ensures copy { IfOk result (λ made. IsCopy n (now (history_of made.tree))) }
     // What is recorded of it, and what the plain store keeps of its parent.
     ensures files { IfOk result (λ made. IsStored n (files_of made.shelf)) }
+    // Nobody else is to change either of them.
+    ensures given { IfOk result (λ made. IsGiven made.tree) }
+    ensures alone { IfOk result (λ made. made.shelf.due ≡ []) }
 {
     Ok(Made {
         tree: working_copy(alloc, n)?,

@@ -1,17 +1,17 @@
 //! The files below `.hg`: the record, and what the plain store keeps of the parent.
 
-ghost use Rattle.std.specs.Prelude.{◌≡◌, ◌<◌, ◌≤◌, ◌+◌, ◌*◌, ◌++◌, codes, IfOk, OnOk};
+ghost use Rattle.std.specs.Prelude.{◌≡◌, ◌<◌, ◌≤◌, ◌+◌, ◌*◌, ◌++◌, [], codes, IfOk, OnOk};
 ghost use Rattle.std.specs.String.{string_bytes};
 ghost use Rattle.hg_gen.specs.Recorded.{AreContents, ArePut, IsStored, files_of};
 
 use crate::lot::is_in_parent;
-use crate::names::{WIDTH, contents_of, path_of, text_of};
+use crate::names::{WIDTH, contents_of, text_of};
+use crate::parent::manifest;
 use crate::recording::record;
 use hg_append::Encoded;
 use hg_base::OutOfMemory;
 use hg_shelf::MemShelf;
 use std::alloc::Global;
-use std::collections::BTreeMap;
 
 // The names of the docket, of its data file, and of the parent's manifest.
 const DOCKET: &str = "dirstate";
@@ -19,42 +19,6 @@ const DOCKET: &str = "dirstate";
 const DATA: &str = "dirstate.0000000000000000";
 
 const MANIFEST: &str = "plain/m-1111111111111111111111111111111111111111";
-
-// The names of the contents of the parent's files, by their paths.
-fn rows(alloc: Global, dirs: u32) -> Result<BTreeMap<String, String>, OutOfMemory>
-    requires { dirs ≤ 2000 }
-{
-    let mut rows = BTreeMap::new(alloc);
-    for file in 0..WIDTH * dirs {
-        if is_in_parent(file) {
-            let path = path_of(alloc, file)?;
-            let contents = contents_of(alloc, file)?;
-            rows.insert(String::from_str(alloc, path.as_str())?, contents)?;
-        }
-    }
-    Ok(rows)
-}
-
-// Puts the line of a file behind those of a manifest.
-fn put_line(text: &mut Vec<u8>, path: &str, contents: &str) -> Result<(), OutOfMemory> {
-    text.extend_from_slice(path.as_bytes())?;
-    text.push(0)?;
-    text.extend_from_slice(contents.as_bytes())?;
-    text.push(b'\n')?;
-    Ok(())
-}
-
-// The manifest of the parent: a line for each of its files, ascending by their paths.
-fn manifest(alloc: Global, dirs: u32) -> Result<Vec<u8>, OutOfMemory>
-    requires { dirs ≤ 2000 }
-{
-    let rows = rows(alloc, dirs)?;
-    let mut text = Vec::new(alloc);
-    for (path, contents) in &rows {
-        put_line(&mut text, path.as_str(), contents.as_str())?;
-    }
-    Ok(text)
-}
 
 // The name of the contents of that name in the plain store.
 fn name_of(alloc: Global, contents: &str) -> Result<String, OutOfMemory>
@@ -66,7 +30,8 @@ fn name_of(alloc: Global, contents: &str) -> Result<String, OutOfMemory>
 // Places the contents of a file, where the parent has it, behind those of lower numbers.
 fn place_contents(alloc: Global, shelf: &mut MemShelf, file: u32) -> Result<(), OutOfMemory>
     requires { file < 32000 }
-    ensures { OnOk result (AreContents file (files_of shelf.old) → AreContents (file + 1) (files_of shelf.new)) }
+    ensures files { OnOk result (AreContents file (files_of shelf.old) → AreContents (file + 1) (files_of shelf.new)) }
+    ensures alone { OnOk result (shelf.new.due ≡ shelf.old.due) }
 {
     if !is_in_parent(file) {
         return Ok(());
@@ -80,7 +45,8 @@ fn place_contents(alloc: Global, shelf: &mut MemShelf, file: u32) -> Result<(), 
 // Places the contents of all files.
 fn place_all(alloc: Global, dirs: u32) -> Result<MemShelf, OutOfMemory>
     requires { dirs ≤ 2000 }
-    ensures { IfOk result (λ shelf. AreContents (16 * dirs) (files_of shelf)) }
+    ensures files { IfOk result (λ shelf. AreContents (16 * dirs) (files_of shelf)) }
+    ensures alone { IfOk result (λ shelf. shelf.due ≡ []) }
 {
     let mut shelf = MemShelf::new(alloc)?;
     for file in 0..WIDTH * dirs {
@@ -91,7 +57,8 @@ fn place_all(alloc: Global, dirs: u32) -> Result<MemShelf, OutOfMemory>
 
 // Places the manifest, the data file and the docket.
 fn place_record(shelf: &mut MemShelf, encoded: &Encoded, manifest: &[u8]) -> Result<(), OutOfMemory>
-    ensures { OnOk result (ArePut encoded.now manifest.now (files_of shelf.old) (files_of shelf.new)) }
+    ensures files { OnOk result (ArePut encoded.now manifest.now (files_of shelf.old) (files_of shelf.new)) }
+    ensures alone { OnOk result (shelf.new.due ≡ shelf.old.due) }
 {
     shelf.place(MANIFEST, manifest)?;
     shelf.place(DATA, encoded.bytes.as_slice())?;
@@ -101,7 +68,8 @@ fn place_record(shelf: &mut MemShelf, encoded: &Encoded, manifest: &[u8]) -> Res
 /// The files below `.hg` of the copy of so many directories.
 pub(crate) fn stored(alloc: Global, dirs: u32) -> Result<MemShelf, OutOfMemory>
     requires { dirs ≤ 2000 }
-    ensures { IfOk result (λ shelf. IsStored dirs (files_of shelf)) }
+    ensures files { IfOk result (λ shelf. IsStored dirs (files_of shelf)) }
+    ensures alone { IfOk result (λ shelf. shelf.due ≡ []) }
 {
     let encoded = record(alloc, dirs)?;
     let manifest = manifest(alloc, dirs)?;

@@ -1,7 +1,7 @@
 //! The files of the copy on the disk.
 
 ghost use Rattle.std.specs.Prelude.{◌≡◌, ◌<◌, ◌≤◌, ◌+◌, pos, IfOk, OnOk};
-ghost use Rattle.hg_gen.specs.Copy.{AreFiles, IsCopy, bytes_of, is_exec, is_on_disk};
+ghost use Rattle.hg_gen.specs.Copy.{AreFiles, IsCopy, IsGiven, bytes_of, is_exec, is_on_disk};
 ghost use Rattle.hg_tree.specs.History.{now};
 ghost use Rattle.hg_tree.specs.Memory.{history_of};
 ghost use Rattle.hg_tree.specs.declared.thing.Thing.TheVariants as a_thing;
@@ -53,6 +53,7 @@ fn place(alloc: Global, tree: &mut MemTree, file: u32, changed: Time) -> Result<
     requires time { (changed.seconds ≡ pos 1000) × (changed.nanos ≡ 0) }
     ensures files { OnOk result (AreFiles file (now (history_of tree.old)).things → AreFiles (file + 1) (now (history_of tree.new)).things) }
     ensures clock { OnOk result ((now (history_of tree.new)).clock ≡ (now (history_of tree.old)).clock) }
+    ensures given { OnOk result (IsGiven tree.old → IsGiven tree.new) }
 {
     if !is_on_disk(file) {
         return Ok(());
@@ -65,7 +66,8 @@ fn place(alloc: Global, tree: &mut MemTree, file: u32, changed: Time) -> Result<
 /// The working copy of so many directories.
 pub(crate) fn working_copy(alloc: Global, dirs: u32) -> Result<MemTree, OutOfMemory>
     requires { dirs ≤ 2000 }
-    ensures { IfOk result (λ tree. IsCopy dirs (now (history_of tree))) }
+    ensures copy { IfOk result (λ tree. IsCopy dirs (now (history_of tree))) }
+    ensures given { IfOk result IsGiven }
 {
     let mut tree = MemTree::new(alloc, CLOCK)?;
     for file in 0..WIDTH * dirs {

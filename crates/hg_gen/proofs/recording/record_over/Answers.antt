@@ -1,8 +1,9 @@
-use Rattle.std.proofs.Common.{◌≡◌, ◌∙◌, Some, sym, ap}
+use Rattle.std.proofs.Common.{◌≡◌, ◌∙◌, [], Some, sym, ap}
 use Rattle.std.specs.Prelude.{codes}
 use Rattle.hg_docket.specs.Docket.{Contents, empty_docket}
 use Rattle.hg_docket.specs.Number.{next_name}
 use Rattle.hg_gen.proofs.Entering.{first_name, recorded}
+use Rattle.hg_save.proofs.Encodings.{goes_over}
 use Rattle.hg_gen.proofs.recording.record_over.Goals as goal
 
 pub returns-in-Ok : goal.returns-in-Ok
@@ -15,6 +16,7 @@ returns-in-Ok c =
       table = c.in-Ok.ensures.reads.found;
       id = id;
       reads = c.in-Ok.ensures.reads.is;
+      over = goes_over [] c.fill.new.mixed c.in-Ok.encoded (ap (λ (d : Contents). d.id) docket) c.in-Ok.ensures.written c.in-Ok.ensures.reads;
       is = recorded c.args.dirs _ _ _ _ _ _ c.requires.empty.docket c.requires.empty.rows c.in_ok-mixed.ensures.table c.set_ids.ensures.table c.in_ok-fill.ensures.head.p1
           c.in_ok-fill.ensures.head.p2 c.in_ok-fill.ensures.head.hash c.in_ok-fill.ensures.entries c.in-Ok.ensures.reads.same;
     }

@@ -2,19 +2,20 @@ use Rattle.std.proofs.Common.{◌≡◌, ◌∙◌, ◌+◌, ◌<◌, ◌++◌, 
 use Rattle.std.specs.Prelude.{codes}
 use Rattle.std.proofs.lemmas.Result.{on_ok_weaker}
 use Rattle.hg_gen.specs.Copy.{text_of}
-use Rattle.hg_gen.specs.Recorded.{AreContents, files_of, is_in_parent}
+use Rattle.hg_gen.specs.Manifest.{is_in_parent}
+use Rattle.hg_gen.specs.Recorded.{AreContents, files_of}
 use Rattle.hg_gen.proofs.Keeping.{contents_name, file_placed, with_more, without_more}
 use Rattle.hg_shelf.specs.History.{Files}
 use Rattle.hg_gen.proofs.storing.place_contents.Goals as goal
 
-pub returns-then-not-is_in_parent : goal.returns-then-not-is_in_parent
-returns-then-not-is_in_parent c =
+pub returns-then-not-is_in_parent-clause-files : goal.returns-then-not-is_in_parent-clause-files
+returns-then-not-is_in_parent-clause-files c =
     let small : c.args.file < 32000 = omega (arith, c.requires) in
     let gone : is_in_parent c.args.file ≡ false = search rules in
     λ upto. without_more c.args.file (files_of c.args.shelf.now) upto (omega arith) gone
 
-pub returns : goal.returns
-returns c =
+pub returns-clause-files : goal.returns-clause-files
+returns-clause-files c =
     let small : c.args.file < 32000 = omega (arith, c.requires) in
     let name : c.as_str-2.result.now ≡ contents_name c.args.file =
     c.as_str-2.ensures.value ∙ c.in_ok-name.ensures ∙ ap (λ (n : List ℕ). codes "plain/f-" ++ n) (c.as_str.ensures.value ∙ c.in_ok-contents.ensures) in

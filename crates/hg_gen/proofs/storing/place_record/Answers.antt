@@ -6,8 +6,8 @@ use Rattle.hg_gen.proofs.Keeping.{file_placed, put_three}
 use Rattle.hg_shelf.specs.Memory.{with_file}
 use Rattle.hg_gen.proofs.storing.place_record.Goals as goal
 
-pub returns : goal.returns
-returns c =
+pub returns-clause-files : goal.returns-clause-files
+returns-clause-files c =
     on_ok_weaker c.place-3.result
     (λ is.
     put_three c.args.encoded.now c.args.manifest.now (files_of c.args.shelf.now) (files_of c.place.new.self) (files_of c.place-2.new.self) (files_of c.place-3.new.self)

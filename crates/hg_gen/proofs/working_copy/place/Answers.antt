@@ -3,7 +3,7 @@ use Rattle.std.proofs.lemmas.Bool.{cond-true}
 use Rattle.std.proofs.lemmas.Result.{on_ok_weaker}
 use Rattle.hg_base.specs.declared.time.Time.{Time}
 use Rattle.hg_gen.specs.Copy.{AreFiles, bytes_of, is_exec, is_on_disk, path_of, placed, seconds}
-use Rattle.hg_gen.proofs.Placing.{gone_more, placed_now, put_more}
+use Rattle.hg_gen.proofs.Placing.{given_more, gone_more, placed_now, put_more}
 use Rattle.hg_tree.proofs.Stable.{time_same}
 use Rattle.hg_tree.specs.Change.{after_place, by_others}
 use Rattle.hg_tree.specs.History.{now}
@@ -41,4 +41,5 @@ returns c =
           (put_more c.args.file _ upto (omega arith) thing (cond-true (is_on_disk c.args.file) (Some (placed thing)) None there) refl))
           c.place.ensures.ok;
       clock = on_ok_weaker c.place.result (λ is. ap (λ (m : Moment). m.clock) (now_is is)) c.place.ensures.ok;
+      given = on_ok_weaker c.place.result (λ is upto. given_more c.args.tree.now c.place.new.self _ is upto) c.place.ensures.ok;
     }
