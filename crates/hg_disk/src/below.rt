@@ -11,12 +11,13 @@ use std::io::Error;
 use std::rt::{Env, Files};
 
 /// The path of a file below `.hg`, which is `.hg` itself for the empty name. Want of memory for it is a failure of the shelf, whose calls
-/// have no other.
+/// have no other. The tree finds out that the shelf was asked.
 pub(crate) fn below_hg<R: Files + Env + AllocGlobal>(
     rt: &R,
     root: &Root,
     name: &str,
 ) -> Result<String, Reason> {
+    set_asked(root);
     let joined = match &root.named {
         Some(named) if named.locked.get() => {
             stand(rt, named)?;
@@ -40,6 +41,12 @@ pub(crate) fn was_found(root: &Root) -> bool {
 pub(crate) fn set_locked(root: &Root, locked: bool) {
     if let Some(named) = &root.named {
         named.locked.set(locked);
+    }
+}
+
+fn set_asked(root: &Root) {
+    if let Some(named) = &root.named {
+        named.asked.set(true);
     }
 }
 

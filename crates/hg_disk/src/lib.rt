@@ -21,6 +21,7 @@ mod failure;
 mod holder;
 mod lock_file;
 mod look;
+mod met;
 mod opened;
 mod place;
 mod probe;

@@ -1,8 +1,9 @@
 //! The folder that the process stands in, and how it gets to another one below the root.
 //!
 //! A folder is gone into by its name in the folder above, where a look at that name showed a directory and a look at `.` behind it shows
-//! the same device and inode; so no link is ever followed. Where one goes up, by one folder or by many, `.` has to be at last what it was on
-//! the way down. Where it isn't, or where a name has gone meanwhile, the way begins at the root again.
+//! the same device and inode; so no link is ever followed. Of a folder that one went further down from the look serves again, as long as
+//! nothing below `.hg` is asked for, which each command begins with. Where one goes up, by one folder or by many, `.` has to be at last
+//! what it was on the way down. Where it isn't, or where a name has gone meanwhile, the way begins at the root again.
 
 ghost use Rattle.std.specs.Prelude.{IfOk, IfSome, OnErr, IsTrue, length};
 ghost use Rattle.hg_base.specs.Reads.{IsWithin};
@@ -14,6 +15,7 @@ use crate::contents::read_name;
 use crate::disk::is_absence;
 use crate::failure::{FirstFailure, Reason};
 use crate::look::{NO_TIME, stat_of};
+use crate::met::Met;
 use crate::probe::{FOLDER, PROBE, lowest, probe_name};
 use crate::putting::{Made, Wanted, make_step, put_name, unlink_name};
 use crate::root::Named;
@@ -43,6 +45,7 @@ pub(crate) struct Place<'a, R: Files + Env> {
     home: &'a Named,
     way: Way,
     seen: Seen,
+    met: Met,
     made: Option<Made<R::File>>,
     pub(crate) failure: FirstFailure,
 }
@@ -73,11 +76,14 @@ impl Seen {
     }
 }
 
-// The directory of a path, empty for the root, and the name in it.
+// The directory of a path, empty for the root, and the name in it. (Each look parts its path: by bytes that is quicker than by characters.)
 fn parted(path: &str) -> (&str, &str) {
-    match path.rsplit_once('/') {
-        Some((dir, name)) => (dir, name),
-        None => ("", path),
+    let Some(at) = path.as_bytes().iter().rposition(|byte| *byte == b'/') else {
+        return ("", path);
+    };
+    match (path.get(..at), path.get(at.saturating_add(1)..)) {
+        (Some(dir), Some(name)) => (dir, name),
+        _ => ("", path),
     }
 }
 
@@ -100,6 +106,7 @@ impl<'a, R: Files + Env + AllocGlobal> Place<'a, R> {
                 name: String::new(rt.alloc()),
                 spot: None,
             },
+            met: Met::new(rt.alloc()),
             made: None,
             failure: FirstFailure::new(),
         }
@@ -125,8 +132,12 @@ impl<'a, R: Files + Env + AllocGlobal> Place<'a, R> {
         Err(self.unreached(dir))
     }
 
-    // Where the shelf has moved the process meanwhile, the way is lost.
+    // Where the shelf has moved the process meanwhile, the way is lost; and where it was asked for anything, a command may have begun since then,
+    // for which folders are looked at anew.
     fn take_notice(&mut self) {
+        if self.home.asked.replace(false) {
+            self.met.forget_all();
+        }
         if self.home.moved.replace(false) {
             self.way.lose();
             self.seen.spot = None;
@@ -338,10 +349,15 @@ impl<'a, R: Files + Env + AllocGlobal> Place<'a, R> {
         let Some(spot) = self.spot_at(name)? else {
             return Ok(Gone::Absent);
         };
+        self.met.keep(self.way.text(), self.way.spot());
         if self.way.enter(name, spot).is_err() {
             return Err(self.failed(name, Reason::Words("out of memory")));
         }
-        match self.step(name) {
+        let stepped = self.step(name);
+        if self.way.is_lost() {
+            self.met.forget(self.way.text());
+        }
+        match stepped {
             Ok(()) => Ok(Gone::There),
             Err(error) if error.kind() == ErrorKind::PermissionDenied => Ok(self.stay_out()),
             Err(error) if is_absence(&error) => Ok(Gone::There),
@@ -358,9 +374,12 @@ impl<'a, R: Files + Env + AllocGlobal> Place<'a, R> {
         Gone::Shut
     }
 
-    // Which directory a name is, no link followed.
+    // Which directory a name is, no link followed: what a look showed there before, if one did.
     fn spot_at(&mut self, name: &str) -> Result<Option<Spot>, Failed> {
         if let Some(spot) = self.seen.at(name) {
+            return Ok(Some(spot));
+        }
+        if let Some(spot) = self.met.at(self.way.text(), name) {
             return Ok(Some(spot));
         }
         match fs::symlink_metadata(self.rt, name) {

@@ -28,6 +28,8 @@ pub(crate) struct Named {
     pub(crate) within: Cell<bool>,
     /// Whether the shelf has moved the process since the tree last went anywhere.
     pub(crate) moved: Cell<bool>,
+    /// Whether the shelf was asked for a file since the tree last went anywhere.
+    pub(crate) asked: Cell<bool>,
 }
 
 impl Root {
@@ -61,6 +63,7 @@ fn find_name<R: Files + Env + AllocGlobal>(rt: &R) -> io::Result<Option<Named>> 
         locked: Cell::new(false),
         within: Cell::new(false),
         moved: Cell::new(false),
+        asked: Cell::new(false),
     }))
 }
 

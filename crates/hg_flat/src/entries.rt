@@ -1,7 +1,10 @@
 //! Entries that a listing asks for.
 
-ghost use Rattle.std.specs.Prelude.{◌≡◌, Bool, ℕ, List, IsTrue};
+ghost use Rattle.std.specs.Prelude.{◌≡◌, Bool, ℕ, List, IsTrue, option_map};
+ghost use Rattle.hg_base.specs.PathText.{joined};
 ghost use Rattle.hg_flat.specs.Passed.{Known};
+
+use hg_base::PathRef;
 
 /// Which paths have an entry, and what was seen before a listing: at which of them no directory stood, so that it passes them over, and at which paths
 /// one did, so that it goes into them without a look.
@@ -16,10 +19,10 @@ pub trait Entries {
     fn has(&self, path: &str, next: &mut usize) -> bool
         ensures { result ≡ kept self.now path.now };
 
-    /// Whether a path with an entry needs no look; an answer no is always right.
-    fn was_passed(&self, path: &str, next: &mut usize) -> bool
-        ensures passed { IsTrue result → IsTrue ((known self.now).none path.now) }
-        ensures kept { IsTrue result → IsTrue (kept self.now path.now) };
+    /// Whether the path of a name in a directory, where no directory is the root, has an entry and needs no look; an answer no is always right.
+    fn was_passed(&self, dir: Option<PathRef<'_>>, name: &str, next: &mut usize) -> bool
+        ensures passed { IsTrue result → IsTrue ((known self.now).none (joined (option_map (λ d. d.text.now) dir.entry) name.now)) }
+        ensures kept { IsTrue result → IsTrue (kept self.now (joined (option_map (λ d. d.text.now) dir.entry) name.now)) };
 
     /// Whether a directory was seen at a path, so that it is listed without a look; an answer no is always right.
     fn was_entered(&self, path: &str, next: &mut usize) -> bool

@@ -114,7 +114,7 @@ impl Entries for Flat {
         true
     }
 
-    fn was_passed(&self, _path: &str, _next: &mut usize) -> bool {
+    fn was_passed(&self, _dir: Option<PathRef<'_>>, _name: &str, _next: &mut usize) -> bool {
         false
     }
 

@@ -110,8 +110,7 @@ fn kind_at<T: Tree, K: Entries>(
     Ok(kind_of_stat(found))
 }
 
-// What stands at a path or below it. A path that was passed isn't asked again, and nothing stands below it; nor is one asked at which a directory was
-// seen, and what stands below it is listed.
+// What stands at a path or below it. A path isn't asked at which a directory was seen, and what stands below it is listed.
 #[cycle(listing)]
 fn look<T: Tree, K: Entries>(
     alloc: Global,
@@ -145,9 +144,6 @@ fn look<T: Tree, K: Entries>(
     ensures same { state_asked matcher.new ≡ state_asked matcher.old }
     ensures cause { HasListingCause (T.faults tree.old) (T.faults tree.new) result }
 {
-    if entries.was_passed(path.as_str(), next) {
-        return Ok(());
-    }
     let Some(kind) = kind_at(tree, entries, path.as_ref(), next)? else {
         return Ok(());
     };
@@ -175,6 +171,7 @@ fn look<T: Tree, K: Entries>(
     }
 }
 
+// What stands at the names of a directory or below. A path that was passed isn't asked again, nor is a text made of it, and nothing stands below it.
 #[cycle(listing)]
 fn look_each<T: Tree, K: Entries>(
     alloc: Global,
@@ -214,7 +211,11 @@ fn look_each<T: Tree, K: Entries>(
     ensures cause { HasListingCause (T.faults tree.old) (T.faults tree.new) result }
 {
     for name in names {
-        let path = Path::within(alloc, dir, name.as_str())?;
+        let name = name.as_str();
+        if entries.was_passed(dir, name, next) {
+            continue;
+        }
+        let path = Path::within(alloc, dir, name)?;
         look(
             alloc, tree, entries, path, matcher, ignored, wanted, next, rows,
         )?;

@@ -27,7 +27,8 @@ use Rattle.hg_mixed.specs.Edits.{IsFormed}
 use Rattle.hg_mixed.specs.Held.{Held, table}
 use Rattle.hg_mixed.specs.Lists.{or_root}
 use Rattle.hg_mixed.specs.declared.child.Child.{Child}
-use Rattle.hg_mixed.specs.Gathered.{AreGathered, AreLeft, Gathers, Shows, has_line, is_done, is_left, is_recorded, path_of, paths_of}
+use Rattle.hg_mixed.specs.declared.line.Line.{Line}
+use Rattle.hg_mixed.specs.Gathered.{AreGathered, AreLeft, Gathers, Shows, has_line, is_done, is_left, is_recorded, line_of, path_of, paths_of}
 use Rattle.hg_mixed.proofs.Ordered.{distinct_moved}
 
 -- ---- lists
@@ -52,7 +53,7 @@ distinct_append (x ∷ xs) ys own more apart = (
   distinct_append xs ys own.1 more (λ p is. apart p (or_right (bytes_eq p x) (list_any (bytes_eq p) xs) is)),
 )
 
-paths_append : (a b : List Child) → paths_of (a ++ b) ≡ paths_of a ++ paths_of b
+paths_append : (a b : List Line) → paths_of (a ++ b) ≡ paths_of a ++ paths_of b
 paths_append [] b = refl
 paths_append (x ∷ a) b = ap (λ (l : List (List ℕ)). path_of x ∷ l) (paths_append a b)
 
@@ -64,15 +65,15 @@ module _ (held : Held) where
   abbrev Recorded : List ℕ → Type 0
   Recorded p = is_recorded (table held) p ≡ true
 
-  abbrev Sound : (List ℕ → Bool) → Child → Type 0
+  abbrev Sound : (List ℕ → Bool) → Line → Type 0
   Sound test row = (test (path_of row) ≡ true) × (is_recorded (table held) (path_of row) ≡ true) × Shows held row
 
-  weaker : (s t : List ℕ → Bool) → ((p : List ℕ) → Recorded p → s p ≡ true → t p ≡ true) → (rows : List Child) → AllByRecursion (Sound s) rows → AllByRecursion (Sound t) rows
+  weaker : (s t : List ℕ → Bool) → ((p : List ℕ) → Recorded p → s p ≡ true → t p ≡ true) → (rows : List Line) → AllByRecursion (Sound s) rows → AllByRecursion (Sound t) rows
   weaker s t goes [] all = tt
   weaker s t goes (row ∷ rows) all = ((goes (path_of row) all.0.1 all.0.0, all.0.1, all.0.2), weaker s t goes rows all.1)
 
   -- what is among the rows passes the test
-  pub passes : (s : List ℕ → Bool) (rows : List Child) → AllByRecursion (Sound s) rows → (p : List ℕ) → list_any (bytes_eq p) (paths_of rows) ≡ true → s p ≡ true
+  pub passes : (s : List ℕ → Bool) (rows : List Line) → AllByRecursion (Sound s) rows → (p : List ℕ) → list_any (bytes_eq p) (paths_of rows) ≡ true → s p ≡ true
   passes s [] all p is = absurd (true≢false (sym is))
   passes s (row ∷ rows) all p is = elim (or_cases (bytes_eq p (path_of row)) (list_any (bytes_eq p) (paths_of rows)) is) [
     | inl here ↦ ap s (same_bytes p (path_of row) here) ∙ all.0.0
@@ -84,7 +85,7 @@ module _ (held : Held) where
   gathered_none s none = record { own = tt; each = tt; all = λ p is there. absurd (none p is there) }
 
   -- rows of a path each, and others, where no path passes both tests
-  pub gathered_both : (s t u : List ℕ → Bool) (a b : List Child) → AreGathered held s a → AreGathered held t b
+  pub gathered_both : (s t u : List ℕ → Bool) (a b : List Line) → AreGathered held s a → AreGathered held t b
       → ((p : List ℕ) → s p ≡ true → t p ≡ true → ⊥)
       → ((p : List ℕ) → Recorded p → s p ≡ true → u p ≡ true)
       → ((p : List ℕ) → Recorded p → t p ≡ true → u p ≡ true)
@@ -103,7 +104,7 @@ module _ (held : Held) where
         ];
   }
 
-  pub gathered_same : (s t : List ℕ → Bool) (rows : List Child) → ((p : List ℕ) → Recorded p → s p ≡ true → t p ≡ true) → ((p : List ℕ) → Recorded p → t p ≡ true → s p ≡ true)
+  pub gathered_same : (s t : List ℕ → Bool) (rows : List Line) → ((p : List ℕ) → Recorded p → s p ≡ true → t p ≡ true) → ((p : List ℕ) → Recorded p → t p ≡ true → s p ≡ true)
       → AreGathered held s rows → AreGathered held t rows
   gathered_same s t rows there back are = record {
     own = are.own;
@@ -117,15 +118,15 @@ module _ (held : Held) where
   some_map f None = refl
   some_map f (Some x) = refl
 
-  line_is : (child : Child) → Shows held child → has_line child ≡ is_recorded (table held) (path_of child)
+  line_is : (child : Line) → Shows held child → has_line child ≡ is_recorded (table held) (path_of child)
   line_is child shows =
       ap (λ (b : Bool). b || is_some child.cache) (sym (some_map view child.entry) ∙ ap is_some shows.entry)
       ∙ ap (λ (b : Bool). is_some ((table held).entries (path_of child)) || b) (sym (some_map stamp_view child.cache) ∙ ap is_some shows.cache)
 
-  abbrev own_test : Child → List ℕ → Bool
+  abbrev own_test : Line → List ℕ → Bool
   own_test child p = bytes_eq p (path_of child)
 
-  own_by : (child : Child) → Shows held child → (b : Bool) → is_recorded (table held) (path_of child) ≡ b → AreGathered held (own_test child) (cond b (child ∷ []) [])
+  own_by : (child : Line) → Shows held child → (b : Bool) → is_recorded (table held) (path_of child) ≡ b → AreGathered held (own_test child) (cond b (child ∷ []) [])
   unfolding IsDistinct
   own_by child shows true is = record {
     own = (tt, tt);
@@ -135,12 +136,12 @@ module _ (held : Held) where
   own_by child shows false is =
       gathered_none (own_test child) (λ p here there. both_ways (is_recorded (table held) (path_of child)) is (sym (ap (is_recorded (table held)) (same_bytes p (path_of child) here)) ∙ there))
 
-  pub gathered_own : (child : Child) → Shows held child → AreGathered held (own_test child) (cond (has_line child) (child ∷ []) [])
+  pub gathered_own : (child : Line) → Shows held child → AreGathered held (own_test child) (cond (has_line child) (child ∷ []) [])
   gathered_own child shows =
       subst (λ (b : Bool). AreGathered held (own_test child) (cond b (child ∷ []) [])) (sym (line_is child shows))
       (own_by child shows (is_recorded (table held) (path_of child)) refl)
 
-  pub shows_child : (dir : Option (List ℕ)) (child : Child) → IsChild held dir (shown_child child) → Shows held child
+  pub shows_child : (dir : Option (List ℕ)) (child : Child) → IsChild held dir (shown_child child) → Shows held (line_of child)
   shows_child dir child is = record { entry = is.entry; source = is.source; cache = is.cache }
 
   -- ---- what stands below
@@ -176,11 +177,11 @@ module _ (held : Held) where
         )
 
     -- nothing is recorded below a path without children
-    pub below_none : (child : Child) → IsChild held (parent_of (path_of child)) (shown_child child) → child.has_kids ≡ false → AreGathered held (is_below (path_of child)) []
-    below_none child is none = gathered_none (is_below (path_of child)) (λ p below there.
-        let kid = at_kid (Some (path_of child)) p below (recorded_node p there) in
-        let never : (k : List ℕ) → parent_of k ≡ Some (path_of child) → (table held).nodes k ≡ false =
-        subst (λ (b : Bool). MatchBool b ((k : List ℕ) × ((table held).nodes k ≡ true) × (parent_of k ≡ Some (path_of child))) ((k : List ℕ) → parent_of k ≡ Some (path_of child) → (table held).nodes k ≡ false)) none is.kids in
+    pub below_none : (child : Child) → IsChild held (parent_of child.path.text.now) (shown_child child) → child.has_kids ≡ false → AreGathered held (is_below child.path.text.now) []
+    below_none child is none = gathered_none (is_below child.path.text.now) (λ p below there.
+        let kid = at_kid (Some child.path.text.now) p below (recorded_node p there) in
+        let never : (k : List ℕ) → parent_of k ≡ Some child.path.text.now → (table held).nodes k ≡ false =
+        subst (λ (b : Bool). MatchBool b ((k : List ℕ) × ((table held).nodes k ≡ true) × (parent_of k ≡ Some child.path.text.now)) ((k : List ℕ) → parent_of k ≡ Some child.path.text.now → (table held).nodes k ≡ false)) none is.kids in
         both_ways ((table held).nodes kid.0) (never kid.0 kid.1) kid.2)
 
     -- two nodes of one directory are one where something is at or below both
@@ -250,7 +251,7 @@ module _ (held : Held) where
       ]
 
       -- all children are left
-      pub left_first : (children : List ChildData) (rows : List Child) → AreChildren held dir children → AreLeft held dir children rows rows
+      pub left_first : (children : List ChildData) (rows : List Line) → AreChildren held dir children → AreLeft held dir children rows rows
       left_first children rows are = record {
         sorted = are.ascending;
         each = are.each;
@@ -265,7 +266,7 @@ module _ (held : Held) where
       }
 
       -- none is left
-      pub left_done : (left : List ChildData) (old new : List Child) → left ≡ [] → AreLeft held dir left old new → Gathers held (is_above dir) old new
+      pub left_done : (left : List ChildData) (old new : List Line) → left ≡ [] → AreLeft held dir left old new → Gathers held (is_above dir) old new
       left_done left old new none are =
           let g = are.gathered in (
             g.0,
@@ -276,32 +277,32 @@ module _ (held : Held) where
                 g.2,
           )
 
-      module _ (child : Child) (left rest : List ChildData) (split : left ≡ shown_child child ∷ rest) (old now : List Child) (are : AreLeft held dir left old now) where
+      module _ (child : Child) (left rest : List ChildData) (split : left ≡ shown_child child ∷ rest) (old now : List Line) (are : AreLeft held dir left old now) where
         here : AreLeft held dir (shown_child child ∷ rest) old now
         here = subst (λ (l : List ChildData). AreLeft held dir l old now) split are
 
-        pub child_is : IsChild held (parent_of (path_of child)) (shown_child child)
+        pub child_is : IsChild held (parent_of child.path.text.now) (shown_child child)
         child_is = subst (λ (d : Option (List ℕ)). IsChild held d (shown_child child)) (sym here.each.0.parent) here.each.0
 
-        pub child_short : length (path_of child) ≤ 65535
-        child_short = (path_parts (path_of child) (good_child (shown_child child) here.each.0)).short
+        pub child_short : length child.path.text.now ≤ 65535
+        child_short = (path_parts child.path.text.now (good_child (shown_child child) here.each.0)).short
 
-        pub child_longer : length (or_root dir) < length (path_of child)
+        pub child_longer : length (or_root dir) < length child.path.text.now
         child_longer = longer dir here.each.0.parent
           where
-            longer : (d : Option (List ℕ)) → parent_of (path_of child) ≡ d → length (or_root d) < length (path_of child)
-            longer None e = path_some (path_of child) (good_child (shown_child child) here.each.0)
-            longer (Some d) e = parent_length d (path_of child) e
+            longer : (d : Option (List ℕ)) → parent_of child.path.text.now ≡ d → length (or_root d) < length child.path.text.now
+            longer None e = path_some child.path.text.now (good_child (shown_child child) here.each.0)
+            longer (Some d) e = parent_length d child.path.text.now e
 
         -- one child more
-        pub left_more : (own new : List Child) → own ≡ now ++ cond (has_line child) (child ∷ []) [] → Gathers held (is_below (path_of child)) own new → AreLeft held dir rest old new
+        pub left_more : (own new : List Line) → own ≡ now ++ cond (has_line (line_of child)) (line_of child ∷ []) [] → Gathers held (is_below child.path.text.now) own new → AreLeft held dir rest old new
         left_more own new is below =
             let c : ChildData = shown_child child in
             let g = here.gathered in
-            let mine : List Child = cond (has_line child) (child ∷ []) [] in
+            let mine : List Line = cond (has_line (line_of child)) (line_of child ∷ []) [] in
             let up : AllByRecursion (λ y. slice_cmp nat_cmp c.path y ≡ Less) (map (λ x. x.path) rest) = sorted_head (slice_cmp nat_cmp) c.path (map (λ x. x.path) rest) here.sorted in
             let within : AreGathered held (is_within c.path) (mine ++ below.0) =
-            gathered_both (own_test child) (is_below c.path) (is_within c.path) mine below.0 (gathered_own child (shows_child dir child here.each.0)) below.2
+            gathered_both (own_test (line_of child)) (is_below c.path) (is_within c.path) mine below.0 (gathered_own (line_of child) (shows_child dir child here.each.0)) below.2
             (λ p at under. let same = same_bytes p c.path at in both_ways (is_below c.path c.path) (below_itself_not c.path) (sym (ap (is_below c.path) same) ∙ under))
             (λ p there at. or_left (bytes_eq p c.path) (is_below c.path p) at)
             (λ p there under. or_right (bytes_eq p c.path) (is_below c.path p) under)
@@ -311,7 +312,7 @@ module _ (held : Held) where
               each = here.each.1;
               gathered = (
                 g.0 ++ (mine ++ below.0),
-                below.1 ∙ ap (λ (l : List Child). l ++ below.0) (is ∙ ap (λ (l : List Child). l ++ mine) g.1)
+                below.1 ∙ ap (λ (l : List Line). l ++ below.0) (is ∙ ap (λ (l : List Line). l ++ mine) g.1)
                     ∙ append_assoc (old ++ g.0) mine below.0 ∙ append_assoc old g.0 (mine ++ below.0),
                 gathered_both (is_done dir (c ∷ rest)) (is_within c.path) (is_done dir rest) g.0 (mine ++ below.0) g.2 within
                     (λ p done at. both_ways (is_within c.path p || is_left rest p) (not-true (is_within c.path p || is_left rest p) (and_parts (is_above dir p) (not (is_left (c ∷ rest) p)) done).1) (or_left (is_within c.path p) (is_left rest p) at))
@@ -341,17 +342,17 @@ module _ (held : Held) where
 -- ---- in order
 
 module _ (held : Held) where
-  pub gathered_moved : (test : List ℕ → Bool) (a b : List Child) → IsPermutation a b → AreGathered held test a → AreGathered held test b
+  pub gathered_moved : (test : List ℕ → Bool) (a b : List Line) → IsPermutation a b → AreGathered held test a → AreGathered held test b
   gathered_moved test a b moved are =
       let paths : IsPermutation (paths_of a) (paths_of b) = IsPermutation-map path_of a b moved in
-      let Sound : Child → Type 0 = λ row. (test (path_of row) ≡ true) × (is_recorded (table held) (path_of row) ≡ true) × Shows held row in
+      let Sound : Line → Type 0 = λ row. (test (path_of row) ≡ true) × (is_recorded (table held) (path_of row) ≡ true) × Shows held row in
       record {
         own = distinct_moved (paths_of a) (paths_of b) paths are.own;
         each = recursion_from_All Sound b (All-permutation Sound a b moved (All-from_recursion Sound a are.each));
         all = λ p is there. sym (list_any-IsPermutation (bytes_eq p) (paths_of a) (paths_of b) paths) ∙ are.all p is there;
       }
 
-  pub gathered_all : (test : List ℕ → Bool) (none old new : List Child) → none ≡ [] → Gathers held test none new → IsPermutation new old → AreGathered held test old
+  pub gathered_all : (test : List ℕ → Bool) (none old new : List Line) → none ≡ [] → Gathers held test none new → IsPermutation new old → AreGathered held test old
   gathered_all test none old new empty g moved =
-      let whole : new ≡ g.0 = g.1 ∙ ap (λ (l : List Child). l ++ g.0) empty in
+      let whole : new ≡ g.0 = g.1 ∙ ap (λ (l : List Line). l ++ g.0) empty in
       gathered_moved test new old moved (subst (AreGathered held test) (sym whole) g.2)

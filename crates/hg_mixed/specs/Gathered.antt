@@ -12,36 +12,41 @@ use Rattle.hg_entry.specs.Table.{Table}
 use Rattle.hg_mixed.specs.Children.{ChildData, IsChild}
 use Rattle.hg_mixed.specs.Held.{Held, table}
 use Rattle.hg_mixed.specs.declared.child.Child.{Child}
+use Rattle.hg_mixed.specs.declared.line.Line.{Line}
 
 -- a path has an entry, or is a cached directory
 abbrev pub is_recorded : Table → List ℕ → Bool
 is_recorded table path = is_some (table.entries path) || is_some (table.caches path)
 
-abbrev pub path_of : Child → List ℕ
-path_of child = child.path.text.now
+-- what is recorded of a child
+abbrev pub line_of : Child → Line
+line_of child = record { path = child.path; entry = child.entry; source = child.source; cache = child.cache }
 
-abbrev pub paths_of : List Child → List (List ℕ)
+abbrev pub path_of : Line → List ℕ
+path_of line = line.path.text.now
+
+abbrev pub paths_of : List Line → List (List ℕ)
 paths_of rows = map path_of rows
 
--- a child shows what is held of its path
-pub record Shows (held : Held) (child : Child) : Type 0 where
-  pub entry : option_map view child.entry ≡ (table held).entries (path_of child)
-  pub source : option_map (λ s. s.text.now) child.source ≡ (table held).sources (path_of child)
-  pub cache : option_map stamp_view child.cache ≡ (table held).caches (path_of child)
+-- it says what is held of its path
+pub record Shows (held : Held) (line : Line) : Type 0 where
+  pub entry : option_map view line.entry ≡ (table held).entries (path_of line)
+  pub source : option_map (λ s. s.text.now) line.source ≡ (table held).sources (path_of line)
+  pub cache : option_map stamp_view line.cache ≡ (table held).caches (path_of line)
 
--- it has an entry or a cache
-abbrev pub has_line : Child → Bool
-has_line child = is_some child.entry || is_some child.cache
+-- there is an entry or a cache
+abbrev pub has_line : Line → Bool
+has_line line = is_some line.entry || is_some line.cache
 
 -- one row for each path that passes a test and has an entry or a cache
-pub record AreGathered (held : Held) (test : List ℕ → Bool) (rows : List Child) : Type 0 where
+pub record AreGathered (held : Held) (test : List ℕ → Bool) (rows : List Line) : Type 0 where
   pub own : IsDistinct bytes_eq (paths_of rows)
   pub each : AllByRecursion (λ row. (test (path_of row) ≡ true) × (is_recorded (table held) (path_of row) ≡ true) × Shows held row) rows
   pub all : (path : List ℕ) → test path ≡ true → is_recorded (table held) path ≡ true → list_any (bytes_eq path) (paths_of rows) ≡ true
 
 -- such rows were put behind others
-abbrev pub Gathers : Held → (List ℕ → Bool) → List Child → List Child → Type 0
-Gathers held test old new = (rows : List Child) × (new ≡ old ++ rows) × AreGathered held test rows
+abbrev pub Gathers : Held → (List ℕ → Bool) → List Line → List Line → Type 0
+Gathers held test old new = (rows : List Line) × (new ≡ old ++ rows) × AreGathered held test rows
 
 -- a path stands at one of some children or below it
 abbrev pub is_left : List ChildData → List ℕ → Bool
@@ -52,7 +57,7 @@ abbrev pub is_done : Option (List ℕ) → List ChildData → List ℕ → Bool
 is_done dir left path = is_above dir path && not (is_left left path)
 
 -- some children of a directory are left, and of the rest the rows were gathered
-pub record AreLeft (held : Held) (dir : Option (List ℕ)) (left : List ChildData) (old new : List Child) : Type 0 where
+pub record AreLeft (held : Held) (dir : Option (List ℕ)) (left : List ChildData) (old new : List Line) : Type 0 where
   pub sorted : IsStrictlySortedBy (slice_cmp nat_cmp) (map (λ child. child.path) left)
   pub each : AllByRecursion (IsChild held dir) left
   pub gathered : Gathers held (is_done dir left) old new

@@ -1,4 +1,4 @@
-//! All nodes of a table that have an entry or are cached directories, each as the child that it is of its directory.
+//! All nodes of a table that have an entry or are cached directories.
 
 ghost use Rattle.std.specs.Prelude.{◌≡◌, ◌++◌, ◌∷◌, [], if◌then◌else◌, None, OnOk, IfOk, option_map};
 ghost use Rattle.std.specs.List.Sorted.{IsStrictlySortedBy};
@@ -9,26 +9,29 @@ ghost use Rattle.hg_base.specs.Within.{is_above};
 ghost use Rattle.hg_mixed.specs.Child.{shown_child};
 ghost use Rattle.hg_mixed.specs.Children.{IsChild};
 ghost use Rattle.hg_mixed.specs.Edits.{IsFormed};
-ghost use Rattle.hg_mixed.specs.Gathered.{AreGathered, Gathers, has_line, path_of, paths_of};
+ghost use Rattle.hg_mixed.specs.Gathered.{AreGathered, Gathers, has_line, line_of, path_of, paths_of};
 ghost use Rattle.hg_mixed.specs.Held.{table};
 
 use crate::child::Child;
+use crate::line::Line;
 use crate::mixed::Mixed;
 use hg_base::{OutOfMemory, PathRef};
 use std::alloc::Global;
 
 fn is_recorded(child: &Child<'_>) -> bool
-    ensures { result ≡ has_line child.now }
+    ensures { result ≡ has_line (line_of child.now) }
 {
     child.entry.is_some() || child.cache.is_some()
 }
 
 // Takes a child that has a line of its own.
-fn add_own<'t>(rows: &mut Vec<Child<'t>>, child: Child<'t>) -> Result<(), OutOfMemory>
-    ensures { OnOk result (rows.new.items ≡ rows.old.items ++ (if has_line child.entry then child.entry ∷ [] else [])) }
+fn add_own<'t>(rows: &mut Vec<Line<'t>>, child: &Child<'t>) -> Result<(), OutOfMemory>
+    ensures { OnOk
+        result
+        (rows.new.items ≡ rows.old.items ++ (if has_line (line_of child.now) then line_of child.now ∷ [] else [])) }
 {
-    if is_recorded(&child) {
-        rows.push(child)?;
+    if is_recorded(child) {
+        rows.push(Line::of(child))?;
     }
     Ok(())
 }
@@ -38,11 +41,11 @@ fn add_own<'t>(rows: &mut Vec<Child<'t>>, child: Child<'t>) -> Result<(), OutOfM
 fn add_below<'t>(
     mixed: &'t Mixed<'_>,
     child: &Child<'t>,
-    rows: &mut Vec<Child<'t>>,
+    rows: &mut Vec<Line<'t>>,
 ) -> Result<(), OutOfMemory>
     requires formed { IsFormed (table mixed.now) }
-    requires child { IsChild mixed.now (parent_of (path_of child.now)) (shown_child child.now) }
-    ensures { OnOk result (Gathers mixed.now (is_below (path_of child.now)) rows.old.items rows.new.items) }
+    requires child { IsChild mixed.now (parent_of child.now.path.text.now) (shown_child child.now) }
+    ensures { OnOk result (Gathers mixed.now (is_below child.now.path.text.now) rows.old.items rows.new.items) }
 {
     if !child.has_kids {
         return Ok(());
@@ -55,21 +58,21 @@ fn add_below<'t>(
 fn add_children<'t>(
     mixed: &'t Mixed<'_>,
     dir: Option<PathRef<'t>>,
-    rows: &mut Vec<Child<'t>>,
+    rows: &mut Vec<Line<'t>>,
 ) -> Result<(), OutOfMemory>
     requires { IsFormed (table mixed.now) }
     ensures { OnOk result (Gathers mixed.now (is_above (option_map (λ d. d.text.now) dir.entry)) rows.old.items rows.new.items) }
 {
     let mut children = mixed.children(dir);
     while let Some(child) = children.next() {
-        add_own(rows, child)?;
+        add_own(rows, &child)?;
         add_below(mixed, &child, rows)?;
     }
     Ok(())
 }
 
 /// All nodes that have an entry or a cache, ascending by the bytes of their paths.
-pub fn gather<'t>(alloc: Global, mixed: &'t Mixed<'_>) -> Result<Vec<Child<'t>>, OutOfMemory>
+pub fn gather<'t>(alloc: Global, mixed: &'t Mixed<'_>) -> Result<Vec<Line<'t>>, OutOfMemory>
     requires { IsFormed (table mixed.now) }
     ensures gathered { IfOk result (λ rows. AreGathered mixed.now (is_above None) rows.items) }
     ensures ascending { IfOk result (λ rows. IsStrictlySortedBy (slice_cmp nat_cmp) (paths_of rows.items)) }

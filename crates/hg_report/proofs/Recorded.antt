@@ -16,7 +16,7 @@ use Rattle.hg_entry.specs.Entry.{EntryData}
 use Rattle.hg_mixed.specs.Edits.{IsFormed}
 use Rattle.hg_mixed.specs.Gathered.{AreGathered, Shows, is_recorded, path_of, paths_of}
 use Rattle.hg_mixed.specs.Held.{Held, table}
-use Rattle.hg_mixed.specs.declared.child.Child.{Child}
+use Rattle.hg_mixed.specs.declared.line.Line.{Line}
 use Rattle.hg_mixed.proofs.Ordered.{same_bool}
 use Rattle.hg_report.specs.Debug.{IsDebugText, OneDebugText, copy_line, copy_lines, is_copied, nine_digits, parent_lines, record_line, record_lines, row_copy, row_line}
 use Rattle.hg_report.proofs.Ordered.{one_all}
@@ -62,10 +62,10 @@ filtered_lines f q none [] = refl
 filtered_lines f q none (x ∷ ps) = lines_step f q none x ps (filtered_lines f q none ps) (q x) refl
 
 module _ (held : Held) where
-  abbrev Sound : Child → Type 0
+  abbrev Sound : Line → Type 0
   Sound row = (is_above None (path_of row) ≡ true) × (is_recorded (table held) (path_of row) ≡ true) × Shows held row
 
-  lines_are : (rows : List Child) → AllByRecursion Sound rows → flat_map row_line rows ≡ record_lines (table held) (paths_of rows)
+  lines_are : (rows : List Line) → AllByRecursion Sound rows → flat_map row_line rows ≡ record_lines (table held) (paths_of rows)
   lines_are [] each = refl
   lines_are (row ∷ rows) each =
       let shows = each.0.2 in
@@ -75,7 +75,7 @@ module _ (held : Held) where
       ∙ ap (λ (l : List ℕ). f (path_of row) ++ l) (lines_are rows each.1)
       ∙ sym (flat_map-cons f (path_of row) (paths_of rows))
 
-  copies_are : (rows : List Child) → AllByRecursion Sound rows → flat_map row_copy rows ≡ copy_lines (table held) (paths_of rows)
+  copies_are : (rows : List Line) → AllByRecursion Sound rows → flat_map row_copy rows ≡ copy_lines (table held) (paths_of rows)
   copies_are [] each = refl
   copies_are (row ∷ rows) each =
       let shows = each.0.2 in
@@ -89,11 +89,11 @@ module _ (held : Held) where
   no_copy p None none = refl
   no_copy p (Some s) none = absurd (true≢false none)
 
-  module _ (formed : IsFormed (table held)) (rows : List Child) (are : AreGathered held (is_above None) rows) (up : IsStrictlySortedBy (slice_cmp nat_cmp) (paths_of rows)) where
+  module _ (formed : IsFormed (table held)) (rows : List Line) (are : AreGathered held (is_above None) rows) (up : IsStrictlySortedBy (slice_cmp nat_cmp) (paths_of rows)) where
     all_recorded : (p : List ℕ) → list_any (bytes_eq p) (paths_of rows) ≡ is_recorded (table held) p
     all_recorded p = same_bool (list_any (bytes_eq p) (paths_of rows)) (is_recorded (table held) p) (λ is. among rows are.each is) (λ there. are.all p refl there)
       where
-        among : (some : List Child) → AllByRecursion Sound some → list_any (bytes_eq p) (paths_of some) ≡ true → is_recorded (table held) p ≡ true
+        among : (some : List Line) → AllByRecursion Sound some → list_any (bytes_eq p) (paths_of some) ≡ true → is_recorded (table held) p ≡ true
         among [] each is = absurd (true≢false (sym is))
         among (row ∷ some) each is = elim (cases_Bool (bytes_eq p (path_of row))) [
           | inl here ↦ ap (is_recorded (table held)) (same_bytes p (path_of row) here) ∙ each.0.1

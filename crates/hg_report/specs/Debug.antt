@@ -13,7 +13,7 @@ use Rattle.hg_entry.specs.Table.{Table}
 use Rattle.hg_entry.specs.declared.entry.State.{State}
 use Rattle.hg_entry.specs.declared.entry.State.TheVariants as a_state
 use Rattle.hg_mixed.specs.Gathered.{is_recorded, path_of}
-use Rattle.hg_mixed.specs.declared.child.Child.{Child}
+use Rattle.hg_mixed.specs.declared.line.Line.{Line}
 
 -- the letter of what an entry says of its file: a r m n
 abbrev pub state_sign : State → ℕ
@@ -66,10 +66,10 @@ copy_line path None = []
 copy_line path (Some source) = codes "copy: " ++ source ++ codes " -> " ++ path ++ 10 ∷ []
 
 -- the lines of a row: what is recorded of its path, and where it was copied from
-abbrev pub row_line : Child → List ℕ
+abbrev pub row_line : Line → List ℕ
 row_line row = record_line (path_of row) (option_map view row.entry) (option_map stamp_view row.cache)
 
-abbrev pub row_copy : Child → List ℕ
+abbrev pub row_copy : Line → List ℕ
 row_copy row = copy_line (path_of row) (option_map (λ s. s.text.now) row.source)
 
 -- the lines of the parents

@@ -11,7 +11,7 @@ ghost use Rattle.hg_report.specs.Debug.{IsDebugText, OneDebugText, cache_line, d
 
 use hg_base::{Id20, OutOfMemory, PathRef, Stamp};
 use hg_entry::{Entry, State};
-use hg_mixed::{Child, Mixed, gather};
+use hg_mixed::{Line, Mixed, gather};
 use std::alloc::Global;
 
 fn state_sign(state: State) -> u8
@@ -112,7 +112,7 @@ fn put_cache(
     put(text, path.text, b'\n')
 }
 
-fn put_record(alloc: Global, text: &mut Vec<u8>, row: &Child<'_>) -> Result<(), OutOfMemory>
+fn put_record(alloc: Global, text: &mut Vec<u8>, row: &Line<'_>) -> Result<(), OutOfMemory>
     ensures { OnOk result (text.new.items ≡ text.old.items ++ row_line row.now) }
 {
     if let Some(entry) = &row.entry {
@@ -124,7 +124,7 @@ fn put_record(alloc: Global, text: &mut Vec<u8>, row: &Child<'_>) -> Result<(), 
     }
 }
 
-fn put_copy(text: &mut Vec<u8>, row: &Child<'_>) -> Result<(), OutOfMemory>
+fn put_copy(text: &mut Vec<u8>, row: &Line<'_>) -> Result<(), OutOfMemory>
     ensures { OnOk result (text.new.items ≡ text.old.items ++ row_copy row.now) }
 {
     match row.source {
@@ -149,7 +149,7 @@ fn put_parents(alloc: Global, text: &mut Vec<u8>, p1: Id20, p2: Id20) -> Result<
     put(text, second.as_str(), b'\n')
 }
 
-fn put_records(alloc: Global, text: &mut Vec<u8>, rows: &[Child<'_>]) -> Result<(), OutOfMemory>
+fn put_records(alloc: Global, text: &mut Vec<u8>, rows: &[Line<'_>]) -> Result<(), OutOfMemory>
     ensures { OnOk result (text.new.items ≡ text.old.items ++ flat_map row_line rows.now) }
 {
     for row in rows {
@@ -158,7 +158,7 @@ fn put_records(alloc: Global, text: &mut Vec<u8>, rows: &[Child<'_>]) -> Result<
     Ok(())
 }
 
-fn put_copies(text: &mut Vec<u8>, rows: &[Child<'_>]) -> Result<(), OutOfMemory>
+fn put_copies(text: &mut Vec<u8>, rows: &[Line<'_>]) -> Result<(), OutOfMemory>
     ensures { OnOk result (text.new.items ≡ text.old.items ++ flat_map row_copy rows.now) }
 {
     for row in rows {

@@ -25,7 +25,7 @@ use Rattle.hg_flat.proofs.Recording.{flat_recorded}
 use Rattle.hg_mixed.specs.Edits.{IsFormed}
 use Rattle.hg_mixed.specs.Gathered.{AreGathered, Shows, is_recorded, path_of, paths_of}
 use Rattle.hg_mixed.specs.Held.{Held, table}
-use Rattle.hg_mixed.specs.declared.child.Child.{Child}
+use Rattle.hg_mixed.specs.declared.line.Line.{Line}
 use Rattle.hg_walk.specs.Marks.{is_no_dir, stands}
 use Rattle.hg_walk.specs.Passing.{AreInOrder, IsPlaceBelow, IsPlaceOf, any_marked, has_entry, was_entered, was_passed}
 use Rattle.hg_walk.specs.Telling.{AreMarked, rows_with, tracked_row, tracked_rows}
@@ -43,14 +43,14 @@ either x xs y has =
 
 -- ---- rows and nodes
 
-with_one : (child : Child) (o : Option Entry) (row : FlatRow) → Contains (rows_with child o) row → (entry : Entry) × (o ≡ Some entry) × (row ≡ tracked_row child entry)
+with_one : (child : Line) (o : Option Entry) (row : FlatRow) → Contains (rows_with child o) row → (entry : Entry) × (o ≡ Some entry) × (row ≡ tracked_row child entry)
 with_one child None row has = absurd (none_there row has)
 with_one child (Some entry) row has =
     elim (either (tracked_row child entry) [] row has) [ inl same ↦ (entry, refl, sym same) | inr none ↦ absurd (none_there row none) ]
 
 -- a row is of a node with an entry
-pub row_from : (children : List Child) (row : FlatRow) → Contains (tracked_rows children) row
-    → (child : Child) × (entry : Entry) × Contains children child × (child.entry ≡ Some entry) × (row ≡ tracked_row child entry)
+pub row_from : (children : List Line) (row : FlatRow) → Contains (tracked_rows children) row
+    → (child : Line) × (entry : Entry) × Contains children child × (child.entry ≡ Some entry) × (row ≡ tracked_row child entry)
 row_from [] row has = absurd (none_there row has)
 row_from (first ∷ rest) row has =
     elim (Contains-append_cases (rows_with first first.entry) (tracked_rows rest) row has) [
@@ -59,12 +59,12 @@ row_from (first ∷ rest) row has =
     ]
 
 -- each node with an entry has its row
-pub row_in : (children : List Child) (child : Child) (entry : Entry) → Contains children child → child.entry ≡ Some entry → Contains (tracked_rows children) (tracked_row child entry)
+pub row_in : (children : List Line) (child : Line) (entry : Entry) → Contains children child → child.entry ≡ Some entry → Contains (tracked_rows children) (tracked_row child entry)
 row_in [] child entry has is = absurd (none_there child has)
 row_in (first ∷ rest) child entry has is =
     elim (either first rest child has) [
       | inl same ↦
-          subst (λ (c : Child). Contains (rows_with c c.entry ++ tracked_rows rest) (tracked_row child entry)) (sym same)
+          subst (λ (c : Line). Contains (rows_with c c.entry ++ tracked_rows rest) (tracked_row child entry)) (sym same)
           (Contains-append_left (rows_with child child.entry) (tracked_rows rest) (tracked_row child entry)
           (subst (λ (o : Option Entry). Contains (rows_with child o) (tracked_row child entry)) (sym is) (Contains-push [] (tracked_row child entry))))
       | inr later ↦ Contains-append_right (rows_with first first.entry) (tracked_rows rest) (tracked_row child entry) (row_in rest child entry later is)
@@ -72,26 +72,26 @@ row_in (first ∷ rest) child entry has is =
 
 -- ---- no two of one path
 
-all_step : (P : List ℕ → Type 0) (child : Child) (rest : List FlatRow) (o : Option Entry) → P (path_of child) → AllByRecursion P (map (λ row. row.path) rest) → AllByRecursion P (map (λ row. row.path) (rows_with child o ++ rest))
+all_step : (P : List ℕ → Type 0) (child : Line) (rest : List FlatRow) (o : Option Entry) → P (path_of child) → AllByRecursion P (map (λ row. row.path) rest) → AllByRecursion P (map (λ row. row.path) (rows_with child o ++ rest))
 all_step P child rest None here later = later
 all_step P child rest (Some entry) here later = (here, later)
 
-all_rows : (P : List ℕ → Type 0) (children : List Child) → AllByRecursion P (paths_of children) → AllByRecursion P (map (λ row. row.path) (tracked_rows children))
+all_rows : (P : List ℕ → Type 0) (children : List Line) → AllByRecursion P (paths_of children) → AllByRecursion P (map (λ row. row.path) (tracked_rows children))
 all_rows P [] all = tt
 all_rows P (child ∷ children) all = all_step P child (tracked_rows children) child.entry all.0 (all_rows P children all.1)
 
-own_step : (child : Child) (rest : List FlatRow) (o : Option Entry) → AllByRecursion (λ p. bytes_eq (path_of child) p ≡ false) (map (λ row. row.path) rest) → HaveOwnPaths rest → HaveOwnPaths (rows_with child o ++ rest)
+own_step : (child : Line) (rest : List FlatRow) (o : Option Entry) → AllByRecursion (λ p. bytes_eq (path_of child) p ≡ false) (map (λ row. row.path) rest) → HaveOwnPaths rest → HaveOwnPaths (rows_with child o ++ rest)
 unfolding IsDistinct
 own_step child rest None apart own = own
 own_step child rest (Some entry) apart own = (apart, own)
 
-pub own_rows : (children : List Child) → IsDistinct bytes_eq (paths_of children) → HaveOwnPaths (tracked_rows children)
+pub own_rows : (children : List Line) → IsDistinct bytes_eq (paths_of children) → HaveOwnPaths (tracked_rows children)
 unfolding IsDistinct
 own_rows [] own = tt
 own_rows (child ∷ children) own =
     own_step child (tracked_rows children) child.entry (all_rows (λ p. bytes_eq (path_of child) p ≡ false) children own.0) (own_rows children own.1)
 
-apart_from : (path : List ℕ) (children : List Child) → AllByRecursion (λ p. bytes_eq path p ≡ false) (paths_of children) → (child : Child) → Contains children child → path_of child ≡ path → ⊥
+apart_from : (path : List ℕ) (children : List Line) → AllByRecursion (λ p. bytes_eq path p ≡ false) (paths_of children) → (child : Line) → Contains children child → path_of child ≡ path → ⊥
 apart_from path [] all child has same = none_there child has
 apart_from path (first ∷ rest) all child has same =
     elim (either first rest child has) [
@@ -101,7 +101,7 @@ apart_from path (first ∷ rest) all child has same =
     ]
 
 -- a path has one node
-pub one_node : (children : List Child) → IsDistinct bytes_eq (paths_of children) → (x y : Child) → Contains children x → Contains children y → path_of x ≡ path_of y → x ≡ y
+pub one_node : (children : List Line) → IsDistinct bytes_eq (paths_of children) → (x y : Line) → Contains children x → Contains children y → path_of x ≡ path_of y → x ≡ y
 unfolding IsDistinct
 one_node [] own x y left right same = absurd (none_there x left)
 one_node (first ∷ rest) own x y left right same =
@@ -124,7 +124,7 @@ or_cases : (a b : Bool) → (a || b) ≡ true → (a ≡ true) ⊎ (b ≡ true)
 or_cases true b is = inl refl
 or_cases false b is = inr is
 
-any_has : (children : List Child) (path : List ℕ) → list_any (bytes_eq path) (paths_of children) ≡ true → (child : Child) × Contains children child × (path_of child ≡ path)
+any_has : (children : List Line) (path : List ℕ) → list_any (bytes_eq path) (paths_of children) ≡ true → (child : Line) × Contains children child × (path_of child ≡ path)
 any_has [] path is = absurd (true≢false (sym is))
 any_has (first ∷ rest) path is =
     elim (or_cases (bytes_eq path (path_of first)) (list_any (bytes_eq path) (paths_of rest)) is) [
@@ -139,12 +139,12 @@ entry_there (Some e) entry is = (e, refl)
 recorded_entry : (t : Table) (path : List ℕ) (entry : EntryData) → t.entries path ≡ Some entry → is_recorded t path ≡ true
 recorded_entry t path entry is = ap (λ (o : Option EntryData). is_some o || is_some (t.caches path)) is
 
-module _ (held : Held) (children : List Child) (are : AreGathered held (λ path. true) children) where
-  pub shows : (child : Child) → Contains children child → Shows held child
-  shows child has = (All-contains (λ (row : Child). (true ≡ true) × (is_recorded (table held) (path_of row) ≡ true) × Shows held row) children child (All-from_recursion (λ (row : Child). (true ≡ true) × (is_recorded (table held) (path_of row) ≡ true) × Shows held row) children are.each) has).2
+module _ (held : Held) (children : List Line) (are : AreGathered held (λ path. true) children) where
+  pub shows : (child : Line) → Contains children child → Shows held child
+  shows child has = (All-contains (λ (row : Line). (true ≡ true) × (is_recorded (table held) (path_of row) ≡ true) × Shows held row) children child (All-from_recursion (λ (row : Line). (true ≡ true) × (is_recorded (table held) (path_of row) ≡ true) × Shows held row) children are.each) has).2
 
   -- a path with an entry has its node
-  pub node_of : (path : List ℕ) (entry : EntryData) → (table held).entries path ≡ Some entry → (child : Child) × (e : Entry) × Contains children child × (path_of child ≡ path) × (child.entry ≡ Some e)
+  pub node_of : (path : List ℕ) (entry : EntryData) → (table held).entries path ≡ Some entry → (child : Line) × (e : Entry) × Contains children child × (path_of child ≡ path) × (child.entry ≡ Some e)
   node_of path entry is =
       let has = any_has children path (are.all path refl (recorded_entry (table held) path entry is)) in
       let there = entry_there has.0.entry entry ((shows has.0 has.1).entry ∙ ap (table held).entries has.2 ∙ is) in
@@ -183,7 +183,7 @@ module _ (held : Held) (children : List Child) (are : AreGathered held (λ path.
 -- ---- by halving
 
 -- within a list the default says nothing
-get_or_same : (children : List Child) (at : ℕ) (d e : Child) → at < length children → get_or children at d ≡ get_or children at e
+get_or_same : (children : List Line) (at : ℕ) (d e : Line) → at < length children → get_or children at d ≡ get_or children at e
 get_or_same [] at d e below = absurd (omega (arith, below))
 get_or_same (child ∷ children) zero d e below = refl
 get_or_same (child ∷ children) (suc at) d e below = get_or_same children at d e (omega (arith, below))
@@ -191,7 +191,7 @@ get_or_same (child ∷ children) (suc at) d e below = get_or_same children at d 
 flipped : (a b : List ℕ) → slice_cmp nat_cmp a b ≡ Less → is_lt (slice_cmp nat_cmp b a) ≡ false
 flipped a b less = ap is_lt (nat_list_cmp_total.antisymm b a ∙ ap ordering_reverse less)
 
-in_order : (children : List Child) → AreInOrder children → IsSortedBy (λ a b. is_lt (slice_cmp nat_cmp (path_of a) (path_of b))) children
+in_order : (children : List Line) → AreInOrder children → IsSortedBy (λ a b. is_lt (slice_cmp nat_cmp (path_of a) (path_of b))) children
 unfolding IsStrictlySortedBy
 in_order [] sorted k d least below = absurd (omega (arith, below))
 in_order (x ∷ []) sorted k d least below = absurd (omega (arith, below))
@@ -200,38 +200,45 @@ in_order (x ∷ y ∷ rest) sorted (suc k) d least below =
     let rises = in_order (y ∷ rest) sorted.1 k d (omega arith) (omega (arith, below)) in simp unary_clauses (simp unary_clauses at rises)
 
 -- what isn't found has no node
-pub searched_none : (lent children : List Child) (path : List ℕ) (at : ℕ) → lent ≡ children → AreInOrder children → IsBinarySearchResult (λ child. slice_cmp nat_cmp (path_of child) path) lent (Err at)
-    → (child : Child) → Contains children child → path_of child ≡ path → ⊥
+pub searched_none : (lent children : List Line) (path : List ℕ) (at : ℕ) → lent ≡ children → AreInOrder children → IsBinarySearchResult (λ child. slice_cmp nat_cmp (path_of child) path) lent (Err at)
+    → (child : Line) → Contains children child → path_of child ≡ path → ⊥
 searched_none lent children path at same sorted parted child has is =
-    let sides = subst (λ (l : List Child). IsBinarySearchResult (λ c. slice_cmp nat_cmp (path_of c) path) l (Err at)) same parted
+    let sides = subst (λ (l : List Line). IsBinarySearchResult (λ c. slice_cmp nat_cmp (path_of c) path) l (Err at)) same parted
     (searchable_from_sorted nat_list_cmp_total path_of children path (in_order children sorted)) in
     let equal : slice_cmp nat_cmp (path_of child) path ≡ Equal = ap (λ (p : List ℕ). slice_cmp nat_cmp p path) is ∙ tied_itself nat_list_cmp_total path in
     elim (cases_lt has.0 at) [
       | inl before ↦
           let less = sides.0 has.0 child (omega arith) before in
-          let here = ap (λ (c : Child). slice_cmp nat_cmp (path_of c) path) has.2 in absurd (cc (less, here, equal))
+          let here = ap (λ (c : Line). slice_cmp nat_cmp (path_of c) path) has.2 in absurd (cc (less, here, equal))
       | inr behind ↦
           let greater = sides.1 has.0 child behind has.1 in
-          let here = ap (λ (c : Child). slice_cmp nat_cmp (path_of c) path) has.2 in absurd (cc (greater, here, equal))
+          let here = ap (λ (c : Line). slice_cmp nat_cmp (path_of c) path) has.2 in absurd (cc (greater, here, equal))
     ]
 
 -- what is found is a node of the path
-pub searched_place : (lent children : List Child) (path : List ℕ) (at : ℕ) → lent ≡ children → at < length lent → IsBinarySearchResult (λ c. slice_cmp nat_cmp (path_of c) path) lent (Ok at) → IsPlaceOf children path at
+pub searched_place : (lent children : List Line) (path : List ℕ) (at : ℕ) → lent ≡ children → at < length lent → IsBinarySearchResult (λ c. slice_cmp nat_cmp (path_of c) path) lent (Ok at) → IsPlaceOf children path at
 searched_place lent children path at same below equal = record {
-  within = subst (λ (l : List Child). at < length l) same below;
-  is = λ d. exact_bytes (path_of (get_or children at d)) path (subst (λ (l : List Child). slice_cmp nat_cmp (path_of (get_or l at d)) path ≡ Equal) same (equal d));
+  within = subst (λ (l : List Line). at < length l) same below;
+  is = λ d. exact_bytes (path_of (get_or children at d)) path (subst (λ (l : List Line). slice_cmp nat_cmp (path_of (get_or l at d)) path ≡ Equal) same (equal d));
 }
 
 -- a node that is known to be of the path
-pub place_at : (children : List Child) (path : List ℕ) (at : ℕ) (child : Child) → at < length children → child ≡ get_or children at child → bytes_eq (path_of child) path ≡ true → IsPlaceOf children path at
+pub place_at : (children : List Line) (path : List ℕ) (at : ℕ) (child : Line) → at < length children → child ≡ get_or children at child → bytes_eq (path_of child) path ≡ true → IsPlaceOf children path at
 place_at children path at child below is same = record {
   within = below;
   is = λ d. ap path_of (get_or_same children at d child below) ∙ ap path_of (sym is) ∙ (bytes_eq-Decides (path_of child) path).0 same;
 }
 
+-- a node whose path is told to be the path
+pub joined_at : (children : List Line) (path : List ℕ) (at : ℕ) (child : Line) → at < length children → child ≡ get_or children at child → path_of child ≡ path → IsPlaceOf children path at
+joined_at children path at child below is same = record {
+  within = below;
+  is = λ d. ap path_of (get_or_same children at d child below) ∙ ap path_of (sym is) ∙ same;
+}
+
 -- ---- which paths have an entry, and which are marked
 
-pub entry_at : (children : List Child) → IsDistinct bytes_eq (paths_of children) → (path : List ℕ) (at : ℕ) (child : Child) → IsPlaceOf children path at → child ≡ get_or children at child → is_some child.entry ≡ has_entry children path
+pub entry_at : (children : List Line) → IsDistinct bytes_eq (paths_of children) → (path : List ℕ) (at : ℕ) (child : Line) → IsPlaceOf children path at → child ≡ get_or children at child → is_some child.entry ≡ has_entry children path
 entry_at children own path at child place is = by child.entry refl
   where
     has : Contains children child
@@ -246,7 +253,7 @@ entry_at children own path at child place is = by child.entry refl
         let found = found_has (tracked_rows children) path row same in
         let from = row_from children row found.0 in
         let one = one_node children own child from.0 has from.2 (of ∙ sym found.1 ∙ ap (λ (r : FlatRow). r.path) from.4) in
-        absurd (true≢false (sym (ap is_some from.3) ∙ ap (λ (c : Child). is_some c.entry) (sym one) ∙ ap is_some none))
+        absurd (true≢false (sym (ap is_some from.3) ∙ ap (λ (c : Line). is_some c.entry) (sym one) ∙ ap is_some none))
 
     by : (o : Option Entry) → child.entry ≡ o → is_some child.entry ≡ has_entry children path
     by None same = ap is_some same ∙ sym (none_by same (row_at (tracked_rows children) path) refl)
@@ -254,7 +261,7 @@ entry_at children own path at child place is = by child.entry refl
         ap is_some same
         ∙ sym (ap is_some (sym (ap (row_at (tracked_rows children)) of) ∙ found_at (tracked_rows children) (own_rows children own) (tracked_row child entry) (row_in children child entry has same)))
 
-pub no_entry : (children : List Child) (path : List ℕ) → ((child : Child) → Contains children child → path_of child ≡ path → ⊥) → has_entry children path ≡ false
+pub no_entry : (children : List Line) (path : List ℕ) → ((child : Line) → Contains children child → path_of child ≡ path → ⊥) → has_entry children path ≡ false
 no_entry children path none = by (row_at (tracked_rows children) path) refl
   where
     by : (o : Option FlatRow) → row_at (tracked_rows children) path ≡ o → is_some o ≡ false
@@ -269,7 +276,7 @@ marked_later true rest is = refl
 marked_later false rest is = is
 
 -- a child and the mark at its place that meet a test
-pub marked_at : (test : Child → Mark → Bool) (children : List Child) (marks : List Mark) (at : ℕ) (child : Child) (mark : Mark) → at < length children → at < length marks → test (get_or children at child) (get_or marks at mark) ≡ true
+pub marked_at : (test : Line → Mark → Bool) (children : List Line) (marks : List Mark) (at : ℕ) (child : Line) (mark : Mark) → at < length children → at < length marks → test (get_or children at child) (get_or marks at mark) ≡ true
     → any_marked test children marks ≡ true
 marked_at test [] marks at child mark below within is = absurd (omega (arith, below))
 marked_at test (first ∷ rest) [] at child mark below within is = absurd (omega (arith, within))
@@ -277,16 +284,16 @@ marked_at test (first ∷ rest) (m ∷ marks) zero child mark below within is = 
 marked_at test (first ∷ rest) (m ∷ marks) (suc at) child mark below within is =
     marked_later (test first m) (any_marked test rest marks) (marked_at test rest marks at child mark (omega (arith, below)) (omega (arith, within)) is)
 
-pub passed_at : (children : List Child) (marks : List Mark) (path : List ℕ) (at : ℕ) (child : Child) (mark : Mark) → at < length children → at < length marks → path_of (get_or children at child) ≡ path → is_no_dir (get_or marks at mark) ≡ true
+pub passed_at : (children : List Line) (marks : List Mark) (path : List ℕ) (at : ℕ) (child : Line) (mark : Mark) → at < length children → at < length marks → path_of (get_or children at child) ≡ path → is_no_dir (get_or marks at mark) ≡ true
     → was_passed children marks path ≡ true
 passed_at children marks path at child mark below within of is =
     marked_at (λ c m. bytes_eq (path_of c) path && is_no_dir m) children marks at child mark below within
     (and_from (bytes_eq (path_of (get_or children at child)) path) (is_no_dir (get_or marks at mark)) ((bytes_eq-Decides (path_of (get_or children at child)) path).1 of) is)
 
-pub entered_at : (children : List Child) (marks : List Mark) (dir : List ℕ) (at : ℕ) (mark : Mark) → at < length marks → IsPlaceBelow children dir at → stands (get_or marks at mark) ≡ true → was_entered children marks dir ≡ true
+pub entered_at : (children : List Line) (marks : List Mark) (dir : List ℕ) (at : ℕ) (mark : Mark) → at < length marks → IsPlaceBelow children dir at → stands (get_or marks at mark) ≡ true → was_entered children marks dir ≡ true
 entered_at children marks dir at mark within place is = by children marks at within place.within place.is is
   where
-    by : (children : List Child) (marks : List Mark) (at : ℕ) → at < length marks → at < length children → ((d : Child) → is_below dir (path_of (get_or children at d)) ≡ true) → stands (get_or marks at mark) ≡ true
+    by : (children : List Line) (marks : List Mark) (at : ℕ) → at < length marks → at < length children → ((d : Line) → is_below dir (path_of (get_or children at d)) ≡ true) → stands (get_or marks at mark) ≡ true
         → was_entered children marks dir ≡ true
     by [] marks at within below under is = absurd (omega (arith, below))
     by (first ∷ rest) [] at within below under is = absurd (omega (arith, within))
@@ -295,15 +302,15 @@ entered_at children marks dir at mark within place is = by children marks at wit
         marked_later (is_below dir (path_of first) && stands m) (was_entered rest marks dir) (by rest marks at (omega (arith, within)) (omega (arith, below)) under is)
 
 -- a node that is known to be below a directory
-pub below_at : (children : List Child) (dir : List ℕ) (at : ℕ) (child : Child) → at < length children → child ≡ get_or children at child → is_below dir (path_of child) ≡ true → IsPlaceBelow children dir at
+pub below_at : (children : List Line) (dir : List ℕ) (at : ℕ) (child : Line) → at < length children → child ≡ get_or children at child → is_below dir (path_of child) ≡ true → IsPlaceBelow children dir at
 below_at children dir at child below is under = record {
   within = below;
-  is = λ d. ap (λ (c : Child). is_below dir (path_of c)) (get_or_same children at d child below ∙ sym is) ∙ under;
+  is = λ d. ap (λ (c : Line). is_below dir (path_of c)) (get_or_same children at d child below ∙ sym is) ∙ under;
 }
 
 -- the node whose mark meets a test
-pub marked_node : (Is : Child → Mark → Type 0) (test : Child → Mark → Bool) (children : List Child) (marks : List Mark) → AreMarked Is children marks → any_marked test children marks ≡ true
-    → (child : Child) × (mark : Mark) × Is child mark × (test child mark ≡ true)
+pub marked_node : (Is : Line → Mark → Type 0) (test : Line → Mark → Bool) (children : List Line) (marks : List Mark) → AreMarked Is children marks → any_marked test children marks ≡ true
+    → (child : Line) × (mark : Mark) × Is child mark × (test child mark ≡ true)
 marked_node Is test [] marks are is = absurd (true≢false (sym is))
 marked_node Is test (first ∷ rest) [] are is = absurd (true≢false (sym is))
 marked_node Is test (first ∷ rest) (m ∷ marks) are is =

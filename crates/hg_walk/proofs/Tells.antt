@@ -22,7 +22,7 @@ use Rattle.hg_flat.proofs.Judging.{AsksAlike, left_ended, letter_by_moved, marks
 use Rattle.hg_flat.proofs.Letters.{found_read, there_is}
 use Rattle.hg_listing.specs.declared.row.Wanted.{Wanted}
 use Rattle.hg_mixed.specs.Gathered.{path_of}
-use Rattle.hg_mixed.specs.declared.child.Child.{Child}
+use Rattle.hg_mixed.specs.declared.line.Line.{Line}
 use Rattle.hg_mtime.specs.Vouching.{has_mode, has_size, matches_known, may_vouch, same_bools, vouches}
 use Rattle.hg_shelf.specs.History as shelves
 use Rattle.hg_tree.specs.History as trees
@@ -45,13 +45,13 @@ unvouched_alike wanted t m n path alike =
     λ i. marks i && not (vouches_for (t.entries path) (is_some (t.sources path)) (shown i))
 
 -- what a record has at a child
-pub child_entry : (t : Table) (child : Child) (entry : Entry) → IsChildOf t child → child.entry ≡ Some entry → t.entries (path_of child) ≡ Some (view entry)
+pub child_entry : (t : Table) (child : Line) (entry : Entry) → IsChildOf t child → child.entry ≡ Some entry → t.entries (path_of child) ≡ Some (view entry)
 child_entry t child entry of is = sym of.entry ∙ ap (option_map view) is
 
-pub child_copied : (t : Table) (child : Child) → IsChildOf t child → copied_in child ≡ is_some (t.sources (path_of child))
+pub child_copied : (t : Table) (child : Line) → IsChildOf t child → copied_in child ≡ is_some (t.sources (path_of child))
 child_copied t child of = ap is_some of.source
 
-module _ (wanted : Wanted) (t : Table) (child : Child) (entry : Entry) (of : IsChildOf t child) (is : child.entry ≡ Some entry) where
+module _ (wanted : Wanted) (t : Table) (child : Line) (entry : Entry) (of : IsChildOf t child) (is : child.entry ≡ Some entry) where
   -- the test of a child's path, by what the child shows
   asks_is : (m : Moment) → asked_unvouched wanted t m (path_of child)
       ≡ ((is_compared_row wanted (tracked_row child entry) && is_file_or_link (m.things (path_of child))) && not (vouches_for (Some (view entry)) (copied_in child) (stat_at m (path_of child))))

@@ -13,7 +13,7 @@ use Rattle.hg_flat.proofs.Judging.{adds_more, adds_none, adds_one}
 use Rattle.hg_listing.specs.declared.row.Row.{Row}
 use Rattle.hg_listing.specs.declared.row.Wanted.{Wanted}
 use Rattle.hg_mixed.specs.Gathered.{path_of}
-use Rattle.hg_mixed.specs.declared.child.Child.{Child}
+use Rattle.hg_mixed.specs.declared.line.Line.{Line}
 use Rattle.hg_shelf.specs.History as shelves
 use Rattle.hg_tree.specs.History as trees
 use Rattle.hg_tree.specs.Moment.{Moment, is_dir, stat_at, stat_of}
@@ -30,13 +30,13 @@ use Rattle.hg_walk.proofs.Tells.{unvouched_alike}
 
 -- ---- rows
 
-rows_append : (xs ys : List Child) → tracked_rows (xs ++ ys) ≡ tracked_rows xs ++ tracked_rows ys
+rows_append : (xs ys : List Line) → tracked_rows (xs ++ ys) ≡ tracked_rows xs ++ tracked_rows ys
 rows_append [] ys = refl
 rows_append (child ∷ xs) ys = ap (λ (l : List FlatRow). rows_with child child.entry ++ l) (rows_append xs ys) ∙ sym (append_assoc (rows_with child child.entry) (tracked_rows xs) (tracked_rows ys))
 
 -- rows that were put in the first part of a pass, and others in the second, were put in the pass
 pub tells_more : (wanted : Wanted) (t : Table) (P Q R : Type 0) → (R → P) → (R → Q) → (old mid new : trees.History) (begun files later : shelves.History) → trees.Extends old mid → trees.Extends mid new → shelves.Extends files later
-    → begun.last ≤ files.last → (xs ys : List Child) (a b c : List Row) → TellsEach P (walk_status wanted t old mid begun files) xs a b → TellsEach Q (walk_status wanted t mid new begun later) ys b c
+    → begun.last ≤ files.last → (xs ys : List Line) (a b c : List Row) → TellsEach P (walk_status wanted t old mid begun files) xs a b → TellsEach Q (walk_status wanted t mid new begun later) ys b c
     → TellsEach R (walk_status wanted t old new begun later) (xs ++ ys) a c
 tells_more wanted t P Q R one_premise two_premise old mid new begun files later first second past within xs ys a b c before behind =
     let s = walk_status wanted t old new begun later in
@@ -52,7 +52,7 @@ tells_none wanted t R old new begun later rows =
     adds_none s.asks R (IsLeftAsked s.asks s.id new old.last later begun.last) (shelves.now begun).files s.id (trees.now old) wanted rows
 
 -- a child without an entry has no row
-pub tells_bare : (wanted : Wanted) (t : Table) (R : Type 0) (old new : trees.History) (begun later : shelves.History) (child : Child) (rows : List Row) → child.entry ≡ None
+pub tells_bare : (wanted : Wanted) (t : Table) (R : Type 0) (old new : trees.History) (begun later : shelves.History) (child : Line) (rows : List Row) → child.entry ≡ None
     → TellsEach R (walk_status wanted t old new begun later) (child ∷ []) rows rows
 tells_bare wanted t R old new begun later child rows none =
     let s = walk_status wanted t old new begun later in
@@ -61,7 +61,7 @@ tells_bare wanted t R old new begun later child rows none =
     (sym (append-nil (rows_with child child.entry) ∙ ap (rows_with child) none)) (tells_none wanted t R old new begun later rows)
 
 -- the row of a child with an entry
-pub tells_one : (wanted : Wanted) (t : Table) (R : Type 0) (old new : trees.History) (begun later : shelves.History) (child : Child) (entry : Entry) (letter : Option Letter) (a b : List Row) → child.entry ≡ Some entry
+pub tells_one : (wanted : Wanted) (t : Table) (R : Type 0) (old new : trees.History) (begun later : shelves.History) (child : Line) (entry : Entry) (letter : Option Letter) (a b : List Row) → child.entry ≡ Some entry
     → IsLetterOf R (walk_status wanted t old new begun later) (tracked_row child entry) letter → b ≡ a ++ rows_under wanted (tracked_row child entry) letter
     → TellsEach R (walk_status wanted t old new begun later) (child ∷ []) a b
 tells_one wanted t R old new begun later child entry letter a b is found put =
@@ -99,7 +99,7 @@ not_flipped true is = absurd (true≢false (sym is))
 not_flipped false is = refl
 
 -- a mark of what a look showed, behind which the call went on
-pub marked_by_look : (wanted : Wanted) (old mid new : trees.History) (child : Child) (found : Option Stat) (mark : Mark) → trees.Passes old mid → trees.Passes mid new → (IsTrue old.told → trees.AreFormed mid)
+pub marked_by_look : (wanted : Wanted) (old mid new : trees.History) (child : Line) (found : Option Stat) (mark : Mark) → trees.Passes old mid → trees.Passes mid new → (IsTrue old.told → trees.AreFormed mid)
     → (IsTrue old.told → stat_at (trees.now mid) (path_of child) ≡ found) → mark ≡ mark_of found → IsMarked wanted old new child mark
 marked_by_look wanted old mid new child found mark first second formed shown is = record {
   none = λ told marked. record {
@@ -129,24 +129,24 @@ marked_by_look wanted old mid new child found mark first second formed shown is 
     seen told = ap mark_of (shown told) ∙ sym is
 
 -- no look was needed
-unmarked : (wanted : Wanted) (old new : trees.History) (child : Child) → (wants_tracked wanted ≡ true → is_tracked child.entry ≡ true → ⊥) → IsMarked wanted old new child a_mark.Unasked
+unmarked : (wanted : Wanted) (old new : trees.History) (child : Line) → (wants_tracked wanted ≡ true → is_tracked child.entry ≡ true → ⊥) → IsMarked wanted old new child a_mark.Unasked
 unmarked wanted old new child none = record {
   none = λ told marked. absurd (true≢false (sym marked));
   above = λ told marked. absurd (true≢false (sym marked));
   looked = λ ours wants tracked. absurd (none wants tracked);
 }
 
-pub unmarked_bare : (wanted : Wanted) (old new : trees.History) (child : Child) → child.entry ≡ None → IsMarked wanted old new child a_mark.Unasked
+pub unmarked_bare : (wanted : Wanted) (old new : trees.History) (child : Line) → child.entry ≡ None → IsMarked wanted old new child a_mark.Unasked
 unmarked_bare wanted old new child none = unmarked wanted old new child (λ wants tracked. true≢false (sym tracked ∙ ap is_tracked none))
 
-pub unmarked_removed : (wanted : Wanted) (old new : trees.History) (child : Child) (entry : Entry) → child.entry ≡ Some entry → entry.w ≡ false → IsMarked wanted old new child a_mark.Unasked
+pub unmarked_removed : (wanted : Wanted) (old new : trees.History) (child : Line) (entry : Entry) → child.entry ≡ Some entry → entry.w ≡ false → IsMarked wanted old new child a_mark.Unasked
 unmarked_removed wanted old new child entry is gone = unmarked wanted old new child (λ wants tracked. true≢false (sym tracked ∙ ap is_tracked is ∙ gone))
 
-pub unmarked_unlooked : (wanted : Wanted) (old new : trees.History) (child : Child) → wants_tracked wanted ≡ false → IsMarked wanted old new child a_mark.Unasked
+pub unmarked_unlooked : (wanted : Wanted) (old new : trees.History) (child : Line) → wants_tracked wanted ≡ false → IsMarked wanted old new child a_mark.Unasked
 unmarked_unlooked wanted old new child none = unmarked wanted old new child (λ wants tracked. true≢false (sym wants ∙ none))
 
 -- a mark of a part of a call is one of the call
-marked_longer : (wanted : Wanted) (old mid new : trees.History) → trees.Passes old mid → trees.Extends mid new → (child : Child) (mark : Mark) → IsMarked wanted old mid child mark → IsMarked wanted old new child mark
+marked_longer : (wanted : Wanted) (old mid new : trees.History) → trees.Passes old mid → trees.Extends mid new → (child : Line) (mark : Mark) → IsMarked wanted old mid child mark → IsMarked wanted old new child mark
 marked_longer wanted old mid new first second child mark is = record {
   none = λ told marked.
       let was = is.none told marked in record {
@@ -165,7 +165,7 @@ marked_longer wanted old mid new first second child mark is = record {
   looked = λ ours. is.looked (ours_first old mid new second ours);
 }
 
-marked_later : (wanted : Wanted) (old mid new : trees.History) → trees.Passes old mid → trees.Extends mid new → (child : Child) (mark : Mark) → IsMarked wanted mid new child mark → IsMarked wanted old new child mark
+marked_later : (wanted : Wanted) (old mid new : trees.History) → trees.Passes old mid → trees.Extends mid new → (child : Line) (mark : Mark) → IsMarked wanted mid new child mark → IsMarked wanted old new child mark
 marked_later wanted old mid new first second child mark is = record {
   none = λ told marked.
       let was = is.none (first.past.told ∙ told) marked in record { moment = was.moment; begun = omega (arith, first.past.later, was.begun); past = was.past; none = was.none };
@@ -176,19 +176,19 @@ marked_later wanted old mid new first second child mark is = record {
       ∙ ap (λ (m : Moment). mark_of (stat_at m (path_of child))) (now_same old mid first (ours_first old mid new second ours));
 }
 
-each_longer : (P Q : Child → Mark → Type 0) → ((child : Child) (mark : Mark) → P child mark → Q child mark) → (xs : List Child) (marks : List Mark) → AreMarked P xs marks → AreMarked Q xs marks
+each_longer : (P Q : Line → Mark → Type 0) → ((child : Line) (mark : Mark) → P child mark → Q child mark) → (xs : List Line) (marks : List Mark) → AreMarked P xs marks → AreMarked Q xs marks
 each_longer P Q on [] [] is = is
 each_longer P Q on [] (mark ∷ marks) is = absurd is
 each_longer P Q on (child ∷ xs) [] is = absurd is
 each_longer P Q on (child ∷ xs) (mark ∷ marks) (own, rest) = (on child mark own, each_longer P Q on xs marks rest)
 
-one_more_mark : (P : Child → Mark → Type 0) (xs : List Child) (marks : List Mark) (child : Child) (mark : Mark) → AreMarked P xs marks → P child mark → AreMarked P (xs ++ child ∷ []) (marks ++ mark ∷ [])
+one_more_mark : (P : Line → Mark → Type 0) (xs : List Line) (marks : List Mark) (child : Line) (mark : Mark) → AreMarked P xs marks → P child mark → AreMarked P (xs ++ child ∷ []) (marks ++ mark ∷ [])
 one_more_mark P [] [] child mark is own = (own, tt)
 one_more_mark P [] (sign ∷ marks) child mark is own = absurd is
 one_more_mark P (other ∷ xs) [] child mark is own = absurd is
 one_more_mark P (other ∷ xs) (first ∷ marks) child mark (here, rest) own = (here, one_more_mark P xs marks child mark rest own)
 
-pub marks_more : (wanted : Wanted) (old mid new : trees.History) → trees.Passes old mid → trees.Passes mid new → (xs : List Child) (child : Child) (mark : Mark) (a b : List Mark)
+pub marks_more : (wanted : Wanted) (old mid new : trees.History) → trees.Passes old mid → trees.Passes mid new → (xs : List Line) (child : Line) (mark : Mark) (a b : List Mark)
     → MarksEach wanted old mid xs a b → IsMarked wanted mid new child mark → MarksEach wanted old new (xs ++ child ∷ []) a (b ++ mark ∷ [])
 marks_more wanted old mid new first second xs child mark a b (marks, is, each) own = (
   marks ++ mark ∷ [],
@@ -201,14 +201,14 @@ marks_more wanted old mid new first second xs child mark a b (marks, is, each) o
 pub marks_none : (wanted : Wanted) (old new : trees.History) (marks : List Mark) → MarksEach wanted old new [] marks marks
 marks_none wanted old new marks = ([], sym (append-nil marks), tt)
 
-mark_or : (P : Child → Mark → Type 0) (child : Child) (xs : List Child) (mark : Mark) (marks : List Mark) → P child mark → ((i : ℕ) (other : Child) (sign : Mark) → i < length xs → P (get_or xs i other) (get_or marks i sign))
-    → (i : ℕ) (other : Child) (sign : Mark) → i < length (child ∷ xs) → P (get_or (child ∷ xs) i other) (get_or (mark ∷ marks) i sign)
+mark_or : (P : Line → Mark → Type 0) (child : Line) (xs : List Line) (mark : Mark) (marks : List Mark) → P child mark → ((i : ℕ) (other : Line) (sign : Mark) → i < length xs → P (get_or xs i other) (get_or marks i sign))
+    → (i : ℕ) (other : Line) (sign : Mark) → i < length (child ∷ xs) → P (get_or (child ∷ xs) i other) (get_or (mark ∷ marks) i sign)
 mark_or P child xs mark marks own rest zero other sign below = own
 mark_or P child xs mark marks own rest (suc i) other sign below = rest i other sign (omega (arith, below))
 
 -- the mark of each child stands at its place
-pub mark_at : (P : Child → Mark → Type 0) (xs : List Child) (marks : List Mark) → AreMarked P xs marks
-    → (length marks ≡ length xs) × ((i : ℕ) (child : Child) (mark : Mark) → i < length xs → P (get_or xs i child) (get_or marks i mark))
+pub mark_at : (P : Line → Mark → Type 0) (xs : List Line) (marks : List Mark) → AreMarked P xs marks
+    → (length marks ≡ length xs) × ((i : ℕ) (child : Line) (mark : Mark) → i < length xs → P (get_or xs i child) (get_or marks i mark))
 mark_at P [] [] is = (refl, λ i child mark below. absurd (omega (arith, below)))
 mark_at P [] (mark ∷ marks) is = absurd is
 mark_at P (child ∷ xs) [] is = absurd is

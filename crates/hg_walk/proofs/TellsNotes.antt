@@ -29,7 +29,7 @@ use Rattle.hg_flat.proofs.Letters.{compared_parts, marked_plain, there_is}
 use Rattle.hg_flat.proofs.Tracking.{row_earlier}
 use Rattle.hg_listing.specs.declared.row.Wanted.{Wanted}
 use Rattle.hg_mixed.specs.Gathered.{path_of}
-use Rattle.hg_mixed.specs.declared.child.Child.{Child}
+use Rattle.hg_mixed.specs.declared.line.Line.{Line}
 use Rattle.hg_mtime.specs.Stamps.{stamp_of}
 use Rattle.hg_mtime.specs.Vouching.{vouches}
 use Rattle.hg_shelf.specs.History as shelves
@@ -66,7 +66,7 @@ clean_parts false there true false copied same is = absurd (cc is)
 clean_parts false there false false copied same is = absurd (cc is)
 
 -- a record says of a child's path that it is clean, where it shows that
-abbrev IsCleanThere : Status → Table → Child → EntryData → Stat → Type 0
+abbrev IsCleanThere : Status → Table → Line → EntryData → Stat → Type 0
 IsCleanThere s t child entry stat =
     (t.entries (path_of child) ≡ Some entry) × (stat_at (trees.now s.tree_old) (path_of child) ≡ Some stat)
     × (tracked_letter (rows_then s (path_of child)) (marks_of entry) (is_some (t.sources (path_of child))) ((trees.now s.tree_old).things (path_of child)) ≡ Some a_letter.C)
@@ -74,7 +74,7 @@ IsCleanThere s t child entry stat =
 some_is : {A : Type 0} (a b : A) → Some a ≡ Some b → a ≡ b
 some_is a b is = cc is
 
-module _ (s : Status) (t : Table) (child : Child) (entry : Entry) (of : IsChildOf t child) (is : child.entry ≡ Some entry) where
+module _ (s : Status) (t : Table) (child : Line) (entry : Entry) (of : IsChildOf t child) (is : child.entry ≡ Some entry) where
   -- its entry is that of the child
   same_entry : (other : EntryData) → t.entries (path_of child) ≡ Some other → other ≡ view entry
   same_entry other has = some_is other (view entry) (sym has ∙ child_entry t child entry of is)
@@ -91,24 +91,24 @@ module _ (s : Status) (t : Table) (child : Child) (entry : Entry) (of : IsChildO
 -- ---- nothing is noted
 
 -- no letter that bytes decide is wanted, or the path isn't clean at the start
-abbrev NoneClean : Status → Table → Child → Type 0
+abbrev NoneClean : Status → Table → Line → Type 0
 NoneClean s t child = trees.IsOurs s.tree_old s.tree_new → wants_bytes s.wanted ≡ true → (entry : EntryData) (stat : Stat) → IsCleanThere s t child entry stat → ⊥
 
-notes_none : (s : Status) (t : Table) (boundary : Time) (child : Child) → NoneClean s t child → AreNotesOf s t boundary (child ∷ []) []
+notes_none : (s : Status) (t : Table) (boundary : Time) (child : Line) → NoneClean s t child → AreNotesOf s t boundary (child ∷ []) []
 notes_none s t boundary child none = record {
   needed = λ note has. absurd (nothing note has);
   stamp = λ note has. absurd (nothing note has);
   shown = λ told note has. absurd (nothing note has);
   earned = λ honest told clock keeps note has. absurd (nothing note has);
   recorded = λ ours keeps wants other entry stat stamp has is shown clean unvouched stamped.
-      absurd (subst (λ (o : Child). IsCleanThere s t o entry stat → ⊥) (only_one child other has) (none ours wants entry stat) (is, shown, clean));
+      absurd (subst (λ (o : Line). IsCleanThere s t o entry stat → ⊥) (only_one child other has) (none ours wants entry stat) (is, shown, clean));
 }
 
-pub notes_unwanted : (s : Status) (t : Table) (boundary : Time) (child : Child) → wants_bytes s.wanted ≡ false → AreNotesOf s t boundary (child ∷ []) []
+pub notes_unwanted : (s : Status) (t : Table) (boundary : Time) (child : Line) → wants_bytes s.wanted ≡ false → AreNotesOf s t boundary (child ∷ []) []
 notes_unwanted s t boundary child none = notes_none s t boundary child (λ ours wants entry stat clean. cc (none, wants))
 
 -- no letter is wanted that takes a look
-pub notes_unlooked : (s : Status) (t : Table) (boundary : Time) (child : Child) → wants_tracked s.wanted ≡ false → AreNotesOf s t boundary (child ∷ []) []
+pub notes_unlooked : (s : Status) (t : Table) (boundary : Time) (child : Line) → wants_tracked s.wanted ≡ false → AreNotesOf s t boundary (child ∷ []) []
 notes_unlooked s t boundary child none = notes_unwanted s t boundary child (by s.wanted.m s.wanted.c parts.0 parts.1)
   where
     by : (m c : Bool) → m ≡ false → c ≡ false → (m || c) ≡ false
@@ -121,7 +121,7 @@ notes_unlooked s t boundary child none = notes_unwanted s t boundary child (by s
         let d = or_parts (s.wanted.m || s.wanted.a) s.wanted.d c.0 in let a = or_parts s.wanted.m s.wanted.a d.0 in (a.0, c.1)
 
 -- a child without an entry
-pub notes_bare : (s : Status) (t : Table) (boundary : Time) (child : Child) → IsChildOf t child → child.entry ≡ None → AreNotesOf s t boundary (child ∷ []) []
+pub notes_bare : (s : Status) (t : Table) (boundary : Time) (child : Line) → IsChildOf t child → child.entry ≡ None → AreNotesOf s t boundary (child ∷ []) []
 notes_bare s t boundary child of none =
     notes_none s t boundary child
     (λ ours wants entry stat clean. let has : option_map view child.entry ≡ Some entry = of.entry ∙ clean.0 in cc (none, has))
@@ -131,14 +131,14 @@ first_of true p1 p2 copied is = refl
 first_of false p1 p2 copied is = absurd (cc is)
 
 -- a path that isn't tracked any more
-pub notes_removed : (s : Status) (t : Table) (boundary : Time) (child : Child) (entry : Entry) → IsChildOf t child → child.entry ≡ Some entry → (view entry).w ≡ false → AreNotesOf s t boundary (child ∷ []) []
+pub notes_removed : (s : Status) (t : Table) (boundary : Time) (child : Line) (entry : Entry) → IsChildOf t child → child.entry ≡ Some entry → (view entry).w ≡ false → AreNotesOf s t boundary (child ∷ []) []
 notes_removed s t boundary child entry of is gone =
     notes_none s t boundary child
     (λ ours wants other stat clean.
     let w = first_of (view entry).w (view entry).p1 (view entry).p2 (copied_in child) (clean_here s t child entry of is other stat clean).0 in cc (gone, w))
 
 -- a path at which a look showed nothing
-pub notes_gone : (s : Status) (t : Table) (boundary : Time) (child : Child) → trees.Passes s.tree_old s.tree_new → (IsTrue s.tree_old.told → stat_at (trees.now s.tree_new) (path_of child) ≡ None) → AreNotesOf s t boundary (child ∷ []) []
+pub notes_gone : (s : Status) (t : Table) (boundary : Time) (child : Line) → trees.Passes s.tree_old s.tree_new → (IsTrue s.tree_old.told → stat_at (trees.now s.tree_new) (path_of child) ≡ None) → AreNotesOf s t boundary (child ∷ []) []
 notes_gone s t boundary child passes gone =
     notes_none s t boundary child
     (λ ours wants other stat clean.
@@ -146,7 +146,7 @@ notes_gone s t boundary child passes gone =
     let some = clean.1 in cc (none, some))
 
 -- a path whose marks decide its letter
-pub notes_marked : (s : Status) (t : Table) (boundary : Time) (child : Child) (entry : Entry) (there : Stat) (letter : Letter) → IsChildOf t child → child.entry ≡ Some entry → ShowsNow s.tree_old (path_of child) there
+pub notes_marked : (s : Status) (t : Table) (boundary : Time) (child : Line) (entry : Entry) (there : Stat) (letter : Letter) → IsChildOf t child → child.entry ≡ Some entry → ShowsNow s.tree_old (path_of child) there
     → marked_letter (tracked_row child entry) there ≡ Some letter → AreNotesOf s t boundary (child ∷ []) []
 notes_marked s t boundary child entry there letter of is shown marked =
     notes_none s t boundary child
@@ -166,7 +166,7 @@ file_kind a_kind.Link is = refl
 file_kind a_kind.Dir is = absurd (cc is)
 file_kind a_kind.Other is = absurd (cc is)
 
-module _ (wanted : Wanted) (t : Table) (start old new : trees.History) (begun files later : shelves.History) (parent : Parent) (child : Child) (entry : Entry) (there : Stat) (boundary : Time) (letter : Letter)
+module _ (wanted : Wanted) (t : Table) (start old new : trees.History) (begun files later : shelves.History) (parent : Parent) (child : Line) (entry : Entry) (there : Stat) (boundary : Time) (letter : Letter)
     (come : IsAtChild (walk_status wanted t start old begun files) t parent child) (is : child.entry ≡ Some entry) (shown : ShowsNow old (path_of child) there) (passes : trees.Passes old new)
     (compared : is_compared_row wanted (tracked_row child entry) ≡ true) (kind : is_file_or_link_kind there.kind ≡ true) where
   abbrev look : Look
@@ -222,7 +222,7 @@ module _ (wanted : Wanted) (t : Table) (start old new : trees.History) (begun fi
     earned = λ honest told clock keeps note has. absurd (nothing note has);
     recorded = λ ours keeps wants other entry stat stamp has.
         subst
-        (λ (o : Child). t.entries (path_of o) ≡ Some entry → stat_at (trees.now old) (path_of o) ≡ Some stat
+        (λ (o : Line). t.entries (path_of o) ≡ Some entry → stat_at (trees.now old) (path_of o) ≡ Some stat
         → tracked_letter (rows_then call (path_of o)) (marks_of entry) (is_some (t.sources (path_of o))) ((trees.now old).things (path_of o)) ≡ Some a_letter.C
         → vouches entry (is_some (t.sources (path_of o))) stat ≡ false → stamp_of stat.mtime boundary ≡ Some stamp → clean_at [] (path_of o) ≡ Some (record { path = path_of o; stat = stat; stamp = stamp }))
         (only_one child other has)
@@ -239,7 +239,7 @@ module _ (wanted : Wanted) (t : Table) (start old new : trees.History) (begun fi
         (λ e has. earned e (record { goes = come.goes; told = told; shown = shown told }) honest (keeps (path_of child)) clock);
     recorded = λ ours keeps wants other entry stat stamp has.
         subst
-        (λ (o : Child). t.entries (path_of o) ≡ Some entry → stat_at (trees.now old) (path_of o) ≡ Some stat
+        (λ (o : Line). t.entries (path_of o) ≡ Some entry → stat_at (trees.now old) (path_of o) ≡ Some stat
         → tracked_letter (rows_then call (path_of o)) (marks_of entry) (is_some (t.sources (path_of o))) ((trees.now old).things (path_of o)) ≡ Some a_letter.C
         → vouches entry (is_some (t.sources (path_of o))) stat ≡ false → stamp_of stat.mtime boundary ≡ Some stamp → clean_at (own_note st ∷ []) (path_of o) ≡ Some (record { path = path_of o; stat = stat; stamp = stamp }))
         (only_one child other has)
@@ -252,7 +252,7 @@ module _ (wanted : Wanted) (t : Table) (start old new : trees.History) (begun fi
 
 -- ---- one behind others
 
-module _ (wanted : Wanted) (t : Table) (old mid new : trees.History) (begun files later : shelves.History) (boundary : Time) (xs ys : List Child) (first second : List CleanNote)
+module _ (wanted : Wanted) (t : Table) (old mid new : trees.History) (begun files later : shelves.History) (boundary : Time) (xs ys : List Line) (first second : List CleanNote)
     (before : trees.Passes old mid) (behind : trees.Passes mid new) (past : shelves.Extends files later) (within : begun.last ≤ files.last) where
   shown_more : (note : CleanNote) → WasShown old mid note.path note.stat → WasShown old new note.path note.stat
   shown_more note was = record {
@@ -328,7 +328,7 @@ notes_empty s t boundary = record {
 }
 
 -- what is noted behind a look is noted in the call
-pub notes_later : (wanted : Wanted) (t : Table) (old mid new : trees.History) (begun later : shelves.History) (boundary : Time) (ys : List Child) (notes : List CleanNote) → trees.Passes old mid → trees.Passes mid new
+pub notes_later : (wanted : Wanted) (t : Table) (old mid new : trees.History) (begun later : shelves.History) (boundary : Time) (ys : List Line) (notes : List CleanNote) → trees.Passes old mid → trees.Passes mid new
     → begun.last ≤ later.last → AreNotesOf (walk_status wanted t mid new begun later) t boundary ys notes → AreNotesOf (walk_status wanted t old new begun later) t boundary ys notes
 notes_later wanted t old mid new begun later boundary ys notes before behind within are =
     notes_more wanted t old mid new begun later later boundary [] ys [] notes before behind (shelf.extends_same later) within (notes_empty (walk_status wanted t old mid begun later) t boundary) are

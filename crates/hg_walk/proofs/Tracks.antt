@@ -24,7 +24,7 @@ use Rattle.hg_listing.specs.declared.row.Wanted.{Wanted}
 use Rattle.hg_mixed.specs.Edits.{IsFormed}
 use Rattle.hg_mixed.specs.Gathered.{AreGathered, path_of}
 use Rattle.hg_mixed.specs.Held.{Held, table}
-use Rattle.hg_mixed.specs.declared.child.Child.{Child}
+use Rattle.hg_mixed.specs.declared.line.Line.{Line}
 use Rattle.hg_mtime.specs.Stamps.{stamp_of}
 use Rattle.hg_mtime.specs.Vouching.{vouches}
 use Rattle.hg_mtime.proofs.Tests.{noted_vouch}
@@ -98,7 +98,7 @@ note_found (note ∷ rest) path found is = find_step note rest path found (bytes
 
 -- ---- over all paths
 
-module _ (wanted : Wanted) (held : Held) (children : List Child) (are : AreGathered held (λ path. true) children) (formed : IsFormed (table held)) (id : Id20) (is_id : id.0 ≡ held.p1)
+module _ (wanted : Wanted) (held : Held) (children : List Line) (are : AreGathered held (λ path. true) children) (formed : IsFormed (table held)) (id : Id20) (is_id : id.0 ≡ held.p1)
     (old later : trees.History) (passes : trees.Passes old later) (start files : shelves.History) where
   abbrev t : Table
   t = table held

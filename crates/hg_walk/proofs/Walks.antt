@@ -18,7 +18,7 @@ use Rattle.hg_ignore.specs.State.{Piece}
 use Rattle.hg_listing.specs.Full.{IsFull, IsFullFor}
 use Rattle.hg_listing.specs.declared.row.Row.{Row}
 use Rattle.hg_listing.specs.declared.row.Wanted.{Wanted}
-use Rattle.hg_mixed.specs.declared.child.Child.{Child}
+use Rattle.hg_mixed.specs.declared.line.Line.{Line}
 use Rattle.hg_mtime.specs.Stamps.{stamp_of}
 use Rattle.hg_shelf.specs.History as shelves
 use Rattle.hg_shelf.specs.Polite.{KeepsPlain}
@@ -50,7 +50,7 @@ known_earlier known h start begun within are = record {
   dirs = λ told path is. let was = are.dirs told path is in record { moment = was.moment; begun = omega (arith, within, was.begun); past = was.past; is = was.is };
 }
 
-module _ (wanted : Wanted) (t : Table) (children : List Child) (marks : List Mark) (rows : List Row) (old mid later new : trees.History) (first : trees.Passes old mid) (second : trees.Passes mid later) (third : trees.Passes later new)
+module _ (wanted : Wanted) (t : Table) (children : List Line) (marks : List Mark) (rows : List Row) (old mid later new : trees.History) (first : trees.Passes old mid) (second : trees.Passes mid later) (third : trees.Passes later new)
     (start files : shelves.History) where
   whole : trees.Passes old new
   whole = passes_trans old mid new first (passes_trans mid later new second third)

@@ -23,7 +23,7 @@ use Rattle.hg_flat.specs.declared.parent.Parent.{Parent}
 use Rattle.hg_listing.specs.declared.row.Row.{Row}
 use Rattle.hg_listing.specs.declared.row.Wanted.{Wanted}
 use Rattle.hg_mixed.specs.Gathered.{path_of}
-use Rattle.hg_mixed.specs.declared.child.Child.{Child}
+use Rattle.hg_mixed.specs.declared.line.Line.{Line}
 use Rattle.hg_mtime.specs.Stamps.{stamp_of}
 use Rattle.hg_mtime.specs.Vouching.{vouches}
 use Rattle.hg_shelf.specs.History as shelves
@@ -40,29 +40,29 @@ use Rattle.hg_walk.specs.declared.telling.Seen.{Seen}
 -- ---- the paths of a record
 
 -- a record has what a child shows
-pub record IsChildOf (t : Table) (child : Child) : Type 0 where
+pub record IsChildOf (t : Table) (child : Line) : Type 0 where
   pub entry : option_map view child.entry ≡ t.entries (path_of child)
   pub source : option_map (λ source. source.text.now) child.source ≡ t.sources (path_of child)
 
 -- it has what some children show, and names this first parent
-pub record AreOf (t : Table) (id : Id20) (children : List Child) : Type 0 where
+pub record AreOf (t : Table) (id : Id20) (children : List Line) : Type 0 where
   pub first : id ≡ first_id t
-  pub each : (child : Child) → Contains children child → IsChildOf t child
+  pub each : (child : Line) → Contains children child → IsChildOf t child
 
 -- a child has a copy source
-abbrev pub copied_in : Child → Bool
+abbrev pub copied_in : Line → Bool
 copied_in child = is_some (option_map (λ source. source.text.now) child.source)
 
 -- the row of a child with an entry
-abbrev pub tracked_row : Child → Entry → FlatRow
+abbrev pub tracked_row : Line → Entry → FlatRow
 tracked_row child entry = record { path = path_of child; entry = entry; source = option_map (λ source. source.text.now) child.source }
 
-abbrev pub rows_with : Child → Option Entry → List FlatRow
+abbrev pub rows_with : Line → Option Entry → List FlatRow
 rows_with child None = []
 rows_with child (Some entry) = tracked_row child entry ∷ []
 
 -- the rows of those children that have an entry, in their order
-abbrev pub tracked_rows : List Child → List FlatRow
+abbrev pub tracked_rows : List Line → List FlatRow
 tracked_rows [] = []
 tracked_rows (child ∷ children) = rows_with child child.entry ++ tracked_rows children
 
@@ -70,7 +70,7 @@ tracked_rows (child ∷ children) = rows_with child child.entry ++ tracked_rows 
 
 -- the rows of children were put behind the rows so far, by what both devices tell before and behind it; under the premise they are those of the
 -- paths' letters
-abbrev pub TellsEach : Type 0 → Status → List Child → List Row → List Row → Type 0
+abbrev pub TellsEach : Type 0 → Status → List Line → List Row → List Row → Type 0
 TellsEach Premise s children old new =
     AddsBy s.asks Premise (IsLeftAsked s.asks s.id s.tree_new s.tree_old.last s.shelf_new s.shelf_old.last) (shelves.now s.shelf_old).files s.id
     (trees.now s.tree_old) s.wanted (tracked_rows children) old new
@@ -83,20 +83,20 @@ is_tracked (Some entry) = entry.w
 
 -- what a look showed of a child: where it showed no directory none stood there at a moment of the call, and where it showed a thing a directory stood at
 -- each path above at one; where nobody else steps, each path with an entry has the mark of what stands there
-pub record IsMarked (wanted : Wanted) (old new : trees.History) (child : Child) (mark : Mark) : Type 0 where
+pub record IsMarked (wanted : Wanted) (old new : trees.History) (child : Line) (mark : Mark) : Type 0 where
   pub none : IsTrue old.told → is_no_dir mark ≡ true → WasNoDir new old.last (path_of child)
   pub above : IsTrue old.told → stands mark ≡ true → (dir : List ℕ) → IsTrue (is_below dir (path_of child)) → WasDir new old.last dir
   pub looked : trees.IsOurs old new → wants_tracked wanted ≡ true → is_tracked child.entry ≡ true → mark ≡ mark_of (stat_at (trees.now old) (path_of child))
 
 -- one mark for each child, in their order
-abbrev pub AreMarked : (Child → Mark → Type 0) → List Child → List Mark → Type 0
+abbrev pub AreMarked : (Line → Mark → Type 0) → List Line → List Mark → Type 0
 AreMarked Is [] [] = Unit {0}
 AreMarked Is [] (mark ∷ marks) = ⊥
 AreMarked Is (child ∷ children) [] = ⊥
 AreMarked Is (child ∷ children) (mark ∷ marks) = Is child mark × AreMarked Is children marks
 
 -- they were put behind the marks so far
-abbrev pub MarksEach : Wanted → trees.History → trees.History → List Child → List Mark → List Mark → Type 0
+abbrev pub MarksEach : Wanted → trees.History → trees.History → List Line → List Mark → List Mark → Type 0
 MarksEach wanted old new children before after = (marks : List Mark) × (after ≡ before ++ marks) × AreMarked (IsMarked wanted old new) children marks
 
 -- ---- what is noted
@@ -118,13 +118,13 @@ KeepsRows s = (path : List ℕ) → KeepsRow s.shelf_new s.shelf_old.last s.id p
 
 -- what is noted of children: needed times alone, each by the boundary and from a look in the call; whatever others do they are earned, and where
 -- nobody else steps no clean path is left out whose time may be noted
-pub record AreNotesOf (s : Status) (t : Table) (boundary : Time) (children : List Child) (notes : List CleanNote) : Type 0 where
+pub record AreNotesOf (s : Status) (t : Table) (boundary : Time) (children : List Line) (notes : List CleanNote) : Type 0 where
   pub needed : (note : CleanNote) → Contains notes note → IsNeededNote t note
   pub stamp : (note : CleanNote) → Contains notes note → stamp_of note.stat.mtime boundary ≡ Some note.stamp
   pub shown : IsTrue s.tree_old.told → (note : CleanNote) → Contains notes note → WasShown s.tree_old s.tree_new note.path note.stat
   pub earned : IsHonest s.tree_new → IsTrue s.tree_old.told → WasClock s.tree_old boundary → KeepsRows s → AreClean (rows_then s) t s.tree_new notes
   pub recorded : trees.IsOurs s.tree_old s.tree_new → KeepsRows s → wants_bytes s.wanted ≡ true
-      → (child : Child) (entry : EntryData) (stat : Stat) (stamp : StampData) → Contains children child → t.entries (path_of child) ≡ Some entry
+      → (child : Line) (entry : EntryData) (stat : Stat) (stamp : StampData) → Contains children child → t.entries (path_of child) ≡ Some entry
       → stat_at (trees.now s.tree_old) (path_of child) ≡ Some stat
       → tracked_letter (rows_then s (path_of child)) (marks_of entry) (is_some (t.sources (path_of child))) ((trees.now s.tree_old).things (path_of child)) ≡ Some a_letter.C
       → vouches entry (is_some (t.sources (path_of child))) stat ≡ false → stamp_of stat.mtime boundary ≡ Some stamp
@@ -137,7 +137,7 @@ NotesBehind AreNotes old new = (more : List CleanNote) × (new ≡ with_clean_no
 -- ---- one child
 
 -- a status has come to a child of a record, with what it keeps of its parent
-pub record IsAtChild (s : Status) (t : Table) (parent : Parent) (child : Child) : Type 0 where
+pub record IsAtChild (s : Status) (t : Table) (parent : Parent) (child : Line) : Type 0 where
   pub of : IsChildOf t child
   pub goes : Proceeds s parent
 

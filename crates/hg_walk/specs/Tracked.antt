@@ -8,7 +8,7 @@ use Rattle.hg_flat.specs.Listing.{wants_bytes}
 use Rattle.hg_flat.specs.Met.{Status}
 use Rattle.hg_flat.specs.Passed.{AreKnown}
 use Rattle.hg_listing.specs.declared.row.Row.{Row}
-use Rattle.hg_mixed.specs.declared.child.Child.{Child}
+use Rattle.hg_mixed.specs.declared.line.Line.{Line}
 use Rattle.hg_mtime.specs.Stamps.{stamp_of}
 use Rattle.hg_shelf.specs.Polite.{KeepsPlain}
 use Rattle.hg_tree.specs.History.{History, IsOurs, now}
@@ -26,7 +26,7 @@ abbrev pub IsBoundary : Bool → History → Time → Type 0
 IsBoundary asked new boundary = MatchBool asked (IsTrue new.told → boundary ≡ (now new).clock) ((time : Time) → stamp_of time boundary ≡ None)
 
 -- the rows of all paths of a record with an entry, right where times are, and what is known of paths by the looks at its nodes
-pub record TellsAll (s : Status) (t : Table) (children : List Child) (marks : List Mark) (rows : List Row) : Type 0 where
+pub record TellsAll (s : Status) (t : Table) (children : List Line) (marks : List Mark) (rows : List Row) : Type 0 where
   pub own : HaveOwnPaths (tracked_rows children)
   pub flat : flat_from t.p1 t.p2 (row_at (tracked_rows children)) ≡ flat_of t
   pub added : TellsEach (AreRight (rows_then s) t s.tree_old s.tree_new) s children [] rows

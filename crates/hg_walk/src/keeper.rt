@@ -1,21 +1,23 @@
 //! What a walk keeps of the nodes that it looked at.
 
 ghost use Rattle.std.proofs.Props.{props};
+ghost use Rattle.std.specs.Prelude.{◌≡◌, ◌++◌, ◌∷◌, IfSome, IsTrue, option_map};
+ghost use Rattle.hg_base.specs.PathText.{joined};
 ghost use Rattle.std.specs.List.{IsDistinct};
 ghost use Rattle.std.specs.Str.{bytes_eq};
 ghost use Rattle.hg_mixed.specs.Gathered.{paths_of};
 ghost use Rattle.hg_walk.specs.Passing.{AreInOrder};
 
 use crate::mark::Mark;
-use hg_base::is_below;
+use hg_base::{PathRef, is_below};
 use hg_flat::Entries;
-use hg_mixed::Child;
+use hg_mixed::Line;
 use std::cmp::Ordering;
 
 /// The nodes of a record in order, and of each what a look showed there.
 #[derive(Drop)]
 pub(crate) struct Keeper<'t> {
-    children: Vec<Child<'t>>,
+    children: Vec<Line<'t>>,
     marks: Vec<Mark>,
     ghost ascending: { AreInOrder children.items } by { Prim.hlevel props },
     ghost own: { IsDistinct bytes_eq (paths_of children.items) } by { Prim.hlevel props },
@@ -34,16 +36,67 @@ fn is_before_below(path: &str, dir: &str) -> bool {
     }
 }
 
+// The two parts of a text, where one ends at that byte.
+fn cut_at(text: &str, length: usize) -> Option<(&str, &str)>
+    ensures { IfSome result (λ parts. text.now ≡ parts.0.now ++ parts.1.now) }
+{
+    text.split_at_checked(length)
+}
+
+// What stands behind a slash that the text begins with.
+fn behind_slash(text: &str) -> Option<&str>
+    ensures { IfSome result (λ rest. text.now ≡ 47 ∷ rest.now) }
+{
+    let (front, rest) = text.split_once('/')?;
+    if front.is_empty() { Some(rest) } else { None }
+}
+
+// What a text says behind a directory's and a slash, where it begins with these.
+fn rest_below<'a>(text: &'a str, dir: &str) -> Option<&'a str>
+    ensures { IfSome result (λ rest. text.now ≡ dir.now ++ 47 ∷ rest.now) }
+{
+    let (front, rest) = cut_at(text, dir.len())?;
+    if front != dir {
+        return None;
+    }
+    behind_slash(rest)
+}
+
+// Whether a text is the path of a name in a directory.
+fn is_joined(text: &str, dir: Option<PathRef<'_>>, name: &str) -> bool
+    ensures { IsTrue result → text.now ≡ joined (option_map (λ d. d.text.now) dir.entry) name.now }
+{
+    match dir {
+        None => text == name,
+        Some(dir) => match rest_below(text, dir.text) {
+            None => false,
+            Some(rest) => rest == name,
+        },
+    }
+}
+
+// Whether a text is before the path of a name in a directory, in the order of their bytes.
+fn is_before(text: &str, dir: Option<PathRef<'_>>, name: &str) -> bool {
+    let Some(dir) = dir else {
+        return text < name;
+    };
+    match rest_below(text, dir.text) {
+        Some(rest) => rest < name,
+        None => is_before_below(text, dir.text),
+    }
+}
+
 impl<'t> Keeper<'t> {
-    ghost use Rattle.std.specs.Prelude.{◌≡◌, None, ℕ, IfSome, IsTrue};
+    ghost use Rattle.std.specs.Prelude.{◌≡◌, None, ℕ, IfSome, IsTrue, option_map};
     ghost use Rattle.std.specs.List.{Contains, IsDistinct};
     ghost use Rattle.std.specs.Str.{bytes_eq};
+    ghost use Rattle.hg_base.specs.PathText.{joined};
     ghost use Rattle.hg_mixed.specs.Gathered.{path_of, paths_of};
-    ghost use Rattle.hg_mixed.specs.declared.child.Child.{Child};
+    ghost use Rattle.hg_mixed.specs.declared.line.Line.{Line};
     ghost use Rattle.hg_walk.specs.Passing.{AreInOrder, IsPlaceBelow, IsPlaceOf};
 
     // These nodes, with a mark for each.
-    pub(crate) fn of(children: Vec<Child<'t>>, marks: Vec<Mark>) -> Keeper<'t>
+    pub(crate) fn of(children: Vec<Line<'t>>, marks: Vec<Mark>) -> Keeper<'t>
         requires ascending { AreInOrder children.items }
         requires own { IsDistinct bytes_eq (paths_of children.items) }
         ensures children { result.children.items ≡ children.entry.items }
@@ -65,7 +118,7 @@ impl<'t> Keeper<'t> {
     // The place of the node of a path; the one at `next` is looked at first, which is made that place, or where the node would stand.
     fn find(&self, path: &str, next: &mut usize) -> Option<usize>
         ensures found { IfSome result (λ at. IsPlaceOf self.now.children.items path.now at) }
-        ensures none { result ≡ None → (child : Child) → Contains self.now.children.items child → path_of child ≡ path.now → ⊥ }
+        ensures none { result ≡ None → (child : Line) → Contains self.now.children.items child → path_of child ≡ path.now → ⊥ }
     {
         if self.is_at(*next, path) {
             return Some(*next);
@@ -82,6 +135,34 @@ impl<'t> Keeper<'t> {
                 *next = at;
                 None
             },
+        }
+    }
+
+    // Whether the node at this place is of the path of a name in a directory.
+    fn is_joined_at(&self, at: usize, dir: Option<PathRef<'_>>, name: &str) -> bool
+        ensures { IsTrue result → IsPlaceOf self.now.children.items (joined (option_map (λ d. d.text.now) dir.entry) name.now) at }
+    {
+        if at >= self.children.len() {
+            return false;
+        }
+        is_joined(self.children[at].path.text, dir, name)
+    }
+
+    // The place of the node of the path of a name in a directory, as `find` looks for it, without a text made of it.
+    fn find_joined(&self, dir: Option<PathRef<'_>>, name: &str, next: &mut usize) -> Option<usize>
+        ensures { IfSome result (IsPlaceOf self.now.children.items (joined (option_map (λ d. d.text.now) dir.entry) name.now)) }
+    {
+        if self.is_joined_at(*next, dir, name) {
+            return Some(*next);
+        }
+        let at = self
+            .children
+            .partition_point(|child| is_before(child.path.text, dir, name));
+        *next = at;
+        if self.is_joined_at(at, dir, name) {
+            Some(at)
+        } else {
+            None
         }
     }
 
@@ -127,8 +208,8 @@ impl Entries for Keeper<'_> {
     }
 
     // Where it may not be passed the place is kept for the next question.
-    fn was_passed(&self, path: &str, next: &mut usize) -> bool {
-        let Some(at) = self.find(path, next) else {
+    fn was_passed(&self, dir: Option<PathRef<'_>>, name: &str, next: &mut usize) -> bool {
+        let Some(at) = self.find_joined(dir, name, next) else {
             return false;
         };
         if self.children[at].entry.is_none() {

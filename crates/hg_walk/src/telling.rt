@@ -24,7 +24,7 @@ use hg_compare::Letter;
 use hg_entry::Entry;
 use hg_flat::{Parent, letter_by_marks, put_wanted, wants_bytes, wants_tracked};
 use hg_listing::{Row, StatusFault, Wanted};
-use hg_mixed::Child;
+use hg_mixed::Line;
 use hg_shelf::Shelf;
 use hg_tree::Tree;
 use std::alloc::Global;
@@ -47,7 +47,7 @@ pub(crate) struct Told {
     pub mark: Mark,
 }
 
-fn is_copy(child: &Child<'_>) -> bool
+fn is_copy(child: &Line<'_>) -> bool
     ensures { result ≡ copied_in child.now }
 {
     child.source.is_some()
@@ -68,7 +68,7 @@ fn seen_by(there: &Stat, stamp: Option<Stamp>) -> Option<Seen>
 // What is told of a tracked path where a look shows something.
 fn tell_there<T: Tree, S: Shelf>(
     alloc: Global,
-    child: &Child<'_>,
+    child: &Line<'_>,
     entry: &Entry,
     there: &Stat,
     tree: &mut T,
@@ -161,7 +161,7 @@ fn tell_there<T: Tree, S: Shelf>(
 // What is told of a path with an entry.
 fn tell_tracked<T: Tree, S: Shelf>(
     alloc: Global,
-    child: &Child<'_>,
+    child: &Line<'_>,
     entry: &Entry,
     tree: &mut T,
     shelf: &mut S,
@@ -261,7 +261,7 @@ fn note_seen(
 // Tells of one child, and answers what a look showed at its path.
 fn tell_one<T: Tree, S: Shelf>(
     alloc: Global,
-    child: &Child<'_>,
+    child: &Line<'_>,
     tree: &mut T,
     shelf: &mut S,
     parent: &mut Parent,
@@ -334,7 +334,7 @@ fn tell_one<T: Tree, S: Shelf>(
 // before.
 pub(crate) fn tell_each<T: Tree, S: Shelf>(
     alloc: Global,
-    children: &[Child<'_>],
+    children: &[Line<'_>],
     p1: &Id20,
     tree: &mut T,
     shelf: &mut S,

@@ -3,6 +3,7 @@ use Rattle.std.proofs.lemmas.Grind.{common_steps}
 use Rattle.std.proofs.Common.{arith, List, Some, ◌∙◌, ◌+◌, [], ap, refl, subst, option_map}
 use Rattle.std.specs.Prelude.{OnOk}
 use Rattle.std.proofs.lemmas.Result.{on_ok_weaker}
+use Rattle.hg_base.specs.PathText.{joined}
 use Rattle.hg_tree.specs.History.{now}
 use Rattle.hg_tree.specs.Still.{Untouched}
 use Rattle.hg_tree.proofs.Histories.{extends_same, extends_trans}
@@ -18,11 +19,6 @@ use Rattle.hg_flat.proofs.Ignoring.{above_name, entered, left_out}
 use Rattle.hg_flat.proofs.Unknowns.{among_none}
 use Rattle.hg_flat.proofs.Steps.{each_more, file_kind, known_later, lists_since, look_dir, look_file, look_left, look_nothing, look_passed, these_names, visit_nested, visit_none, visit_rest}
 use Rattle.hg_flat.proofs.listing.+listing.Goals as goal
-
-pub look-returns-then-was_passed-clause-listed : goal.look-returns-then-was_passed-clause-listed
-look-returns-then-was_passed-clause-listed g t c =
-    look_passed (g.K.Entries.kept c.args.entries.now) (g.K.Entries.known c.args.entries.now) c.args.wanted (state_asked c.args.matcher.now) (g.T.Tree.history c.args.tree.now) c.args.path c.as_str.result.now c.args.rows.now.items c.as_str.ensures
-    (c.was_passed.ensures.kept c.if-was_passed.true) (c.was_passed.ensures.passed c.if-was_passed.true)
 
 pub look-returns-in_default-clause-listed : goal.look-returns-in_default-clause-listed
 look-returns-in_default-clause-listed g t c = λ start are formed.
@@ -66,19 +62,41 @@ look-returns-in-Other-clause-listed g t c = λ start are formed.
     look_nothing (g.K.Entries.kept c.args.entries.now) c.args.wanted (state_asked c.args.matcher.now) old mid mid c.kind_at.ensures.passes.past (extends_same mid) start are.begun c.args.path c.as_ref.result.text.now c.as_ref.ensures c.in_ok-kind.field-0
     (c.in_ok-kind.ensures.was start are) formed c.args.rows.now.items (ap dir_by c.in-Some.is ∙ ap is_dir_kind c.in-Other.is) (ap file_by c.in-Some.is ∙ ap is_file_or_link_kind c.in-Other.is)
 
+pub look_each-loop-name-preserved-then-was_passed : goal.look_each-loop-name-preserved-then-was_passed
+look_each-loop-name-preserved-then-was_passed g t c =
+    let tree = g.T.Tree.history c.loop-name.tree in
+    let dir = option_map (λ d. d.text.now) c.args.dir in
+    let path = joined dir c.as_str-name.result.now in
+    record {
+      passes = c.loop-name.invariant.passes;
+      listed =
+          each_more (g.K.Entries.kept c.args.entries.now) (g.K.Entries.known c.args.entries.now) c.args.wanted (state_asked c.args.matcher.now) (g.T.Tree.history c.args.tree.now) tree tree c.loop-name.invariant.passes.past (extends_same tree)
+          dir c.args.names.now c.loop-name.name-index c.name-item.result c.as_str-name.result.now path c.args.rows.now.items c.loop-name.rows.items c.loop-name.rows.items
+          c.loop-name-test.true c.name-item.is c.as_str-name.ensures.text refl c.loop-name.invariant.listed
+          (look_passed (g.K.Entries.kept c.args.entries.now) (g.K.Entries.known c.args.entries.now) c.args.wanted (state_asked c.args.matcher.now) tree path path c.loop-name.rows.items refl
+          (c.was_passed.ensures.kept c.if-was_passed.true) (c.was_passed.ensures.passed c.if-was_passed.true));
+      asked = λ told since past are.
+          each_more_asks (IsEntered c.args.wanted (state_asked c.args.matcher.now)) since (g.T.Tree.history c.args.tree.now) tree tree (extends_same tree)
+          dir c.args.names.now c.loop-name.name-index c.name-item.result c.as_str-name.result.now path c.requires.fit
+          c.loop-name-test.true c.name-item.is c.as_str-name.ensures.text refl (c.loop-name.invariant.asked told since past are)
+          (asks_none (IsDirFrom (IsEntered c.args.wanted (state_asked c.args.matcher.now)) since tree path) tree tree refl);
+      same = c.loop-name.invariant.same;
+      still = c.loop-name.invariant.still;
+    }
+
 pub look_each-loop-name-preserved : goal.look_each-loop-name-preserved
 look_each-loop-name-preserved g t c = record {
   passes = passes_trans _ _ _ c.loop-name.invariant.passes c.look.ensures.passes;
   listed =
       each_more (g.K.Entries.kept c.args.entries.now) (g.K.Entries.known c.args.entries.now) c.args.wanted (state_asked c.args.matcher.now) (g.T.Tree.history c.args.tree.now) (g.T.Tree.history c.loop-name.tree) (g.T.Tree.history c.look.new.tree) c.loop-name.invariant.passes.past c.look.ensures.passes.past
-      (option_map (λ d. d.text.now) c.args.dir) c.args.names.now c.loop-name.name-index c.name-item.result c.as_str.result.now c.in_ok-path.path c.args.rows.now.items c.loop-name.rows.items c.look.new.rows.items
-      c.loop-name-test.true c.name-item.is c.as_str.ensures.text c.in_ok-path.ensures c.loop-name.invariant.listed
+      (option_map (λ d. d.text.now) c.args.dir) c.args.names.now c.loop-name.name-index c.name-item.result c.as_str-name.result.now c.in_ok-path.path c.args.rows.now.items c.loop-name.rows.items c.look.new.rows.items
+      c.loop-name-test.true c.name-item.is c.as_str-name.ensures.text c.in_ok-path.ensures c.loop-name.invariant.listed
       (subst (λ (s : List Piece). ListsFormed (g.K.Entries.kept c.args.entries.now) (g.K.Entries.known c.args.entries.now) (Gives c.args.wanted s) (g.T.Tree.history c.loop-name.tree) (g.T.Tree.history c.look.new.tree) (IsUnknownFrom (g.K.Entries.kept c.args.entries.now) (now (g.T.Tree.history c.loop-name.tree)) c.in_ok-path.path) c.loop-name.rows.items c.look.new.rows.items)
       c.loop-name.invariant.same c.in_ok-look.ensures.listed);
   asked = λ told since past are.
       each_more_asks (IsEntered c.args.wanted (state_asked c.args.matcher.now)) since (g.T.Tree.history c.args.tree.now) (g.T.Tree.history c.loop-name.tree) (g.T.Tree.history c.look.new.tree) c.look.ensures.passes.past
-      (option_map (λ d. d.text.now) c.args.dir) c.args.names.now c.loop-name.name-index c.name-item.result c.as_str.result.now c.in_ok-path.path c.requires.fit
-      c.loop-name-test.true c.name-item.is c.as_str.ensures.text c.in_ok-path.ensures (c.loop-name.invariant.asked told since past are)
+      (option_map (λ d. d.text.now) c.args.dir) c.args.names.now c.loop-name.name-index c.name-item.result c.as_str-name.result.now c.in_ok-path.path c.requires.fit
+      c.loop-name-test.true c.name-item.is c.as_str-name.ensures.text c.in_ok-path.ensures (c.loop-name.invariant.asked told since past are)
       (subst (λ (s : List Piece). AsksFor (IsDirFrom (IsEntered c.args.wanted s) since (g.T.Tree.history c.look.new.tree) c.in_ok-path.path) (g.T.Tree.history c.loop-name.tree) (g.T.Tree.history c.look.new.tree))
       c.loop-name.invariant.same
       (c.look.ensures.asked (c.loop-name.invariant.passes.past.told ∙ told) since (passes_trans since (g.T.Tree.history c.args.tree.now) (g.T.Tree.history c.loop-name.tree) past c.loop-name.invariant.passes)
@@ -113,10 +131,6 @@ visit-returns-clause-listed g t c =
     c.look_each.ensures.listed
 
 -- ---- what the tree is asked
-
-pub look-returns-then-was_passed-clause-asked : goal.look-returns-then-was_passed-clause-asked
-look-returns-then-was_passed-clause-asked g t c = λ told since past are.
-    asks_none (IsDirFrom (IsEntered c.args.wanted (state_asked c.args.matcher.now)) since (g.T.Tree.history c.args.tree.now) c.args.path) (g.T.Tree.history c.args.tree.now) (g.T.Tree.history c.args.tree.now) refl
 
 pub look-returns-in_err-kind-clause-asked : goal.look-returns-in_err-kind-clause-asked
 look-returns-in_err-kind-clause-asked g t c = λ told since past are.
@@ -172,8 +186,8 @@ pub look_each-returns-in_err-look-clause-asked : goal.look_each-returns-in_err-l
 look_each-returns-in_err-look-clause-asked g t c = λ told since past are.
     each_asks (IsEntered c.args.wanted (state_asked c.args.matcher.now)) since (g.T.Tree.history c.args.tree.now) (g.T.Tree.history c.look.new.tree) (option_map (λ d. d.text.now) c.args.dir) c.args.names.now (c.loop-name.name-index + 1)
     (each_more_asks (IsEntered c.args.wanted (state_asked c.args.matcher.now)) since (g.T.Tree.history c.args.tree.now) (g.T.Tree.history c.loop-name.tree) (g.T.Tree.history c.look.new.tree) c.look.ensures.passes.past
-    (option_map (λ d. d.text.now) c.args.dir) c.args.names.now c.loop-name.name-index c.name-item.result c.as_str.result.now c.in_ok-path.path c.requires.fit
-    c.loop-name-test.true c.name-item.is c.as_str.ensures.text c.in_ok-path.ensures (c.loop-name.invariant.asked told since past are)
+    (option_map (λ d. d.text.now) c.args.dir) c.args.names.now c.loop-name.name-index c.name-item.result c.as_str-name.result.now c.in_ok-path.path c.requires.fit
+    c.loop-name-test.true c.name-item.is c.as_str-name.ensures.text c.in_ok-path.ensures (c.loop-name.invariant.asked told since past are)
     (subst (λ (s : List Piece). AsksFor (IsDirFrom (IsEntered c.args.wanted s) since (g.T.Tree.history c.look.new.tree) c.in_ok-path.path) (g.T.Tree.history c.loop-name.tree) (g.T.Tree.history c.look.new.tree))
     c.loop-name.invariant.same
     (c.look.ensures.asked (c.loop-name.invariant.passes.past.told ∙ told) since (passes_trans since (g.T.Tree.history c.args.tree.now) (g.T.Tree.history c.loop-name.tree) past c.loop-name.invariant.passes)
@@ -215,7 +229,7 @@ visit-returns-clause-asked g t c = λ told since past are.
 -- a name of a directory is ignored with it
 pub look_each-look-requires : goal.look_each-look-requires
 look_each-look-requires g t c κs within =
-    let above = above_name (state_asked c.args.matcher.now) (state_asked c.loop-name.matcher) c.args.ignored (option_map (λ d. d.text.now) c.args.dir) c.as_str.result.now c.in_ok-path.path c.loop-name.invariant.same
-    (plain_at (option_map (λ d. d.text.now) c.args.dir) c.args.names.now c.loop-name.name-index c.name-item.result c.as_str.result.now c.requires.fit c.loop-name-test.true c.name-item.is c.as_str.ensures.text)
+    let above = above_name (state_asked c.args.matcher.now) (state_asked c.loop-name.matcher) c.args.ignored (option_map (λ d. d.text.now) c.args.dir) c.as_str-name.result.now c.in_ok-path.path c.loop-name.invariant.same
+    (plain_at (option_map (λ d. d.text.now) c.args.dir) c.args.names.now c.loop-name.name-index c.name-item.result c.as_str-name.result.now c.requires.fit c.loop-name-test.true c.name-item.is c.as_str-name.ensures.text)
     c.in_ok-path.ensures c.requires.above in
     grind (arith, common_steps, above)

@@ -3,7 +3,6 @@ use Rattle.std.specs.Option.{option_map}
 use Rattle.std.proofs.lemmas.List.{append-nil}
 use Rattle.hg_base.specs.declared.path.PathRef.{PathRef}
 use Rattle.hg_mixed.specs.Lists.{or_root}
-use Rattle.hg_mixed.specs.Gathered.{path_of}
 use Rattle.hg_mixed.proofs.Gathering.{below_none, child_is, child_longer, child_short, left_done, left_first, left_more}
 use Rattle.hg_mixed.proofs.gathered.+gathering.Goals as goal
 
@@ -20,9 +19,9 @@ add_children-loop-child-init t c =
 pub add_children-add_below-requires : goal.add_children-add_below-requires
 add_children-add_below-requires t c =
     let dir = option_map (λ (d : PathRef). d.text.now) c.args.dir in
-    let longer : length (or_root dir) < length (path_of c.in-Some.child) =
+    let longer : length (or_root dir) < length c.in-Some.child.path.text.now =
     child_longer c.args.mixed.now c.requires dir c.in-Some.child c.loop-child.children c.next.new.self c.in-Some.ensures c.args.rows.now.items c.loop-child.rows.items c.loop-child.invariant in
-    let short : length (path_of c.in-Some.child) ≤ 65535 =
+    let short : length c.in-Some.child.path.text.now ≤ 65535 =
     child_short c.args.mixed.now c.requires dir c.in-Some.child c.loop-child.children c.next.new.self c.in-Some.ensures c.args.rows.now.items c.loop-child.rows.items c.loop-child.invariant in (
       omega (arith, c.decreases, longer, short),
       (

@@ -2,11 +2,11 @@
 use Rattle.std.proofs.Common.{◌+◌, ◌-◌, ◌*◌, length}
 use Rattle.std.specs.Option.{option_map}
 use Rattle.hg_mixed.specs.Lists.{or_root}
-use Rattle.hg_mixed.specs.Gathered.{AreLeft, path_of}
+use Rattle.hg_mixed.specs.Gathered.{AreLeft}
 use Rattle.hg_mixed.proofs.gathered.+gathering.Given as goal
 
 abbrev pub decreases-add_below : goal.decreases-add_below
-decreases-add_below l = 2 * (65536 - length (path_of l.child.now)) + 1
+decreases-add_below l = 2 * (65536 - length l.child.now.path.text.now) + 1
 
 abbrev pub decreases-add_children : goal.decreases-add_children
 decreases-add_children l = 2 * (65536 - length (or_root (option_map (λ d. d.text.now) l.dir)))

@@ -6,7 +6,7 @@ use Rattle.hg_flat.specs.Parent.{WasAsked}
 use Rattle.hg_flat.proofs.Asking.{asked_later, asked_longer, reads_on}
 use Rattle.hg_flat.proofs.Asks.{reads_none}
 use Rattle.hg_flat.proofs.Going.{goes_store}
-use Rattle.hg_mixed.specs.declared.child.Child.{Child}
+use Rattle.hg_mixed.specs.declared.line.Line.{Line}
 use Rattle.hg_shelf.specs.History as shelves
 use Rattle.hg_shelf.proofs.Histories as shelf
 use Rattle.hg_shelf.proofs.Scenes.{goes_same, goes_trans}
@@ -52,7 +52,7 @@ loop-child-preserved g c =
     let below : c.loop-child.child-index < length c.args.children.now = c.loop-child-test.true in
     let has : Contains c.args.children.now child = (c.loop-child.child-index, below, sym c.child-item.is) in
     let one_more : take (c.loop-child.child-index + 1) c.args.children.now ≡ so_far ++ child ∷ [] =
-    take_more c.args.children.now c.loop-child.child-index child below ∙ ap (λ (r : Child). so_far ++ r ∷ []) (sym c.child-item.is) in
+    take_more c.args.children.now c.loop-child.child-index child below ∙ ap (λ (r : Line). so_far ++ r ∷ []) (sym c.child-item.is) in
     record {
       passes = passes_trans old mid new c.loop-child.invariant.passes c.tell_one.ensures.passes;
       passes_shelf = shelf.passes_trans begun files later c.loop-child.invariant.passes_shelf c.tell_one.ensures.passes_shelf;
@@ -61,14 +61,14 @@ loop-child-preserved g c =
       held = c.tell_one.ensures.held ∙ c.loop-child.invariant.held;
       added = λ t of.
           subst
-          (λ (l : List Child). TellsEach (AreRight (rows_in t (shelves.now begun).files) t old new) (walk_status c.args.wanted t old new begun later) l c.args.rows.now.items c.tell_one.new.rows.items) (sym one_more)
+          (λ (l : List Line). TellsEach (AreRight (rows_in t (shelves.now begun).files) t old new) (walk_status c.args.wanted t old new begun later) l c.args.rows.now.items c.tell_one.new.rows.items) (sym one_more)
           (tells_more c.args.wanted t (AreRight (rows_in t (shelves.now begun).files) t old mid) (AreRight (rows_in t (shelves.now begun).files) t old new) (AreRight (rows_in t (shelves.now begun).files) t old new)
           (right_in_first (rows_in t (shelves.now begun).files) t old mid new c.tell_one.ensures.passes.past) (λ right. right) old mid new begun files later c.loop-child.invariant.passes.past c.tell_one.ensures.passes.past
           c.tell_one.ensures.passes_shelf.past c.loop-child.invariant.passes_shelf.past.later so_far (child ∷ []) c.args.rows.now.items c.loop-child.rows.items c.tell_one.new.rows.items
           (c.loop-child.invariant.added t of) (c.in_ok-mark.ensures.row t old begun (record { of = of.each child has; goes = c.loop-child.invariant.goes t of })));
       marked =
           subst (λ (l : List Mark). MarksEach c.args.wanted old new (take (c.loop-child.child-index + 1) c.args.children.now) c.args.marks.now.items l) (sym c.in_ok-push.ensures.items)
-          (subst (λ (l : List Child). MarksEach c.args.wanted old new l c.args.marks.now.items (c.loop-child.marks.items ++ c.in_ok-mark.mark ∷ [])) (sym one_more)
+          (subst (λ (l : List Line). MarksEach c.args.wanted old new l c.args.marks.now.items (c.loop-child.marks.items ++ c.in_ok-mark.mark ∷ [])) (sym one_more)
           (marks_more c.args.wanted old mid new c.loop-child.invariant.passes c.tell_one.ensures.passes so_far child c.in_ok-mark.mark c.args.marks.now.items c.loop-child.marks.items c.loop-child.invariant.marked
           c.in_ok-mark.ensures.marked));
       noted =
@@ -77,7 +77,7 @@ loop-child-preserved g c =
             before.0 ++ own.0,
             own.1 ∙ (λ i. with_clean_notes own.0 (before.1 i)) ∙ (λ i. record c.args.notes.now { clean = append_assoc c.args.notes.now.clean before.0 own.0 i }),
             λ t of.
-                subst (λ (l : List Child). AreNotesOf (walk_status c.args.wanted t old new begun later) t c.args.boundary l (before.0 ++ own.0)) (sym one_more)
+                subst (λ (l : List Line). AreNotesOf (walk_status c.args.wanted t old new begun later) t c.args.boundary l (before.0 ++ own.0)) (sym one_more)
                 (notes_more c.args.wanted t old mid new begun files later c.args.boundary so_far (child ∷ []) before.0 own.0 c.loop-child.invariant.passes c.tell_one.ensures.passes c.tell_one.ensures.passes_shelf.past
                 c.loop-child.invariant.passes_shelf.past.later (before.2 t of) (own.2 t old begun (record { of = of.each child has; goes = c.loop-child.invariant.goes t of }))),
           );
@@ -169,7 +169,7 @@ returns-clause-added g c = λ t of.
     let new = g.T.Tree.history c.loop-child.tree in
     let begun = g.S.Shelf.history c.args.shelf.now in
     subst
-    (λ (l : List Child). TellsEach (AreRight (rows_in t (shelves.now begun).files) t old new) (walk_status c.args.wanted t old new begun (g.S.Shelf.history c.loop-child.shelf)) l c.args.rows.now.items c.loop-child.rows.items)
+    (λ (l : List Line). TellsEach (AreRight (rows_in t (shelves.now begun).files) t old new) (walk_status c.args.wanted t old new begun (g.S.Shelf.history c.loop-child.shelf)) l c.args.rows.now.items c.loop-child.rows.items)
     (take_all c.loop-child.child-index c.args.children.now c.loop-child-test.false) (c.loop-child.invariant.added t of)
 
 pub returns-clause-store : goal.returns-clause-store
