@@ -95,6 +95,10 @@ module _ (docket : Contents) (rows : List Row) (left : List (List ℕ × List Ro
     ];
   }
 
+-- where nothing is the image's, all is in memory
+pub near_all : (docket : Contents) (rows : List Row) (left : List (List ℕ × List Row)) (own : InMemory) (path : List ℕ) → ((at : List ℕ) → covers left at ≡ false) → IsNear docket rows left (memory_table own) path
+near_all docket rows left own path none = record { free = none path; near = λ other h. own_entry docket rows left (memory_table own) other (none other) }
+
 -- ---- after lists were taken
 
 module _ (old was : Held) (same : was ≡ old) (docket : Contents) (rows : List Row) (first left : List (List ℕ × List Row)) (before own : InMemory) (moved : IsMoved docket rows first before left own)

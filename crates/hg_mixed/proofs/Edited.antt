@@ -11,9 +11,12 @@ use Rattle.hg_entry.specs.Entry.{EntryData, StampData}
 use Rattle.hg_entry.specs.Table.{Table}
 use Rattle.hg_mixed.specs.Edits.{IsFormed, IsSame, Marks, after_cache, after_copy, after_set}
 use Rattle.hg_mixed.specs.Held.{table_of}
-use Rattle.hg_mixed.specs.Memory.{InMemory, IsSourceWritten, memory_table}
+use Rattle.hg_image.specs.Rows.{Row}
+use Rattle.hg_mixed.specs.Lent.{AreEnded, AreLentStill}
+use Rattle.hg_mixed.specs.Memory.{Ends, InMemory, IsSourceWritten, memory_table}
 use Rattle.hg_mixed.specs.Node.{AreSame, IsPut, NodeData, entry_in, node_at, or_blank, planted, source_in, with_entry, with_source}
 use Rattle.hg_mixed.specs.Times.{AreNone, IsTimed, time_at}
+use Rattle.hg_mixed.proofs.Ended.{ends_by}
 
 -- ---- marks
 
@@ -219,23 +222,41 @@ module _ (path : List ℕ) (entry : EntryData) (old was : InMemory) (same : was 
     pub set_formed : IsFormed (table_of was.p1 was.p2 was.hash rows times)
     set_formed = formed_set path entry (memory_table was) (table_of was.p1 was.p2 was.hash rows times) good formed here
 
+    set_decided : (differs : Bool) → MatchBool differs (entry_in (node_at was.rows path) ≡ Some entry → ⊥) (entry_in (node_at was.rows path) ≡ Some entry)
+        → MatchBool differs (IsSame (table_of was.p1 was.p2 was.hash rows times) (memory_table was) → ⊥) (IsSame (table_of was.p1 was.p2 was.hash rows times) (memory_table was))
+    set_decided differs m =
+        decided differs (entry_in (node_at was.rows path) ≡ Some entry) (IsSame (table_of was.p1 was.p2 was.hash rows times) (memory_table was))
+        (set_stays path entry (memory_table was) (table_of was.p1 was.p2 was.hash rows times) good formed here)
+        (set_was path entry (memory_table was) (table_of was.p1 was.p2 was.hash rows times) good formed here) m
+
     pub set_marks : (differs : Bool) → MatchBool differs (entry_in (node_at was.rows path) ≡ Some entry → ⊥) (entry_in (node_at was.rows path) ≡ Some entry)
         → Marks (IsSame (table_of was.p1 was.p2 was.hash rows times) (memory_table old)) old.changed (was.changed || differs)
     set_marks differs m = subst (λ (h : InMemory). Marks (IsSame (table_of was.p1 was.p2 was.hash rows times) (memory_table h)) h.changed (was.changed || differs)) same
-        (marks (IsSame (table_of was.p1 was.p2 was.hash rows times) (memory_table was)) was.changed differs
-        (decided differs (entry_in (node_at was.rows path) ≡ Some entry) (IsSame (table_of was.p1 was.p2 was.hash rows times) (memory_table was))
-        (set_stays path entry (memory_table was) (table_of was.p1 was.p2 was.hash rows times) good formed here)
-        (set_was path entry (memory_table was) (table_of was.p1 was.p2 was.hash rows times) good formed here) m))
+        (marks (IsSame (table_of was.p1 was.p2 was.hash rows times) (memory_table was)) was.changed differs (set_decided differs m))
+
+    -- which lists are kept
+    pub set_ends : (kept : List (List ℕ × List Row)) (differs : Bool) → MatchBool differs (entry_in (node_at was.rows path) ≡ Some entry → ⊥) (entry_in (node_at was.rows path) ≡ Some entry)
+        → MatchBool differs (AreEnded path was.kept kept) (AreLentStill was.kept kept) → Ends path (IsSame (table_of was.p1 was.p2 was.hash rows times) (memory_table old)) old.kept kept
+    set_ends kept differs m ended = subst (λ (h : InMemory). Ends path (IsSame (table_of was.p1 was.p2 was.hash rows times) (memory_table h)) h.kept kept) same
+        (ends_by path (IsSame (table_of was.p1 was.p2 was.hash rows times) (memory_table was)) was.kept kept differs (set_decided differs m) ended)
 
 -- ---- the table with another cache
 
 module _ (dir : List ℕ) (time : Option StampData) (old was : InMemory) (same : was ≡ old) (times : List (List ℕ × StampData)) (timed : IsTimed dir time was.times times) where
+  cached : IsSame (table_of was.p1 was.p2 was.hash was.rows times) (after_cache dir time (memory_table was))
+  cached = record { p1 = refl; p2 = refl; hash = refl; entries = λ at. refl; sources = λ at. refl; nodes = λ at. refl; caches = timed }
+
   pub cache_marks : (b : Bool) → MatchBool b (time_at was.times dir ≡ time) (time_at was.times dir ≡ time → ⊥)
       → Marks (IsSame (table_of was.p1 was.p2 was.hash was.rows times) (memory_table old)) old.changed (was.changed || not b)
   cache_marks b m = subst (λ (h : InMemory). Marks (IsSame (table_of was.p1 was.p2 was.hash was.rows times) (memory_table h)) h.changed (was.changed || not b)) same
-      (marks (IsSame (table_of was.p1 was.p2 was.hash was.rows times) (memory_table was)) was.changed (not b)
-      (cache_decided dir time (memory_table was) (table_of was.p1 was.p2 was.hash was.rows times)
-      (record { p1 = refl; p2 = refl; hash = refl; entries = λ at. refl; sources = λ at. refl; nodes = λ at. refl; caches = timed }) b m))
+      (marks (IsSame (table_of was.p1 was.p2 was.hash was.rows times) (memory_table was)) was.changed (not b) (cache_decided dir time (memory_table was) (table_of was.p1 was.p2 was.hash was.rows times) cached b m))
+
+  -- which lists are kept
+  pub cache_ends : (kept : List (List ℕ × List Row)) (b : Bool) → MatchBool b (time_at was.times dir ≡ time) (time_at was.times dir ≡ time → ⊥)
+      → MatchBool (not b) (AreEnded dir was.kept kept) (AreLentStill was.kept kept) → Ends dir (IsSame (table_of was.p1 was.p2 was.hash was.rows times) (memory_table old)) old.kept kept
+  cache_ends kept b m ended = subst (λ (h : InMemory). Ends dir (IsSame (table_of was.p1 was.p2 was.hash was.rows times) (memory_table h)) h.kept kept) same
+      (ends_by dir (IsSame (table_of was.p1 was.p2 was.hash was.rows times) (memory_table was)) was.kept kept (not b)
+      (cache_decided dir time (memory_table was) (table_of was.p1 was.p2 was.hash was.rows times) cached b m) ended)
 
 -- ---- no caches
 
@@ -327,12 +348,21 @@ module _ (path : List ℕ) (source : Option (List ℕ)) (old was : InMemory) (sa
   pub copy_formed : IsFormed (memory_table was) → IsFormed (table_of was.p1 was.p2 was.hash rows was.times)
   copy_formed formed = formed_copy path source (memory_table was) (table_of was.p1 was.p2 was.hash rows was.times) formed some_was copied
 
+  copy_decided : MatchBool differs (IsSame (table_of was.p1 was.p2 was.hash rows was.times) (memory_table was) → ⊥) (IsSame (table_of was.p1 was.p2 was.hash rows was.times) (memory_table was))
+  copy_decided =
+      decided differs (source_in (node_at was.rows path) ≡ source) (IsSame (table_of was.p1 was.p2 was.hash rows was.times) (memory_table was))
+      (copy_stays path source (memory_table was) (table_of was.p1 was.p2 was.hash rows was.times) copied)
+      (copy_was path source (memory_table was) (table_of was.p1 was.p2 was.hash rows was.times) copied) told
+
   pub copy_marks : Marks (IsSame (table_of was.p1 was.p2 was.hash rows was.times) (memory_table old)) old.changed (was.changed || differs)
   copy_marks = subst (λ (h : InMemory). Marks (IsSame (table_of was.p1 was.p2 was.hash rows was.times) (memory_table h)) h.changed (was.changed || differs)) same
-      (marks (IsSame (table_of was.p1 was.p2 was.hash rows was.times) (memory_table was)) was.changed differs
-      (decided differs (source_in (node_at was.rows path) ≡ source) (IsSame (table_of was.p1 was.p2 was.hash rows was.times) (memory_table was))
-      (copy_stays path source (memory_table was) (table_of was.p1 was.p2 was.hash rows was.times) copied)
-      (copy_was path source (memory_table was) (table_of was.p1 was.p2 was.hash rows was.times) copied) told))
+      (marks (IsSame (table_of was.p1 was.p2 was.hash rows was.times) (memory_table was)) was.changed differs copy_decided)
+
+  -- which lists are kept
+  pub copy_ends : (kept : List (List ℕ × List Row)) → MatchBool differs (AreEnded path was.kept kept) (AreLentStill was.kept kept)
+      → Ends path (IsSame (table_of was.p1 was.p2 was.hash rows was.times) (memory_table old)) old.kept kept
+  copy_ends kept ended = subst (λ (h : InMemory). Ends path (IsSame (table_of was.p1 was.p2 was.hash rows was.times) (memory_table h)) h.kept kept) same
+      (ends_by path (IsSame (table_of was.p1 was.p2 was.hash rows was.times) (memory_table was)) was.kept kept differs copy_decided ended)
 
 -- the copy source of a node of the rows, and of the same rows
 pub written_of : (path : List ℕ) (source : Option (List ℕ)) (old was : InMemory) → was ≡ old → (rows : List (List ℕ × NodeData)) → IsSourceWritten path source was.rows rows → IsSourceWritten path source old.rows rows

@@ -1,5 +1,5 @@
 -- One list, or all above a path, or all are taken into memory.
-use Rattle.std.proofs.Common.{ℕ, ◌≡◌, ◌+◌, ◌<◌, Bool, true, false, List, Option, Some, None, refl, sym, ap, ◌∙◌, subst, inl, inr, ◌⊎◌, arith}
+use Rattle.std.proofs.Common.{ℕ, ◌≡◌, ◌+◌, ◌<◌, ◌&&◌, ◌||◌, Bool, true, false, List, Option, Some, None, refl, sym, ap, ◌∙◌, subst, inl, inr, ◌⊎◌, arith}
 use Rattle.std.specs.Prelude.{is_some}
 use Rattle.std.specs.Option.{option_map}
 use Rattle.std.proofs.lemmas.Bool.{cases_Bool, cases_order, both_ways, false_from_ne_true}
@@ -16,8 +16,9 @@ use Rattle.hg_image.specs.declared.opened.Image.{Image}
 use Rattle.hg_image.specs.declared.opened.List.{List as NodeList}
 use Rattle.hg_image.specs.declared.opened.NodeRef.{NodeRef}
 use Rattle.hg_mixed.specs.Edits.{IsFormed, IsSame}
-use Rattle.hg_mixed.specs.Lent.{CoversNone, IsLentPut, IsNoneLent, as_dir, covers, lent_at}
-use Rattle.hg_mixed.specs.Lists.{or_root}
+use Rattle.hg_mixed.specs.Held.{has_list, is_left_in}
+use Rattle.hg_mixed.specs.Lent.{AreLentStill, CoversNone, IsLentPut, IsNoneLent, as_dir, covers, lent_at}
+use Rattle.hg_mixed.specs.Lists.{dir_text, or_root}
 use Rattle.hg_mixed.specs.Memory.{InMemory, memory_table}
 use Rattle.hg_mixed.specs.Node.{node_at}
 use Rattle.hg_mixed.specs.Opened.{IsThere, node_of}
@@ -25,7 +26,9 @@ use Rattle.hg_mixed.specs.Parted.{IsFree, IsMoved, IsParted, image_rows, whole}
 use Rattle.hg_mixed.specs.Taken.{AddsNodes, AddsSome, AreBared, AreOthersKept, AreServed, CoversLess, IsBare, IsBared, IsKid, IsOpen, IsOut, IsServed, IsServedKid, LendsKid, LendsKids, path_at}
 use Rattle.hg_mixed.proofs.Adding.{member_path}
 use Rattle.hg_mixed.proofs.ImageRows.{below_member, dir_member, row_above, row_is_path, row_rooted}
-use Rattle.hg_mixed.proofs.Moving.{AgreeNodes, Agrees, as_dir_is, as_own, as_path, bare_in, between, dir_there, formed_same, lends_less, lends_same, lent_still, merged_same, moved_all, moved_lends, moved_some, moved_trans, none_is, one_node, others_kept, placed_at, removed_here, removed_less, right_above, same_as_none, some_never}
+use Rattle.hg_mixed.proofs.Edited.{update_here}
+use Rattle.hg_mixed.proofs.Kept.{lent_same}
+use Rattle.hg_mixed.proofs.Moving.{AgreeNodes, Agrees, as_dir_is, as_own, as_path, bare_in, between, dir_there, formed_same, lends_less, lends_same, lent_still, merged_same, moved_all, moved_kept, moved_lends, moved_some, moved_trans, none_is, one_node, others_kept, placed_at, removed_here, removed_less, right_above, same_as_none, some_never}
 
 -- ---- the lists of the nodes of a list
 
@@ -66,6 +69,20 @@ module _ (list : NodeList) (i : ℕ) (node : NodeRef) (member : IsMember list no
 
 -- ---- one list
 
+pub kept_here : (dir : List ℕ) (list : NodeList) (old new : List (List ℕ × List Row)) → IsLentPut dir (Some (rows_in list)) old new → is_some (lent_at new dir) ≡ true
+kept_here dir list old new put = ap is_some (put dir ∙ update_here (lent_at old) dir (Some (rows_in list)))
+
+-- nothing was taken, and the lists that are kept are the same
+pub kept_still : (docket : Contents) (rows : List Row) (left : List (List ℕ × List Row)) (own now : InMemory) → IsParted docket rows left (memory_table own) → AreLentStill own.kept now.kept → now ≡ record own { kept = now.kept } → IsMoved docket rows left own left now
+kept_still docket rows left own now parted still rest =
+    subst (IsMoved docket rows left own left) (sym rest) (record {
+      parted = parted;
+      same = record { p1 = refl; p2 = refl; hash = refl; entries = λ at. refl; sources = λ at. refl; nodes = λ at. refl; caches = λ at. refl };
+      nodes = λ at. refl;
+      lent = λ dir. ap (λ (o : Option (List Row)). has_list rows dir && (is_left_in left (or_root dir) || is_some o)) (still (or_root dir));
+      changed = refl;
+    })
+
 module _ (docket : Contents) (rows : List Row) (list : NodeList) (dir : List ℕ) (is_dir : or_root (dir_of list) ≡ dir) (old : List (List ℕ × List Row)) (own : InMemory) (parted : IsParted docket rows old (memory_table own))
     (there : lent_at old dir ≡ Some (rows_in list)) (free : IsOpen old (as_dir dir)) where
   own_there : lent_at old (or_root (dir_of list)) ≡ Some (rows_in list)
@@ -73,6 +90,11 @@ module _ (docket : Contents) (rows : List Row) (list : NodeList) (dir : List ℕ
 
   own_free : IsOpen old (dir_of list)
   own_free = subst (IsOpen old) (ap as_dir (sym is_dir) ∙ as_own list) free
+
+  -- it is noted as one that is as the image has it
+  pub list_kept : (now : InMemory) → IsLentPut dir (Some (rows_in list)) own.kept now.kept → now ≡ record own { kept = now.kept } → IsMoved docket rows old own old now
+  list_kept now put rest =
+      moved_kept docket rows list old own parted own_there now (subst (λ (d : List ℕ). IsLentPut d (Some (rows_in list)) own.kept now.kept) (sym is_dir) put) rest
 
   -- a node stands at its directory
   pub list_there : 0 < list.count → IsThere own.rows (dir_of list)
@@ -98,9 +120,9 @@ module _ (docket : Contents) (rows : List Row) (list : NodeList) (dir : List ℕ
       own_gone : IsLentPut (or_root (dir_of list)) None mid new
       own_gone = subst (λ (d : List ℕ). IsLentPut d None mid new) (sym is_dir) gone
 
-      pub list_taken : (now : InMemory) → AreServed list list.count mid → AddsNodes list list.count own.rows own.times now.rows now.times → AreOthersKept own now → IsMoved docket rows old own new now
-      list_taken now served adds kept =
-          moved_trans docket rows old own mid own new now list_lent (moved_all docket rows list mid own list_lent.parted mid_there new served own_gone now mid_free adds kept)
+      pub list_taken : (now : InMemory) → is_some (lent_at own.kept dir) ≡ true → AreServed list list.count mid → AddsNodes list list.count own.rows own.times now.rows now.times → AreOthersKept own now → IsMoved docket rows old own new now
+      list_taken now known served adds kept =
+          moved_trans docket rows old own mid own new now list_lent (moved_all docket rows list mid own list_lent.parted mid_there new served own_gone now (ap (λ (d : List ℕ). is_some (lent_at own.kept d)) is_dir ∙ known) mid_free adds kept)
 
       new_less : CoversLess old new
       new_less at h = lends_less list old mid lends own_there at (removed_less dir mid new gone at h)
@@ -200,10 +222,12 @@ module _ (docket : Contents) (rows : List Row) (left : List (List ℕ × List Ro
       lists = λ dir r is at above. absurd (some_never (lent_at now dir) (none dir) (ap is_some is));
       placed = λ at dir h is. bare dir;
       known = λ at h covered. absurd (both_ways (covers now at) (bare at) covered);
+      paths = parted.paths;
       formed = formed_same (whole docket rows now (memory_table own)) (whole docket rows left (memory_table own)) same parted.formed;
     };
     same = same;
     nodes = λ at. one_node (option_map node_of (row_at rows at)) (node_at own.rows at) (node_at own.rows at) (covers left at) (covers now at) (nodes_agree at (covers left at) (covers now at) refl refl);
+    lent = lent_same rows parted.paths left now own.kept own.kept (λ at some. ap (λ (b : Bool). b || is_some (lent_at own.kept (dir_text at))) (bare at ∙ sym (bared at some)));
     changed = refl;
   }
 

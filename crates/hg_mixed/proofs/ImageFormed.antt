@@ -86,7 +86,7 @@ module _ (docket : Contents) (all : List Row) (own : Table) where
 module _ (image : Image) (root : NodeList) (is_root : dir_of root ≡ None) (all : rows_in root ≡ rows image) (before left : List (List ℕ × List Row)) (none : IsNoneLent before)
     (put : IsLentPut [] (Some (rows_in root)) before left) where
   -- all is the image's
-  every : (at : List ℕ) → covers left at ≡ true
+  pub every : (at : List ℕ) → covers left at ≡ true
   every at = covered_by left [] at (ap is_some (put []) ∙ ap is_some (cond-true (bytes_eq [] []) (Some (rows_in root)) (lent_at before []) (equal_bytes []))) refl
 
   module _ (own : InMemory) (bare : (at : List ℕ) → node_at own.rows at ≡ None) where
@@ -101,6 +101,7 @@ module _ (image : Image) (root : NodeList) (is_root : dir_of root ≡ None) (all
       ];
       placed = λ at dir node parent. absurd (true≢false (sym node ∙ ap is_some (bare at)));
       known = λ at node covered. absurd (true≢false (sym node ∙ ap is_some (bare at)));
+      paths = λ at some. row_is_path root at (ap (λ (r : List Row). is_some (row_at r at)) (all ∙ sym (used_rows image)) ∙ some);
       formed = whole_formed (docket.view image.docket) (image_rows image) (memory_table own) left every
           (subst (λ (r : List Row). IsFormed (reading.table_of (docket.view image.docket) r)) (all ∙ sym (used_rows image)) (image_formed (docket.view image.docket) root is_root));
     }

@@ -53,7 +53,7 @@ covers_none lent none at =
     let found = covers_some lent at h in
     true≢false (sym found.1.0 ∙ ap is_some (none found.0)))
 
-same_bools : (a b : Bool) → (a ≡ true → b ≡ true) → (b ≡ true → a ≡ true) → a ≡ b
+pub same_bools : (a b : Bool) → (a ≡ true → b ≡ true) → (b ≡ true → a ≡ true) → a ≡ b
 same_bools true b f g = sym (f refl)
 same_bools false true f g = g refl
 same_bools false false f g = refl

@@ -114,6 +114,10 @@ pub ok_both : {T E P Q R : Type 0} (r : Result T E) → (P → Q → R) → OnOk
 ok_both (Ok t) f p q = f p q
 ok_both (Err e) f p q = p
 
+pub ok_three : {T E P Q R S : Type 0} (r : Result T E) → (P → Q → R → S) → OnOk r P → OnOk r Q → OnOk r R → OnOk r S
+ok_three (Ok t) f p q s = f p q s
+ok_three (Err e) f p q s = p
+
 pub ok_or_err : {T E P Q R : Type 0} (r : Result T E) → (P → R) → (Q → R) → OnOk r P → OnErr r Q → R
 ok_or_err (Ok t) f g p q = f p
 ok_or_err (Err e) f g p q = g q
@@ -334,6 +338,7 @@ module _ (docket : Contents) (rows : List Row) (left : List (List ℕ × List Ro
       | inl was ↦ parted.known at was c
       | inr way ↦ absurd (both_ways (covers left at) (way_free left path free at way) c)
     ];
+    paths = parted.paths;
     formed = formed;
   }
 
@@ -343,6 +348,7 @@ module _ (docket : Contents) (rows : List Row) (left : List (List ℕ × List Ro
     lists = parted.lists;
     placed = λ at dir is parent. parted.placed at dir (nodes at is) parent;
     known = λ at is c. parted.known at (nodes at is) c;
+    paths = parted.paths;
     formed = formed;
   }
 
@@ -360,7 +366,7 @@ own_node docket rows left own at free = cond-false (covers left at) ((reading.ta
 
 -- nothing is taken
 pub moved_itself : (docket : Contents) (rows : List Row) (left : List (List ℕ × List Row)) (own : InMemory) → IsParted docket rows left (memory_table own) → IsMoved docket rows left own left own
-moved_itself docket rows left own parted = record { parted = parted; same = same_itself (whole docket rows left (memory_table own)); nodes = λ at. refl; changed = refl }
+moved_itself docket rows left own parted = record { parted = parted; same = same_itself (whole docket rows left (memory_table own)); nodes = λ at. refl; lent = λ dir. refl; changed = refl }
 
 -- lists are taken, and more of them
 pub moved_on : (docket : Contents) (rows : List Row) (first mid left : List (List ℕ × List Row)) (was own new : InMemory)
@@ -369,6 +375,7 @@ moved_on docket rows first mid left was own new moved more = record {
   parted = more.parted;
   same = same_trans (whole docket rows left (memory_table new)) (whole docket rows mid (memory_table own)) (whole docket rows first (memory_table was)) more.same moved.same;
   nodes = λ at. more.nodes at ∙ moved.nodes at;
+  lent = λ dir. more.lent dir ∙ moved.lent dir;
   changed = more.changed ∙ moved.changed;
 }
 
@@ -379,6 +386,12 @@ module _ (docket : Contents) (rows : List Row) (first left : List (List ℕ × L
   marks_after are marks =
       marks_moved (whole docket rows left (memory_table new)) (whole docket rows left (memory_table own)) (whole docket rows first (memory_table was)) own.changed was.changed new.changed moved.same
       moved.changed (marks_merged (covers left) (reading.table_of docket rows) (memory_table own) (memory_table new) are own.changed new.changed marks)
+
+  own_after : AreLeft (covers left) (memory_table new) (memory_table own) → IsSame (whole docket rows left (memory_table new)) (whole docket rows first (memory_table was)) → IsSame (memory_table new) (memory_table own)
+  own_after are same =
+      same_own (covers left) (reading.table_of docket rows) (memory_table own) (memory_table new) are
+      (same_trans (whole docket rows left (memory_table new)) (whole docket rows first (memory_table was)) (whole docket rows left (memory_table own)) same
+      (same_back (whole docket rows left (memory_table own)) (whole docket rows first (memory_table was)) moved.same))
 
   pub kept_table : IsSame (memory_table new) (memory_table own) → IsSame (whole docket rows left (memory_table new)) (whole docket rows first (memory_table was))
   kept_table same =
@@ -406,6 +419,10 @@ module _ (docket : Contents) (rows : List Row) (first left : List (List ℕ × L
           same_trans (whole docket rows left (memory_table new)) (after_set path entry (whole docket rows left (memory_table own))) (after_set path entry (whole docket rows first (memory_table was)))
           set_here (set_on (whole docket rows left (memory_table own)) (whole docket rows first (memory_table was)) moved.same path entry)
 
+      -- where the whole is the same, what is in memory is
+      pub set_own : IsSame (whole docket rows left (memory_table new)) (whole docket rows first (memory_table was)) → IsSame (memory_table new) (memory_table own)
+      set_own = own_after (set_left (covers left) (reading.table_of docket rows) (memory_table own) (memory_table new) path (way_free left path free) entry same)
+
       pub set_marks : Marks (IsSame (memory_table new) (memory_table own)) own.changed new.changed
           → Marks (IsSame (whole docket rows left (memory_table new)) (whole docket rows first (memory_table was))) was.changed new.changed
       set_marks = marks_after (set_left (covers left) (reading.table_of docket rows) (memory_table own) (memory_table new) path (way_free left path free) entry same)
@@ -429,6 +446,10 @@ module _ (docket : Contents) (rows : List Row) (first left : List (List ℕ × L
           same_trans (whole docket rows left (memory_table new)) (after_copy path source (whole docket rows left (memory_table own))) (after_copy path source (whole docket rows first (memory_table was)))
           copy_here (copy_on (whole docket rows left (memory_table own)) (whole docket rows first (memory_table was)) moved.same path source)
 
+      -- where the whole is the same, what is in memory is
+      pub copy_own : IsSame (whole docket rows left (memory_table new)) (whole docket rows first (memory_table was)) → IsSame (memory_table new) (memory_table own)
+      copy_own = own_after (copy_left (covers left) (reading.table_of docket rows) (memory_table own) (memory_table new) path (way_free left path free) source same)
+
       pub copy_marks : Marks (IsSame (memory_table new) (memory_table own)) own.changed new.changed
           → Marks (IsSame (whole docket rows left (memory_table new)) (whole docket rows first (memory_table was))) was.changed new.changed
       copy_marks = marks_after (copy_left (covers left) (reading.table_of docket rows) (memory_table own) (memory_table new) path (way_free left path free) source same)
@@ -446,6 +467,10 @@ module _ (docket : Contents) (rows : List Row) (first left : List (List ℕ × L
       cache_table =
           same_trans (whole docket rows left (memory_table new)) (after_cache path time (whole docket rows left (memory_table own))) (after_cache path time (whole docket rows first (memory_table was)))
           cache_here (cache_on (whole docket rows left (memory_table own)) (whole docket rows first (memory_table was)) moved.same path time)
+
+      -- where the whole is the same, what is in memory is
+      pub cache_own : IsSame (whole docket rows left (memory_table new)) (whole docket rows first (memory_table was)) → IsSame (memory_table new) (memory_table own)
+      cache_own = own_after (cache_left (covers left) (reading.table_of docket rows) (memory_table own) (memory_table new) path (way_free left path free) time same)
 
       pub cache_marks : Marks (IsSame (memory_table new) (memory_table own)) own.changed new.changed
           → Marks (IsSame (whole docket rows left (memory_table new)) (whole docket rows first (memory_table was))) was.changed new.changed

@@ -1,9 +1,9 @@
 -- Lists of an image are taken into memory, and the table as a whole stays.
-use Rattle.std.proofs.Common.{ℕ, zero, suc, ◌≡◌, ◌+◌, ◌*◌, ◌<◌, Bool, true, false, cond, List, [], ◌∷◌, Option, Some, None, refl, sym, ap, ◌∙◌, true≢false, inl, inr, ◌⊎◌, arith}
+use Rattle.std.proofs.Common.{ℕ, zero, suc, ◌≡◌, ◌+◌, ◌*◌, ◌<◌, Bool, true, false, cond, ◌||◌, List, [], ◌∷◌, Option, Some, None, refl, sym, ap, ◌∙◌, subst, true≢false, inl, inr, ◌⊎◌, arith}
 use Rattle.std.specs.Prelude.{is_some}
 use Rattle.std.specs.Option.{option_and_then, option_map}
 use Rattle.std.specs.Str.{bytes_eq}
-use Rattle.std.proofs.lemmas.Bool.{cases_Bool, cases_order, cond-true, cond-false, both_ways, false_from_ne_true}
+use Rattle.std.proofs.lemmas.Bool.{cases_Bool, cases_order, cond-true, cond-false, or_left, or_right, both_ways, false_from_ne_true}
 use Rattle.hg_base.specs.PathText.{base_of, is_below, is_path, is_same_dir, joined, parent_of}
 use Rattle.hg_base.specs.Within.{is_above}
 use Rattle.hg_base.specs.declared.path.PathRef.{PathRef}
@@ -11,7 +11,7 @@ use Rattle.hg_base.proofs.Below.{below_itself, below_trans}
 use Rattle.hg_base.proofs.Children.{below_by_parent, below_parent, below_through, path_through, same_dir, same_dir_itself}
 use Rattle.hg_base.proofs.Components.{joined_parent, parent_joined}
 use Rattle.hg_base.proofs.Paths.{path_above}
-use Rattle.hg_base.proofs.Within.{above_none, equal_bytes, same_bytes}
+use Rattle.hg_base.proofs.Within.{above_none, equal_bytes, same_bytes, within_below, within_path}
 use Rattle.hg_docket.specs.Docket.{Contents}
 use Rattle.hg_entry.specs.Entry.{cache_of, entry_of}
 use Rattle.hg_entry.specs.Table.{Table}
@@ -26,7 +26,8 @@ use Rattle.hg_image.proofs.Sound.{list_at}
 use Rattle.hg_mixed.specs.Drop.{bare}
 use Rattle.hg_mixed.specs.Edits.{IsFormed, IsSame}
 use Rattle.hg_mixed.specs.Lent.{IsLentPut, as_dir, covers, lent_at}
-use Rattle.hg_mixed.specs.Lists.{or_root}
+use Rattle.hg_mixed.specs.Held.{is_lent_in}
+use Rattle.hg_mixed.specs.Lists.{dir_text, or_root}
 use Rattle.hg_mixed.specs.Memory.{InMemory, memory_table}
 use Rattle.hg_mixed.specs.Node.{NodeData, entry_in, node_at, source_in}
 use Rattle.hg_mixed.specs.Opened.{IsThere, node_of}
@@ -35,7 +36,8 @@ use Rattle.hg_mixed.specs.Taken.{AddsNodes, AddsSome, AreOthersKept, AreServed, 
 use Rattle.hg_mixed.specs.Times.{time_at}
 use Rattle.hg_mixed.proofs.Edited.{same_trans, update_here, update_other}
 use Rattle.hg_mixed.proofs.ImageRows.{found_row, row_above, row_is_path, row_rooted}
-use Rattle.hg_mixed.proofs.Lents.{covered_by, covers_some}
+use Rattle.hg_mixed.proofs.Kept.{lent_same}
+use Rattle.hg_mixed.proofs.Lents.{covered_by, covers_some, same_bools}
 
 -- ---- tables that say the same
 
@@ -138,7 +140,7 @@ one_node image own now false true agrees = absurd agrees
 one_node image own now false false agrees = agrees
 
 pub others_kept : (own : InMemory) → AreOthersKept own own
-others_kept own = record { p1 = refl; p2 = refl; hash = refl; changed = refl }
+others_kept own = record { p1 = refl; p2 = refl; hash = refl; changed = refl; kept = refl }
 
 module _ (docket : Contents) (rows : List Row) where
   pub moved_trans : (a : List (List ℕ × List Row)) (s : InMemory) (b : List (List ℕ × List Row)) (t : InMemory) (c : List (List ℕ × List Row)) (u : InMemory)
@@ -147,6 +149,7 @@ module _ (docket : Contents) (rows : List Row) where
     parted = q.parted;
     same = same_trans (whole docket rows c (memory_table u)) (whole docket rows b (memory_table t)) (whole docket rows a (memory_table s)) q.same p.same;
     nodes = λ at. q.nodes at ∙ p.nodes at;
+    lent = λ dir. q.lent dir ∙ p.lent dir;
     changed = q.changed ∙ p.changed;
   }
 
@@ -236,7 +239,7 @@ placed_at list at good placed some = elim (search_path list list.count at) [
         ∙ joined_parent at
 
 -- a list with a node has a row right in its directory
-first_row : (list : NodeList) → 0 < list.count → (at : List ℕ) × (parent_of at ≡ dir_of list) × (is_some (row_at (rows_in list) at) ≡ true)
+pub first_row : (list : NodeList) → 0 < list.count → (at : List ℕ) × (parent_of at ≡ dir_of list) × (is_some (row_at (rows_in list) at) ≡ true)
 first_row list some =
     let start : list.start + 44 * 0 ≡ list.start = omega arith in
     let path = path_of list.bytes.now (record_at list.bytes.now list.start) in (
@@ -354,10 +357,12 @@ module _ (docket : Contents) (rows : List Row) (list : NodeList) (left : List (L
       ];
       placed = λ at dir h is. lends_same list left now lends there dir ∙ parted.placed at dir h is;
       known = λ at h covered. parted.known at h (sym (lends_same list left now lends there at) ∙ covered);
+      paths = parted.paths;
       formed = formed_same (whole docket rows now (memory_table own)) (whole docket rows left (memory_table own)) same parted.formed;
     };
     same = same;
     nodes = λ at. ap (λ (b : Bool). cond b (option_map node_of (row_at rows at)) (node_at own.rows at)) (lends_same list left now lends there at);
+    lent = lent_same rows parted.paths left now own.kept own.kept (λ at some. ap (λ (b : Bool). b || is_some (lent_at own.kept (dir_text at))) (lends_same list left now lends there at));
     changed = refl;
   }
     where
@@ -371,6 +376,55 @@ module _ (docket : Contents) (rows : List Row) (list : NodeList) (left : List (L
         nodes = λ at. ap (λ (b : Bool). cond b ((reading.table_of docket rows).nodes at) ((memory_table own).nodes at)) (lends_same list left now lends there at);
         caches = λ at. ap (λ (b : Bool). cond b ((reading.table_of docket rows).caches at) ((memory_table own).caches at)) (lends_same list left now lends there at);
       }
+
+  -- the list is noted as one that is as the image has it
+  pub moved_kept : (now : InMemory) → IsLentPut (or_root (dir_of list)) (Some (rows_in list)) own.kept now.kept → now ≡ record own { kept = now.kept } → IsMoved docket rows left own left now
+  moved_kept now put rest =
+      subst (IsMoved docket rows left own left) (sym rest) (record {
+        parted = parted;
+        same = record { p1 = refl; p2 = refl; hash = refl; entries = λ at. refl; sources = λ at. refl; nodes = λ at. refl; caches = λ at. refl };
+        nodes = λ at. refl;
+        lent = lent_same rows parted.paths left left own.kept now.kept (λ at some.
+            same_bools (covers left at || is_some (lent_at now.kept (dir_text at))) (covers left at || is_some (lent_at own.kept (dir_text at))) (was_lent at (paths at some)) (is_lent at));
+        changed = refl;
+      })
+    where
+      paths : (at : List ℕ) → is_some (row_at rows at) ≡ true → is_path at ≡ true
+      paths = parted.paths
+
+      put_some : (b : Bool) (o : Option (List Row)) → is_some o ≡ true → is_some (cond b (Some (rows_in list)) o) ≡ true
+      put_some true o h = refl
+      put_some false o h = h
+
+      is_lent : (at : List ℕ) → (covers left at || is_some (lent_at own.kept (dir_text at))) ≡ true → (covers left at || is_some (lent_at now.kept (dir_text at))) ≡ true
+      is_lent at h = elim (cases_Bool (covers left at)) [
+        | inl here ↦ or_left (covers left at) (is_some (lent_at now.kept (dir_text at))) here
+        | inr other ↦
+            or_right (covers left at) (is_some (lent_at now.kept (dir_text at)))
+            (ap is_some (put (dir_text at))
+            ∙ put_some (bytes_eq (or_root (dir_of list)) (dir_text at)) (lent_at own.kept (dir_text at)) (sym (ap (λ (b : Bool). b || is_some (lent_at own.kept (dir_text at))) other) ∙ h))
+      ]
+
+      was_lent : (at : List ℕ) → is_path at ≡ true → (covers left at || is_some (lent_at now.kept (dir_text at))) ≡ true → (covers left at || is_some (lent_at own.kept (dir_text at))) ≡ true
+      was_lent at good h = elim (cases_Bool (covers left at)) [
+        | inl here ↦ or_left (covers left at) (is_some (lent_at own.kept (dir_text at))) here
+        | inr other ↦ elim (cases_Bool (bytes_eq (or_root (dir_of list)) (dir_text at))) [
+          | inl same ↦
+              absurd (both_ways (covers left at) other (covered_by left (dir_text at) at
+              (ap (λ (d : List ℕ). is_some (lent_at left d)) (sym (same_bytes (or_root (dir_of list)) (dir_text at) same)) ∙ ap is_some there) (own_above at good (parent_of at) refl)))
+          | inr apart ↦
+              or_right (covers left at) (is_some (lent_at own.kept (dir_text at)))
+              (sym (ap is_some (put (dir_text at) ∙ update_other (lent_at own.kept) (or_root (dir_of list)) (Some (rows_in list)) (dir_text at) apart))
+              ∙ sym (ap (λ (b : Bool). b || is_some (lent_at now.kept (dir_text at))) other) ∙ h)
+        ]
+      ]
+        where
+          own_above : (path : List ℕ) → is_path path ≡ true → (d : Option (List ℕ)) → parent_of path ≡ d → is_above (as_dir (dir_text path)) path ≡ true
+          own_above path fine None is = ap (λ (d : Option (List ℕ)). is_above (as_dir (or_root d)) path) is
+          own_above path fine (Some d) is =
+              ap (λ (e : Option (List ℕ)). is_above (as_dir (or_root e)) path) is
+              ∙ ap (λ (e : Option (List ℕ)). is_above e path) (as_path d (within_path d path (within_below d path (below_parent d path is)) fine))
+              ∙ below_parent d path is
 
   covered_right : (at : List ℕ) → parent_of at ≡ dir_of list → covers left at ≡ true
   covered_right at is = covered_in list left there at (right_above (dir_of list) at is)
@@ -388,10 +442,12 @@ module _ (docket : Contents) (rows : List Row) (list : NodeList) (left : List (L
         | inl stays ↦ parted.known at (sym (ap is_some stays.node) ∙ h) covered
         | inr right ↦ sym (ap is_some (in_image at (right_above (dir_of list) at right.0))) ∙ right.1
       ];
+      paths = parted.paths;
       formed = formed_same (whole docket rows left (memory_table now)) (whole docket rows left (memory_table own)) same parted.formed;
     };
     same = same;
     nodes = λ at. one_node (option_map node_of (row_at rows at)) (node_at own.rows at) (node_at now.rows at) (covers left at) (covers left at) (nodes_agree at (covers left at) refl);
+    lent = λ dir. ap (λ (k : List (List ℕ × List Row)). is_lent_in rows left k dir) kept.kept;
     changed = kept.changed;
   }
     where
@@ -458,8 +514,8 @@ module _ (docket : Contents) (rows : List Row) (list : NodeList) (left : List (L
         ]
 
     -- the nodes were taken, and the list is lent no more
-    pub moved_all : (now : InMemory) → IsOpen left (dir_of list) → AddsNodes list list.count own.rows own.times now.rows now.times → AreOthersKept own now → IsMoved docket rows left own left_now now
-    moved_all now free adds kept = record {
+    pub moved_all : (now : InMemory) → is_some (lent_at own.kept (or_root (dir_of list))) ≡ true → IsOpen left (dir_of list) → AddsNodes list list.count own.rows own.times now.rows now.times → AreOthersKept own now → IsMoved docket rows left own left_now now
+    moved_all now known free adds kept = record {
       parted = record {
         lists = λ e r is at above.
             parted.lists e r (sym (removed_was (or_root (dir_of list)) left left_now gone e (ap is_some is)) ∙ is) at above;
@@ -475,13 +531,39 @@ module _ (docket : Contents) (rows : List Row) (list : NodeList) (left : List (L
           | inl not_of ↦ parted.known at (sym (ap is_some not_of.stays.node) ∙ h) (removed_less (or_root (dir_of list)) left left_now gone at covered)
           | inr has ↦ sym (ap is_some (in_image at (right_above (dir_of list) at has.dir))) ∙ ap is_some has.there
         ];
+        paths = parted.paths;
         formed = formed_same (whole docket rows left_now (memory_table now)) (whole docket rows left (memory_table own)) same parted.formed;
       };
       same = same;
       nodes = λ at. one_node (option_map node_of (row_at rows at)) (node_at own.rows at) (node_at now.rows at) (covers left at) (covers left_now at) (nodes_agree at (covers left at) (covers left_now at) refl refl);
+      lent = λ dir. ap (λ (k : List (List ℕ × List Row)). is_lent_in rows left_now k dir) kept.kept ∙ lent_same rows parted.paths left left_now own.kept own.kept lent_at_row dir;
       changed = kept.changed;
     }
       where
+        -- a row that isn't covered any more is that of a node of the list, which is kept
+        row_kept : (at : List ℕ) → is_some (row_at rows at) ≡ true → covers left at ≡ true → (covers left_now at || is_some (lent_at own.kept (dir_text at))) ≡ true
+        row_kept at some was = elim (cases_Bool (covers left_now at)) [
+          | inl is ↦ or_left (covers left_now at) (is_some (lent_at own.kept (dir_text at))) is
+          | inr not_now ↦ or_right (covers left_now at) (is_some (lent_at own.kept (dir_text at))) (elim (adds.each at) [
+            | inl not_of ↦
+                absurd (both_ways (covers left_now at) not_now (row_covered at (ap is_some (in_image at (above_of at was not_now)) ∙ some) not_of.none))
+            | inr has ↦ ap (λ (d : Option (List ℕ)). is_some (lent_at own.kept (or_root d))) has.dir ∙ known
+          ])
+        ]
+
+        or_known : (a b c : Bool) → (a ≡ true → c ≡ true) → (a || b) ≡ true → (c || b) ≡ true
+        or_known true b c f h = or_left c b (f refl)
+        or_known false b c f h = or_right c b h
+
+        lent_at_row : (at : List ℕ) → is_some (row_at rows at) ≡ true → (covers left_now at || is_some (lent_at own.kept (dir_text at))) ≡ (covers left at || is_some (lent_at own.kept (dir_text at)))
+        lent_at_row at some =
+            same_bools (covers left_now at || is_some (lent_at own.kept (dir_text at))) (covers left at || is_some (lent_at own.kept (dir_text at)))
+            (or_known (covers left_now at) (is_some (lent_at own.kept (dir_text at))) (covers left at) (removed_less (or_root (dir_of list)) left left_now gone at))
+            (λ h. elim (cases_Bool (covers left at)) [
+              | inl was ↦ row_kept at some was
+              | inr never ↦ or_right (covers left_now at) (is_some (lent_at own.kept (dir_text at))) (sym (ap (λ (b : Bool). b || is_some (lent_at own.kept (dir_text at))) never) ∙ h)
+            ])
+
         none_there : (at : List ℕ) → covers left at ≡ true → covers left_now at ≡ false → IsNotOf list list.count at own.rows own.times now.rows now.times → row_at rows at ≡ None
         none_there at was is not_of =
             sym (in_image at (above_of at was is))

@@ -75,6 +75,11 @@ over_above lent path dir (Some list) good is none over = (over.0, further (dir_o
     further None h = refl
     further (Some d) h = below_trans d dir path h (parent_below path dir good is)
 
+pub over_some : (lent : List (List ℕ × List Row)) (path : List ℕ) (found : Option NodeList) → IsOver lent path found → is_some found ≡ covers lent path
+over_some lent path None over = sym over
+over_some lent path (Some list) over =
+    sym (covered_by lent (or_root (dir_of list)) path (ap is_some over.0) (ap (λ (d : Option (List ℕ)). is_above d path) (list_dir list) ∙ over.1))
+
 -- ---- what is found
 
 pub in_image : (lent : List (List ℕ × List Row)) (path : List ℕ) (list : NodeList) (node : Option NodeRef) → lent_at lent (or_root (dir_of list)) ≡ Some (rows_in list) → is_above (dir_of list) path ≡ true

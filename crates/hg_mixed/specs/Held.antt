@@ -1,22 +1,23 @@
 -- What a table in memory holds, as contracts see it.
-use Rattle.std.specs.Prelude.{ℕ, Bool, if◌then◌else◌, List, Option, is_some}
+use Rattle.std.specs.Prelude.{ℕ, Bool, ◌&&◌, ◌||◌, if◌then◌else◌, List, Option, is_some}
 use Rattle.std.specs.Option.{option_and_then, option_map}
 use Rattle.std.specs.List.{list_any}
-use Rattle.hg_base.specs.PathText.{is_same_dir}
+use Rattle.hg_base.specs.PathText.{is_same_dir, parent_of}
 use Rattle.hg_docket.specs.Docket.{Contents}
 use Rattle.hg_entry.specs.Entry.{StampData}
 use Rattle.hg_entry.specs.Table.{Table}
 use Rattle.hg_image.specs.Reading as reading
 use Rattle.hg_image.specs.Reading.{row_at}
 use Rattle.hg_image.specs.Rows.{Row, rows_of}
-use Rattle.hg_mixed.specs.Lent.{covers}
+use Rattle.hg_mixed.specs.Lent.{covers, lent_at}
+use Rattle.hg_mixed.specs.Lists.{or_root}
 use Rattle.hg_mixed.specs.Node.{NodeData, node_at, source_text_in, text_in}
 use Rattle.hg_mixed.specs.Opened.{node_of}
 use Rattle.hg_mixed.specs.Times.{time_at}
 
 -- the docket and the used bytes of the image that was opened; the parents and the hash; whether an edit has changed anything; the nodes
 -- and the times of cached directories that are in memory, by path; the lists of the image that aren't in memory, each by its directory (empty for the
--- root) with all that stands below it; the directories whose list of children counts as lent (none for the root)
+-- root) with all that stands below it; in the same way the lists of the image that are in memory, and unchanged there
 pub record Held : Type 0 where
   pub docket : Contents
   pub bytes : List ℕ
@@ -27,7 +28,7 @@ pub record Held : Type 0 where
   pub rows : List (List ℕ × NodeData)
   pub times : List (List ℕ × StampData)
   pub left : List (List ℕ × List Row)
-  pub lent : List (Option (List ℕ))
+  pub kept : List (List ℕ × List Row)
 
 -- the table of these parts
 abbrev pub table_of : List ℕ → List ℕ → List ℕ → List (List ℕ × NodeData) → List (List ℕ × StampData) → Table
@@ -60,9 +61,21 @@ image_table held = reading.table_of held.docket (rows_of held.docket held.bytes)
 abbrev pub table : Held → Table
 table held = merged (covers held.left) (image_table held) (table_of held.p1 held.p2 held.hash held.rows held.times)
 
+-- an image has a list of a directory's children: a node stands right in the directory
+abbrev pub has_list : List Row → Option (List ℕ) → Bool
+has_list rows dir = list_any (λ row. is_same_dir dir (parent_of row.path)) rows
+
+-- the list of a directory, of which the text is empty for the root, isn't in memory: it is left in the image by itself, or with one of a directory above
+abbrev pub is_left_in : List (List ℕ × List Row) → List ℕ → Bool
+is_left_in left dir = is_some (lent_at left dir) || covers left dir
+
+-- an image has a list of a directory's children, which is left there, or is in memory and unchanged
+abbrev pub is_lent_in : List Row → List (List ℕ × List Row) → List (List ℕ × List Row) → Option (List ℕ) → Bool
+is_lent_in rows left kept dir = has_list rows dir && (is_left_in left (or_root dir) || is_some (lent_at kept (or_root dir)))
+
 -- the list of a directory's children is lent
 abbrev pub is_lent : Held → Option (List ℕ) → Bool
-is_lent held dir = list_any (is_same_dir dir) held.lent
+is_lent held dir = is_lent_in (rows_of held.docket held.bytes) held.left held.kept dir
 
 -- the node at a path, with the places of its texts: that of the image's row, or that in memory
 abbrev pub node_here : List Row → List (List ℕ × List Row) → List (List ℕ × NodeData) → List ℕ → Option NodeData

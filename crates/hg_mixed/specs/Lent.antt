@@ -1,5 +1,5 @@
 -- The lists that are lent from an image, each by its directory.
-use Rattle.std.specs.Prelude.{ℕ, zero, suc, ◌≡◌, ◌+◌, ◌-◌, ◌*◌, Bool, true, false, List, [], ◌∷◌, map, Option, Some, None, String, option_map, IfSome}
+use Rattle.std.specs.Prelude.{ℕ, zero, suc, ◌≡◌, ◌+◌, ◌-◌, ◌*◌, Bool, true, false, if◌then◌else◌, List, [], ◌∷◌, map, Option, Some, None, String, option_map, IfSome}
 use Rattle.std.specs.List.{AllByRecursion, list_any}
 use Rattle.std.specs.Map.{lookup, update}
 use Rattle.std.specs.Str.{bytes_eq}
@@ -39,6 +39,10 @@ IsNoneLent lent = (at : List ℕ) → lent_at lent at ≡ None
 
 abbrev pub AreLentStill : List (List ℕ × List Row) → List (List ℕ × List Row) → Type 0
 AreLentStill old new = (at : List ℕ) → lent_at new at ≡ lent_at old at
+
+-- no list of a directory above a path is lent any more, and all others have the lists that they had
+abbrev pub AreEnded : List ℕ → List (List ℕ × List Row) → List (List ℕ × List Row) → Type 0
+AreEnded path old new = (dir : List ℕ) → lent_at new dir ≡ (if is_above (as_dir dir) path then None else lent_at old dir)
 
 -- no path is had by a list that is lent
 abbrev pub CoversNone : List (List ℕ × List Row) → Type 0

@@ -1,7 +1,7 @@
 -- How a table is parted between an image and memory.
 use Rattle.std.specs.Prelude.{ℕ, ◌≡◌, true, false, List, [], Option, Some, None, is_some}
 use Rattle.std.specs.Option.{option_map}
-use Rattle.hg_base.specs.PathText.{parent_of}
+use Rattle.hg_base.specs.PathText.{is_path, parent_of}
 use Rattle.hg_base.specs.Within.{is_above}
 use Rattle.hg_docket.specs.Docket.{Contents}
 use Rattle.hg_docket.specs.Docket as docket
@@ -13,7 +13,7 @@ use Rattle.hg_image.specs.View.{dir_of, rows_in}
 use Rattle.hg_image.specs.declared.opened.Image.{Image}
 use Rattle.hg_image.specs.declared.opened.List.{List as NodeList}
 use Rattle.hg_mixed.specs.Edits.{IsFormed, IsSame}
-use Rattle.hg_mixed.specs.Held.{Held, merged, node_here}
+use Rattle.hg_mixed.specs.Held.{Held, has_list, is_lent_in, merged, node_here}
 use Rattle.hg_mixed.specs.Lent.{as_dir, covers, lent_at}
 use Rattle.hg_mixed.specs.Memory.{InMemory, memory_table}
 use Rattle.hg_mixed.specs.Node.{NodeData, source_in, source_text_in, text_in}
@@ -28,11 +28,12 @@ abbrev pub whole : Contents → List Row → List (List ℕ × List Row) → Tab
 whole docket rows left own = merged (covers left) (reading.table_of docket rows) own
 
 -- each list that is left has what the image has below its directory; a node in memory stands in a directory that isn't the image's, and where
--- it is the image's itself, the image has a node there; the table as a whole is formed
+-- it is the image's itself, the image has a node there; the rows of the image are at paths; the table as a whole is formed
 pub record IsParted (docket : Contents) (rows : List Row) (left : List (List ℕ × List Row)) (own : Table) : Type 0 where
   pub lists : (dir : List ℕ) (lent : List Row) → lent_at left dir ≡ Some lent → (at : List ℕ) → is_above (as_dir dir) at ≡ true → row_at lent at ≡ row_at rows at
   pub placed : (at dir : List ℕ) → own.nodes at ≡ true → parent_of at ≡ Some dir → covers left dir ≡ false
   pub known : (at : List ℕ) → own.nodes at ≡ true → covers left at ≡ true → is_some (row_at rows at) ≡ true
+  pub paths : (at : List ℕ) → is_some (row_at rows at) ≡ true → is_path at ≡ true
   pub formed : IsFormed (whole docket rows left own)
 
 -- the texts of a node that are lent lie where the image has those of its own node, and a copy source whose text is lent is the image's
@@ -48,7 +49,18 @@ pub record IsMoved (docket : Contents) (rows : List Row) (left : List (List ℕ 
   pub parted : IsParted docket rows left_now (memory_table own_now)
   pub same : IsSame (whole docket rows left_now (memory_table own_now)) (whole docket rows left (memory_table own))
   pub nodes : (at : List ℕ) → node_here rows left_now own_now.rows at ≡ node_here rows left own.rows at
+  pub lent : (dir : Option (List ℕ)) → is_lent_in rows left_now own_now.kept dir ≡ is_lent_in rows left own.kept dir
   pub changed : own_now.changed ≡ own.changed
+
+-- all that stands below a directory is as the image has it, and each list there is lent
+pub record IsWhole (docket : Contents) (rows : List Row) (left : List (List ℕ × List Row)) (own : InMemory) (dir : Option (List ℕ)) : Type 0 where
+  pub nodes : (at : List ℕ) → is_above dir at ≡ true → node_here rows left own.rows at ≡ option_map node_of (row_at rows at)
+  pub caches : (at : List ℕ) → is_above dir at ≡ true → (whole docket rows left (memory_table own)).caches at ≡ (reading.table_of docket rows).caches at
+  pub lists : (sub : List ℕ) → is_above dir sub ≡ true → has_list rows (Some sub) ≡ true → is_lent_in rows left own.kept (Some sub) ≡ true
+
+-- so it is below each directory whose list is lent
+abbrev pub AreWhole : Contents → List Row → List (List ℕ × List Row) → InMemory → Type 0
+AreWhole docket rows left own = (dir : Option (List ℕ)) → is_lent_in rows left own.kept dir ≡ true → IsWhole docket rows left own dir
 
 -- no list of a directory above a path is the image's any more, nor that of the path itself
 pub record IsFree (left : List (List ℕ × List Row)) (path : List ℕ) : Type 0 where

@@ -60,12 +60,13 @@ pub record AddsSome (list : NodeList) (old : List (List ℕ × NodeData)) (befor
   pub each : (at : List ℕ) → (IsAsBefore at old before new after) ⊎ ((parent_of at ≡ dir_of list) × (is_some (row_at (rows_in list) at) ≡ true))
   pub formed : IsFormed (bare new after)
 
--- the parents, the hash and the mark of an edit are as they were
+-- the parents, the hash and the mark of an edit are as they were, and so are the lists that are kept
 pub record AreOthersKept (old new : InMemory) : Type 0 where
   pub p1 : new.p1 ≡ old.p1
   pub p2 : new.p2 ≡ old.p2
   pub hash : new.hash ≡ old.hash
   pub changed : new.changed ≡ old.changed
+  pub kept : new.kept ≡ old.kept
 
 -- the list of a node's children was lent, or nothing was
 abbrev pub LendsKid : NodeRef → List (List ℕ × List Row) → List (List ℕ × List Row) → Type 0

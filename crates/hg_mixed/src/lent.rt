@@ -1,11 +1,11 @@
 //! The lists of nodes that are the image's still.
 
-ghost use Rattle.std.specs.Prelude.{◌≡◌, true, Some, None, is_some, option_map, IfSome, OnOk, OnErr};
+ghost use Rattle.std.specs.Prelude.{◌≡◌, true, Some, None, is_some, option_map, IfSome, MatchBool, OnOk, OnErr};
 ghost use Rattle.hg_base.specs.PathText.{is_same_dir, parent_of};
 ghost use Rattle.hg_base.specs.Within.{is_above};
 ghost use Rattle.hg_image.specs.Reading.{row_at};
 ghost use Rattle.hg_image.specs.View.{dir_of, row, rows_in};
-ghost use Rattle.hg_mixed.specs.Lent.{AreLentStill, CoversNone, HasBelow, IsLentPut, IsNoneLent, IsOver, IsPlace, lent_at};
+ghost use Rattle.hg_mixed.specs.Lent.{AreEnded, AreLentStill, CoversNone, HasBelow, IsLentPut, IsNoneLent, IsOver, IsPlace, covers, lent_at};
 ghost use Rattle.hg_mixed.specs.Lists.{or_root};
 
 use hg_base::{OutOfMemory, PathRef};
@@ -61,6 +61,7 @@ pub fn node_in<'a>(list: List<'a>, path: PathRef<'_>) -> Option<NodeRef<'a>>
     ensures node { option_map row result ≡ row_at (rows_in list.entry) path.entry.text.now }
     // What stands below it in the list is what is below the node.
     ensures below { IfSome result (HasBelow list.entry) }
+    ensures bytes { IfSome result (λ node. node.bytes.now ≡ list.entry.bytes.now) }
 {
     if is_in(list, path) {
         return list.find(path.base());
@@ -143,6 +144,35 @@ impl<'a> Lent<'a> {
         match self.get(dir.text) {
             Some(list) => Some(list),
             None => self.over(dir),
+        }
+    }
+
+    /// Whether what stands at a path is in a list that is lent.
+    pub fn covers(&self, path: PathRef<'_>) -> bool
+        ensures { result ≡ covers self.now path.entry.text.now }
+    {
+        self.over(path).is_some()
+    }
+
+    /// No list of a directory above a path is lent any more.
+    pub fn end_above(&mut self, path: PathRef<'_>)
+        ensures { AreEnded path.entry.text.now self.old self.new }
+    {
+        match path.parent() {
+            None => self.remove(""),
+            Some(dir) => {
+                self.remove(dir.text);
+                self.end_above(dir);
+            }
+        }
+    }
+
+    /// The same where something differs at the path.
+    pub fn end_where(&mut self, differs: bool, path: PathRef<'_>)
+        ensures { MatchBool differs (AreEnded path.entry.text.now self.old self.new) (AreLentStill self.old self.new) }
+    {
+        if differs {
+            self.end_above(path);
         }
     }
 

@@ -18,9 +18,9 @@
 //!
 //! `gather` lists all nodes that have an entry or a cache, ascending by the bytes of their paths (a walk meets `a/b` before `a.c`).
 //!
-//! What a table still lends from its image is told by `is_lent`, `lent` and the places of a `Child`: the lists of children that no edit has touched,
-//! and the texts that have stayed. A text is lent as long as its node, or its copy source, is the one that the image had. No list counts as lent, since
-//! a table is written anew as a whole.
+//! What a table still lends from its image is told by `is_lent`, `lent` and the places of a `Child`: the lists of children at and below which no edit
+//! has changed anything, and the texts that have stayed. A text is lent as long as its node, or its copy source, is the one that the image had. An edit
+//! that changes something ends the lending of the lists of all directories above its path, and of no others.
 //!
 //! ```text
 //! let mut table = Mixed::open(alloc, image)?;
@@ -40,6 +40,7 @@ mod clash;
 mod edits;
 mod fault;
 mod gathered;
+mod image_list;
 mod kids;
 mod laws;
 mod lent;

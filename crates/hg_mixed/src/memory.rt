@@ -9,6 +9,7 @@ ghost use Rattle.hg_mixed.specs.Node.{node_at};
 ghost use Rattle.hg_mixed.specs.Shown.{shown_item, shown_in};
 ghost use Rattle.hg_mixed.specs.Times.{time_at};
 
+use crate::lent::Lent;
 use crate::node::Node;
 use crate::nodes::Nodes;
 use crate::times::Times;
@@ -20,7 +21,7 @@ use std::marker::Model;
 
 /// The parents, the hash, and those nodes and times that are in memory.
 #[derive(Drop)]
-pub struct Memory {
+pub struct Memory<'a> {
     pub(crate) alloc: Global,
     pub(crate) p1: Id20,
     pub(crate) p2: Id20,
@@ -28,9 +29,11 @@ pub struct Memory {
     pub(crate) changed: bool,
     pub(crate) nodes: Nodes,
     pub(crate) times: Times,
+    // (those lists of nodes in memory that are as the image has them)
+    pub(crate) kept: Lent<'a>,
 }
 
-impl Model for Memory {
+impl<'a> Model for Memory<'a> {
     ghost use Rattle.hg_mixed.specs.Memory.{InMemory};
     ghost use Rattle.hg_mixed.specs.Held.{table_of};
 
@@ -45,14 +48,15 @@ impl Model for Memory {
       changed = m.changed;
       rows = m.nodes;
       times = m.times;
+      kept = m.kept;
     } };
 
     ghost invariant = { λ m. IsFormed (table_of m.p1.0 m.p2.0 m.hash m.nodes m.times) };
 }
 
-impl Memory {
+impl<'a> Memory<'a> {
     /// Nothing but the parents and the hash of a docket.
-    pub fn new(alloc: Global, docket: Docket<'_>) -> Memory
+    pub fn new(alloc: Global, docket: Docket<'_>) -> Memory<'a>
         ensures nodes { (at : List ℕ) → node_at result.rows at ≡ None }
         ensures times { (at : List ℕ) → time_at result.times at ≡ None }
         ensures p1 { result.p1 ≡ docket.entry.p1.0 }
@@ -68,6 +72,7 @@ impl Memory {
             changed: false,
             nodes: Nodes::new(alloc),
             times: Times::new(alloc),
+            kept: Lent::new(alloc),
         }
     }
 

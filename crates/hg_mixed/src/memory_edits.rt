@@ -5,8 +5,10 @@ ghost use Rattle.hg_entry.specs.Entry.{stamp_view, view};
 ghost use Rattle.hg_mixed.specs.Clash.{IsLeast, Sets, clashes};
 ghost use Rattle.hg_mixed.specs.Drop.{IsPruned, after_clear};
 ghost use Rattle.hg_mixed.specs.Edits.{IsSame, Marks, after_cache, after_copy, after_hash, after_ids, after_no_caches, after_set};
-ghost use Rattle.hg_mixed.specs.Memory.{AreCleared, IsKept, IsSourceWritten, memory_table};
+ghost use Rattle.hg_mixed.specs.Lent.{AreEnded};
+ghost use Rattle.hg_mixed.specs.Memory.{AreCleared, Ends, IsKept, IsSourceWritten, memory_table};
 ghost use Rattle.hg_mixed.specs.Node.{AreSame, node_at, planted, with_entry};
+ghost use Rattle.hg_mixed.specs.Times.{AreEndedOver};
 
 use crate::clash::{clash, near_clash};
 use crate::fault::SetFault;
@@ -18,7 +20,7 @@ use crate::setting::{put_entry, put_source};
 use hg_base::{Id20, OutOfMemory, Path, PathRef, Stamp};
 use hg_entry::Entry;
 
-impl Memory {
+impl Memory<'_> {
     /// The least tracked path above or below a path.
     pub fn clash(&self, path: PathRef<'_>) -> Result<Option<Path>, OutOfMemory>
         ensures { IfOk result (IsLeast (clashes path.entry.text.now (memory_table self.now).entries)) }
@@ -42,6 +44,7 @@ impl Memory {
             ((at : List ℕ)
             → node_at self.new.rows at
             ≡ planted path.entry.text.now (with_entry (view entry) (node_at self.old.rows path.entry.text.now)) (node_at self.old.rows) at) }
+        ensures kept { OnOk result (Ends path.entry.text.now (IsSame (memory_table self.new) (memory_table self.old)) self.old.kept self.new.kept) }
         ensures err { OnErr result (IsKept self.old self.new) }
     {
         if let Some(other) = clash(&self.nodes, path, entry) {
@@ -53,6 +56,7 @@ impl Memory {
             Ok(differs) => {
                 self.times.remove(path.text);
                 self.changed |= differs;
+                self.kept.end_where(differs, path);
                 Ok(())
             }
         }
@@ -65,6 +69,7 @@ impl Memory {
         ensures table { OnOk result (IsSame (memory_table self.new) (after_cache dir.entry.text.now (Some (stamp_view time)) (memory_table self.old))) }
         ensures changed { OnOk result (Marks (IsSame (memory_table self.new) (memory_table self.old)) self.old.changed self.new.changed) }
         ensures nodes { OnOk result (AreSame self.old.rows self.new.rows) }
+        ensures kept { OnOk result (Ends dir.entry.text.now (IsSame (memory_table self.new) (memory_table self.old)) self.old.kept self.new.kept) }
         ensures err { OnErr result (IsKept self.old self.new) }
     {
         let same = same_time(self.times.get(dir.text), Some(time));
@@ -72,6 +77,7 @@ impl Memory {
             Err(fault) => Err(fault),
             Ok(()) => {
                 self.changed |= !same;
+                self.kept.end_where(!same, dir);
                 Ok(())
             }
         }
@@ -84,11 +90,13 @@ impl Memory {
         ensures table { OnOk result (IsSame (memory_table self.new) (after_cache dir.entry.text.now None (memory_table self.old))) }
         ensures changed { OnOk result (Marks (IsSame (memory_table self.new) (memory_table self.old)) self.old.changed self.new.changed) }
         ensures nodes { OnOk result (AreSame self.old.rows self.new.rows) }
+        ensures kept { OnOk result (Ends dir.entry.text.now (IsSame (memory_table self.new) (memory_table self.old)) self.old.kept self.new.kept) }
         ensures err { OnErr result (IsKept self.old self.new) }
     {
         let same = same_time(self.times.get(dir.text), None);
         self.times.remove(dir.text);
         self.changed |= !same;
+        self.kept.end_where(!same, dir);
         Ok(())
     }
 
@@ -97,9 +105,11 @@ impl Memory {
         ensures table { OnOk result (IsSame (memory_table self.new) (after_no_caches (memory_table self.old))) }
         ensures changed { OnOk result (Marks (IsSame (memory_table self.new) (memory_table self.old)) self.old.changed self.new.changed) }
         ensures nodes { OnOk result (AreSame self.old.rows self.new.rows) }
+        ensures kept { OnOk result (AreEndedOver self.old.times self.old.kept self.new.kept) }
         ensures err { OnErr result (IsKept self.old self.new) }
     {
         let same = self.times.is_empty();
+        self.times.end_lent(&mut self.kept);
         self.times.clear();
         self.changed |= !same;
         Ok(())
@@ -119,12 +129,14 @@ impl Memory {
         ensures nodes { OnOk
             result
             (IsSourceWritten path.entry.text.now (option_map (λ s. s.text.now) source.entry) self.old.rows self.new.rows) }
+        ensures kept { OnOk result (Ends path.entry.text.now (IsSame (memory_table self.new) (memory_table self.old)) self.old.kept self.new.kept) }
         ensures err { OnErr result (IsKept self.old self.new) }
     {
         match put_source(self.alloc, &mut self.nodes, path, source) {
             Err(fault) => Err(fault),
             Ok(differs) => {
                 self.changed |= differs;
+                self.kept.end_where(differs, path);
                 Ok(())
             }
         }
@@ -135,6 +147,7 @@ impl Memory {
         ensures table { IsSame (memory_table self.new) (after_ids p1.0 p2.0 (memory_table self.old)) }
         ensures changed { Marks (IsSame (memory_table self.new) (memory_table self.old)) self.old.changed self.new.changed }
         ensures nodes { AreSame self.old.rows self.new.rows }
+        ensures kept { self.new.kept ≡ self.old.kept }
     {
         let same = same_ids(self.p1, p1, self.p2, p2);
         self.p1 = p1;
@@ -147,6 +160,7 @@ impl Memory {
         ensures table { IsSame (memory_table self.new) (after_hash hash (memory_table self.old)) }
         ensures changed { Marks (IsSame (memory_table self.new) (memory_table self.old)) self.old.changed self.new.changed }
         ensures nodes { AreSame self.old.rows self.new.rows }
+        ensures kept { self.new.kept ≡ self.old.kept }
     {
         let same = same_hash(self.hash, hash);
         self.hash = hash;
@@ -160,11 +174,13 @@ impl Memory {
         ensures pruned { OnOk result (IsPruned path.entry.text.now (after_clear path.entry.text.now (memory_table self.old)) (memory_table self.new)) }
         ensures changed { OnOk result (self.new.changed ≡ true) }
         ensures nodes { OnOk result (AreCleared path.entry.text.now self.old.rows self.new.rows) }
+        ensures kept { OnOk result (AreEnded path.entry.text.now self.old.kept self.new.kept) }
         ensures err { OnErr result (IsKept self.old self.new) }
     {
         clear(&mut self.nodes, path);
         prune(&mut self.nodes, &mut self.times, path);
         self.changed = true;
+        self.kept.end_above(path);
         Ok(())
     }
 }

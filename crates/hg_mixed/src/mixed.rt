@@ -1,17 +1,21 @@
 //! The table, and what can be asked of it.
 
-ghost use Rattle.std.specs.Prelude.{◌≡◌, IfOk, false, is_some, option_map};
+ghost use Rattle.std.specs.Prelude.{◌≡◌, ◌||◌, IfOk, false, is_some, option_map};
 ghost use Rattle.hg_docket.specs.Docket as docket;
 ghost use Rattle.hg_entry.specs.Entry.{entry_of, stamp_view};
 ghost use Rattle.hg_image.specs.Node.{fields_of};
 ghost use Rattle.hg_image.specs.Reading as reading;
 ghost use Rattle.hg_image.specs.View.{row, rows};
 ghost use Rattle.hg_mixed.specs.Edits.{IsFormed, IsSame};
-ghost use Rattle.hg_mixed.specs.Held.{is_lent, table};
-ghost use Rattle.hg_mixed.specs.Shown.{AnswersLent, ArePlacesOf, ArePlacesOfImage, shown_item, shown_in};
+ghost use Rattle.hg_mixed.specs.Held.{is_left_in, is_lent, table};
+ghost use Rattle.hg_mixed.specs.Lent.{lent_at};
+ghost use Rattle.hg_mixed.specs.Lists.{or_root};
+ghost use Rattle.hg_mixed.specs.Shown.{AnswersLent, AreAllLent, AreLentWhole, ArePlacesOf, ArePlacesOfImage, shown_item, shown_in};
 
+use crate::image_list::image_list;
 use crate::lent::{Lent, Place};
 use crate::memory::Memory;
+use crate::own_children::text_of;
 use hg_base::{Id20, OutOfMemory, PathRef, Stamp};
 use hg_entry::Item;
 use hg_image::{Image, List, NodeRef};
@@ -22,16 +26,15 @@ use std::marker::Model;
 #[derive(Drop)]
 pub struct Mixed<'a> {
     pub(crate) image: Image<'a>,
-    pub(crate) memory: Memory,
+    pub(crate) memory: Memory<'a>,
     pub(crate) left: Lent<'a>,
 }
 
 impl<'a> Model for Mixed<'a> {
-    ghost use Rattle.std.specs.Prelude.{[]};
     ghost use Rattle.hg_docket.specs.Docket as docket;
     ghost use Rattle.hg_mixed.specs.Held.{Held};
     ghost use Rattle.hg_mixed.specs.Memory.{memory_table};
-    ghost use Rattle.hg_mixed.specs.Parted.{ArePlaced, IsParted, image_rows};
+    ghost use Rattle.hg_mixed.specs.Parted.{ArePlaced, AreWhole, IsParted, image_rows};
 
     ghost Value = { Held };
 
@@ -45,12 +48,13 @@ impl<'a> Model for Mixed<'a> {
       rows = m.memory.rows;
       times = m.memory.times;
       left = m.left;
-      lent = [];
+      kept = m.memory.kept;
     } };
 
     ghost invariant = { λ m.
         IsParted (docket.view m.image.docket) (image_rows m.image) m.left (memory_table m.memory)
-        × ArePlaced (image_rows m.image) m.left m.memory.rows };
+        × ArePlaced (image_rows m.image) m.left m.memory.rows
+        × AreWhole (docket.view m.image.docket) (image_rows m.image) m.left m.memory };
 }
 
 impl<'a> Mixed<'a> {
@@ -60,7 +64,8 @@ impl<'a> Mixed<'a> {
         ensures changed { IfOk result (λ m. m.changed ≡ false) }
         ensures docket { IfOk result (λ m. m.docket ≡ docket.view image.entry.docket) }
         ensures bytes { IfOk result (λ m. m.bytes ≡ image.entry.bytes.now) }
-        // Each text is lent.
+        // Each list is lent, and each text.
+        ensures lent { IfOk result (AreAllLent (rows image.entry)) }
         ensures places { IfOk result (ArePlacesOf (rows image.entry)) }
     {
         let mut left = Lent::new(alloc);
@@ -100,24 +105,46 @@ impl<'a> Mixed<'a> {
         ensures docket { docket.view result.docket ≡ self.now.docket }
         ensures bytes { result.bytes.now ≡ self.now.bytes }
         ensures places { ArePlacesOfImage self.now }
+        ensures lent { AreLentWhole self.now }
     {
         self.image
     }
 
-    /// Whether the list of a directory's children counts as lent from the image, where no directory is the root: none does, since a table is written anew.
+    // Whether the list of a directory, if the image has one, is left there, or is in memory and unchanged.
+    fn is_unchanged(&self, dir: Option<PathRef<'_>>) -> bool
+        ensures { result
+            ≡ (is_left_in self.now.left (or_root (option_map (λ d. d.text.now) dir.entry))
+            || is_some (lent_at self.now.kept (or_root (option_map (λ d. d.text.now) dir.entry)))) }
+    {
+        let text = text_of(dir);
+        if self.left.has(text) {
+            return true;
+        }
+        if self.memory.keeps(text) {
+            return true;
+        }
+        match dir {
+            None => false,
+            Some(dir) => self.left.covers(dir),
+        }
+    }
+
+    /// Whether the list of a directory's children is lent from the image, where no directory is the root: the image has one, and no edit has changed
+    /// anything at or below its nodes. False where no node is there, and for a list without nodes.
     pub fn is_lent(&self, dir: Option<PathRef<'_>>) -> bool
         ensures { result ≡ is_lent self.now (option_map (λ d. d.text.now) dir.entry) }
     {
-        let _ = &self.image;
-        false
+        self.lent(dir).is_some()
     }
 
-    /// The image's list of a directory's children, where it counts as lent.
+    /// The image's list of a directory's children, where it is lent.
     pub fn lent(&self, dir: Option<PathRef<'_>>) -> Option<List<'a>>
         ensures { AnswersLent self.now (option_map (λ d. d.text.now) dir.entry) result }
     {
-        let _ = &self.image;
-        None
+        if !self.is_unchanged(dir) {
+            return None;
+        }
+        image_list(self.image, dir)
     }
 
     /// The entry of a path and its copy source, where it has an entry.

@@ -14,7 +14,7 @@ use hg_image::Image;
 
 /// Takes the lists of all directories above a path into memory, and all lists where something stands below it.
 pub fn take_near<'a>(
-    memory: &mut Memory,
+    memory: &mut Memory<'a>,
     left: &mut Lent<'a>,
     image: Image<'a>,
     path: PathRef<'_>,

@@ -1,10 +1,12 @@
 //! Nodes of an image are taken into memory.
 
-ghost use Rattle.std.specs.Prelude.{◌≡◌, ◌<◌, OnOk, OnErr, option_map};
+ghost use Rattle.std.specs.Prelude.{◌≡◌, ◌<◌, Some, OnOk, OnErr, is_some, option_map};
 ghost use Rattle.hg_base.specs.PathText.{parent_of};
-ghost use Rattle.hg_image.specs.View.{dir_of, row};
+ghost use Rattle.hg_image.specs.View.{dir_of, row, rows_in};
 ghost use Rattle.hg_mixed.specs.Drop.{bare};
 ghost use Rattle.hg_mixed.specs.Edits.{IsFormed};
+ghost use Rattle.hg_mixed.specs.Lent.{AreLentStill, IsLentPut, lent_at};
+ghost use Rattle.hg_mixed.specs.Lists.{or_root};
 ghost use Rattle.hg_mixed.specs.Memory.{memory_table};
 ghost use Rattle.hg_mixed.specs.Opened.{IsThere};
 ghost use Rattle.hg_mixed.specs.Taken.{AddsNodes, AddsOwn, AddsSome, AreOthersKept, IsElsewhere};
@@ -81,7 +83,7 @@ fn add_nodes(
     Ok(())
 }
 
-impl Memory {
+impl<'a> Memory<'a> {
     /// Takes the nodes that stand right in a list's directory.
     pub fn add_kids(&mut self, list: List<'_>) -> Result<(), OutOfMemory>
         requires { 0 < list.count → IsThere self.old.rows (dir_of list) }
@@ -90,6 +92,23 @@ impl Memory {
         ensures others { AreOthersKept self.old self.new }
     {
         add_nodes(self.alloc, &mut self.nodes, &mut self.times, list)
+    }
+
+    /// Notes that a list is as the image has it, or leaves all as it was.
+    pub fn keep(&mut self, dir: &str, list: List<'a>) -> Result<(), OutOfMemory>
+        requires { or_root (dir_of list) ≡ dir.now }
+        ensures ok { OnOk result (IsLentPut dir.now (Some (rows_in list.entry)) self.old.kept self.new.kept) }
+        ensures err { OnErr result (AreLentStill self.old.kept self.new.kept) }
+        ensures rest { self.new ≡ record self.old { kept = self.new.kept } }
+    {
+        self.kept.put(self.alloc, dir, list)
+    }
+
+    /// Whether the list of a directory is known to be as the image has it.
+    pub fn keeps(&self, dir: &str) -> bool
+        ensures { result ≡ is_some (lent_at self.now.kept dir.now) }
+    {
+        self.kept.has(dir)
     }
 
     /// The allocator.

@@ -142,7 +142,7 @@ pub fn text_of<'a>(dir: Option<PathRef<'a>>) -> &'a str
     }
 }
 
-impl Memory {
+impl Memory<'_> {
     /// The nodes right in a directory, ascending by name, where no directory is the root.
     pub fn children(&self, dir: Option<PathRef<'_>>) -> OwnChildren<'_>
         ensures nodes { AreNodesIn (memory_table self.now) self.now.rows (option_map (λ d. d.text.now) dir.entry) result }

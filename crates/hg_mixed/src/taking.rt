@@ -38,9 +38,9 @@ fn lend_kids<'a>(alloc: Global, left: &mut Lent<'a>, list: List<'a>) -> Result<(
     Ok(())
 }
 
-// Takes a list that is lent into memory, without what stands below its nodes, which is lent by lists of its own.
+// Takes a list that is left in the image into memory, without what stands below its nodes, which is left there by lists of its own.
 fn take_list<'a>(
-    memory: &mut Memory,
+    memory: &mut Memory<'a>,
     left: &mut Lent<'a>,
     image: Image<'a>,
     dir: &str,
@@ -53,8 +53,9 @@ fn take_list<'a>(
     ensures moved { IsMoved (docket.view image.entry.docket) (image_rows image.entry) left.old memory.old left.new memory.new }
     ensures out { OnOk result (IsOut dir.now left.old left.new) }
 {
-    let alloc = memory.alloc();
-    lend_kids(alloc, left, list)?;
+    // (It may be noted where it is left still.)
+    memory.keep(dir, list)?;
+    lend_kids(memory.alloc(), left, list)?;
     memory.add_kids(list)?;
     left.remove(dir);
     Ok(())
@@ -62,7 +63,7 @@ fn take_list<'a>(
 
 // Takes the list of a directory into memory, where it is lent.
 fn take<'a>(
-    memory: &mut Memory,
+    memory: &mut Memory<'a>,
     left: &mut Lent<'a>,
     image: Image<'a>,
     dir: &str,
@@ -81,7 +82,7 @@ fn take<'a>(
 // Takes the lists of all directories above a path into memory.
 #[cycle(taking)]
 fn take_above<'a>(
-    memory: &mut Memory,
+    memory: &mut Memory<'a>,
     left: &mut Lent<'a>,
     image: Image<'a>,
     path: PathRef<'_>,
@@ -99,7 +100,7 @@ fn take_above<'a>(
 /// Takes the lists of all directories above a path into memory, and that of the path itself where it is a directory.
 #[cycle(taking)]
 pub fn take_for<'a>(
-    memory: &mut Memory,
+    memory: &mut Memory<'a>,
     left: &mut Lent<'a>,
     image: Image<'a>,
     path: PathRef<'_>,
@@ -115,7 +116,7 @@ pub fn take_for<'a>(
 
 // Takes a list and all lists below it.
 fn take_whole<'a>(
-    memory: &mut Memory,
+    memory: &mut Memory<'a>,
     left: &mut Lent<'a>,
     image: Image<'a>,
     list: List<'a>,
@@ -145,7 +146,7 @@ fn dir_text<'a>(list: List<'a>) -> &'a str
 
 /// Takes all lists into memory.
 pub fn take_all<'a>(
-    memory: &mut Memory,
+    memory: &mut Memory<'a>,
     left: &mut Lent<'a>,
     image: Image<'a>,
 ) -> Result<(), OutOfMemory>

@@ -2,9 +2,10 @@
 
 ghost use Rattle.std.specs.Prelude.{◌≡◌, ℕ, List, Some, None, OnOk, OnErr, option_map};
 ghost use Rattle.hg_entry.specs.Entry.{stamp_view};
-ghost use Rattle.hg_mixed.specs.Times.{AreNone, IsTimed, time_at};
+ghost use Rattle.hg_mixed.specs.Times.{AreEndedOver, AreNone, AreTimedPaths, IsTimed, time_at, times_of};
 
-use hg_base::{OutOfMemory, Stamp};
+use crate::lent::Lent;
+use hg_base::{OutOfMemory, PathRef, Stamp};
 use std::alloc::Global;
 use std::collections::BTreeMap;
 use std::marker::Model;
@@ -23,6 +24,16 @@ impl Model for Times {
     ghost Value = { List (List ℕ × StampData) };
 
     ghost view = { λ t. times_of t.times.entries };
+}
+
+// No list of a directory above one of these is lent any more.
+fn end_each(times: &BTreeMap<String, Stamp>, lent: &mut Lent<'_>)
+    requires { AreTimedPaths (times_of times.now.entries) }
+    ensures { AreEndedOver (times_of times.entry.now.entries) lent.old lent.new }
+{
+    for (dir, _) in times.iter() {
+        lent.end_above(PathRef { text: dir.as_str() });
+    }
 }
 
 impl Times {
@@ -63,6 +74,14 @@ impl Times {
         ensures { (at : List ℕ) → time_at self.new at ≡ None }
     {
         self.times.clear();
+    }
+
+    /// No list of a directory above a cached one is lent any more.
+    pub fn end_lent(&self, lent: &mut Lent<'_>)
+        requires { AreTimedPaths self.now }
+        ensures { AreEndedOver self.now lent.old lent.new }
+    {
+        end_each(&self.times, lent);
     }
 
     pub fn is_empty(&self) -> bool

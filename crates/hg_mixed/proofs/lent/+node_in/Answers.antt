@@ -4,6 +4,7 @@ use Rattle.hg_base.specs.PathText.{parent_of}
 use Rattle.hg_base.proofs.Below.{below_length}
 use Rattle.hg_base.proofs.Children.{same_dir}
 use Rattle.hg_image.specs.View.{Finds, dir_of}
+use Rattle.hg_mixed.proofs.ListBytes.{deep_bytes, found_bytes}
 use Rattle.hg_mixed.proofs.ImageRows.{found_below, found_kept, found_row, kept_below, no_parent, parent_above, parent_below, row_missing}
 use Rattle.hg_mixed.proofs.lent.+node_in.Goals as goal
 
@@ -42,3 +43,11 @@ pub returns-in-Some-node_in-clause-below : goal.returns-in-Some-node_in-clause-b
 returns-in-Some-node_in-clause-below t c =
     kept_below c.args.list c.children.result c.in-Some-node_in.node c.in-Some-node_in.ensures.below c.children.ensures.rows c.children.ensures.dir c.base-in-Some-node_in.result.now
     c.find-in-Some-node_in.result c.find-in-Some-node_in.ensures
+
+pub returns-then-is_in-clause-bytes : goal.returns-then-is_in-clause-bytes
+returns-then-is_in-clause-bytes t c = found_bytes c.args.list c.base.result.now c.find.result c.find.ensures
+
+pub returns-in-Some-node_in-clause-bytes : goal.returns-in-Some-node_in-clause-bytes
+returns-in-Some-node_in-clause-bytes t c =
+    deep_bytes c.args.list c.children.result c.in-Some-node_in.node c.in-Some-node_in.ensures.bytes c.children.ensures.bytes c.base-in-Some-node_in.result.now c.find-in-Some-node_in.result
+    c.find-in-Some-node_in.ensures

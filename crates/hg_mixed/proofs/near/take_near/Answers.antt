@@ -1,5 +1,6 @@
 use Rattle.std.proofs.Common.{sym}
-use Rattle.hg_mixed.proofs.ClashWhole.{near_bare}
+use Rattle.std.proofs.lemmas.Result.{on_ok_weaker}
+use Rattle.hg_mixed.proofs.ClashWhole.{near_all, near_bare}
 use Rattle.hg_mixed.proofs.Lifted.{moved_on}
 use Rattle.hg_mixed.proofs.near.take_near.Goals as goal
 
@@ -9,3 +10,6 @@ returns-then-not-has_kids-clause-near c =
 
 pub returns-clause-moved : goal.returns-clause-moved
 returns-clause-moved c = moved_on _ _ _ _ _ _ _ _ c.take_for.ensures.moved c.take_all.ensures.moved
+
+pub returns-clause-near : goal.returns-clause-near
+returns-clause-near c = on_ok_weaker c.take_all.result (λ none. near_all _ _ c.take_all.new.left c.take_all.new.memory c.args.path.text.now none) c.take_all.ensures.all

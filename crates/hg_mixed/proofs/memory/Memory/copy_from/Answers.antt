@@ -1,5 +1,5 @@
 use Rattle.std.specs.Option.{option_map}
-use Rattle.hg_mixed.proofs.Edited.{copy_formed, copy_marks, copy_table, some_node, written_of}
+use Rattle.hg_mixed.proofs.Edited.{copy_ends, copy_formed, copy_marks, copy_table, some_node, written_of}
 use Rattle.hg_mixed.proofs.memory.Memory.copy_from.Goals as goal
 
 pub put_source-requires : goal.put_source-requires
@@ -19,3 +19,8 @@ returns-in-Ok-clause-changed c =
 
 pub returns-in-Ok-clause-nodes : goal.returns-in-Ok-clause-nodes
 returns-in-Ok-clause-nodes c = written_of c.args.path.text.now (option_map (λ s. s.text.now) c.args.source) _ _ c.self.view_is c.put_source.new.nodes c.in-Ok.ensures.ok
+
+pub returns-in-Ok-clause-kept : goal.returns-in-Ok-clause-kept
+returns-in-Ok-clause-kept c =
+    copy_ends c.args.path.text.now (option_map (λ s. s.text.now) c.args.source) _ _ c.self.view_is c.put_source.new.nodes c.in-Ok.ensures.ok c.requires c.in-Ok.differs c.in-Ok.ensures.differs
+    c.end_where.new.self c.end_where.ensures

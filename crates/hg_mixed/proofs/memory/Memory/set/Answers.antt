@@ -1,5 +1,5 @@
 use Rattle.hg_entry.specs.Entry.{view}
-use Rattle.hg_mixed.proofs.Edited.{set_formed, set_marks, set_table}
+use Rattle.hg_mixed.proofs.Edited.{set_ends, set_formed, set_marks, set_table}
 use Rattle.hg_mixed.proofs.memory.Memory.set.Goals as goal
 
 pub invariant_of-self-in-Ok : goal.invariant_of-self-in-Ok
@@ -13,3 +13,8 @@ pub returns-in-Ok-clause-changed : goal.returns-in-Ok-clause-changed
 returns-in-Ok-clause-changed c =
     set_marks c.args.path.text.now (view c.args.entry) _ _ c.self.view_is c.put_entry.new.nodes c.remove.new.self c.in-Ok.ensures.ok c.remove.ensures c.args.path.is_path c.self.invariant
     c.in-Ok.differs c.in-Ok.ensures.differs
+
+pub returns-in-Ok-clause-kept : goal.returns-in-Ok-clause-kept
+returns-in-Ok-clause-kept c =
+    set_ends c.args.path.text.now (view c.args.entry) _ _ c.self.view_is c.put_entry.new.nodes c.remove.new.self c.in-Ok.ensures.ok c.remove.ensures c.args.path.is_path c.self.invariant
+    c.end_where.new.self c.in-Ok.differs c.in-Ok.ensures.differs c.end_where.ensures

@@ -1,7 +1,12 @@
-use Rattle.std.proofs.Common.{◌≡◌, ◌∙◌, None, ap}
+use Rattle.std.proofs.Common.{◌≡◌, ◌∙◌, List, None, ap}
 use Rattle.std.specs.Option.{option_map}
+use Rattle.hg_docket.specs.Docket as docket
+use Rattle.hg_image.specs.Rows.{Row}
 use Rattle.hg_image.specs.View.{dir_of}
-use Rattle.hg_mixed.proofs.ImageFormed.{opened_parted, opened_placed, opened_same, opened_source, opened_text}
+use Rattle.hg_mixed.specs.Held.{has_list}
+use Rattle.hg_mixed.specs.Parted.{image_rows}
+use Rattle.hg_mixed.proofs.ImageFormed.{every, opened_parted, opened_placed, opened_same, opened_source, opened_text, used_rows}
+use Rattle.hg_mixed.proofs.ImageLists.{all_lent, opened_whole}
 use Rattle.hg_mixed.proofs.mixed.Mixed.open.Goals as goal
 
 pub invariant_of-result : goal.invariant_of-result
@@ -10,6 +15,8 @@ invariant_of-result c = (
       c.new.result c.new.ensures.nodes,
   opened_placed c.args.image c.root.result (ap (option_map (λ d. d.text.now)) c.root.ensures.dir) c.root.ensures.rows c.new-left.result c.put.new.self c.new-left.ensures.none c.in_ok-put.ensures.ok
       c.new.result,
+  opened_whole (docket.view c.args.image.docket) (image_rows c.args.image) c.put.new.self c.new.result
+      (every c.args.image c.root.result (ap (option_map (λ d. d.text.now)) c.root.ensures.dir) c.root.ensures.rows c.new-left.result c.put.new.self c.new-left.ensures.none c.in_ok-put.ensures.ok),
 )
 
 pub returns-clause-table : goal.returns-clause-table
@@ -24,3 +31,12 @@ returns-clause-places c =
       texts = λ at. opened_text c.args.image c.root.result is c.root.ensures.rows c.new-left.result c.put.new.self c.new-left.ensures.none c.in_ok-put.ensures.ok c.new.result at;
       sources = λ at. opened_source c.args.image c.root.result is c.root.ensures.rows c.new-left.result c.put.new.self c.new-left.ensures.none c.in_ok-put.ensures.ok c.new.result at;
     }
+
+pub returns-clause-lent : goal.returns-clause-lent
+returns-clause-lent c = record {
+  lists = λ dir.
+      all_lent (docket.view c.args.image.docket) (image_rows c.args.image) c.put.new.self c.new.result
+      (every c.args.image c.root.result (ap (option_map (λ d. d.text.now)) c.root.ensures.dir) c.root.ensures.rows c.new-left.result c.put.new.self c.new-left.ensures.none c.in_ok-put.ensures.ok) dir
+      ∙ ap (λ (r : List Row). has_list r dir) (used_rows c.args.image);
+  bare = c.new.ensures.nodes;
+}
