@@ -242,7 +242,7 @@ timed_any dir (t ∷ times) at some above = elim (cases_Bool (bytes_eq at t.0)) 
 
 module _ (docket : Contents) (rows : List Row) (first left : List (List ℕ × List Row)) (was own new : InMemory) (moved : IsMoved docket rows first was left own)
     (none : (at : List ℕ) → covers left at ≡ false) (ended : AreEndedOver own.times own.kept new.kept) where
-  -- the directory of a text, where it isn't the text of a path that is none
+  -- a directory above no cached one keeps its list
   text_still : (dir : List ℕ) → ((at : List ℕ) → is_some (time_at own.times at) ≡ true → is_above (as_dir dir) at ≡ false) → lent_at new.kept dir ≡ lent_at own.kept dir
   text_still dir beside =
       ended dir
