@@ -1,12 +1,13 @@
-use Rattle.std.proofs.Common.{◌≡◌, ℕ, Some, ◌<◌, ◌≤◌, ◌^◌, length, take, drop, arith, rules, refl, sym, ap, subst, ◌∙◌}
+use Rattle.std.proofs.Common.{◌≡◌, ℕ, Option, Some, ◌<◌, ◌≤◌, ◌^◌, length, take, drop, arith, rules, refl, sym, ap, subst, ◌∙◌}
 use Rattle.std.specs.Option.{option_map}
 use Rattle.hg_mixed.specs.Child.{shown_child}
 use Rattle.hg_mixed.specs.Children.{IsChild}
 use Rattle.hg_mixed.specs.Walk.{walked}
+use Rattle.hg_append.specs.declared.kept.Kept.{Kept}
 use Rattle.hg_append.specs.declared.lists.Put.{Put}
 use Rattle.hg_append.specs.Keeps.{keeps_by}
-use Rattle.hg_append.specs.Put.{HasPut, Puts, base_by}
-use Rattle.hg_append.proofs.Steps.{base_inside, below_none, below_some, child_longer, dir_length, in_parent, left_child, part_done, part_more, part_on, path_short, put_few}
+use Rattle.hg_append.specs.Put.{HasPut, IsPutUnder, Puts, base_by}
+use Rattle.hg_append.proofs.Steps.{base_inside, below_kept, below_none, below_some, child_longer, dir_length, in_parent, left_child, part_done, part_more, part_on, path_short, put_few}
 use Rattle.hg_append.proofs.lists.+putting.Goals as goal
 
 pub put_child-returns-then-not-child : goal.put_child-returns-then-not-child
@@ -45,6 +46,19 @@ put_child-returns t c = record {
   texts = c.in_ok-now-2.ensures.bytes;
   records = c.in_ok-now-2.ensures.records;
 }
+
+pub put_below-returns-in-Some-clause-put : goal.put_below-returns-in-Some-clause-put
+put_below-returns-in-Some-clause-put t c =
+    let keeps = keeps_by c.args.mixed.now c.args.way in
+    let list = c.in-Some.list in
+    let fits : c.args.at < 2 ^ 64 = search rules in
+    let few_nodes : list.count < 2 ^ 32 = search rules in
+    let few_entries : list.entries < 2 ^ 32 = search rules in
+    let few_tracked : list.tracked < 2 ^ 32 = search rules in
+    subst (λ (l : Option Kept). IsPutUnder c.args.mixed.now keeps l c.args.below.path.text.now c.args.at c.stays.result c.args.bytes.now.items c.args.bytes.now.items c.args.records.now.items c.args.records.now.items)
+    c.in-Some.ensures
+    (below_kept c.args.mixed.now keeps list c.args.below.path.text.now c.args.at c.stays.result c.args.bytes.now.items c.args.records.now.items fits few_nodes few_entries few_tracked c.stays.ensures.start
+    c.stays.ensures.end c.stays.ensures.count c.stays.ensures.entries c.stays.ensures.tracked c.stays.ensures.copies)
 
 pub put_below-returns-clause-few : goal.put_below-returns-clause-few
 put_below-returns-clause-few t c =
