@@ -75,6 +75,24 @@ def slowly(tests):
         tests.compare("a byte at a time", fed(tests, root, b"add a\n\nadd b\nstatus -a\nforget a\nstatus -n"), (0, lines("A a", "A b", "b", "a"), b""))
 
 
+def moved_between(tests):
+    """Between two lines a folder that was gone through is moved away, and a link to it is put in its place: nothing stands behind a link."""
+    with tests.working_copy() as root:
+        lay_out(root, [".hg/", "d/e/f", "d/e/g/h", "d/e/u"])
+        tests.run(root, ["add", "d/e/f", "d/e/g/h"])
+        ran = subprocess.Popen([tests.program, "debugscript"], cwd=root, stdin=subprocess.PIPE, stdout=subprocess.PIPE, stderr=subprocess.PIPE, bufsize=0)
+        ran.stdin.write(b"status\n")
+        first = b"".join(ran.stdout.readline() for _ in range(3))
+        os.rename(f"{root}/d/e", f"{root}/moved")
+        os.symlink("../moved", f"{root}/d/e")
+        ran.stdin.write(b"status\n")
+        ran.stdin.close()
+        rest, err = ran.stdout.read(), ran.stderr.read()
+        tests.compare("a folder moved between two lines: before", first, lines("A d/e/f", "A d/e/g/h", "? d/e/u"))
+        behind = lines("! d/e/f", "! d/e/g/h", "? d/e", "? moved/f", "? moved/g/h", "? moved/u")
+        tests.compare("a folder moved between two lines: behind", (ran.wait(SECONDS), rest, err), (0, behind, b""))
+
+
 def many(tests):
     """10,000 lines, of which each changes the record."""
     with tests.working_copy() as root:
@@ -122,5 +140,5 @@ def inputs(tests):
 
 
 def run(tests):
-    for part in (beside_calls, slowly, many, limits, inputs):
+    for part in (beside_calls, slowly, moved_between, many, limits, inputs):
         part(tests)
