@@ -3,7 +3,14 @@ pub mod Carried
 pub mod Counting
 pub mod Good
 pub mod GoodLists
+pub mod Letters
+pub mod Lining
 pub mod Lists
 pub mod Loading
+pub mod Numbering
+pub mod Owning
+pub mod Passing
 pub mod Paths
 pub mod Scripting
+pub mod Standing
+pub mod Tallying

@@ -1,10 +1,11 @@
 -- What a load does: two statuses over a working copy that is made in memory, told by the numbers of their rows.
-use Rattle.std.specs.Prelude.{ℕ, ◌≡◌, ◌⊎◌, ◌≤◌, true, false, List, [], length, drop, Option, Some, None, IfSome}
+use Rattle.std.specs.Prelude.{ℕ, ◌≡◌, ◌*◌, ◌⊎◌, ◌≤◌, true, false, List, [], length, drop, Option, Some, None, IfSome}
+use Rattle.hg_alone.specs.Alone.{files_of, tree_alone}
 use Rattle.hg_cli.specs.Lines.{lines_with}
 use Rattle.hg_cli.specs.Reading.{count_read}
+use Rattle.hg_cli.specs.declared.load.Alone.{Alone}
 use Rattle.hg_gen.specs.Copy.{IsCopy}
 use Rattle.hg_gen.specs.Recorded.{IsStored}
-use Rattle.hg_gen.specs.declared.making.Made.{Made}
 use Rattle.hg_report.specs.Load.{load_text}
 use Rattle.hg_report.specs.declared.fault.Fault.{Fault}
 use Rattle.hg_report.specs.declared.fault.Fault.TheVariants as a_fault
@@ -14,11 +15,9 @@ use Rattle.hg_session.specs.Call.{Count, IsLeftAlone, Looked, Saved, Sink, count
 use Rattle.hg_session.specs.Change.{IsUnwritten}
 use Rattle.hg_session.specs.Look.{IsOutFault}
 use Rattle.hg_session.specs.Put.{IsSilent, Puts, PutsFront, Tells}
-use Rattle.hg_shelf.specs.History as shelf
 use Rattle.hg_shelf.specs.Images.{Goes}
 use Rattle.hg_shelf.specs.Memory as shelves
 use Rattle.hg_tree.specs.History as tree
-use Rattle.hg_tree.specs.Memory as trees
 use Rattle.hg_words.specs.declared.flags.StatusFlags.{StatusFlags}
 use Rattle.hg_words.specs.declared.given.Command.{Command}
 use Rattle.hg_words.specs.declared.given.Command.TheVariants as a_command
@@ -45,13 +44,15 @@ abbrev pub IsLoadable : Command → Type 0
 IsLoadable (a_command.DebugLoad n) = (1 ≤ n) × (n ≤ 2000)
 IsLoadable command = Unit {0}
 
--- it is the working copy of so many directories, as it was made
-pub record IsMade (dirs : ℕ) (made : Made) : Type 0 where
-  pub copy : IsCopy dirs (tree.now (trees.history_of made.tree))
-  pub files : IsStored dirs (shelf.now (shelves.history_of made.shelf)).files
+-- it is the working copy of so many directories, as it was made: nothing of it was changed since, and no lock was refused
+pub record IsMade (dirs : ℕ) (made : Alone) : Type 0 where
+  pub copy : IsCopy dirs (tree.now (tree_alone made.tree.tree))
+  pub unchanged : (tree_alone made.tree.tree).last ≡ 0
+  pub files : IsStored dirs (files_of made.shelf.shelf)
+  pub refusals : made.shelf.shelf.refusals ≡ 0
 
 -- a status over such a copy that asks for all letters, and meets no fault: what it leaves of the copy, and what it prints
-pub record IsStatus (old new : Made) (text : List ℕ) : Type 0 where
+pub record IsStatus (old new : Alone) (text : List ℕ) : Type 0 where
   pub oversize : Count
   pub out : Sink
   pub err : Sink
@@ -63,12 +64,12 @@ pub record IsStatus (old new : Made) (text : List ℕ) : Type 0 where
         command = a_command.Status all_letters;
         looked =
             record {
-              tree = watched trees.history_of (λ t. t.calls.faults) old.tree new.tree;
-              shelf = watched shelves.history_of (λ s. s.calls.faults) old.shelf new.shelf;
+              tree = watched (λ t. tree_alone t.tree) (λ t. t.tree.calls.faults) old.tree new.tree;
+              shelf = watched (λ s. shelves.history_of s.shelf) (λ s. s.shelf.calls.faults) old.shelf new.shelf;
               oversize = oversize;
             };
-        saved = saved_by shelves.history_of shelves.images_of old.shelf new.shelf;
-        locks = counted (λ s. s.refusals) old.shelf new.shelf;
+        saved = saved_by (λ s. shelves.history_of s.shelf) (λ s. shelves.images_of s.shelf) old.shelf new.shelf;
+        locks = counted (λ s. s.shelf.refusals) old.shelf new.shelf;
         out = out;
         err = err;
       })
@@ -85,22 +86,34 @@ pub record AreCounts (text : List ℕ) (counts : Counts) : Type 0 where
   pub clean : counts.clean ≡ lines_with 67 text
 
 -- the numbers of a status over a copy: of its rows, and of the different paths whose bytes it asked for
-pub record Counted (old new : Made) (counts : Counts) : Type 0 where
+pub record Counted (old new : Alone) (counts : Counts) : Type 0 where
   pub text : List ℕ
   pub status : IsStatus old new text
   pub are : AreCounts text counts
-  pub read : counts.read ≡ count_read (drop (length old.tree.asked) new.tree.asked)
+  pub read : counts.read ≡ count_read (drop (length old.tree.tree.asked) new.tree.tree.asked)
 
--- the text of two statuses, one after another, over a working copy of so many directories
+-- so many rows of each letter has a listing of a working copy of so many directories
+pub record AreNumbers (dirs : ℕ) (counts : Counts) : Type 0 where
+  pub modified : counts.modified ≡ 2 * dirs
+  pub added : counts.added ≡ dirs
+  pub removed : counts.removed ≡ dirs
+  pub deleted : counts.deleted ≡ dirs
+  pub unknown : counts.unknown ≡ dirs
+  pub ignored : counts.ignored ≡ 0
+  pub clean : counts.clean ≡ 10 * dirs
+
+-- the text of two statuses, one after another, over a working copy of so many directories: both have these numbers of rows
 pub record IsLoadText (dirs : ℕ) (text : List ℕ) : Type 0 where
-  pub made : Made
-  pub between : Made
-  pub behind : Made
+  pub made : Alone
+  pub between : Alone
+  pub behind : Alone
   pub first : Counts
   pub second : Counts
   pub fresh : IsMade dirs made
   pub one : Counted made between first
   pub other : Counted between behind second
+  pub numbers : AreNumbers dirs first
+  pub again : AreNumbers dirs second
   pub is : text ≡ load_text dirs first second
 
 -- the working copy and the files below `.hg` weren't asked for anything, and nothing of them is changed

@@ -2,11 +2,14 @@
 
 ghost use Rattle.std.specs.Prelude.{◌≡◌, ◌≤◌, IfOk};
 ghost use Rattle.std.specs.String.{string_bytes};
-ghost use Rattle.hg_cli.specs.Load.{AreCounts, Counted, IsLoadText, IsStatus, Loads, all_letters};
+ghost use Rattle.hg_alone.specs.Alone.{IsOwn};
+ghost use Rattle.hg_cli.specs.Load.{AreCounts, Counted, IsLoadText, IsMade, IsStatus, Loads, all_letters};
+ghost use Rattle.hg_gen.specs.Copy.{IsGiven};
 ghost use Rattle.hg_session.specs.Call.{watched};
 
 use crate::lines::lines_with;
 use crate::reading::reads;
+use hg_alone::{AloneShelf, AloneTree};
 use hg_base::OutOfMemory;
 use hg_gen::{Made, make};
 use hg_ignore::Builds;
@@ -15,6 +18,36 @@ use hg_session::{Outcome, command, failed};
 use hg_stream::{MemSink, Sink, put_all};
 use hg_words::{Command, StatusFlags};
 use std::alloc::Global;
+
+// A working copy and the files below its `.hg`, which nobody but the program changes.
+#[derive(Drop)]
+pub(crate) struct Alone {
+    pub(crate) tree: AloneTree,
+    pub(crate) shelf: AloneShelf,
+}
+
+// What was made, as devices that nobody else changes.
+fn apart(made: Made) -> Alone
+    requires given { IsGiven made.tree }
+    requires own { IsOwn made.shelf }
+    ensures tree { result.tree.tree ≡ made.tree }
+    ensures shelf { result.shelf.shelf ≡ made.shelf }
+{
+    Alone {
+        tree: AloneTree::of(made.tree),
+        shelf: AloneShelf::of(made.shelf),
+    }
+}
+
+// The copy of so many directories.
+fn copy(alloc: Global, dirs: u32) -> Result<Alone, OutOfMemory>
+    requires least { 1 ≤ dirs }
+    requires most { dirs ≤ 2000 }
+    ensures { IfOk result (IsMade dirs) }
+{
+    let made = make(alloc, dirs)?;
+    Ok(apart(made))
+}
 
 // The flags of a status that asks for all letters.
 fn all_letters() -> StatusFlags
@@ -53,7 +86,7 @@ fn counts_of(text: &[u8], read: u64) -> Counts
 }
 
 // Runs a status that asks for all letters, and answers what it printed.
-fn status(alloc: Global, made: &mut Made) -> Result<MemSink, OutOfMemory>
+fn status(alloc: Global, made: &mut Alone) -> Result<MemSink, OutOfMemory>
     ensures { IfOk result (λ out. IsStatus made.old made.new out.bytes) }
 {
     let mut out = MemSink::new(alloc, usize::MAX);
@@ -74,7 +107,7 @@ fn status(alloc: Global, made: &mut Made) -> Result<MemSink, OutOfMemory>
 }
 
 // Runs such a status, and answers its numbers.
-fn counted(alloc: Global, made: &mut Made) -> Result<Counts, OutOfMemory>
+fn counted(alloc: Global, made: &mut Alone) -> Result<Counts, OutOfMemory>
     ensures { IfOk result (Counted made.old made.new) }
 {
     let before = made.tree.asked().len();
@@ -90,7 +123,7 @@ fn text_of(alloc: Global, dirs: u32) -> Result<String, OutOfMemory>
     requires most { dirs ≤ 2000 }
     ensures { IfOk result (λ text. IsLoadText dirs (string_bytes text)) }
 {
-    let mut made = make(alloc, dirs)?;
+    let mut made = copy(alloc, dirs)?;
     let first = counted(alloc, &mut made)?;
     let second = counted(alloc, &mut made)?;
     load_text(alloc, dirs, first, second)

@@ -5,11 +5,11 @@ use Rattle.std.specs.Fmt.{decimal}
 use Rattle.std.specs.Str.{bytes_eq}
 use Rattle.std.proofs.lemmas.Bool.{both_ways, cases_lt, cond-true, cond-false}
 use Rattle.std.proofs.lemmas.Fmt.{decimal_injective, first_decimal}
-use Rattle.std.proofs.lemmas.List.{append-nil, append_cancel_left, take_all}
+use Rattle.std.proofs.lemmas.List.{append-nil, append_cancel_left}
 use Rattle.hg_append.specs.declared.encoding.Encoded.{Encoded}
 use Rattle.hg_gen.specs.Copy.{contents_of, text_of}
 use Rattle.hg_gen.specs.Manifest.{IsManifest, is_in_parent}
-use Rattle.hg_gen.specs.Recorded.{AreContents, ArePut, IsRecorded, IsStored, files_of, parent}
+use Rattle.hg_gen.specs.Recorded.{AreContents, ArePut, IsRecorded, IsStored, parent}
 use Rattle.hex.proofs.OnLiterals.{hex_on_literals}
 use Rattle.hg_manifest.specs.Load.{manifest_in}
 use Rattle.hg_manifest.specs.Plain.{most, plain_name}
@@ -18,26 +18,9 @@ use Rattle.hg_manifest.specs.declared.fault.ManifestFault.TheVariants as a_fault
 use Rattle.hg_save.proofs.Readings.{reads_published}
 use Rattle.hg_save.specs.Record.{data_name}
 use Rattle.hg_gen.proofs.Naming.{other_bytes}
-use Rattle.hg_shelf.proofs.Replay.{replayed_push}
 use Rattle.hg_shelf.specs.History.{Files}
-use Rattle.hg_shelf.specs.Images.{Scene}
-use Rattle.hg_shelf.specs.Memory.{Memory, by_others, empty, replayed, with_file}
-use Rattle.hg_shelf.specs.declared.outside.Change.{Change}
-use Rattle.hg_shelf.specs.declared.outside.Outside.TheVariants as a_change
+use Rattle.hg_shelf.specs.Memory.{with_file}
 use Rattle.hg_tree.proofs.Planting.{equal_bytes}
-
--- what shows is what all changes make
-shows_all : (memory : Memory) → files_of memory ≡ (replayed memory.changes empty).files
-shows_all memory = ap (λ (l : List Change). (replayed l empty).files) (take_all (length memory.changes) memory.changes (omega arith))
-
--- what a file of others leaves
-pub file_placed : (old new : Memory) (name bytes : List ℕ) → new ≡ record old { changes = old.changes ++ by_others old (a_change.Place name bytes) ∷ [] }
-    → files_of new ≡ with_file name bytes (files_of old)
-file_placed old new name bytes is =
-    ap files_of is
-    ∙ shows_all (record old { changes = old.changes ++ by_others old (a_change.Place name bytes) ∷ [] })
-    ∙ ap (λ (s : Scene). s.files) (replayed_push old.changes (by_others old (a_change.Place name bytes)) empty)
-    ∙ ap (with_file name bytes) (sym (shows_all old))
 
 -- ---- the names of contents differ
 

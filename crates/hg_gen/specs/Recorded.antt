@@ -18,8 +18,8 @@ use Rattle.hg_manifest.specs.Plain.{plain_name}
 use Rattle.hg_manifest.specs.Rows.{Rows}
 use Rattle.hg_save.specs.Record.{reading}
 use Rattle.hg_save.specs.Saved.{IsOver}
-use Rattle.hg_shelf.specs.History.{Files, now}
-use Rattle.hg_shelf.specs.Memory.{Memory, history_of, with_file}
+use Rattle.hg_shelf.specs.History.{Files}
+use Rattle.hg_shelf.specs.Memory.{with_file}
 
 abbrev pub is_tracked : ℕ → Bool
 is_tracked file = not (file % 16 == 9 || file % 16 == 13)
@@ -49,10 +49,6 @@ pub record IsTable (dirs : ℕ) (t : Table) : Type 0 where
   pub p2 : t.p2 ≡ replicate 20 0
   pub hash : t.hash ≡ empty_hash
   pub entries : AreEntries (16 * dirs) t
-
--- the files of a shelf in memory
-abbrev pub files_of : Memory → Files
-files_of memory = (now (history_of memory)).files
 
 -- the contents of the files that the parent has, of the first so many
 abbrev pub AreContents : ℕ → Files → Type 0

@@ -2,7 +2,8 @@
 
 ghost use Rattle.std.specs.Prelude.{◌≡◌, ◌≤◌, [], IfOk};
 ghost use Rattle.hg_gen.specs.Copy.{IsCopy, IsGiven};
-ghost use Rattle.hg_gen.specs.Recorded.{IsStored, files_of};
+ghost use Rattle.hg_alone.specs.Alone.{IsOwn, files_of};
+ghost use Rattle.hg_gen.specs.Recorded.{IsStored};
 ghost use Rattle.hg_tree.specs.History.{now};
 ghost use Rattle.hg_tree.specs.Memory.{history_of};
 
@@ -28,9 +29,11 @@ pub fn make(alloc: Global, n: u32) -> Result<Made, OutOfMemory>
     ensures copy { IfOk result (λ made. IsCopy n (now (history_of made.tree))) }
     // What is recorded of it, and what the plain store keeps of its parent.
     ensures files { IfOk result (λ made. IsStored n (files_of made.shelf)) }
-    // Nobody else is to change either of them.
+    // Others made the working copy, and nobody else is to change it.
     ensures given { IfOk result (λ made. IsGiven made.tree) }
-    ensures alone { IfOk result (λ made. made.shelf.due ≡ []) }
+    // The caller alone wrote these files, nobody else is to change them, and no lock was refused.
+    ensures own { IfOk result (λ made. IsOwn made.shelf) }
+    ensures refusals { IfOk result (λ made. made.shelf.refusals ≡ 0) }
 {
     Ok(Made {
         tree: working_copy(alloc, n)?,

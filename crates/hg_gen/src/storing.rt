@@ -2,12 +2,14 @@
 
 ghost use Rattle.std.specs.Prelude.{◌≡◌, ◌<◌, ◌≤◌, ◌+◌, ◌*◌, ◌++◌, [], codes, IfOk, OnOk};
 ghost use Rattle.std.specs.String.{string_bytes};
-ghost use Rattle.hg_gen.specs.Recorded.{AreContents, ArePut, IsStored, files_of};
+ghost use Rattle.hg_alone.specs.Alone.{IsOwn, files_of};
+ghost use Rattle.hg_gen.specs.Recorded.{AreContents, ArePut, IsStored};
 
 use crate::lot::is_in_parent;
 use crate::names::{WIDTH, contents_of, text_of};
 use crate::parent::manifest;
 use crate::recording::record;
+use hg_alone::AloneShelf;
 use hg_append::Encoded;
 use hg_base::OutOfMemory;
 use hg_shelf::MemShelf;
@@ -27,11 +29,11 @@ fn name_of(alloc: Global, contents: &str) -> Result<String, OutOfMemory>
     Ok(format!(in alloc; "plain/f-{contents}")?)
 }
 
-// Places the contents of a file, where the parent has it, behind those of lower numbers.
-fn place_contents(alloc: Global, shelf: &mut MemShelf, file: u32) -> Result<(), OutOfMemory>
+// Puts the contents of a file, where the parent has it, behind those of lower numbers.
+fn put_contents(alloc: Global, shelf: &mut AloneShelf, file: u32) -> Result<(), OutOfMemory>
     requires { file < 32000 }
-    ensures files { OnOk result (AreContents file (files_of shelf.old) → AreContents (file + 1) (files_of shelf.new)) }
-    ensures alone { OnOk result (shelf.new.due ≡ shelf.old.due) }
+    ensures files { OnOk result (AreContents file (files_of shelf.old.shelf) → AreContents (file + 1) (files_of shelf.new.shelf)) }
+    ensures refusals { OnOk result (shelf.new.shelf.refusals ≡ shelf.old.shelf.refusals) }
 {
     if !is_in_parent(file) {
         return Ok(());
@@ -39,41 +41,42 @@ fn place_contents(alloc: Global, shelf: &mut MemShelf, file: u32) -> Result<(), 
     let contents = contents_of(alloc, file)?;
     let name = name_of(alloc, contents.as_str())?;
     let text = text_of(alloc, file)?;
-    shelf.place(name.as_str(), text.as_bytes())
+    shelf.put(name.as_str(), text.as_bytes())
 }
 
-// Places the contents of all files.
-fn place_all(alloc: Global, dirs: u32) -> Result<MemShelf, OutOfMemory>
+// Puts the contents of all files.
+fn put_all(alloc: Global, dirs: u32) -> Result<AloneShelf, OutOfMemory>
     requires { dirs ≤ 2000 }
-    ensures files { IfOk result (λ shelf. AreContents (16 * dirs) (files_of shelf)) }
-    ensures alone { IfOk result (λ shelf. shelf.due ≡ []) }
+    ensures files { IfOk result (λ shelf. AreContents (16 * dirs) (files_of shelf.shelf)) }
+    ensures refusals { IfOk result (λ shelf. shelf.shelf.refusals ≡ 0) }
 {
-    let mut shelf = MemShelf::new(alloc)?;
+    let mut shelf = AloneShelf::new(alloc)?;
     for file in 0..WIDTH * dirs {
-        place_contents(alloc, &mut shelf, file)?;
+        put_contents(alloc, &mut shelf, file)?;
     }
     Ok(shelf)
 }
 
-// Places the manifest, the data file and the docket.
-fn place_record(shelf: &mut MemShelf, encoded: &Encoded, manifest: &[u8]) -> Result<(), OutOfMemory>
-    ensures files { OnOk result (ArePut encoded.now manifest.now (files_of shelf.old) (files_of shelf.new)) }
-    ensures alone { OnOk result (shelf.new.due ≡ shelf.old.due) }
+// Puts the manifest, the data file and the docket.
+fn put_record(shelf: &mut AloneShelf, encoded: &Encoded, manifest: &[u8]) -> Result<(), OutOfMemory>
+    ensures files { OnOk result (ArePut encoded.now manifest.now (files_of shelf.old.shelf) (files_of shelf.new.shelf)) }
+    ensures refusals { OnOk result (shelf.new.shelf.refusals ≡ shelf.old.shelf.refusals) }
 {
-    shelf.place(MANIFEST, manifest)?;
-    shelf.place(DATA, encoded.bytes.as_slice())?;
-    shelf.place(DOCKET, encoded.docket.as_slice())
+    shelf.put(MANIFEST, manifest)?;
+    shelf.put(DATA, encoded.bytes.as_slice())?;
+    shelf.put(DOCKET, encoded.docket.as_slice())
 }
 
 /// The files below `.hg` of the copy of so many directories.
 pub(crate) fn stored(alloc: Global, dirs: u32) -> Result<MemShelf, OutOfMemory>
     requires { dirs ≤ 2000 }
     ensures files { IfOk result (λ shelf. IsStored dirs (files_of shelf)) }
-    ensures alone { IfOk result (λ shelf. shelf.due ≡ []) }
+    ensures own { IfOk result IsOwn }
+    ensures refusals { IfOk result (λ shelf. shelf.refusals ≡ 0) }
 {
     let encoded = record(alloc, dirs)?;
     let manifest = manifest(alloc, dirs)?;
-    let mut shelf = place_all(alloc, dirs)?;
-    place_record(&mut shelf, &encoded, manifest.as_slice())?;
-    Ok(shelf)
+    let mut shelf = put_all(alloc, dirs)?;
+    put_record(&mut shelf, &encoded, manifest.as_slice())?;
+    Ok(shelf.files())
 }

@@ -1,4 +1,5 @@
 use Rattle.std.proofs.lemmas.Result.{IfOk-weaker}
+use Rattle.hg_cli.proofs.Loading.{counted_next, made_counted, numbers_of}
 use Rattle.hg_cli.proofs.load.text_of.Goals as goal
 
 pub returns : goal.returns
@@ -11,9 +12,14 @@ returns c =
       behind = c.counted-2.new.made;
       first = c.in_ok-first.first;
       second = c.in_ok-second.second;
-      fresh = record { copy = c.in_ok-made.ensures.copy; files = c.in_ok-made.ensures.files };
+      fresh = c.in_ok-made.ensures;
       one = c.in_ok-first.ensures;
       other = c.in_ok-second.ensures;
+      numbers = numbers_of c.args.dirs c.in_ok-made.made c.counted.new.made (made_counted c.args.dirs c.in_ok-made.made c.in_ok-made.ensures) _ c.in_ok-first.ensures.status c.requires.most _ c.in_ok-first.ensures.are;
+      again =
+          numbers_of c.args.dirs c.counted.new.made c.counted-2.new.made
+          (counted_next c.args.dirs c.in_ok-made.made c.counted.new.made (made_counted c.args.dirs c.in_ok-made.made c.in_ok-made.ensures) _ c.in_ok-first.ensures.status c.in_ok-made.ensures.refusals) _
+          c.in_ok-second.ensures.status c.requires.most _ c.in_ok-second.ensures.are;
       is = is;
     })
     c.load_text.ensures

@@ -3,16 +3,17 @@ use Rattle.std.specs.Prelude.{codes}
 use Rattle.std.proofs.lemmas.Result.{on_ok_weaker}
 use Rattle.hg_gen.specs.Copy.{text_of}
 use Rattle.hg_gen.specs.Manifest.{is_in_parent}
-use Rattle.hg_gen.specs.Recorded.{AreContents, files_of}
-use Rattle.hg_gen.proofs.Keeping.{contents_name, file_placed, with_more, without_more}
+use Rattle.hg_alone.specs.Alone.{files_of}
+use Rattle.hg_gen.specs.Recorded.{AreContents}
+use Rattle.hg_gen.proofs.Keeping.{contents_name, with_more, without_more}
 use Rattle.hg_shelf.specs.History.{Files}
-use Rattle.hg_gen.proofs.storing.place_contents.Goals as goal
+use Rattle.hg_gen.proofs.storing.put_contents.Goals as goal
 
 pub returns-then-not-is_in_parent-clause-files : goal.returns-then-not-is_in_parent-clause-files
 returns-then-not-is_in_parent-clause-files c =
     let small : c.args.file < 32000 = omega (arith, c.requires) in
     let gone : is_in_parent c.args.file ≡ false = search rules in
-    λ upto. without_more c.args.file (files_of c.args.shelf.now) upto (omega arith) gone
+    λ upto. without_more c.args.file (files_of c.args.shelf.now.shelf) upto (omega arith) gone
 
 pub returns-clause-files : goal.returns-clause-files
 returns-clause-files c =
@@ -20,6 +21,6 @@ returns-clause-files c =
     let name : c.as_str-2.result.now ≡ contents_name c.args.file =
     c.as_str-2.ensures.value ∙ c.in_ok-name.ensures ∙ ap (λ (n : List ℕ). codes "plain/f-" ++ n) (c.as_str.ensures.value ∙ c.in_ok-contents.ensures) in
     let text : c.as_bytes.result.now ≡ text_of c.args.file = search rules in
-    on_ok_weaker c.place.result
-    (λ is upto. subst (λ (f : Files). AreContents (c.args.file + 1) f) (sym (file_placed c.args.shelf.now c.place.new.self _ _ is)) (with_more c.args.file (files_of c.args.shelf.now) upto (omega arith) _ _ name text))
-    c.place.ensures.ok
+    on_ok_weaker c.put.result
+    (λ is upto. subst (λ (f : Files). AreContents (c.args.file + 1) f) (sym is) (with_more c.args.file (files_of c.args.shelf.now.shelf) upto (omega arith) _ _ name text))
+    c.put.ensures.files

@@ -1,7 +1,0 @@
-use Rattle.std.proofs.Common.{ap}
-use Rattle.hg_gen.specs.Recorded.{files_of}
-use Rattle.hg_gen.proofs.Keeping.{no_contents}
-use Rattle.hg_gen.proofs.storing.place_all.Goals as goal
-
-pub loop-file-init : goal.loop-file-init
-loop-file-init c = record { files = no_contents (files_of c.in_ok-shelf.shelf); alone = ap (λ s. s.due) c.in_ok-shelf.ensures }
