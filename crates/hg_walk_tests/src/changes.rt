@@ -55,7 +55,13 @@ impl WorkingCopy {
 
     // The clock goes on by up to a second, and stands half of the time.
     fn tick(&mut self, draws: &mut Draws) -> Result<(), OutOfMemory> {
-        let more = draws.below(8).saturating_sub(3) as u32;
+        let more = match draws.below(8) {
+            4 => 1,
+            5 => 2,
+            6 => 3,
+            7 => 4,
+            _ => 0,
+        };
         self.ticks = self.ticks.saturating_add(more);
         let now = self.now();
         self.tree.set_clock(now)
