@@ -136,7 +136,7 @@ impl<'a, R: Files + Env + AllocGlobal> Place<'a, R> {
     // for which folders are looked at anew.
     fn take_notice(&mut self) {
         if self.home.asked.replace(false) {
-            self.met.forget_all();
+            self.met.forget();
         }
         if self.home.moved.replace(false) {
             self.way.lose();
@@ -355,7 +355,7 @@ impl<'a, R: Files + Env + AllocGlobal> Place<'a, R> {
         }
         let stepped = self.step(name);
         if self.way.is_lost() {
-            self.met.forget(self.way.text());
+            self.met.forget();
         }
         match stepped {
             Ok(()) => Ok(Gone::There),

@@ -200,7 +200,7 @@ fn one_world(alloc: Global, seed: u64, reads: &mut Reads) -> Result<(), Fail> {
 #[test]
 fn lists_as_the_plain_status(rt: HostRuntime) -> Result<(), Fail> {
     let mut reads = Reads { plain: 0, walk: 0 };
-    for seed in 0..60 {
+    for seed in 0..1_000 {
         one_world(rt.alloc(), seed, &mut reads)?;
     }
     let Reads { plain, walk } = reads;
