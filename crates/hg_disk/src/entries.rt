@@ -1,6 +1,7 @@
 //! The working copy in the file system: the names in a directory.
 
-ghost use Rattle.std.specs.Prelude.{IfOk, OnOk, IfSome, All, option_map};
+ghost use Rattle.std.specs.Prelude.{◌≡◌, ◌&&◌, IfOk, OnOk, IfSome, Some, All, option_map};
+ghost use Rattle.hg_base.specs.PathText.{is_component, is_path, joined};
 ghost use Rattle.hg_tree.specs.Moment.{AreFit, IsFit};
 ghost use Rattle.std.specs.Io.KnownBytes.{IsAtEnd};
 
@@ -8,7 +9,7 @@ use crate::ancestors::Staying;
 use crate::disk::is_absence;
 use crate::failure::{FirstFailure, Reason};
 use crate::place::{Gone, Place};
-use hg_base::{Failed, PathRef, makes_path};
+use hg_base::{Failed, PathRef, is_component, makes_path};
 use hg_tree::{Name, TreeFault};
 use std::alloc::Global;
 use std::io::{Error, ErrorKind, Read};
@@ -183,11 +184,31 @@ fn name_of(
     let Ok(text) = str::from_utf8(name) else {
         return Err(unfit(alloc, dir, name, "a name that isn't text", failure));
     };
-    if !makes_path(dir, text) {
+    if !is_fit(dir, text) {
         return Err(unfit(alloc, dir, name, "a name that makes no path", failure));
     }
     let name = Name::of(alloc, text)?;
     Ok(Some(name))
+}
+
+// Whether the name is a component that makes a path in the directory. (Below one whose path is too short for any depth nothing is counted.)
+fn is_fit_below(dir: PathRef<'_>, name: &str) -> bool
+    ensures { result ≡ (is_component name.now && is_path (joined (Some dir.entry.text.now) name.now)) }
+{
+    if dir.text.len() >= 4095 || name.len() >= 4095 {
+        return makes_path(Some(dir), name);
+    }
+    is_component(name)
+}
+
+// The same of a directory, where none is the root.
+fn is_fit(dir: Option<PathRef<'_>>, name: &str) -> bool
+    ensures { result ≡ (is_component name.now && is_path (joined (option_map (λ d. d.text.now) dir.entry) name.now)) }
+{
+    match dir {
+        None => makes_path(None, name),
+        Some(dir) => is_fit_below(dir, name),
+    }
 }
 
 fn is_left_out(dir: Option<PathRef<'_>>, name: &[u8]) -> bool {

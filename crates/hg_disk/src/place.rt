@@ -1,7 +1,7 @@
 //! The folder that the process stands in, and how it gets to another one below the root.
 //!
 //! A folder is gone into by its name in the folder above, where a look at that name showed a directory and a look at `.` behind it shows
-//! the same device and inode; so no link is ever followed. Of a folder that one went further down from the look serves again, as long as
+//! the same device and inode; so no link is followed but one to the very folder. Of a folder that one went further down from the look serves again, as long as
 //! nothing below `.hg` is asked for, which each command begins with. Where one goes up, by one folder or by many, `.` has to be at last
 //! what it was on the way down. Where it isn't, or where a name has gone meanwhile, the way begins at the root again.
 

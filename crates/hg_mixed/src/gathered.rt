@@ -7,14 +7,17 @@ ghost use Rattle.std.specs.Cmp.Lexicographic.{slice_cmp};
 ghost use Rattle.hg_base.specs.PathText.{is_below, parent_of};
 ghost use Rattle.hg_base.specs.Within.{is_above};
 ghost use Rattle.hg_mixed.specs.Child.{shown_child};
-ghost use Rattle.hg_mixed.specs.Children.{IsChild};
+ghost use Rattle.hg_mixed.specs.Children.{AreChildren, IsChild};
 ghost use Rattle.hg_mixed.specs.Edits.{IsFormed};
 ghost use Rattle.hg_mixed.specs.Gathered.{AreGathered, Gathers, has_line, line_of, path_of, paths_of};
 ghost use Rattle.hg_mixed.specs.Held.{table};
+ghost use Rattle.hg_mixed.specs.Walk.{IsBelow, ListIsOf, ListsAreOf, walked};
 
+use crate::below::Below;
 use crate::child::Child;
 use crate::line::Line;
 use crate::mixed::Mixed;
+use crate::walk::Walk;
 use hg_base::{OutOfMemory, PathRef};
 use std::alloc::Global;
 
@@ -38,6 +41,7 @@ fn add_own<'t>(rows: &mut Vec<Line<'t>>, child: &Child<'t>) -> Result<(), OutOfM
 
 // Takes what stands below a child.
 #[cycle(gathering)]
+#[inline(always)]
 fn add_below<'t>(
     mixed: &'t Mixed<'_>,
     child: &Child<'t>,
@@ -45,25 +49,44 @@ fn add_below<'t>(
 ) -> Result<(), OutOfMemory>
     requires formed { IsFormed (table mixed.now) }
     requires child { IsChild mixed.now (parent_of child.now.path.text.now) (shown_child child.now) }
+    requires list { ListIsOf mixed.now child.now }
     ensures { OnOk result (Gathers mixed.now (is_below child.now.path.text.now) rows.old.items rows.new.items) }
 {
     if !child.has_kids {
         return Ok(());
     }
-    add_children(mixed, Some(child.path), rows)
+    add_in(mixed, child.below(), rows)
 }
 
-// Takes what stands below a directory, where no directory is the root.
+// Takes what stands below a child that has children. (A walk is more room than should be cleared for each node that has none.)
+#[cycle(gathering)]
+#[inline(never)]
+fn add_in<'t>(
+    mixed: &'t Mixed<'_>,
+    below: Below<'t>,
+    rows: &mut Vec<Line<'t>>,
+) -> Result<(), OutOfMemory>
+    requires formed { IsFormed (table mixed.now) }
+    requires below { IsBelow mixed.now below }
+    ensures { OnOk result (Gathers mixed.now (is_below below.entry.path.text.now) rows.old.items rows.new.items) }
+{
+    let children = mixed.walk_in(below);
+    add_children(mixed, Some(below.path), children, rows)
+}
+
+// Takes what stands below a directory, whose children are walked, where no directory is the root.
 #[cycle(gathering)]
 fn add_children<'t>(
     mixed: &'t Mixed<'_>,
     dir: Option<PathRef<'t>>,
+    mut children: Walk<'t, '_>,
     rows: &mut Vec<Line<'t>>,
 ) -> Result<(), OutOfMemory>
-    requires { IsFormed (table mixed.now) }
+    requires formed { IsFormed (table mixed.now) }
+    requires children { AreChildren mixed.now (option_map (λ d. d.text.now) dir) (walked children) }
+    requires lists { ListsAreOf mixed.now children }
     ensures { OnOk result (Gathers mixed.now (is_above (option_map (λ d. d.text.now) dir.entry)) rows.old.items rows.new.items) }
 {
-    let mut children = mixed.children(dir);
     while let Some(child) = children.next() {
         add_own(rows, &child)?;
         add_below(mixed, &child, rows)?;
@@ -78,7 +101,7 @@ pub fn gather<'t>(alloc: Global, mixed: &'t Mixed<'_>) -> Result<Vec<Line<'t>>, 
     ensures ascending { IfOk result (λ rows. IsStrictlySortedBy (slice_cmp nat_cmp) (paths_of rows.items)) }
 {
     let mut rows = Vec::new(alloc);
-    add_children(mixed, None, &mut rows)?;
+    add_children(mixed, None, mixed.walk(None), &mut rows)?;
     rows.sort_by(|a, b| a.path.text.cmp(b.path.text))?;
     Ok(rows)
 }
