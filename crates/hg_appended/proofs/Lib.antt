@@ -1,0 +1,14 @@
+pub mod Parts
+pub mod Longer
+pub mod Under
+pub mod KeptIn
+pub mod Node
+pub mod Walk
+pub mod Right
+pub mod RowSums
+pub mod Rows
+pub mod Back
+pub mod Lost
+pub mod Read
+pub mod LentIn
+pub mod OnImage
