@@ -4,6 +4,8 @@
 //! of its children, its path and its copy source, and behind the last node the records of the list. What it writes reads back as the same
 //! table, each count is the one from scratch, and no byte is wasted.
 //!
+//! `put_list` puts the nodes of a table, or of an append those that aren't in lists that are kept, behind what is there, and says what it put.
+//!
 //! `plan` says whether the data file is better appended to or written anew. Tables lend nothing from their image yet, so it is written anew, under
 //! the next identifier and from place 0 on. `end_of` adds up where a data file ends, which has at most 4,294,967,295 bytes.
 //!
@@ -30,4 +32,6 @@ mod way;
 pub use encoding::{Encoded, encode, end_of, plan};
 pub use fault::EncodeFault;
 pub use laws::{all_lost, one_tree, plain_size};
+pub use lists::{LAST, Put, put_list};
+pub use sums::Sums;
 pub use way::Way;

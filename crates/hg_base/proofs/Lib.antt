@@ -6,5 +6,6 @@ pub mod Cuts
 pub mod Faults
 pub mod Joined
 pub mod Paths
+pub mod Plain
 pub mod Runs
 pub mod Within

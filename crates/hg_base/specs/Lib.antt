@@ -3,6 +3,7 @@ pub mod Cut
 pub mod Fault
 pub mod PathRefusal
 pub mod PathText
+pub mod Plain
 pub mod Reads
 pub mod Runs
 pub mod Times

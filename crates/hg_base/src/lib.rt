@@ -12,7 +12,7 @@
 //! Path::join(alloc, path.parent(), "lib.c")?;  // src/lib.c
 //! ```
 //!
-//! `is_component` tests one name, `is_below` and `child_name` where a path stands; what these words mean, and what a path is, stands
+//! `is_component` tests one name, `valid_name` reads one from bytes, `is_below` and `child_name` where a path stands; what these words mean, and what a path is, stands
 //! in `specs/PathText.antt`, and why a text is none in `specs/PathRefusal.antt`. Lemmas on them for the crates above are in `proofs/`:
 //! `Below`, `Children`, `Components`, `Compared`, `Paths`, and `Faults` for counts of failures.
 //!
@@ -22,6 +22,7 @@
 
 mod bytes;
 mod calls;
+mod component;
 mod fault;
 mod id;
 mod names;
@@ -35,6 +36,7 @@ mod words;
 
 pub use bytes::{put, read_past};
 pub use calls::Calls;
+pub use component::valid_name;
 pub use fault::{Failed, OutOfMemory, risen};
 pub use id::Id20;
 pub use names::makes_path;

@@ -41,9 +41,5 @@ shallow dir good short =
     omega (arith, long, short)
 
 -- below a short directory each short component makes a path
-pub fits_below : (dir name : List ℕ) → is_path dir ≡ true → length dir < 4095 → length name < 4095 → is_component name ≡ (is_component name && is_path (dir ++ 47 ∷ name))
-fits_below dir name good short few = by (is_component name) refl
-  where
-    by : (b : Bool) → is_component name ≡ b → b ≡ (b && is_path (dir ++ 47 ∷ name))
-    by false e = refl
-    by true e = sym (joined_path dir name good e (omega (arith, short, few)) (shallow dir good short))
+pub fits_below : (dir name : List ℕ) → is_path dir ≡ true → length dir < 4095 → length name < 4095 → is_component name ≡ true → true ≡ is_path (dir ++ 47 ∷ name)
+fits_below dir name good short few component = sym (joined_path dir name good component (omega (arith, short, few)) (shallow dir good short))

@@ -1,6 +1,6 @@
 //! The working copy in the file system: the names in a directory.
 
-ghost use Rattle.std.specs.Prelude.{◌≡◌, ◌&&◌, IfOk, OnOk, IfSome, Some, All, option_map};
+ghost use Rattle.std.specs.Prelude.{◌≡◌, ◌&&◌, true, IfOk, OnOk, IfSome, Some, All, option_map};
 ghost use Rattle.hg_base.specs.PathText.{is_component, is_path, joined};
 ghost use Rattle.hg_tree.specs.Moment.{AreFit, IsFit};
 ghost use Rattle.std.specs.Io.KnownBytes.{IsAtEnd};
@@ -9,7 +9,7 @@ use crate::ancestors::Staying;
 use crate::disk::is_absence;
 use crate::failure::{FirstFailure, Reason};
 use crate::place::{Gone, Place};
-use hg_base::{Failed, PathRef, is_component, makes_path};
+use hg_base::{Failed, PathRef, makes_path, valid_name};
 use hg_tree::{Name, TreeFault};
 use std::alloc::Global;
 use std::io::{Error, ErrorKind, Read};
@@ -181,33 +181,50 @@ fn name_of(
     if is_left_out(dir, name) {
         return Ok(None);
     }
-    let Ok(text) = str::from_utf8(name) else {
-        return Err(unfit(alloc, dir, name, "a name that isn't text", failure));
+    let Some(text) = fit_name(dir, name) else {
+        return Err(unfit(alloc, dir, name, words_for(name), failure));
     };
-    if !is_fit(dir, text) {
-        return Err(unfit(alloc, dir, name, "a name that makes no path", failure));
-    }
     let name = Name::of(alloc, text)?;
     Ok(Some(name))
 }
 
-// Whether the name is a component that makes a path in the directory. (Below one whose path is too short for any depth nothing is counted.)
+// Whether a component makes a path in the directory. (Below one whose path is too short for any depth nothing is counted.)
 fn is_fit_below(dir: PathRef<'_>, name: &str) -> bool
-    ensures { result ≡ (is_component name.now && is_path (joined (Some dir.entry.text.now) name.now)) }
+    requires { is_component name.now ≡ true }
+    ensures { result ≡ is_path (joined (Some dir.entry.text.now) name.now) }
 {
     if dir.text.len() >= 4095 || name.len() >= 4095 {
         return makes_path(Some(dir), name);
     }
-    is_component(name)
+    true
 }
 
 // The same of a directory, where none is the root.
 fn is_fit(dir: Option<PathRef<'_>>, name: &str) -> bool
-    ensures { result ≡ (is_component name.now && is_path (joined (option_map (λ d. d.text.now) dir.entry) name.now)) }
+    requires { is_component name.now ≡ true }
+    ensures { result ≡ is_path (joined (option_map (λ d. d.text.now) dir.entry) name.now) }
 {
     match dir {
         None => makes_path(None, name),
         Some(dir) => is_fit_below(dir, name),
+    }
+}
+
+// Bytes as a component that makes a path in the directory.
+fn fit_name<'a>(dir: Option<PathRef<'_>>, bytes: &'a [u8]) -> Option<&'a str>
+    ensures { IfSome result (λ name. (is_component name.now && is_path (joined (option_map (λ d. d.text.now) dir.entry) name.now)) ≡ true) }
+{
+    let Some(name) = valid_name(bytes) else {
+        return None;
+    };
+    if is_fit(dir, name) { Some(name) } else { None }
+}
+
+// Why a name isn't listed.
+fn words_for(name: &[u8]) -> &'static str {
+    match str::from_utf8(name) {
+        Ok(_) => "a name that makes no path",
+        Err(_) => "a name that isn't text",
     }
 }
 

@@ -3,7 +3,6 @@ pub mod Counted
 pub mod Levels
 pub mod Names
 pub mod Parted
-pub mod Plain
 pub mod RowsOf
 pub mod Seen
 pub mod Sound

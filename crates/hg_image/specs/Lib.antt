@@ -1,6 +1,5 @@
 pub mod Counts
 pub mod Node
-pub mod Plain
 pub mod Reading
 pub mod Rows
 pub mod Tally

@@ -7,9 +7,8 @@ ghost use Rattle.hg_base.specs.PathText.{joined, is_same_dir, parent_of};
 ghost use Rattle.hg_image.specs.Node.{path_of, name_of, path_fault};
 ghost use Rattle.hg_image.specs.Walk.{depth_of, levels};
 
-use crate::component::valid_name;
 use crate::parts::{part, sound_text};
-use hg_base::PathRef;
+use hg_base::{PathRef, valid_name};
 use hg_node::{Rec, within};
 
 /// The path of a node, its name, and whether it stands right in the directory.

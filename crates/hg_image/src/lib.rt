@@ -31,7 +31,6 @@
 #![tactic(auto)]
 
 mod below;
-mod component;
 mod counts;
 mod fault;
 mod image;

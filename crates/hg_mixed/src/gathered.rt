@@ -94,13 +94,22 @@ fn add_children<'t>(
     Ok(())
 }
 
+// Room for as many lines as the docket counts entries, but for no more than the image has records.
+fn room<'t>(alloc: Global, mixed: &Mixed<'_>) -> Result<Vec<Line<'t>>, OutOfMemory>
+    ensures { IfOk result (λ rows. rows.items ≡ []) }
+{
+    let docket = mixed.image().docket;
+    let rows = Vec::with_capacity(alloc, docket.entries.min(docket.used / 44) as usize)?;
+    Ok(rows)
+}
+
 /// All nodes that have an entry or a cache, ascending by the bytes of their paths.
 pub fn gather<'t>(alloc: Global, mixed: &'t Mixed<'_>) -> Result<Vec<Line<'t>>, OutOfMemory>
     requires { IsFormed (table mixed.now) }
     ensures gathered { IfOk result (λ rows. AreGathered mixed.now (is_above None) rows.items) }
     ensures ascending { IfOk result (λ rows. IsStrictlySortedBy (slice_cmp nat_cmp) (paths_of rows.items)) }
 {
-    let mut rows = Vec::new(alloc);
+    let mut rows = room(alloc, mixed)?;
     add_children(mixed, None, mixed.walk(None), &mut rows)?;
     rows.sort_by(|a, b| a.path.text.cmp(b.path.text))?;
     Ok(rows)

@@ -5,7 +5,7 @@ ghost use Rattle.hg_entry.specs.Entry.{stamp_view, view};
 ghost use Rattle.hg_mixed.specs.Edits.{IsFormed};
 ghost use Rattle.hg_mixed.specs.Lists.{has_rows_in};
 ghost use Rattle.hg_mixed.specs.Memory.{memory_table};
-ghost use Rattle.hg_mixed.specs.Node.{node_at};
+ghost use Rattle.hg_mixed.specs.Node.{node_at, source_text_in, text_in};
 ghost use Rattle.hg_mixed.specs.Shown.{shown_item, shown_in};
 ghost use Rattle.hg_mixed.specs.Times.{time_at};
 
@@ -112,6 +112,17 @@ impl<'a> Memory<'a> {
         ensures { option_map stamp_view result ≡ (memory_table self.now).caches dir.entry.text.now }
     {
         self.times.get(dir.text)
+    }
+
+    /// Where the texts of a path and of its copy source lie in the image, where they are lent.
+    pub fn places(&self, path: PathRef<'_>) -> (Option<u32>, Option<u32>)
+        ensures path { result.0 ≡ text_in (node_at self.now.rows path.entry.text.now) }
+        ensures source { result.1 ≡ source_text_in (node_at self.now.rows path.entry.text.now) }
+    {
+        match self.nodes.get(path) {
+            None => (None, None),
+            Some(node) => (node.text_at, node.source_at),
+        }
     }
 
     /// Whether a node stands at the path.

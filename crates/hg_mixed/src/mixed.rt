@@ -1,20 +1,22 @@
 //! The table, and what can be asked of it.
 
-ghost use Rattle.std.specs.Prelude.{◌≡◌, ◌||◌, IfOk, false, is_some, option_map};
+ghost use Rattle.std.specs.Prelude.{◌≡◌, ◌||◌, IfOk, Some, false, is_some, option_map};
 ghost use Rattle.hg_docket.specs.Docket as docket;
 ghost use Rattle.hg_entry.specs.Entry.{entry_of, stamp_view};
 ghost use Rattle.hg_image.specs.Node.{fields_of};
 ghost use Rattle.hg_image.specs.Reading as reading;
 ghost use Rattle.hg_image.specs.View.{row, rows};
 ghost use Rattle.hg_mixed.specs.Edits.{IsFormed, IsSame};
-ghost use Rattle.hg_mixed.specs.Held.{is_left_in, is_lent, table};
+ghost use Rattle.hg_mixed.specs.Held.{is_left_in, is_lent, source_at, table, text_at};
 ghost use Rattle.hg_mixed.specs.Lent.{lent_at};
 ghost use Rattle.hg_mixed.specs.Lists.{or_root};
+ghost use Rattle.hg_mixed.specs.Opened.{source_place};
 ghost use Rattle.hg_mixed.specs.Shown.{AnswersLent, AreAllLent, AreLentWhole, ArePlacesOf, ArePlacesOfImage, shown_item, shown_in};
 
 use crate::image_list::image_list;
 use crate::lent::{Lent, Place};
 use crate::memory::Memory;
+use crate::opening::source_place;
 use crate::own_children::text_of;
 use hg_base::{Id20, OutOfMemory, PathRef, Stamp};
 use hg_entry::Item;
@@ -171,6 +173,18 @@ impl<'a> Mixed<'a> {
         }
     }
 
+    /// Where the texts of a path and of its copy source lie in the image, each where it is lent: an edit lays a text aside that it drops or changes.
+    pub fn places(&self, path: PathRef<'_>) -> (Option<u32>, Option<u32>)
+        ensures path { result.0 ≡ text_at self.now path.entry.text.now }
+        ensures source { result.1 ≡ source_at self.now path.entry.text.now }
+    {
+        match self.left.find(path) {
+            Place::Memory => self.memory.places(path),
+            Place::Image(None) => (None, None),
+            Place::Image(Some(node)) => places_of(node),
+        }
+    }
+
     /// Whether a node stands at the path.
     pub fn has_node(&self, path: PathRef<'_>) -> bool
         ensures { result ≡ (table self.now).nodes path.entry.text.now }
@@ -180,6 +194,15 @@ impl<'a> Mixed<'a> {
             Place::Image(node) => node.is_some(),
         }
     }
+}
+
+// Where the texts of a node of the image lie.
+fn places_of(node: NodeRef<'_>) -> (Option<u32>, Option<u32>)
+    ensures path { result.0 ≡ Some (row node.entry).rec.path_start }
+    ensures source { result.1 ≡ source_place (row node.entry) }
+{
+    let rec = node.rec();
+    (Some(rec.path_start), source_place(node.source(), rec))
 }
 
 // What a node of the image shows, where it has an entry.

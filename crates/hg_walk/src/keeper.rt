@@ -36,30 +36,21 @@ fn is_before_below(path: &str, dir: &str) -> bool {
     }
 }
 
-// The two parts of a text, where one ends at that byte.
-fn cut_at(text: &str, length: usize) -> Option<(&str, &str)>
-    ensures { IfSome result (λ parts. text.now ≡ parts.0.now ++ parts.1.now) }
-{
-    text.split_at_checked(length)
-}
-
-// What stands behind a slash that the text begins with.
-fn behind_slash(text: &str) -> Option<&str>
-    ensures { IfSome result (λ rest. text.now ≡ 47 ∷ rest.now) }
-{
-    let (front, rest) = text.split_once('/')?;
-    if front.is_empty() { Some(rest) } else { None }
-}
-
 // What a text says behind a directory's and a slash, where it begins with these.
-fn rest_below<'a>(text: &'a str, dir: &str) -> Option<&'a str>
+fn rest_below<'a>(text: &'a [u8], dir: &[u8]) -> Option<&'a [u8]>
     ensures { IfSome result (λ rest. text.now ≡ dir.now ++ 47 ∷ rest.now) }
 {
-    let (front, rest) = cut_at(text, dir.len())?;
+    if dir.len() >= text.len() {
+        return None;
+    }
+    let (front, rest) = text.split_at(dir.len());
+    if rest[0] != b'/' {
+        return None;
+    }
     if front != dir {
         return None;
     }
-    behind_slash(rest)
+    Some(rest.split_at(1).1)
 }
 
 // Whether a text is the path of a name in a directory.
@@ -68,9 +59,9 @@ fn is_joined(text: &str, dir: Option<PathRef<'_>>, name: &str) -> bool
 {
     match dir {
         None => text == name,
-        Some(dir) => match rest_below(text, dir.text) {
+        Some(dir) => match rest_below(text.as_bytes(), dir.text.as_bytes()) {
             None => false,
-            Some(rest) => rest == name,
+            Some(rest) => rest == name.as_bytes(),
         },
     }
 }
@@ -80,8 +71,8 @@ fn is_before(text: &str, dir: Option<PathRef<'_>>, name: &str) -> bool {
     let Some(dir) = dir else {
         return text < name;
     };
-    match rest_below(text, dir.text) {
-        Some(rest) => rest < name,
+    match rest_below(text.as_bytes(), dir.text.as_bytes()) {
+        Some(rest) => rest < name.as_bytes(),
         None => is_before_below(text, dir.text),
     }
 }

@@ -1,13 +1,12 @@
 //! Names of one component, seen by their bytes.
 
-ghost use Rattle.std.specs.Prelude.{◌≡◌, true, IfSome};
+ghost use Rattle.std.specs.Prelude.{◌≡◌, ◌&&◌, None, false, true, IfSome};
 ghost use Rattle.std.specs.List.{list_all};
 ghost use Rattle.std.specs.Str as text;
 ghost use Rattle.hg_base.specs.PathText as paths;
-ghost use Rattle.hg_image.specs.Plain as plain;
+ghost use Rattle.hg_base.specs.Plain as plain;
 
-use crate::parts::valid_text;
-use hg_base::is_component;
+use crate::rules::is_component;
 
 // Whether a byte is an ASCII character other than NUL and the slash.
 #[inline(always)]
@@ -34,12 +33,14 @@ fn is_plain(name: &[u8]) -> bool
 }
 
 // Bytes as a name of one component, where they are one; the way for any bytes.
+#[tactic(auto, using(crate::proofs::Plain::text_utf8, crate::proofs::Plain::no_text))]
 fn component(bytes: &[u8]) -> Option<&str>
     ensures same { IfSome result (λ name. name.now ≡ bytes.now) }
     ensures utf8 { IfSome result (λ name. text.is_utf8 bytes.now ≡ true) }
     ensures component { IfSome result (λ name. paths.is_component bytes.now ≡ true) }
+    ensures none { result ≡ None → (text.is_utf8 bytes.now && paths.is_component bytes.now) ≡ false }
 {
-    let Some(name) = valid_text(bytes) else {
+    let Ok(name) = std::str::from_utf8(bytes) else {
         return None;
     };
     if is_component(name) { Some(name) } else { None }
@@ -52,6 +53,7 @@ pub fn valid_name(bytes: &[u8]) -> Option<&str>
     ensures same { IfSome result (λ name. name.now ≡ bytes.now) }
     ensures utf8 { IfSome result (λ name. text.is_utf8 bytes.now ≡ true) }
     ensures component { IfSome result (λ name. paths.is_component bytes.now ≡ true) }
+    ensures none { result ≡ None → (text.is_utf8 bytes.now && paths.is_component bytes.now) ≡ false }
 {
     if is_plain(bytes) {
         return Some(unsafe { std::str::from_utf8_unchecked(bytes) });

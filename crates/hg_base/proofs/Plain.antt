@@ -3,9 +3,10 @@ use Rattle.std.proofs.Common.{◌≡◌, ℕ, ◌<◌, Bool, true, false, List, 
 use Rattle.std.specs.List.{list_all}
 use Rattle.std.specs.Str.{IsUtf8, is_utf8}
 use Rattle.std.proofs.lemmas.Bool.Decides.{nat_tests}
-use Rattle.std.proofs.lemmas.Str.{IsUtf8-from_ascii, is_utf8-from_IsUtf8}
+use Rattle.std.proofs.lemmas.Str.{IsUtf8-from_ascii, IsUtf8-from_is_utf8, is_utf8-from_IsUtf8}
+use Rattle.std.proofs.lemmas.Bool.{false_from_ne_true}
 use Rattle.hg_base.specs.PathText.{is_component, has_nul, has_slash}
-use Rattle.hg_image.specs.Plain.{is_plain, is_plain_byte}
+use Rattle.hg_base.specs.Plain.{is_plain, is_plain_byte}
 
 all_head : (p : ℕ → Bool) (b : ℕ) (bs : List ℕ) → list_all p (b ∷ bs) ≡ true → (p b ≡ true) × (list_all p bs ≡ true)
 all_head p b bs h = grind (arith, h)
@@ -46,3 +47,9 @@ plain_component (b ∷ bs) h =
     let nul = no_nul (b ∷ bs) parts.1 in
     let slash = no_slash (b ∷ bs) parts.1 in
     grind (arith, nat_tests, first, nul, slash)
+
+pub text_utf8 : (bytes : List ℕ) → IsUtf8 bytes → is_utf8 bytes ≡ true
+text_utf8 bytes h = is_utf8-from_IsUtf8 bytes h
+
+pub no_text : (bytes : List ℕ) → (IsUtf8 bytes → ⊥) → is_utf8 bytes ≡ false
+no_text bytes h = false_from_ne_true (is_utf8 bytes) (λ t. h (IsUtf8-from_is_utf8 bytes t))
