@@ -4,6 +4,8 @@
 //! yet, then a docket beside the one that stands, which takes its place by a rename, and at last the old data file goes. Each is made
 //! sure before the next. The caller holds the lock.
 //!
+//! `put` and `swap` are its steps: bytes at a place of a file, and a file in the place of another, each made sure.
+//!
 //! `still` tells whether the docket stands as it was loaded, so that what was made of the loaded table may be published.
 //!
 //! ```text
@@ -28,3 +30,4 @@ pub use loaded::Loaded;
 pub use loading::load;
 pub use saving::publish;
 pub use standing::still;
+pub use steps::{put, swap};

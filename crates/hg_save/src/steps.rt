@@ -13,13 +13,8 @@ ghost use Rattle.hg_save.specs.Record.{data_name};
 use hg_base::Failed;
 use hg_shelf::Shelf;
 
-// Writes bytes at a place of a file, and makes the file sure.
-pub(crate) fn put<S: Shelf>(
-    shelf: &mut S,
-    name: &str,
-    place: u64,
-    bytes: &[u8],
-) -> Result<(), Failed>
+/// Writes bytes at a place of a file, and makes the file sure.
+pub fn put<S: Shelf>(shelf: &mut S, name: &str, place: u64, bytes: &[u8]) -> Result<(), Failed>
     requires { (S.history shelf.old).ours ≡ true }
     // The file is as it was, or changed at most where it is written and past its old end.
     ensures torn { Undisturbed (course (S.history shelf.old) (S.images shelf.old)) (course (S.history shelf.new) (S.images shelf.new))
@@ -51,8 +46,8 @@ pub(crate) fn put<S: Shelf>(
     Ok(())
 }
 
-// Gives a file another name, in place of a file of that name, and makes that sure.
-pub(crate) fn swap<S: Shelf>(shelf: &mut S, from: &str, to: &str) -> Result<(), Failed>
+/// Gives a file another name, in place of a file of that name, and makes that sure.
+pub fn swap<S: Shelf>(shelf: &mut S, from: &str, to: &str) -> Result<(), Failed>
     requires { (S.history shelf.old).ours ≡ true }
     ensures leads { Undisturbed (course (S.history shelf.old) (S.images shelf.old)) (course (S.history shelf.new) (S.images shelf.new))
         → IsSome ((last_scene (course (S.history shelf.old) (S.images shelf.old))).files from.now)
