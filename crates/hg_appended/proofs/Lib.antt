@@ -8,7 +8,9 @@ pub mod Right
 pub mod RowSums
 pub mod Rows
 pub mod Back
+pub mod Losses
 pub mod Lost
 pub mod Read
 pub mod LentIn
 pub mod OnImage
+pub mod Behind

@@ -1,1 +1,4 @@
 pub mod Appended
+pub mod Loss
+pub mod Appending
+pub mod Either
