@@ -13,7 +13,7 @@ use Rattle.hg_appended.specs.Appended.{IsNewTree, end_with}
 use Rattle.hg_appended.specs.declared.loss.Loss.{Loss}
 
 -- the list of the root was put behind the data file with all that isn't lent, or stands where it stood
-pub record IsRootPut (held : Held) (put : Put) (bytes : List ℕ) : Type 0 where
+pub record IsRootPut (held : Held) (put : Put) (new : List ℕ) : Type 0 where
   pub tree : Tree
   pub is : IsNewTree held tree
   pub sound : AreSoundIn (keeps_lent held) tree
@@ -22,7 +22,7 @@ pub record IsRootPut (held : Held) (put : Put) (bytes : List ℕ) : Type 0 where
   pub count : end_with held tree < 2 ^ 32 → put.sums.count ≡ (if is_lent held None then held.docket.root_count else length (heads tree))
   pub entries : end_with held tree < 2 ^ 32 → put.sums.entries ≡ (if is_lent held None then held.docket.entries else number_in (keeps_lent held) has_entry tree)
   pub copies : end_with held tree < 2 ^ 32 → put.sums.copies ≡ number_in (keeps_lent held) has_source tree
-  pub bytes : end_with held tree < 2 ^ 32 → bytes ≡ put_in (keeps_lent held) held.docket.used tree
+  pub bytes : end_with held tree < 2 ^ 32 → new ≡ put_in (keeps_lent held) held.docket.used tree
 
 -- the docket with what was put and what is lost, and an end
 abbrev pub contents_put : Held → List ℕ → Put → Loss → ℕ → Contents

@@ -1,6 +1,6 @@
 //! A table, written behind the data file that it was opened from.
 
-ghost use Rattle.std.specs.Prelude.{◌≡◌, ◌<◌, ◌≤◌, ◌^◌, [], IfOk, IfErr, length};
+ghost use Rattle.std.specs.Prelude.{◌≡◌, ◌<◌, ◌≤◌, ◌+◌, ◌-◌, ◌^◌, [], if◌then◌else◌, nat_lt, IfOk, IfErr, length};
 ghost use Rattle.hg_docket.specs.Written as written;
 ghost use Rattle.hg_mixed.specs.Held.{table};
 ghost use Rattle.hg_append.specs.Put.{IsFew};
@@ -63,6 +63,26 @@ fn put_root(alloc: Global, mixed: &Mixed<'_>, bytes: &mut Vec<u8>) -> Result<Put
     Ok(put)
 }
 
+// How many nodes have a copy source: those of the image, but for what is lost, and those that were put.
+fn copies_now(mixed: &Mixed<'_>, put: Put, loss: Loss) -> u32
+    requires { IsFitBehind mixed.now put loss }
+    ensures { result ≡ mixed.now.docket.copies - loss.copies + put.sums.copies }
+{
+    let image = mixed.image();
+    let kept = (image.docket.copies as u64).saturating_sub(loss.copies);
+    (kept + put.sums.copies) as u32
+}
+
+// What is lost, but not more than there is.
+fn at_most(lost: u64, used: u32) -> u32
+    ensures { result ≡ (if nat_lt used lost then used else lost) }
+{
+    if (used as u64) < lost {
+        return used;
+    }
+    lost as u32
+}
+
 // The bytes of the docket that goes with what was put.
 fn docket_bytes(
     alloc: Global,
@@ -78,17 +98,14 @@ fn docket_bytes(
     ensures back { IfOk result (λ v. written.ReadsAs v.items (contents_put mixed.now id.now put loss used)) }
 {
     let (p1, p2) = mixed.parents();
-    let copies = (mixed.image().docket.copies as u64)
-        .saturating_sub(loss.copies)
-        .saturating_add(put.sums.copies);
     let docket = Docket {
         p1,
         p2,
         root_start: put.start as u32,
         root_count: put.sums.count as u32,
         entries: put.sums.entries as u32,
-        copies: copies as u32,
-        unreachable: loss.bytes.min(used as u64) as u32,
+        copies: copies_now(mixed, put, loss),
+        unreachable: at_most(loss.bytes, used),
         hash: mixed.hash(),
         used,
         id: id.as_bytes(),
