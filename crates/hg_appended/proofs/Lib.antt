@@ -14,3 +14,4 @@ pub mod Read
 pub mod LentIn
 pub mod OnImage
 pub mod Behind
+pub mod Either
