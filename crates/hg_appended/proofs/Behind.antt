@@ -1,5 +1,5 @@
 -- What was put of the list of the root is appended, or too large.
-use Rattle.std.proofs.Common.{◌≡◌, ℕ, ◌+◌, ◌-◌, ◌*◌, ◌<◌, ◌≤◌, ◌^◌, Bool, true, false, not, ◌&&◌, ◌||◌, MatchBool, cond, List, [], ◌∷◌, ◌++◌, length, Option, Some, None, refl, sym, ap, subst, ◌∙◌, arith, eqb, eqb-true, leb, nat_lt}
+use Rattle.std.proofs.Common.{◌≡◌, ℕ, ◌+◌, ◌-◌, ◌*◌, ◌<◌, ◌≤◌, ◌^◌, Bool, true, false, not, ◌&&◌, ◌||◌, MatchBool, cond, List, [], ◌++◌, length, Option, Some, None, refl, sym, ap, subst, ◌∙◌, arith, eqb, eqb-true, leb, nat_lt}
 use Rattle.std.specs.Prelude.{count_by}
 use Rattle.std.proofs.lemmas.Bool.{and_parts}
 use Rattle.std.proofs.lemmas.Bool.Decides.{nat_tests}
@@ -10,7 +10,7 @@ use Rattle.hg_docket.specs.Name.{is_name}
 use Rattle.hg_docket.specs.Written as docket
 use Rattle.hg_docket.specs.Written.{is_writable}
 use Rattle.hg_image.specs.Counts.{are_counted, is_copy, is_counted, is_entry}
-use Rattle.hg_image.specs.Rows.{Row, rows_of}
+use Rattle.hg_image.specs.Rows.{rows_of}
 use Rattle.hg_image.specs.declared.opened.Image.{Image}
 use Rattle.hg_mixed.specs.Edits.{IsFormed}
 use Rattle.hg_mixed.specs.Held.{Held, is_lent, table}
@@ -20,7 +20,6 @@ use Rattle.hg_append.specs.declared.fault.EncodeFault.{EncodeFault}
 use Rattle.hg_append.specs.declared.fault.EncodeFault.TheVariants as a_fault
 use Rattle.hg_append.specs.declared.kept.Kept.{Kept}
 use Rattle.hg_append.specs.declared.lists.Put.{Put}
-use Rattle.hg_append.specs.declared.way.Way.{Way}
 use Rattle.hg_append.specs.declared.way.Way.TheVariants as a_way
 use Rattle.hg_append.specs.Keeps.{keeps_lent, number_unless, size_unless}
 use Rattle.hg_append.specs.Layout.{front_size_in, put_in, size_in, start_in}
@@ -28,7 +27,7 @@ use Rattle.hg_append.specs.Lost.{lost}
 use Rattle.hg_append.specs.Put.{AreFew, IsFew, IsPut, kept}
 use Rattle.hg_append.specs.Tree.{IsTreeIn, Node, Nothing, Tree, has_entry, has_source, heads, kept_of, number_in}
 use Rattle.hg_append.proofs.Sizes.{kept_back, size_is_in}
-use Rattle.hg_appended.specs.Appended.{IsNewTree, IsOverImage, IsSoundlyAppended, contents_behind, copies_with, end_with, lost_copies, unreachable_with}
+use Rattle.hg_appended.specs.Appended.{IsOverImage, IsSoundlyAppended, contents_behind, copies_with, end_with, lost_copies, unreachable_with}
 use Rattle.hg_appended.specs.Appending.{HasAppendCause, IsFitBehind, IsRootPut, contents_put}
 use Rattle.hg_appended.specs.Loss.{plan_of}
 use Rattle.hg_appended.specs.declared.loss.Loss.{Loss}

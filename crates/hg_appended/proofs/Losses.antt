@@ -1,5 +1,5 @@
 -- What is lost of a list of the image, node by node.
-use Rattle.std.proofs.Common.{◌≡◌, ℕ, ◌+◌, ◌-◌, ◌*◌, ◌<◌, ◌≤◌, ◌^◌, Bool, true, false, not, ◌&&◌, cond, List, [], ◌∷◌, ◌++◌, length, take, Option, Some, None, inl, inr, refl, sym, ap, subst, ◌∙◌, arith}
+use Rattle.std.proofs.Common.{◌≡◌, ℕ, ◌+◌, ◌<◌, ◌^◌, Bool, true, false, not, ◌&&◌, cond, List, [], ◌∷◌, ◌++◌, length, Option, Some, None, inl, inr, refl, sym, ap, subst, ◌∙◌, arith}
 use Rattle.std.specs.Prelude.{count_by, is_some, option_map}
 use Rattle.std.specs.List.{AllByRecursion, sum_by}
 use Rattle.std.specs.Str.{bytes_eq}
@@ -7,7 +7,6 @@ use Rattle.std.proofs.lemmas.Bool.{cases_Bool, cond-false, cond-true}
 use Rattle.std.proofs.lemmas.List.{take_all}
 use Rattle.std.proofs.lemmas.List.Sums.{sum_by-append, sum_by-cons}
 use Rattle.hg_base.specs.PathText.{is_below, is_path, parent_of}
-use Rattle.hg_base.specs.Within.{is_above}
 use Rattle.hg_base.proofs.Children.{below_by_parent}
 use Rattle.hg_base.proofs.Within.{above_none, equal_bytes}
 use Rattle.hg_docket.specs.Docket.{Contents}
@@ -15,16 +14,15 @@ use Rattle.hg_docket.specs.Docket as docket
 use Rattle.hg_image.specs.Counts.{is_copy}
 use Rattle.hg_image.specs.Reading.{row_at}
 use Rattle.hg_image.specs.Rows.{Row, list_rows, rows_of}
-use Rattle.hg_image.specs.View.{dir_of, rows, rows_in}
+use Rattle.hg_image.specs.View.{rows, rows_in}
 use Rattle.hg_image.specs.Walk.{levels, list_fault}
 use Rattle.hg_image.specs.declared.opened.Image.{Image}
 use Rattle.hg_image.specs.declared.opened.List.{List as NodeList}
-use Rattle.hg_mixed.specs.Held.{Held, has_list, is_lent}
+use Rattle.hg_mixed.specs.Held.{Held, is_lent}
 use Rattle.hg_mixed.specs.Shown.{AreLentWhole, IsLentWhole}
 use Rattle.hg_mixed.proofs.Kept.{has_by}
 use Rattle.hg_append.specs.Lost.{lost, lost_of}
 use Rattle.hg_append.specs.Put.{kept}
-use Rattle.hg_appended.specs.Appended.{lost_copies}
 use Rattle.hg_appended.specs.Loss.{IsImageRow, IsOfImage, is_lost_copy, loss_of, plus}
 use Rattle.hg_appended.specs.declared.loss.Loss.{Loss}
 use Rattle.hg_appended.proofs.Under.{Under, row_under}

@@ -6,10 +6,10 @@ use hg_mixed::Mixed;
 use std::alloc::Global;
 use std::test::Fail;
 
-const LONG: &str = "d/0123456789012345678901234567890123456789";
+pub(crate) const LONG: &str = "d/0123456789012345678901234567890123456789";
 
 // The paths that edits name, ascending by bytes.
-const PATHS: &[&str] = &[
+pub(crate) const PATHS: &[&str] = &[
     "a",
     "a-b",
     "a/b",
@@ -179,7 +179,7 @@ fn encodes(rt: HostRuntime) -> Result<(), Fail> {
 }
 
 // Numbers that look as if they were drawn, the same in each run.
-fn drawn(state: &mut u64, below: u64) -> u64 {
+pub(crate) fn drawn(state: &mut u64, below: u64) -> u64 {
     *state = state
         .wrapping_mul(6_364_136_223_846_793_005)
         .wrapping_add(1_442_695_040_888_963_407);
@@ -227,7 +227,7 @@ fn some_source(state: &mut u64) -> Option<&'static str> {
     }
 }
 
-fn some_edit(state: &mut u64) -> Edit {
+pub(crate) fn some_edit(state: &mut u64) -> Edit {
     let path = some_path(state);
     match drawn(state, 24) {
         0..=9 => Edit::Set(path, some_file(state)),

@@ -1,4 +1,4 @@
-use Rattle.std.proofs.Common.{refl, sym, ap, ◌∙◌}
+use Rattle.std.proofs.Common.{refl, ap}
 use Rattle.hg_docket.specs.Docket.{Contents}
 use Rattle.hg_appended.proofs.Behind.{fit, soundly}
 use Rattle.hg_appended.proofs.appending.append.Goals as goal

@@ -1,12 +1,8 @@
-use Rattle.std.proofs.Common.{ℕ, ◌<◌, ◌+◌, ◌≡◌, List, Option, ◌∷◌, ◌++◌, None, Some, sym, ap, subst, ◌∙◌, arith}
+use Rattle.std.proofs.Common.{ℕ, ◌+◌, ◌≡◌, List, Option, ◌∷◌, ◌++◌, Some, sym, ap, subst, ◌∙◌, arith}
 use Rattle.std.specs.List.{AllByRecursion}
-use Rattle.std.specs.Prelude.{option_map}
 use Rattle.hg_image.specs.Rows.{Row}
 use Rattle.hg_image.specs.View.{dir_of, row, rows_below, rows_from, rows_in}
-use Rattle.hg_mixed.specs.Held.{is_lent}
-use Rattle.hg_append.specs.Put.{kept}
 use Rattle.hg_appended.specs.Loss.{IsImageRow, IsOfImage, loss_of, plus}
-use Rattle.hg_appended.specs.declared.loss.Loss.{Loss}
 use Rattle.hg_appended.proofs.Losses.{Summed, below_image, lent_lost, summed_more}
 use Rattle.hg_appended.proofs.loss.+loss_in.Goals as goal
 
