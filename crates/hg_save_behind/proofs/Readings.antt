@@ -20,7 +20,7 @@ use Rattle.hg_save.specs.Saved.{IsExact, new_docket, used_in}
 use Rattle.hg_save.specs.declared.loaded.Loaded.{Loaded}
 use Rattle.hg_save.proofs.Readings.{Begins}
 use Rattle.hg_save.proofs.Stages.{begins_by}
-use Rattle.hg_save.proofs.Tails.{Followed, followed, front_same}
+use Rattle.hg_save.proofs.Tails.{Followed, followed as is_followed, front_same}
 use Rattle.hg_save_behind.specs.Behind.{IsBehind, published_behind}
 
 -- ---- names that are the same or aren't
@@ -136,7 +136,7 @@ module _ (loaded : Loaded) (new : Encoded) (behind : IsBehind loaded new) where
   record Shown (f : Files) : Type 0 where
     pub tail : List ℕ
     pub is : docket_in f ≡ new.docket.items ++ tail
-    pub behind : Followed new.docket.items tail
+    pub followed : Followed new.docket.items tail
 
   shown : (f : Files) → Begins new.docket.items (f (codes "dirstate")) → Shown f
   shown f begins =
@@ -145,7 +145,7 @@ module _ (loaded : Loaded) (new : Encoded) (behind : IsBehind loaded new) where
       record {
         tail = tail;
         is = ap (λ (file : Option (List ℕ)). take 512 (content file)) begins.1 ∙ cut_docket docket begins.0 behind.few;
-        behind = followed docket tail behind.whole (some_docket docket uses_new);
+        followed = is_followed docket tail behind.whole (some_docket docket uses_new);
       }
 
   -- the new docket and its data file read as the table that is published, whatever stands behind either
@@ -155,14 +155,14 @@ module _ (loaded : Loaded) (new : Encoded) (behind : IsBehind loaded new) where
       let used : (docket_of new.docket.items).used ≡ length (loaded.nodes.items ++ new.bytes.items) =
       (let all = length-append loaded.nodes.items new.bytes.items in omega (arith, all, behind.used, behind.place, behind.long)) in
       ap (λ (bytes : List ℕ). named_reading bytes f) s.is
-      ∙ named_new new.docket.items s.tail (loaded.nodes.items ++ new.bytes.items) holds.file.0 new.id f behind.whole s.behind behind.named used uses_new holds.file.1
+      ∙ named_new new.docket.items s.tail (loaded.nodes.items ++ new.bytes.items) holds.file.0 new.id f behind.whole s.followed behind.named used uses_new holds.file.1
 
   -- its identifier, and the used bytes that it names
   pub id_published : (f : Files) → Begins new.docket.items (f (codes "dirstate")) → id_in f ≡ new.id
-  id_published f begins = let s = shown f begins in ap (λ (bytes : List ℕ). (docket_of bytes).id) s.is ∙ ap (λ (c : Contents). c.id) s.behind.same ∙ behind.named
+  id_published f begins = let s = shown f begins in ap (λ (bytes : List ℕ). (docket_of bytes).id) s.is ∙ ap (λ (c : Contents). c.id) s.followed.same ∙ behind.named
 
   pub used_published : (f : Files) → Begins new.docket.items (f (codes "dirstate")) → used_in f ≡ new.place + length new.bytes.items
-  used_published f begins = let s = shown f begins in ap (λ (bytes : List ℕ). (docket_of bytes).used) s.is ∙ ap (λ (c : Contents). c.used) s.behind.same ∙ behind.used
+  used_published f begins = let s = shown f begins in ap (λ (bytes : List ℕ). (docket_of bytes).used) s.is ∙ ap (λ (c : Contents). c.used) s.followed.same ∙ behind.used
 
   -- ---- where all is exact
 
