@@ -177,8 +177,8 @@ module _ (loaded : Loaded) (new : Encoded) (behind : IsBehind loaded new) (a : C
           let was = led.appends.shown k after before in
           elim was.only.stage [
             | inl unplaced ↦ inl (
-              torn_read new.id new.place (length new.bytes.items) (last_scene a).files (scene z k).files unplaced.docket was.others was.only.file (λ named. omega (arith, used_at stands)) (λ named. data_at stands nodes)
-            )
+                torn_read new.id new.place (length new.bytes.items) (last_scene a).files (scene z k).files unplaced.docket was.others was.only.file (λ named. omega (arith, used_at stands)) (λ named. data_at stands nodes)
+                )
             | inr exact ↦ inr (exact_reads loaded new behind (last_scene a).files (scene z k).files exact nodes)
           ];
     }

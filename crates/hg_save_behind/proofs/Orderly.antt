@@ -51,8 +51,7 @@ module _ (new : Encoded) where
   data_orderly x y near has step =
       kept_orderly x y (same_docket x.files y.files (step.shown.elsewhere (codes "dirstate") (docket_not_data new.id))) (λ c is.
       let was = step.left c is in
-      let docket : c (codes "dirstate") ≡ was.0 (codes "dirstate") = was.2.elsewhere (codes "dirstate") (docket_not_data new.id) in
-      (
+      let docket : c (codes "dirstate") ≡ was.0 (codes "dirstate") = was.2.elsewhere (codes "dirstate") (docket_not_data new.id) in (
         was.0,
         was.1,
         record {
@@ -66,8 +65,7 @@ module _ (new : Encoded) where
   beside_orderly n x y step =
       kept_orderly x y (same_docket x.files y.files (step.shown.elsewhere (codes "dirstate") docket_not_new)) (λ c is.
       let was = step.left c is in
-      let docket : c (codes "dirstate") ≡ was.0 (codes "dirstate") = was.2.elsewhere (codes "dirstate") docket_not_new in
-      (
+      let docket : c (codes "dirstate") ≡ was.0 (codes "dirstate") = was.2.elsewhere (codes "dirstate") docket_not_new in (
         was.0,
         was.1,
         record {

@@ -89,11 +89,10 @@ begins_behind nodes bytes used None long front = absurd front
 begins_behind nodes bytes used (Some old) long front =
     let len = length-take used old in
     let all : length (take used old) ≡ used = ap length (sym front) ∙ long in
-    let none : used - length old ≡ 0 = omega (arith, len, all) in
-    (
+    let none : used - length old ≡ 0 = omega (arith, len, all) in (
       drop (used + length bytes) old,
       ap (λ (n : ℕ). Some (take used old ++ replicate n 0 ++ bytes ++ drop (used + length bytes) old)) none
-      ∙ ap (λ (l : List ℕ). Some (l ++ bytes ++ drop (used + length bytes) old)) (append-nil (take used old) ∙ sym front),
+          ∙ ap (λ (l : List ℕ). Some (l ++ bytes ++ drop (used + length bytes) old)) (append-nil (take used old) ∙ sym front),
     )
 
 -- a file that was written at its front

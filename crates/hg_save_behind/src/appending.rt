@@ -12,7 +12,7 @@ ghost use Rattle.hg_save.specs.Record.{IsReadable};
 ghost use Rattle.hg_save.specs.Saved.{HoldsExactly, IsLatest, LeavesOnly, Records, ShowsOnly, Stands, WritesOnly};
 ghost use Rattle.hg_save_behind.specs.Behind.{HasNodes, IsBase, IsBehind, IsSolid, KeepsUsed, KeepsUsedBytes, LeavesData, published_behind};
 
-use crate::steps::put_behind;
+use crate::steps::put;
 use hg_append::Encoded;
 use hg_base::Failed;
 use hg_docket::DataName;
@@ -107,7 +107,7 @@ pub fn publish_behind<S: Shelf>(shelf: &mut S, loaded: &Loaded, new: &Encoded) -
     ensures cause { HasCause (S.faults shelf.old) (S.faults shelf.new) result (λ e. Unit {0}) }
 {
     let name = DataName::of(&new.id);
-    put_behind(shelf, name.as_str(), new.place as u64, new.bytes.as_slice())?;
-    put_behind(shelf, NEW_DOCKET, 0, new.docket.as_slice())?;
+    put(shelf, name.as_str(), new.place as u64, new.bytes.as_slice())?;
+    put(shelf, NEW_DOCKET, 0, new.docket.as_slice())?;
     swap(shelf, NEW_DOCKET, DOCKET)
 }

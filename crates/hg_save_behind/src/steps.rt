@@ -11,12 +11,7 @@ use hg_base::Failed;
 use hg_shelf::Shelf;
 
 // Writes bytes at a place of a file, and makes the file sure. It does what `hg_save::put` does, and tells more of its steps.
-pub fn put_behind<S: Shelf>(
-    shelf: &mut S,
-    name: &str,
-    place: u64,
-    bytes: &[u8],
-) -> Result<(), Failed>
+pub fn put<S: Shelf>(shelf: &mut S, name: &str, place: u64, bytes: &[u8]) -> Result<(), Failed>
     requires { (S.history shelf.old).ours ≡ true }
     // The file is as it was, or changed at most where it is written and past its old end.
     ensures torn { Undisturbed (course (S.history shelf.old) (S.images shelf.old)) (course (S.history shelf.new) (S.images shelf.new))

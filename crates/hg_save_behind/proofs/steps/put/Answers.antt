@@ -5,7 +5,7 @@ use Rattle.hg_save_behind.proofs.Own.{tears_failed, tears_synced, tears_unsynced
 use Rattle.hg_save.proofs.Parts.{put_leads, put_sure, sync_failed, write_failed}
 use Rattle.hg_save.proofs.Held.{held_acts, held_either, held_passes, held_then}
 use Rattle.hg_shelf.specs.Rules.{Syncs, Tears, Writes}
-use Rattle.hg_save_behind.proofs.steps.put_behind.Goals as goal
+use Rattle.hg_save_behind.proofs.steps.put.Goals as goal
 
 pub returns-in_err-write_at-clause-torn : goal.returns-in_err-write_at-clause-torn
 returns-in_err-write_at-clause-torn g c = λ calm.
