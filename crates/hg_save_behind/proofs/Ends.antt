@@ -1,5 +1,5 @@
 -- What an append leaves, at each moment and at its end.
-use Rattle.std.proofs.Common.{◌≡◌, ℕ, ◌+◌, ◌-◌, ◌<◌, ◌≤◌, List, length, take, drop, replicate, ◌++◌, codes, refl, sym, ap, ◌∙◌, subst, arith, Option, Some, None, IsSome, is_some, inl, inr, ◌⊎◌, Result, Ok, Err}
+use Rattle.std.proofs.Common.{◌≡◌, ℕ, ◌+◌, ◌-◌, ◌≤◌, List, length, take, drop, replicate, ◌++◌, codes, sym, ap, ◌∙◌, subst, arith, Option, Some, None, IsSome, inl, inr, ◌⊎◌, Result, Ok, Err}
 use Rattle.std.specs.Result.{OnOk}
 use Rattle.std.proofs.lemmas.List.{length-append, length-replicate, length-take}
 use Rattle.hg_append.specs.declared.encoding.Encoded.{Encoded}

@@ -19,7 +19,7 @@ use Rattle.hg_save.proofs.Spans.{stays_by, stays_itself}
 use Rattle.hg_save_behind.specs.Behind.{HasNodes, IsBehind, IsKeepingUsed, IsNotBeyond, KeepsUsed}
 use Rattle.hg_save_behind.proofs.Ends.{exact_data, id_at, same_used, shown_at, torn_data, torn_there, used_at}
 use Rattle.hg_save_behind.proofs.Readings.{exact_used, same_or_not}
-use Rattle.hg_save_behind.proofs.Stages.{IsBeside, IsWritten, Prepares, exact_moved, prepares_one, prepares_two}
+use Rattle.hg_save_behind.proofs.Stages.{IsBeside, IsWritten, Prepares, exact_moved, prepares_one}
 
 -- ---- one step
 

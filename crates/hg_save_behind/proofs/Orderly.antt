@@ -1,7 +1,6 @@
 -- Each step of an append keeps to what is asked of others.
 use Rattle.std.proofs.Common.{◌≡◌, ℕ, ◌+◌, ◌≤◌, List, length, take, codes, IsSome, IsTrue, Option, Some, refl, sym, ap, ◌∙◌, subst, arith, inl, inr, ◌⊎◌}
 use Rattle.hg_append.specs.declared.encoding.Encoded.{Encoded}
-use Rattle.hg_docket.specs.Docket.{docket_of}
 use Rattle.hg_shelf.specs.History.{Files, us}
 use Rattle.hg_shelf.specs.Images.{Course, Goes, Remains, Scene, last_scene, scene}
 use Rattle.hg_shelf.specs.Polite.{Undisturbed}
@@ -19,7 +18,7 @@ use Rattle.hg_save.proofs.Readings.{same_docket, same_id, same_reading}
 use Rattle.hg_save_behind.specs.Behind.{IsBase, IsBehind, published_behind}
 use Rattle.hg_save_behind.proofs.Ends.{exact_data, front_at, id_at, near_at, same_used, torn_data, torn_read}
 use Rattle.hg_save_behind.proofs.Readings.{exact_reads, exact_used, same_or_not, stays_read}
-use Rattle.hg_save_behind.proofs.Stages.{IsBeside, IsWritten, Prepares, exact_moved, prepares_one, prepares_two}
+use Rattle.hg_save_behind.proofs.Stages.{IsBeside, IsWritten, Prepares, exact_moved, prepares_one}
 
 -- ---- one step
 

@@ -1,5 +1,5 @@
 -- What each step of the caller's own does in a write that is made sure.
-use Rattle.std.proofs.Common.{◌≡◌, ℕ, ◌+◌, ◌<◌, ◌≤◌, Bool, true, List, length, refl, sym, ap, ◌∙◌, subst, arith, inl, inr, ◌⊎◌, Option}
+use Rattle.std.proofs.Common.{◌≡◌, ℕ, ◌+◌, ◌<◌, ◌≤◌, Bool, true, List, length, refl, sym, ◌∙◌, subst, arith, inl, inr, ◌⊎◌, Option}
 use Rattle.std.proofs.lemmas.Bool.{cases_lt}
 use Rattle.hg_shelf.specs.History.{By, Files, Passes, label, readers, us}
 use Rattle.hg_shelf.specs.Images.{Acts, Course, Goes, Remains, Scene, scene}

@@ -6,7 +6,6 @@ use Rattle.hg_shelf.specs.History.{Files, History, Who}
 use Rattle.hg_save.specs.Loads.{files_at}
 use Rattle.hg_save.specs.Others.{HasData, IsKeeping, KeepData, KeepsStood}
 use Rattle.hg_save.specs.Record.{docket_in, id_in}
-use Rattle.hg_save.specs.Saved.{used_in}
 use Rattle.hg_save.proofs.Names.{never_itself}
 use Rattle.hg_save.proofs.Spans.{keep_stood}
 use Rattle.hg_save_behind.specs.Behind.{IsKeepingUsed, IsNotBeyond, KeepsUsed}

@@ -1,17 +1,16 @@
 -- What an append has led to after each of its parts.
-use Rattle.std.proofs.Common.{◌≡◌, ℕ, Bool, cond, List, length, codes, refl, sym, ap, ◌∙◌, subst, arith, Option, Some, None, IsSome, is_some, inl, inr, ◌⊎◌}
+use Rattle.std.proofs.Common.{◌≡◌, ℕ, Bool, cond, List, length, codes, sym, ap, ◌∙◌, subst, arith, Option, Some, None, IsSome, is_some, inl, inr}
 use Rattle.std.specs.Str.{bytes_eq}
 use Rattle.hg_append.specs.declared.encoding.Encoded.{Encoded}
 use Rattle.hg_shelf.specs.History.{Files}
 use Rattle.hg_shelf.specs.Images.{Course, Goes, last_scene}
 use Rattle.hg_shelf.specs.Rules.{Perhaps, Surely, TornAt, TornFile, content, moved, overwritten}
 use Rattle.hg_save.specs.Leads.{IsDone, IsSure, Leads}
-use Rattle.hg_save.specs.Record.{data_name, id_in}
+use Rattle.hg_save.specs.Record.{data_name}
 use Rattle.hg_save.specs.Saved.{HoldsExactly, IsExact, IsUnplaced, WritesOnly, new_docket}
 use Rattle.hg_save.specs.declared.loaded.Loaded.{Loaded}
 use Rattle.hg_save.proofs.Names.{data_not_new, docket_not_data, docket_not_new, others_apart}
 use Rattle.hg_save.proofs.Parts.{torn_nowhere}
-use Rattle.hg_save.proofs.Readings.{same_id}
 use Rattle.hg_save.proofs.Stages.{leads_weaker}
 use Rattle.hg_save.proofs.Torn.{leads_then}
 use Rattle.hg_save_behind.specs.Behind.{IsBehind}
