@@ -1,0 +1,21 @@
+//! Laws of the definitions.
+
+ghost use Rattle.std.specs.Prelude.{◌≡◌, ◌≤◌, ◌⊎◌, ◌+◌, ℕ, IsTrue, Some};
+ghost use Rattle.hg_docket.specs.Number.{next_name};
+ghost use Rattle.hg_save.specs.Loads.{files_at};
+ghost use Rattle.hg_save.specs.Others.{HasData, IsKeeping, KeepData, KeepsStood};
+ghost use Rattle.hg_save.specs.Record.{docket_in, id_in};
+ghost use Rattle.hg_save_behind.specs.Behind.{IsKeepingUsed, IsNotBeyond, KeepsUsed};
+ghost use Rattle.hg_shelf.specs.History.{Files, History, Who};
+
+/// Where each step keeps the bytes that dockets use, whoever made it, and the standing docket's are there at first, the data that dockets name is
+/// kept throughout.
+pub fn used_kept()
+    ensures all { (h : History) (from : ℕ) → IsTrue h.told → HasData (files_at h from) → ((by : Who) → KeepsUsed by h from) → KeepData h from }
+    // So does a step that publishes a table anew: the docket stays, or it names the next identifier.
+    ensures anew { (before behind : Files) → IsKeeping before behind → (docket_in behind ≡ docket_in before) ⊎ (next_name (id_in before) ≡ Some (id_in behind))
+        → IsKeepingUsed before behind }
+    // A step that does keeps the data of the dockets that have stood, where none of these is beyond the one that stands.
+    ensures own { (h : History) (from k : ℕ) → IsKeepingUsed (files_at h k) (files_at h (k + 1))
+        → ((j : ℕ) → from ≤ j → j ≤ k → IsNotBeyond (files_at h k) (docket_in (files_at h j))) → KeepsStood h from k }
+{}
