@@ -2,7 +2,7 @@
 """Times the built program against C loops that make the same system calls, and against other programs:
 python3 bench/bench.py [PROGRAM] [PART ..] [rhg=PROGRAM] [before=PROGRAM].
 
-PROGRAM is build/hgtrack where it isn't named. The parts are listing, tracked, compared, remembered, peers, deep, opening, placing, editing, encoding, manifests,
+PROGRAM is build/hgtrack where it isn't named. The parts are listing, tracked, compared, remembered, peers, deep, opening, placing, editing, encoding, appending, manifests,
 patterns, saving, adding, removing, moving and scripting; all where none is named. `rhg` is
 Mercurial's program of that name, which is looked for in PATH otherwise, and `before` an earlier hgtrack, which is timed beside this one. Every time
 is the least of some runs, taken in turn with what it is compared with, or of saving the median. The status is 0 exactly where each figure is within its limit.
@@ -416,6 +416,18 @@ def encoding(bench):
     bench.tell("its memory over the bytes", (most - table) * 1e6 / int(written), 3)
 
 
+def appending(bench):
+    """Opening a record, adding one file to it, and encoding that by the better way: many rounds, less one round."""
+    program, rounds = bench.build("appending"), 41
+    given = f"{bench.room}/appending.txt"
+    with open(given, "w", encoding="utf-8") as file:
+        file.writelines(f"{it}\n" for it in sorted(in_directories(MANY), key=lambda it: it.split("/")))
+    (all_rounds, _), (one_round, _) = bench.least(*[([program, "x" * it], bench.room, given) for it in (rounds, 1)])
+    written, behind = map(int, subprocess.run([program, "x"], stdin=open(given, "rb"), stdout=subprocess.PIPE, check=True).stdout.split())
+    print(f"| one file added to a record of {MANY:,}: {written:,} bytes, {'behind the data file' if behind else 'anew'} | | | |")
+    bench.tell("its time, from the bytes that were loaded to those that are to be written", (all_rounds - one_round) / (rounds - 1), 0.05, " s")
+
+
 def manifests(bench):
     """Loading a manifest: many rounds over one that is in memory already, less one round."""
     program, loop, rounds = bench.build("manifests"), bench.compiled("manifests"), 41
@@ -724,6 +736,7 @@ PARTS = {
     "placing": placing,
     "editing": editing,
     "encoding": encoding,
+    "appending": appending,
     "manifests": manifests,
     "patterns": patterns,
     "saving": saving,

@@ -17,6 +17,14 @@ struct Saved {
     file: Vec<u8>,
 }
 
+// The docket of a record.
+fn docket_of(saved: &Saved) -> Result<Docket<'_>, Fail> {
+    if saved.docket.len() > 512 {
+        return Err("a docket that is too long".into());
+    }
+    Ok(Docket::read(&saved.docket).ok().ok_or("a sound docket")?)
+}
+
 // The record of these edits of an empty table, written anew.
 fn saved_anew(alloc: Global, edits: &[Edit]) -> Result<Saved, Fail> {
     let docket = Docket::read(b"")?;
@@ -34,7 +42,7 @@ fn saved_anew(alloc: Global, edits: &[Edit]) -> Result<Saved, Fail> {
 
 // What one more edit of a record is encoded as, by the better way.
 fn one_more(alloc: Global, saved: &Saved, edit: Edit) -> Result<(Way, Encoded), Fail> {
-    let docket = Docket::read(&saved.docket).ok().ok_or("a sound docket")?;
+    let docket = docket_of(saved)?;
     let mut m = Mixed::open(alloc, Image::open(&docket, &saved.file)?)?;
     let mut plain = Plain::of(alloc, PATHS)?;
     apply(alloc, &mut m, &mut plain, edit)?;
@@ -114,7 +122,7 @@ fn reached(list: List<'_>) -> u64 {
 
 // A saved record says what the plain table does, with right counts; and the docket tells exactly how many bytes nothing leads to.
 fn is_saved(alloc: Global, saved: &Saved, plain: &Plain) -> Result<(), Fail> {
-    let docket = Docket::read(&saved.docket).ok().ok_or("a sound docket")?;
+    let docket = docket_of(saved)?;
     let image = Image::open(&docket, &saved.file)?;
     if !image.counted() {
         return Err("counts that are wrong".into());
@@ -137,7 +145,7 @@ fn changed(
     plain: &mut Plain,
     state: &mut u64,
 ) -> Result<(Way, Encoded), Fail> {
-    let docket = Docket::read(&saved.docket).ok().ok_or("a sound docket")?;
+    let docket = docket_of(saved)?;
     let mut m = Mixed::open(alloc, Image::open(&docket, &saved.file)?)?;
     for _ in 0..drawn(state, 4) {
         apply(alloc, &mut m, plain, some_edit(state))?;
