@@ -1,3 +1,4 @@
+pub mod Bases
 pub mod Ends
 pub mod Keeping
 pub mod Orderly

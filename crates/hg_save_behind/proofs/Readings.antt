@@ -57,7 +57,7 @@ file_reads bytes (Some x) (Some y) sound was there same =
 unused_in : (d : Contents) (files : Files) → d.used ≡ 0 → data_in d files ≡ Some []
 unused_in d files none = ap (λ (n : ℕ). cond (n == 0) (Some []) (files (data_name d.id))) none
 
-file_in : (d : Contents) (files : Files) → 0 < d.used → data_in d files ≡ files (data_name d.id)
+pub file_in : (d : Contents) (files : Files) → 0 < d.used → data_in d files ≡ files (data_name d.id)
 file_in d files some = chosen (d.used == 0) (Some []) (files (data_name d.id)) (files (data_name d.id)) (not_zero d.used some) refl
 
 data_reads : (bytes : List ℕ) (old new : Files) → docket_refusal bytes ≡ None → (UsesData bytes → StaysUsed bytes old new) → ((docket_of bytes).used ≡ 0) ⊎ ((docket_of bytes).used ≡ 0 → ⊥)

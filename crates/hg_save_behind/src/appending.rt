@@ -38,7 +38,7 @@ pub fn publish_behind<S: Shelf>(shelf: &mut S, loaded: &Loaded, new: &Encoded) -
         (course (S.history shelf.old) (S.images shelf.old))
         (course (S.history shelf.new) (S.images shelf.new))
         (published_behind loaded.now new.now) }
-    // And where it names the identifier, it has the data file with the bytes that it uses: after a crash, too, a table may be appended.
+    // And where its docket names the identifier, the data file is there with the bytes that it uses: after a crash, too, a table may be appended.
     ensures intact { Undisturbed (course (S.history shelf.old) (S.images shelf.old)) (course (S.history shelf.new) (S.images shelf.new))
         → Stands loaded.now.docket.items (last_scene (course (S.history shelf.old) (S.images shelf.old)))
         → IsSolid (last_scene (course (S.history shelf.old) (S.images shelf.old)))

@@ -18,4 +18,4 @@ mod laws;
 mod steps;
 
 pub use appending::publish_behind;
-pub use laws::used_kept;
+pub use laws::{nodes_stay, used_kept};
