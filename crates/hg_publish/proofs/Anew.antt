@@ -12,7 +12,7 @@ use Rattle.hg_entry.specs.Table.{Table}
 use Rattle.hg_image.specs.Reading.{RecordFault, reading_of}
 use Rattle.hg_mixed.specs.Held.{Held, table}
 use Rattle.hg_publish.specs.Over.{IsEncoded, IsEncodedBy, IsPutOver, IsRecorded, KeepsOthersBy}
-use Rattle.hg_publish.proofs.Solid.{solid_anew}
+use Rattle.hg_publish.proofs.Solid.{intact_anew, intact_new_anew, solid_anew}
 use Rattle.hg_publish.proofs.Steps.{keeps_anew}
 use Rattle.hg_save.specs.Leads.{IsHeld, Leads}
 use Rattle.hg_save.specs.Others.{KeepsFiles, KeepsRecords}
@@ -21,6 +21,7 @@ use Rattle.hg_save.specs.Saved.{HoldsExactly, IsFree, IsLatest, IsOver, KeepsOth
 use Rattle.hg_save.specs.declared.loaded.Loaded.{Loaded}
 use Rattle.hg_save.proofs.Encodings.{goes_over}
 use Rattle.hg_save.proofs.Names.{next_free}
+use Rattle.hg_save_behind.specs.Behind.{LeavesData}
 use Rattle.hg_shelf.specs.History.{us}
 use Rattle.hg_shelf.specs.Images.{Course, Goes, last_scene}
 use Rattle.hg_shelf.specs.Polite.{Undisturbed}
@@ -68,8 +69,9 @@ module _ (held : Held) (new : Encoded) (plan : plan_of held ≡ a_way.Rewrite) (
       shown = λ ground. subst (ShowsOnly a z) published_is (says.left (free ground.stands ground.latest));
       torn = says.torn;
       latest = says.latest;
-      solid = λ stands latest solid.
-          solid_anew loaded.docket.items new over a z stands says.torn (says.keeping stands) (says.orderly stands latest (reads.found, published_is)) goes lock calm (says.named (free stands latest)) (says.latest stands latest) solid;
+      intact = λ stands latest solid. subst (λ (id : List ℕ). LeavesData id a z) (sym same_id) (intact_anew loaded.docket.items new over a z stands says.torn (says.keeping stands) (says.orderly stands latest (reads.found, published_is)) goes lock calm (says.named (free stands latest)) solid);
+      intact_new = λ stands latest solid. intact_new_anew loaded.docket.items new over a z stands says.torn (says.keeping stands) (says.orderly stands latest (reads.found, published_is)) goes lock calm (says.named (free stands latest));
+      solid = λ stands latest solid. solid_anew loaded.docket.items new over a z stands says.torn (says.keeping stands) (says.orderly stands latest (reads.found, published_is)) goes lock calm (says.named (free stands latest)) solid (says.latest stands latest);
       orderly = λ ground. says.orderly ground.stands ground.latest (reads.found, published_is);
       keeping = λ stands nodes. keeps_anew loaded.docket.items new over a z stands says.torn (says.keeping stands);
       others = subst (λ (w : Way). KeepsOthersBy w held a z) (sym plan) (new.id, ap next_name same_id ∙ over.next, subst (λ (id : List ℕ). Leads (KeepsOthers id new.id) a z) (sym same_id) says.others);

@@ -24,7 +24,7 @@ use Rattle.hg_save.specs.Record.{IsReadable, data_name, docket_in}
 use Rattle.hg_save.specs.Saved.{HoldsExactly, IsExact, IsLatest, LeavesOnly, Records, ShowsOnly, Stands, WritesOnly}
 use Rattle.hg_save.specs.declared.loaded.Loaded.{Loaded}
 use Rattle.hg_save.proofs.Tails.{followed}
-use Rattle.hg_save_behind.specs.Behind.{HasNodes, IsBase, IsBehind, IsSolid, KeepsUsed, KeepsUsedBytes, published_behind}
+use Rattle.hg_save_behind.specs.Behind.{HasNodes, IsBase, IsBehind, IsSolid, KeepsUsed, KeepsUsedBytes, LeavesData, published_behind}
 use Rattle.hg_save_behind.proofs.Readings.{begins_behind, exact_docket, some_docket, uses_new}
 use Rattle.hg_shelf.specs.History.{Files, us}
 use Rattle.hg_shelf.specs.Images.{Course, Scene, last_scene}
@@ -37,6 +37,7 @@ pub record IsSaidBehind (loaded : Loaded) (new : Encoded) (a z : Course) : Type 
   pub torn : Leads (WritesOnly new (last_scene a).files) a z
   pub others : Leads (KeepsUsedBytes new.id new.place) a z
   pub latest : Stands loaded.docket.items (last_scene a) → IsLatest (last_scene a) → IsLatest (last_scene z)
+  pub intact : Stands loaded.docket.items (last_scene a) → IsSolid (last_scene a) → LeavesData new.id a z
   pub solid : Stands loaded.docket.items (last_scene a) → IsSolid (last_scene a) → IsSolid (last_scene z)
   pub orderly : IsBase loaded (last_scene a) → IsLatest (last_scene a) → IsReadable (published_behind loaded new) → KeepsRecords us z a.history.last
   pub keeping : Stands loaded.docket.items (last_scene a) → HasNodes loaded (last_scene a) → KeepsUsed us z.history a.history.last
@@ -70,6 +71,8 @@ module _ (loaded : Loaded) (held : Held) (new : Encoded) (said : held.docket ≡
     shown = λ ground. subst (ShowsOnly a z) published_is (says.left ground.stands (ground.nodes behind.some));
     torn = says.torn;
     latest = says.latest;
+    intact = λ stands latest solid. subst (λ (id : List ℕ). LeavesData id a z) (sym appended.same) (says.intact stands solid);
+    intact_new = λ stands latest solid. says.intact stands solid;
     solid = λ stands latest solid. says.solid stands solid;
     orderly = λ ground. says.orderly (base_of (last_scene a) ground) ground.latest (reads.found, published_is);
     keeping = λ stands has. says.keeping stands (has behind.some);

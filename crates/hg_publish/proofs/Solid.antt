@@ -13,7 +13,7 @@ use Rattle.hg_save.specs.Saved.{IsExact, IsLatest, IsOver, NamesExactly, Stands,
 use Rattle.hg_save.proofs.Readings.{used_published}
 use Rattle.hg_save.proofs.Spans.{has_front}
 use Rattle.hg_save.proofs.Stages.{begins_by}
-use Rattle.hg_save_behind.specs.Behind.{IsSolid}
+use Rattle.hg_save_behind.specs.Behind.{IsSolid, LeavesData}
 use Rattle.hg_shelf.specs.History.{Files, us}
 use Rattle.hg_shelf.specs.Images.{Course, Goes, last_scene, scene}
 use Rattle.hg_shelf.specs.Polite.{Undisturbed}
@@ -80,23 +80,33 @@ module _ (loaded : List ℕ) (new : Encoded) (over : IsOver loaded new) where
         let next : k ≡ j + 1 = omega (arith, at) in
         step j (omega arith) (omega (arith, next, within)) (over_steps n j refl (omega (arith, next, within))) f (subst (λ (m : ℕ). (scene z m).leaves f) next left)
 
-    pub solid_anew : NamesExactly new a z → IsLatest (last_scene z) → IsSolid (last_scene a) → IsSolid (last_scene z)
-    solid_anew named latest solid = record {
-      used = latest.used;
-      front = λ f left same. by f left same (docket_at loaded new over a z stands torn keeping z.history.last goes.past.later (omega arith));
-    }
-      where
-        new_has : (f : Files) → (last_scene z).leaves f → id_in f ≡ new.id → HasData f
-        new_has f left is = has_exact (last_scene a).files f (named.left z.history.last f goes.past.later (omega arith) left is)
+    -- what a crash leaves that names the new identifier, or the one of before, has its data
+    module _ (named : NamesExactly new a z) where
+      new_has : (k : ℕ) (f : Files) → a.history.last ≤ k → k ≤ z.history.last → (scene z k).leaves f → id_in f ≡ new.id → HasData f
+      new_has k f after before left is = has_exact (last_scene a).files f (named.left k f after before left is)
 
-        by_from : (f : Files) → (last_scene z).leaves f → id_in f ≡ (docket_of loaded).id → IsFrom f → HasData f
-        by_from f left same (inr is) = new_has f left is
-        by_from f left same (inl was) =
+      module _ (solid : IsSolid (last_scene a)) where
+        from_has : (k : ℕ) (f : Files) → a.history.last ≤ k → k ≤ z.history.last → (scene z k).leaves f → id_in f ≡ (docket_of loaded).id → IsFrom f → HasData f
+        from_has k f after before left same (inr is) = new_has k f after before left is
+        from_has k f after before left same (inl was) =
             has_along was.0 f was.2
             (solid.front was.0 was.1 (sym (ap (λ (bytes : List ℕ). (docket_of bytes).id) was.2.docket) ∙ same ∙ sym (ap (λ (bytes : List ℕ). (docket_of bytes).id) stands)))
 
-        by : (f : Files) → (last_scene z).leaves f → id_in f ≡ id_in (last_scene z).files → (docket_in (last_scene z).files ≡ loaded) ⊎ IsExact new (last_scene a).files (last_scene z).files → HasData f
-        by f left same (inr exact) = new_has f left (same ∙ exact.named)
-        by f left same (inl still) =
-            by_from f left (same ∙ ap (λ (bytes : List ℕ). (docket_of bytes).id) still)
-            (over_steps (z.history.last - a.history.last) z.history.last (let later = goes.past.later in omega (arith, later)) (omega arith) f left)
+        old_has : (k : ℕ) (f : Files) → a.history.last ≤ k → k ≤ z.history.last → (scene z k).leaves f → id_in f ≡ (docket_of loaded).id → HasData f
+        old_has k f after before left same = from_has k f after before left same (over_steps (k - a.history.last) k (omega (arith, after)) before f left)
+
+        pub intact_anew : LeavesData (docket_of loaded).id a z
+        intact_anew = record { each = λ k f after before left is. old_has k f after before left is }
+
+        pub solid_anew : IsLatest (last_scene z) → IsSolid (last_scene z)
+        solid_anew latest = record {
+          used = latest.used;
+          front = λ f left same. by f left same (docket_at loaded new over a z stands torn keeping z.history.last goes.past.later (omega arith));
+        }
+          where
+            by : (f : Files) → (last_scene z).leaves f → id_in f ≡ id_in (last_scene z).files → (docket_in (last_scene z).files ≡ loaded) ⊎ IsExact new (last_scene a).files (last_scene z).files → HasData f
+            by f left same (inr exact) = new_has z.history.last f goes.past.later (omega arith) left (same ∙ exact.named)
+            by f left same (inl still) = old_has z.history.last f goes.past.later (omega arith) left (same ∙ ap (λ (bytes : List ℕ). (docket_of bytes).id) still)
+
+      pub intact_new_anew : LeavesData new.id a z
+      intact_new_anew = record { each = λ k f after before left is. new_has k f after before left is }

@@ -23,7 +23,7 @@ use Rattle.hg_save.specs.Others.{KeepsRecords, named_file}
 use Rattle.hg_save.specs.Record.{data_name, docket_in, id_in}
 use Rattle.hg_save.specs.Saved.{HoldsExactly, IsLatest, KeepsOthers, LeavesOnly, Records, ShowsOnly, Stands, WritesOnly}
 use Rattle.hg_save.specs.declared.loaded.Loaded.{Loaded}
-use Rattle.hg_save_behind.specs.Behind.{HasNodes, IsSolid, KeepsUsed, KeepsUsedBytes}
+use Rattle.hg_save_behind.specs.Behind.{HasNodes, IsSolid, KeepsUsed, KeepsUsedBytes, LeavesData}
 use Rattle.hg_shelf.specs.History.{Files, us}
 use Rattle.hg_shelf.specs.Images.{Course, Scene, last_scene}
 use Rattle.hg_shelf.specs.Rules.{content}
@@ -61,8 +61,9 @@ KeepsOthersBy a_way.Rewrite held old new = (id : List ℕ) × (next_name held.do
 KeepsOthersBy a_way.Append held old new = Leads (KeepsUsedBytes held.docket.id held.docket.used) old new
 
 -- a table was put over the record that was loaded, wholly or in part: at each moment reads show that record or the table, and a crash leaves what it might
--- have left or the table; what is written is written at its place and past the old end; what a crash may leave then names no later identifier and is
--- solid, so that the next table may be published by either way; and each step keeps to what is asked of others
+-- have left or the table; what is written is written at its place and past the old end; what a crash may leave of the docket that stood or of the new one has
+-- the data file that it names, and in the end it is solid and names no later identifier, so that the next table may be published by either way; and each step
+-- keeps to what is asked of others
 pub record IsPutOver (held : Held) (loaded : Loaded) (old new : Course) : Type 0 where
   pub encoded : Encoded
   pub found : Table
@@ -71,6 +72,8 @@ pub record IsPutOver (held : Held) (loaded : Loaded) (old new : Course) : Type 0
   pub shown : IsGround loaded (last_scene old) → ShowsOnly old new (Some (Ok found))
   pub torn : Leads (WritesOnly encoded (last_scene old).files) old new
   pub latest : Stands loaded.docket.items (last_scene old) → IsLatest (last_scene old) → IsLatest (last_scene new)
+  pub intact : Stands loaded.docket.items (last_scene old) → IsLatest (last_scene old) → IsSolid (last_scene old) → LeavesData held.docket.id old new
+  pub intact_new : Stands loaded.docket.items (last_scene old) → IsLatest (last_scene old) → IsSolid (last_scene old) → LeavesData encoded.id old new
   pub solid : Stands loaded.docket.items (last_scene old) → IsLatest (last_scene old) → IsSolid (last_scene old) → IsSolid (last_scene new)
   pub orderly : IsGround loaded (last_scene old) → KeepsRecords us new old.history.last
   pub keeping : Stands loaded.docket.items (last_scene old) → HasUsed loaded (last_scene old) → KeepsUsed us new.history old.history.last

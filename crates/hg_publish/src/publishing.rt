@@ -10,7 +10,6 @@ ghost use Rattle.hg_entry.specs.Table.{Table};
 ghost use Rattle.hg_publish.specs.Over.{HasPublishCause, HasUsed, IsEncoded, IsPutOver, IsRecorded, LeavesLists, UnlessEncode};
 ghost use Rattle.hg_publish.specs.declared.fault.PublishFault.TheVariants as a_fault;
 ghost use Rattle.hg_save.specs.Leads.{IsHeld};
-ghost use Rattle.hg_save.specs.Saved.{Stands};
 ghost use Rattle.hg_shelf.specs.Asks.{AsksNothing};
 ghost use Rattle.hg_shelf.specs.Images.{Goes, course, last_scene};
 ghost use Rattle.hg_shelf.specs.Polite.{Undisturbed};
@@ -46,19 +45,17 @@ fn publish_anew<S: Shelf>(
     requires docket { table.now.docket ≡ docket_of loaded.now.docket.items }
     requires nodes { table.now.bytes ≡ loaded.now.nodes.items }
     requires way { plan_of table.now ≡ a_way.Rewrite }
-    // Over the record that stood, whatever it answers but that the table can't be encoded.
+    // It is put over the record that stood, wholly or in part, whatever is answered but that it can't be encoded.
     ensures safe { Undisturbed (course (S.history shelf.old) (S.images shelf.old)) (course (S.history shelf.new) (S.images shelf.new))
         → UnlessEncode result (IsPutOver table.now loaded.now (course (S.history shelf.old) (S.images shelf.old)) (course (S.history shelf.new) (S.images shelf.new))) }
-    // Then nothing is done.
+    // Where it can't be encoded, nothing is done.
     ensures untouched { IfErr result (λ e. (e ≡ a_fault.Failed) ⊎ (shelf.new ≡ shelf.old)) }
     // Where it succeeded, the table is recorded by exactly its bytes, also after a crash.
     ensures recorded { Undisturbed (course (S.history shelf.old) (S.images shelf.old)) (course (S.history shelf.new) (S.images shelf.new))
-        → Stands loaded.now.docket.items (last_scene (course (S.history shelf.old) (S.images shelf.old)))
         → HasUsed loaded.now (last_scene (course (S.history shelf.old) (S.images shelf.old)))
         → OnOk result (IsRecorded table.now (course (S.history shelf.old) (S.images shelf.old)) (course (S.history shelf.new) (S.images shelf.new))) }
     // And where it was appended, each list that is lent lies where it lay.
     ensures kept_lists { Undisturbed (course (S.history shelf.old) (S.images shelf.old)) (course (S.history shelf.new) (S.images shelf.new))
-        → Stands loaded.now.docket.items (last_scene (course (S.history shelf.old) (S.images shelf.old)))
         → HasUsed loaded.now (last_scene (course (S.history shelf.old) (S.images shelf.old)))
         → plan_of table.now ≡ a_way.Append
         → OnOk result (LeavesLists table.now (course (S.history shelf.new) (S.images shelf.new))) }
@@ -92,19 +89,17 @@ fn publish_appended<S: Shelf>(
     requires docket { table.now.docket ≡ docket_of loaded.now.docket.items }
     requires nodes { table.now.bytes ≡ loaded.now.nodes.items }
     requires way { plan_of table.now ≡ a_way.Append }
-    // Over the record that stood, whatever it answers but that the table can't be encoded.
+    // It is put over the record that stood, wholly or in part, whatever is answered but that it can't be encoded.
     ensures safe { Undisturbed (course (S.history shelf.old) (S.images shelf.old)) (course (S.history shelf.new) (S.images shelf.new))
         → UnlessEncode result (IsPutOver table.now loaded.now (course (S.history shelf.old) (S.images shelf.old)) (course (S.history shelf.new) (S.images shelf.new))) }
-    // Then nothing is done.
+    // Where it can't be encoded, nothing is done.
     ensures untouched { IfErr result (λ e. (e ≡ a_fault.Failed) ⊎ (shelf.new ≡ shelf.old)) }
     // Where it succeeded, the table is recorded by exactly its bytes, also after a crash.
     ensures recorded { Undisturbed (course (S.history shelf.old) (S.images shelf.old)) (course (S.history shelf.new) (S.images shelf.new))
-        → Stands loaded.now.docket.items (last_scene (course (S.history shelf.old) (S.images shelf.old)))
         → HasUsed loaded.now (last_scene (course (S.history shelf.old) (S.images shelf.old)))
         → OnOk result (IsRecorded table.now (course (S.history shelf.old) (S.images shelf.old)) (course (S.history shelf.new) (S.images shelf.new))) }
     // And where it was appended, each list that is lent lies where it lay.
     ensures kept_lists { Undisturbed (course (S.history shelf.old) (S.images shelf.old)) (course (S.history shelf.new) (S.images shelf.new))
-        → Stands loaded.now.docket.items (last_scene (course (S.history shelf.old) (S.images shelf.old)))
         → HasUsed loaded.now (last_scene (course (S.history shelf.old) (S.images shelf.old)))
         → plan_of table.now ≡ a_way.Append
         → OnOk result (LeavesLists table.now (course (S.history shelf.new) (S.images shelf.new))) }
@@ -141,19 +136,17 @@ pub fn publish_table<S: Shelf>(
     requires whole { docket_refusal loaded.now.docket.items ≡ None }
     requires docket { table.now.docket ≡ docket_of loaded.now.docket.items }
     requires nodes { table.now.bytes ≡ loaded.now.nodes.items }
-    // Over the record that stood, whatever it answers but that the table can't be encoded.
+    // It is put over the record that stood, wholly or in part, whatever is answered but that it can't be encoded.
     ensures safe { Undisturbed (course (S.history shelf.old) (S.images shelf.old)) (course (S.history shelf.new) (S.images shelf.new))
         → UnlessEncode result (IsPutOver table.now loaded.now (course (S.history shelf.old) (S.images shelf.old)) (course (S.history shelf.new) (S.images shelf.new))) }
-    // Then nothing is done.
+    // Where it can't be encoded, nothing is done.
     ensures untouched { IfErr result (λ e. (e ≡ a_fault.Failed) ⊎ (shelf.new ≡ shelf.old)) }
     // Where it succeeded, the table is recorded by exactly its bytes, also after a crash.
     ensures recorded { Undisturbed (course (S.history shelf.old) (S.images shelf.old)) (course (S.history shelf.new) (S.images shelf.new))
-        → Stands loaded.now.docket.items (last_scene (course (S.history shelf.old) (S.images shelf.old)))
         → HasUsed loaded.now (last_scene (course (S.history shelf.old) (S.images shelf.old)))
         → OnOk result (IsRecorded table.now (course (S.history shelf.old) (S.images shelf.old)) (course (S.history shelf.new) (S.images shelf.new))) }
     // And where it was appended, each list that is lent lies where it lay.
     ensures kept_lists { Undisturbed (course (S.history shelf.old) (S.images shelf.old)) (course (S.history shelf.new) (S.images shelf.new))
-        → Stands loaded.now.docket.items (last_scene (course (S.history shelf.old) (S.images shelf.old)))
         → HasUsed loaded.now (last_scene (course (S.history shelf.old) (S.images shelf.old)))
         → plan_of table.now ≡ a_way.Append
         → OnOk result (LeavesLists table.now (course (S.history shelf.new) (S.images shelf.new))) }

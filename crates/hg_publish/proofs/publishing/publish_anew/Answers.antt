@@ -52,7 +52,7 @@ returns-clause-safe g c = λ calm.
     })
 
 pub returns-clause-recorded : goal.returns-clause-recorded
-returns-clause-recorded g c = λ calm stands nodes.
+returns-clause-recorded g c = λ calm has.
     recorded_anew c.args.table.now c.in_ok-new.new c.requires.way (c.in_ok-new.ensures.written refl) c.in_ok-new.ensures.reads c.args.loaded.now c.requires.docket
     (course (g.S.Shelf.history c.args.shelf.now) (g.S.Shelf.images c.args.shelf.now)) (course (g.S.Shelf.history c.publish.new.shelf) (g.S.Shelf.images c.publish.new.shelf))
     (c.in_ok-publish.ensures.sure calm) (c.in_ok-publish.ensures.exact calm) (c.in_ok-publish.ensures.gone calm)

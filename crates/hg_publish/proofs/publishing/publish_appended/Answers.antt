@@ -20,6 +20,7 @@ returns-in_err-publish_behind-clause-safe g c = λ calm.
       torn = c.in_err-publish_behind.ensures.torn calm;
       others = c.in_err-publish_behind.ensures.others calm;
       latest = c.in_err-publish_behind.ensures.latest calm;
+      intact = c.in_err-publish_behind.ensures.intact calm;
       solid = c.in_err-publish_behind.ensures.solid calm;
       orderly = c.in_err-publish_behind.ensures.orderly calm;
       keeping = c.in_err-publish_behind.ensures.keeping calm;
@@ -45,19 +46,20 @@ returns-clause-safe g c = λ calm.
       torn = c.in_ok-publish_behind.ensures.torn calm;
       others = c.in_ok-publish_behind.ensures.others calm;
       latest = c.in_ok-publish_behind.ensures.latest calm;
+      intact = c.in_ok-publish_behind.ensures.intact calm;
       solid = c.in_ok-publish_behind.ensures.solid calm;
       orderly = c.in_ok-publish_behind.ensures.orderly calm;
       keeping = c.in_ok-publish_behind.ensures.keeping calm;
     })
 
 pub returns-clause-recorded : goal.returns-clause-recorded
-returns-clause-recorded g c = λ calm stands has.
+returns-clause-recorded g c = λ calm has.
     recorded_behind c.args.loaded.now c.args.table.now c.in_ok-new.new c.requires.docket c.requires.nodes c.over.ensures c.requires.way (c.in_ok-new.ensures.appended refl) c.in_ok-new.ensures.reads
     (course (g.S.Shelf.history c.args.shelf.now) (g.S.Shelf.images c.args.shelf.now)) (course (g.S.Shelf.history c.publish_behind.new.shelf) (g.S.Shelf.images c.publish_behind.new.shelf))
     has (c.in_ok-publish_behind.ensures.sure calm) (c.in_ok-publish_behind.ensures.exact calm)
 
 pub returns-clause-kept_lists : goal.returns-clause-kept_lists
-returns-clause-kept_lists g c = λ calm stands has way.
+returns-clause-kept_lists g c = λ calm has way.
     lists_behind c.args.loaded.now c.args.table.now c.in_ok-new.new c.requires.docket c.requires.nodes c.over.ensures c.requires.way (c.in_ok-new.ensures.appended refl) c.in_ok-new.ensures.reads
     (course (g.S.Shelf.history c.args.shelf.now) (g.S.Shelf.images c.args.shelf.now)) (course (g.S.Shelf.history c.publish_behind.new.shelf) (g.S.Shelf.images c.publish_behind.new.shelf))
     has (c.in_ok-publish_behind.ensures.exact calm) (c.in_ok-new.ensures.stays refl)
