@@ -1,5 +1,5 @@
 -- A data file that reads as one with all used bytes has them: only one that is shorter is told as short.
-use Rattle.std.proofs.Common.{◌≡◌, ℕ, zero, suc, ◌+◌, ◌*◌, ◌≤◌, ◌==◌, Bool, true, false, cond, not, List, length, take, refl, sym, ap, ◌∙◌, arith, Option, Some, None, option_map, Result, Err, nat_lt}
+use Rattle.std.proofs.Common.{◌≡◌, ℕ, zero, suc, ◌+◌, ◌*◌, ◌≤◌, ◌==◌, Bool, true, false, cond, not, List, length, take, refl, sym, ap, ◌∙◌, arith, Option, Some, None, option_map, Result, Ok, Err, nat_lt}
 use Rattle.std.proofs.lemmas.Bool.Decides.{nat_tests}
 use Rattle.hg_base.specs.PathText.{is_same_dir, parent_of}
 use Rattle.hg_base.specs.PathRefusal.{refusal}
@@ -115,3 +115,9 @@ front_read docket (Some old) (Some new) uses same has =
     let read : reading_of docket new ≡ reading_of docket old = cc same in
     long_by (docket_of docket) new (nat_lt (length new) (docket_of docket).used) refl
     (sym (as_data docket new uses.sound) ∙ ap reads_short read ∙ as_data docket old uses.sound ∙ long_not (docket_of docket) old has)
+
+pub front_sound : (docket : List ℕ) (file : Option (List ℕ)) (t : Table) → UsesData docket → option_map (reading_of docket) file ≡ Some (Ok t) → HasFront (docket_of docket).used file
+front_sound docket None t uses is = absurd (cc is)
+front_sound docket (Some file) t uses is =
+    let read : reading_of docket file ≡ Ok t = cc is in
+    long_by (docket_of docket) file (nat_lt (length file) (docket_of docket).used) refl (sym (as_data docket file uses.sound) ∙ ap reads_short read)

@@ -4,18 +4,18 @@ use Rattle.hg_append.specs.declared.encoding.Encoded.{Encoded}
 use Rattle.hg_docket.specs.Docket.{docket_of}
 use Rattle.hg_docket.proofs.Branches.{chosen, not_zero}
 use Rattle.hg_image.specs.Reading.{reading_of}
-use Rattle.hg_publish.proofs.Long.{front_read}
+use Rattle.hg_publish.proofs.Long.{front_read, front_sound}
 use Rattle.hg_publish.proofs.Steps.{Follows, Moves, Stays, docket_at, moves}
 use Rattle.hg_save.specs.Leads.{IsHeld, Leads}
 use Rattle.hg_save.specs.Others.{HasData, HasFront, KeepsFiles, KeepsRecords, RecordsAs, UsesData, named_file}
-use Rattle.hg_save.specs.Record.{data_name, docket_in, id_in, named_reading, needed_in}
+use Rattle.hg_save.specs.Record.{IsReadable, data_name, docket_in, id_in, named_reading, needed_in, reading}
 use Rattle.hg_save.specs.Saved.{IsExact, IsLatest, IsOver, NamesExactly, Stands, WritesOnly, new_docket, used_in}
 use Rattle.hg_save.proofs.Readings.{used_published}
 use Rattle.hg_save.proofs.Spans.{has_front}
 use Rattle.hg_save.proofs.Stages.{begins_by}
 use Rattle.hg_save_behind.specs.Behind.{IsSolid, LeavesData}
 use Rattle.hg_shelf.specs.History.{Files, us}
-use Rattle.hg_shelf.specs.Images.{Course, Goes, last_scene, scene}
+use Rattle.hg_shelf.specs.Images.{Course, Goes, Scene, last_scene, scene}
 use Rattle.hg_shelf.specs.Polite.{Undisturbed}
 use Rattle.hg_shelf.specs.Rules.{content}
 
@@ -35,6 +35,13 @@ has_along d f same has =
     let bytes : List ℕ = docket_in d in
     let read : named_reading bytes f ≡ named_reading bytes d = sym (ap (λ (b : List ℕ). named_reading b f) same.docket) ∙ same.read in
     front_read bytes (named_file bytes d) (named_file bytes f) uses (sym (named_is bytes f uses) ∙ read ∙ named_is bytes d uses) (has uses))
+
+-- so they have where what they record is sound
+sound_data : (c : Files) → IsReadable (reading c) → HasData c
+sound_data c (t, is) = λ uses. front_sound (docket_in c) (named_file (docket_in c) c) t uses (sym (named_is (docket_in c) c uses) ∙ is)
+
+pub sound_solid : (s : Scene) → ((c : Files) → s.leaves c → IsReadable (reading c)) → IsLatest s → IsSolid s
+sound_solid s sound latest = record { used = latest.used; front = λ c left same. sound_data c (sound c left) }
 
 module _ (loaded : List ℕ) (new : Encoded) (over : IsOver loaded new) where
   -- where all is exact, the data that the docket names is there
