@@ -123,6 +123,7 @@ int main(int count, char **words) {
     put32(top + 76, lay(u32(top + 76), u32(top + 80), words[3]));
     put32(top + 80, u32(top + 80) + 1);
     put32(top + 84, u32(top + 84) + 1);
+    put32(top + 92, 0);
     put32(top + 120, end);
     memcpy(top + 125, words[2], strlen(words[2]));
     put(new, to, end);

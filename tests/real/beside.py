@@ -7,10 +7,12 @@ import signal
 import struct
 import subprocess
 import time
+from collections import Counter
 
 from calls import Calls, has_gcc, let_go, watched
 from folder import SECONDS, lay_out
 from mercurial import OPTIONS, hg
+from saving import ANEW, BEHIND, record_of, way_of
 from turns import letters
 
 ROUNDS = 100
@@ -49,24 +51,36 @@ class Server:
         self.at.wait(SECONDS)
 
 
-def run_server(tests):
-    """In each round ours adds a file, the server looks at all, ours adds two more, and the server another one: none is lost."""
+def run_server(tests, way, folders, others):
+    """In each round ours adds a file, the server looks at all, ours adds two more, and the server another one: none is lost. They are at the root, or in so many
+    folders beside a folder of so many others, where ours saves most of them behind the data file."""
     with tests.working_copy() as root:
         hg(root, "init")
-        lay_out(root, [f"{i:03}{it}" for i in range(ROUNDS) for it in "abcd"])
-        server, lost, wrong = Server(root), 0, []
+        names = [[f"d{i % folders}/{i:03}{it}" if folders else f"{i:03}{it}" for it in "abcd"] for i in range(ROUNDS)]
+        tracked = [f"others/file{i:03}" for i in range(others)]
+        lay_out(root, [*sum(names, []), *tracked])
+        if tracked:
+            tests.run(root, ("add", *tracked))
+        server, lost, wrong, ways = Server(root), 0, [], Counter()
+
+        def add(name):
+            before = record_of(root)
+            ran = tests.run(root, ("add", name))
+            ways[way_of(root, before)] += 1
+            return ran
+
         try:
-            for i in range(ROUNDS):
-                a, b, c, d = names = [f"{i:03}{it}" for it in "abcd"]
-                ran = [tests.run(root, ("add", a)), server.run("status")[0], *(tests.run(root, ("add", it)) for it in (b, c)), server.run("add", d)[0]]
+            for a, b, c, d in names:
+                ran = [add(a), server.run("status")[0], add(b), add(c), server.run("add", d)[0]]
                 wrong += [] if ran == [(0, b"", b""), 0, (0, b"", b""), (0, b"", b""), 0] else [ran]
                 told = letters(tests.run(root)[1])
-                lost += any(told[it] != "A" for it in names)
+                lost += any(told[it] != "A" for it in (a, b, c, d))
         finally:
             server.end()
         tests.compare(f"beside a command server: {ROUNDS} rounds, of which so many lost something", (lost, wrong[:2]), (0, []))
         told = letters(hg(root, "status").stdout)
-        tests.compare("and Mercurial says so in the end", (len(told), set(told.values())), (4 * ROUNDS, {"A"}))
+        tests.compare("and Mercurial says so in the end", (len(told), set(told.values())), (4 * ROUNDS + others, {"A"}))
+        tests.compare(f"and most were saved {way}: {dict(ways)}", ways[way] > 2 * ROUNDS and set(ways) <= {ANEW, BEHIND}, True)
 
 
 def at_once(root, *words):
@@ -78,12 +92,14 @@ def at_once(root, *words):
 DONE = (0, b"")
 
 
-def run_killed(tests, calls):
-    """Killed behind each call below `.hg`: Mercurial goes on without waiting, and so does ours."""
+def run_killed(tests, calls, others):
+    """Killed behind each call below `.hg`: Mercurial goes on without waiting, and so does ours; also beside a folder of so many others, where ours saves behind the
+    data file."""
     with tests.working_copy() as root:
         hg(root, "init")
-        lay_out(root, ["a", "b", "c", "d"])
-        tests.run(root, ("add", "d"))
+        tracked = [f"others/file{i:02}" for i in range(others)]
+        lay_out(root, ["a", "b", "c", "d", *tracked])
+        tests.run(root, ("add", "d", *tracked))
         names = calls.listed(root, ["add", "c"])[1]
         hg(root, "forget", "c")
         wrong = []
@@ -93,7 +109,7 @@ def run_killed(tests, calls):
             ran = killed in (0, -signal.SIGKILL), at_once(root, "add", "b"), tests.run(root, ("add", "c")), left(root)
             wrong += [] if ran == (True, DONE, (0, b"", b""), []) else [(name, killed, ran)]
             tests.run(root, ("forget", "a", "b", "c"))
-        tests.compare(f"killed behind {len(names)} calls, then hg", wrong[:2], [])
+        tests.compare(f"killed behind {len(names)} calls beside {others} others, then hg", wrong[:2], [])
 
 
 def left(root):
@@ -162,11 +178,14 @@ def run(tests):
     if shutil.which("hg") is None:
         tests.skip("the command hg is not installed, so nothing was done beside it")
         return
-    run_server(tests)
+    run_server(tests, ANEW, 0, 0)
+    run_server(tests, BEHIND, 10, 300)
     run_signals(tests)
     run_without_links(tests)
     if has_gcc(tests, "so nothing was killed before hg went on"):
-        run_killed(tests, Calls(tests))
+        calls = Calls(tests)
+        run_killed(tests, calls, 0)
+        run_killed(tests, calls, 20)
     watcher = watched(tests, "so hg was not asked who holds the lock")
     if watcher is not None:
         run_named(tests, watcher)

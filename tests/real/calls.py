@@ -38,17 +38,17 @@ class Calls:
         """The environment in which the library does something with the calls of a program."""
         return {**os.environ, "LD_PRELOAD": self.library, "HGTRACK_WHERE": self.where, "HGTRACK_CALLS": f"{how} {number} {error} {os.path.realpath(root)}"}
 
-    def run(self, root, words, *how):
+    def run(self, root, words, *how, **given):
         """Runs the program, and stops it at a call or has that fail. Answers its status, its standard output and its error stream."""
-        return self.tests.run(root, words, env=self.env(root, *how))
+        return self.tests.run(root, words, env=self.env(root, *how), **given)
 
-    def listed(self, root, words, watcher=None):
+    def listed(self, root, words, watcher=None, **given):
         """The status and the calls of a whole run; the calls once more as the watcher sees them, where there is one."""
         path = f"{self.tests.room}/counted"
         with open(path, "wb") as told:
             env = self.env(root, "list", told.fileno())
             if watcher is None:
-                return self.tests.run(root, words, env=env, pass_fds=[told.fileno()])[0], rows_of(path), None
+                return self.tests.run(root, words, env=env, pass_fds=[told.fileno()], **given)[0], rows_of(path), None
             status, rows = watcher.listed(root, words, env, told.fileno())
         return status, rows_of(path), rows
 

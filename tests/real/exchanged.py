@@ -10,7 +10,8 @@ import time
 from calls import let_go, watched
 from commits import P1, W, name_of, put_commit, put_entries
 from folder import aborted, because, lay_out, lines, put
-from turns import LOCKED, read
+from saving import read
+from turns import LOCKED
 
 EACH, SECONDS_AT_MOST = 60, 60
 

@@ -2,7 +2,7 @@
 """Black-box tests of the built program over real folders: python3 tests/real/run.py [PROGRAM] [PART ..].
 
 PROGRAM is build/hgtrack where it isn't named. The parts are cases, listings, commits, damage, outside, standing, meanwhile, mercurial, records, parents, hooks, mixed,
-ignoring, refusing, repository, saving, syncs, turns, beside, exchanged, failing, pages, working, stopping, scripts and times; all where none is named. The last line is
+ignoring, refusing, repository, saving, appends, shared, syncs, turns, beside, exchanged, failing, pages, working, stopping, scripts and times; all where none is named. The last line is
 'N passed, M failed', and the status 0 exactly where M is 0.
 """
 
@@ -14,6 +14,7 @@ sys.dont_write_bytecode = True
 # (a path of 2,049 components is laid out by recursion)
 sys.setrecursionlimit(20_000)
 
+import appends
 import beside
 import cases
 import commits
@@ -34,6 +35,7 @@ import refusing
 import repository
 import saving
 import scripts
+import shared
 import standing
 import stopping
 import syncs
@@ -44,7 +46,7 @@ from folder import Tests, stray
 
 PARTS = {"cases": cases, "listings": listings, "commits": commits, "damage": damage, "outside": outside, "standing": standing, "meanwhile": meanwhile,
          "mercurial": mercurial, "records": records, "parents": parents, "hooks": hooks, "mixed": mixed, "ignoring": ignoring,
-         "refusing": refusing, "repository": repository, "saving": saving, "syncs": syncs, "turns": turns, "beside": beside, "exchanged": exchanged, "failing": failing, "pages": pages,
+         "refusing": refusing, "repository": repository, "saving": saving, "appends": appends, "shared": shared, "syncs": syncs, "turns": turns, "beside": beside, "exchanged": exchanged, "failing": failing, "pages": pages,
          "working": working, "stopping": stopping, "scripts": scripts, "times": times}
 
 

@@ -1,5 +1,5 @@
-"""Saving the record, stopped before and after each call below `.hg`, and with each of these calls failing: the record is then as it was before
-or as it is after, and the next command succeeds."""
+"""Saving the record, anew and behind the data file that stands, stopped before and after each call below `.hg`, and with each of these calls failing: the record is
+then as it was before or as it is after, and the next command succeeds."""
 
 import errno
 import os
@@ -17,9 +17,9 @@ KILLED = -9
 NEXT = "next"
 NO_WAY = aborted("working copy failed") + because(".", "no way to the root or back")
 # The first data files that a record names.
-DATA = [f"dirstate.{it:016x}" for it in range(3)]
+DATA = [f"dirstate.{it:016x}" for it in range(4)]
 # What no save leaves behind, and the next one takes away where an earlier one was stopped.
-LEFT = {"wlock", "wlock-new", "dirstate-new"}
+LEFT = {"wlock", "wlock-new", "dirstate-new", f"{DATA[0]}-new"}
 
 
 def told(entries, p1=NULL):
@@ -28,12 +28,15 @@ def told(entries, p1=NULL):
     return lines(f"p1 {p1.hex()}", f"p2 {NULL.hex()}", *rows)
 
 
-class Scene:
-    """A working copy and a command: what it has tracked before, and after the command."""
+ANEW, BEHIND = "anew", "behind"
 
-    def __init__(self, what, words, before, after, p1=NULL, things=(), lay=None):
+
+class Scene:
+    """A working copy and a command: what it has tracked before, and after the command; and which way it saves that."""
+
+    def __init__(self, what, words, before, after, p1=NULL, things=(), lay=None, way=ANEW):
         self.what, self.words, self.before, self.after, self.p1 = what, words, before, after, p1
-        self.things, self.lay = things, lay
+        self.things, self.lay, self.way = things, lay, way
 
     def make(self, root):
         """Lays the working copy out."""
@@ -78,13 +81,33 @@ def other_identifier(root):
     put_record(root, docket, data, "89abcdef")
 
 
+def torn(root):
+    """What a save behind the data file may have left when it was stopped: bytes behind the used ones, more than the next one puts there, and a new docket."""
+    put(f"{root}/.hg/dirstate-new", docket(45, (1, 1), identifier=b"z" * 255))
+    with open(f"{root}/.hg/dirstate.{0:016x}", "ab") as file:
+        file.write(b"\xff" * 9_000)
+
+
+def two_names(root):
+    """The data file has another name too, and what a save may have left when it was stopped while it copied that one."""
+    os.link(f"{root}/.hg/{DATA[0]}", f"{root}/.hg/other")
+    put(f"{root}/.hg/{DATA[0]}-new", b"\xff" * 9_000)
+
+
 SOME = added("a", "b.c", "d/b", "d/e/f", "x y")
 MANY = added(*(f"d{i}/e{j}/file" for i in range(5) for j in range(8)))
+# A change at the root leaves the list of the one directory as it is, which is most of the record.
+BESIDE = added("a", *(f"d/file{i}" for i in range(12)))
 
 SCENES = [
     Scene("the first files", ["add", "a", "d/b"], {}, added("a", "d/b"), things=[".hg/"]),
     Scene("files to a record of some", ["add", "d/new", "z"], SOME, {**SOME, **added("d/new", "z")}),
-    Scene("files to a record of many", ["add", "d3/new", "z"], MANY, {**MANY, **added("d3/new", "z")}),
+    Scene("files to a record of many", ["add", "d3/new", "z"], MANY, {**MANY, **added("d3/new", "z")}, way=BEHIND),
+    Scene("a file beside a directory", ["add", "z"], BESIDE, {**BESIDE, "z": "a"}, way=BEHIND),
+    Scene("a file beside a directory, behind an earlier stop", ["add", "z"], BESIDE, {**BESIDE, "z": "a"}, lay=torn, way=BEHIND),
+    Scene("a file beside a directory, where the data file has two names", ["add", "z"], BESIDE, {**BESIDE, "z": "a"}, lay=two_names, way=BEHIND),
+    Scene("forget a file beside a directory", ["forget", "a"], BESIDE, {it: "a" for it in BESIDE if it != "a"}, way=BEHIND),
+    Scene("forget all beside a directory of a commit", ["forget", "a", "z"], {**dict.fromkeys(BESIDE, "n"), "z": "n"}, {**dict.fromkeys(BESIDE, "n"), "a": "r", "z": "r"}, PARENT, way=BEHIND),
     Scene("a file behind an earlier stop", ["add", "z"], SOME, {**SOME, "z": "a"}, lay=leftovers),
     Scene("a file behind a stop before the lock", ["add", "z"], added("a"), added("a", "z"), lay=before_lock),
     Scene("a file behind a stop at the lock", ["add", "z"], added("a"), added("a", "z"), lay=behind_lock),
@@ -95,8 +118,17 @@ SCENES = [
 ]
 
 
+# The files of a scene that may be names of one: a copy has them so too.
+LINKED = [("wlock", "wlock-new"), (DATA[0], "other")]
+
 # In memory where there is such a place: what is synced there takes no time, and a process that is killed loses nothing else than on a disk.
 MEMORY = "/dev/shm"
+
+
+def wait_for_early():
+    """Waits for the first half of a second."""
+    while time.time() % 1 > 0.5:
+        time.sleep(0.01)
 
 
 def copied(tests, template, action):
@@ -104,19 +136,43 @@ def copied(tests, template, action):
     second in which it is saved anew."""
     with tempfile.TemporaryDirectory(prefix="hgtrack-real-", dir=MEMORY if os.access(MEMORY, os.W_OK) else None) as room:
         root = f"{room}/copy"
-        while time.time() % 1 > 0.5:
-            time.sleep(0.01)
+        wait_for_early()
         shutil.copytree(template, root, symlinks=True)
-        one, other = (f".hg/{it}" for it in ("wlock", "wlock-new"))
-        if os.path.exists(f"{template}/{one}") and os.path.exists(f"{template}/{other}") and os.path.samefile(f"{template}/{one}", f"{template}/{other}"):
-            os.remove(f"{root}/{one}")
-            os.link(f"{root}/{other}", f"{root}/{one}")
+        for one, other in LINKED:
+            if all(os.path.exists(f"{template}/.hg/{it}") for it in (one, other)) and os.path.samefile(f"{template}/.hg/{one}", f"{template}/.hg/{other}"):
+                os.remove(f"{root}/.hg/{one}")
+                os.link(f"{root}/.hg/{other}", f"{root}/.hg/{one}")
         return action(root)
 
 
 def shown(tests, root):
     """The status and the text of `debugdirstate`."""
     return tests.run(root, ("debugdirstate",))[:2]
+
+
+def record_of(root):
+    """The docket, the data file that it names, its name, and how many of its bytes are used; nothing where there is no docket."""
+    if not os.path.exists(f"{root}/.hg/dirstate"):
+        return None
+    docket = read(f"{root}/.hg/dirstate")
+    name = "dirstate." + docket[125:125 + docket[124]].decode()
+    return docket, read(f"{root}/.hg/{name}") if os.path.exists(f"{root}/.hg/{name}") else b"", name, int.from_bytes(docket[120:124], "big")
+
+
+def read(path):
+    with open(path, "rb") as file:
+        return file.read()
+
+
+def way_of(root, before):
+    """Which way a record took the place of another: behind its data file, whose used bytes are as they were and which has more used ones or the same; or anew,
+    where the old data file is gone. Nothing where there is no other docket."""
+    after = record_of(root)
+    if after is None or before is not None and after[0] == before[0]:
+        return None
+    if before is not None and after[2] == before[2]:
+        return BEHIND if after[1][:before[3]] == before[1][:before[3]] and before[3] <= after[3] <= len(after[1]) else "damaged"
+    return ANEW if before is None or not os.path.exists(f"{root}/.hg/{before[2]}") else "left over"
 
 
 def succeeds_then(tests, root, scene, which):
@@ -218,8 +274,9 @@ def read_at(name, reads):
     return [f"{call} {name}" for call in ("statx", "openat", "lseek", *reads * ["read"])]
 
 
-def write_at(name):
-    return [f"{call} {name}" for call in ("statx", "openat", "statx", "lseek", "write")]
+# (of a file that is there already it is looked at whether that one was opened)
+def write_at(name, is_there=False):
+    return [f"{call} {name}" for call in ("statx", "openat", *is_there * ["statx"], "statx", "lseek", "write")]
 
 
 # (of a file that was written, which is still open)
@@ -245,7 +302,16 @@ def saved(old, new, is_recent):
     ]
 
 
-# The shelf's calls of three commands, one after another, by name and in order, and whether the docket has changed in the very second of the command. (The
+def appended(name, is_recent):
+    """The calls of an add to a record that is put behind its data file."""
+    return [
+        LOCK, read_at("dirstate", 2), size(name), read_at(name, 1), STAND, write_at(name, True), sync(name), write_at("dirstate-new"), sync("dirstate-new"),
+        rename("dirstate-new", "dirstate", True, is_recent), SYNC_NAMES, UNLOCK,
+    ]
+
+
+BELOW = [f"d/{it}" for it in range(10)]
+# The shelf's calls of some commands, one after another, by name and in order, and whether the docket has changed in the very second of the command. (The
 # docket is read into more room than it takes, so up to a read of nothing, and of the data as many bytes as there are. The working copy is looked at
 # in between.)
 IN_ORDER = [
@@ -255,6 +321,9 @@ IN_ORDER = [
     ]),
     (["add", "b"], False, saved(DATA[0], DATA[1], False)),
     (["add", "c"], True, saved(DATA[1], DATA[2], True)),
+    (["add", *BELOW], False, saved(DATA[2], DATA[3], False)),
+    (["add", "e"], False, appended(DATA[3], False)),
+    (["add", "f"], True, appended(DATA[3], True)),
 ]
 
 
@@ -274,17 +343,17 @@ def named(root, row):
 
 
 def run_in_order(tests, calls):
-    """What two commands do below `.hg`, call by call: nothing else, and in this order. Before it there is the look for `.hg`, and the one for what is
+    """What some commands do below `.hg`, call by call: nothing else, and in this order. Before it there is the look for `.hg`, and the one for what is
     required."""
     with tests.working_copy() as root:
-        lay_out(root, [".hg/", "a", "b", "c"])
+        lay_out(root, [".hg/", "a", "b", "c", *BELOW, "e", "f"])
         root = os.path.realpath(root)
         for words, is_recent, wanted in IN_ORDER:
             if is_recent is not None:
                 wait_for(f"{root}/.hg/dirstate", is_recent)
             status, rows, _ = calls.listed(root, words)
             names = [it for row in rows for it in named(root, row)]
-            tests.compare(f"in order: {' '.join(words)}: {len(wanted)} calls of the shelf", (status, names), (0, FOUND + sum(wanted, [])))
+            tests.compare(f"in order: {' '.join(words[:2])}: {len(wanted)} calls of the shelf", (status, names), (0, FOUND + sum(wanted, [])))
 
 
 def run_below(tests, calls):
@@ -342,6 +411,15 @@ def counted(tests, calls, watcher, scene, template):
     return names
 
 
+def run_way(tests, scene, template):
+    """Which way a scene saves."""
+    def ran(root):
+        before = record_of(root)
+        return tests.run(root, scene.words)[0], way_of(root, before)
+
+    tests.compare(f"{scene.what}: saved {scene.way}", copied(tests, template, ran), (0, scene.way))
+
+
 def run(tests):
     if not has_gcc(tests, "so saving was neither stopped nor failed"):
         return
@@ -350,6 +428,7 @@ def run(tests):
     for scene in SCENES:
         with tests.working_copy() as template:
             scene.make(template)
+            run_way(tests, scene, template)
             names = counted(tests, calls, watcher, scene, template)
             stops += run_stops(tests, calls, scene, template, names)
             passed |= run_failures(tests, calls, scene, template, names)
@@ -357,6 +436,6 @@ def run(tests):
     run_one_name(tests, calls)
     run_in_order(tests, calls)
     run_few_open(tests)
-    tests.compare(f"{stops} stops", stops >= 300, True)
+    tests.compare(f"{stops} stops", stops >= 600, True)
     # (the look at the root's own name, which serves no more then, and the look which folder `.hg` is, which is then the one of the root)
     tests.compare("calls whose failure changes nothing", passed, {"statx of copy", "statx of .hg"})

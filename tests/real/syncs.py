@@ -1,5 +1,5 @@
 """The order in which a save makes things sure, as strace sees it: the data file and what names it before the docket, the docket before the
-rename, the rename before the old data file goes; and each file by the very open file that was written."""
+rename, the rename before the old data file goes, where there is one; and each file by the very open file that was written."""
 
 import os
 import re
@@ -56,14 +56,15 @@ def in_order(done, wanted):
 
 
 def saves(new, old=None):
-    """The events of a save in the order in which they have to be: the lock first. Before the first docket the folder that names `.hg` is made sure."""
+    """The events of a save in the order in which they have to be: the lock first. Before the first docket the folder that names `.hg` is made sure. A data file that
+    is put behind is no other than the old one, and stays."""
     rows = [
         ("write", ".hg/wlock-new"), ("link", ".hg/wlock-new .hg/wlock"), ("unlink", ".hg/wlock-new"),
         ("write", f".hg/{new}"), ("fsync", f".hg/{new}"), ("fsync", ".hg"),
         ("write", ".hg/dirstate-new"), ("fsync", ".hg/dirstate-new"), *([] if old else [("fsync", ".")]),
         ("rename", ".hg/dirstate-new .hg/dirstate"), ("fsync", ".hg"),
     ]
-    return rows + ([("unlink", f".hg/{old}")] if old else []) + [("unlink", ".hg/wlock")]
+    return rows + ([("unlink", f".hg/{old}")] if old and old != new else []) + [("unlink", ".hg/wlock")]
 
 
 def run_order(tests, what, things, tracked, words, wanted):
@@ -90,3 +91,6 @@ def run(tests):
     run_order(tests, "the first add", [".hg/", "a", "d/b"], [], ["add", "a", "d/b"], saves(OLD))
     run_order(tests, "another add", ["a", "d/b", "z"], [b"a", b"d/b"], ["add", "z"], saves(NEW, OLD))
     run_order(tests, "forget", ["a", "d/b"], [b"a", b"d/b"], ["forget", "a"], saves(NEW, OLD))
+    behind = [f"d/{it}" for it in range(10)]
+    run_order(tests, "an add behind the data file", [*behind, "z"], [it.encode() for it in behind], ["add", "z"], saves(OLD, OLD))
+    run_order(tests, "a forget behind the data file", ["a", *behind], [b"a", *(it.encode() for it in behind)], ["forget", "a"], saves(OLD, OLD))

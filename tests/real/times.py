@@ -15,8 +15,7 @@ from dirstate import written
 from folder import SECONDS, as_nobody, lay_out, lines, put, put_record
 from mercurial import OPTIONS, hg
 from parents import export, init
-from saving import KILLED, MEMORY, copied, is_line, short
-from turns import read
+from saving import KILLED, MEMORY, copied, is_line, read, short
 
 TEXTS = [b"one\n", b"two\n", b"six\n", b"three\n", b""]
 NAMES = [f"{folder}{name}" for folder in ("", "d/", "d/e/", "src/") for name in ("a", "b.c", "l", "x")]

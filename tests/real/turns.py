@@ -11,7 +11,7 @@ from calls import let_go, watched
 from folder import SECONDS, aborted, lay_out
 from mercurial import OPTIONS, hg
 from parents import export, init
-from saving import told
+from saving import read, record_of, told
 
 LOCKED = aborted("working copy is locked")
 EACH, FILES, STEPS = 200, 30, 50
@@ -43,7 +43,10 @@ def run_two(tests):
         tests.compare(f"two that add {EACH} files each: locked {locked} times", [(it.returncode, err) for it, (_, err) in zip(both, ends)], 2 * [(0, b"")])
         tests.compare("and one of them found the working copy locked", any(int(out) for out, _ in ends if out.strip()), True)
         tests.compare("no path is lost", tests.run(root, ("debugdirstate",)), (0, told(dict.fromkeys(lists[0] + lists[1], "a")), b""))
-        tests.compare("and nothing is left over", sorted(it for it in os.listdir(f"{root}/.hg")), ["dirstate", f"dirstate.{2 * EACH - 1:016x}"])
+        # (each add that was saved anew took the next identifier)
+        name = record_of(root)[2]
+        tests.compare("and nothing is left over", sorted(os.listdir(f"{root}/.hg")), ["dirstate", name])
+        tests.compare("some were saved anew, and some behind the data file", 0 < int(name.partition(".")[2], 16) < 2 * EACH - 1, True)
 
 
 def letters(text):
@@ -126,11 +129,6 @@ def run_their_lock(tests):
         tests.compare("add beside the link of a lock", tests.run(root, ("add", "c")), (255, b"", LOCKED))
         os.remove(lock)
         tests.compare("and it was left out", hg(root, "status").stdout, b"A b\n? c\n")
-
-
-def read(path):
-    with open(path, "rb") as file:
-        return file.read()
 
 
 def run_our_lock(tests, calls):

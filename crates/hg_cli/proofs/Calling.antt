@@ -54,7 +54,7 @@ module _ {C D F : Type 0} (Does : C → D → D → ℕ → Option F → Type 0)
 -- where nothing is done
 same_steps : (c : Course) → Steps (record { old = c; new = c })
 same_steps c =
-    (goes_same c, λ calm keep latest. (_, crash_unwritten c c (goes_same c) calm keep (record { none = λ k after before who. none_before k c.history.last after before }) latest))
+    (goes_same c, λ calm keep latest ground. (_, crash_unwritten c c (goes_same c) calm keep (record { none = λ k after before who. none_before k c.history.last after before }) latest))
 
 module _ {T S G O E : Type 0} (views : Views T S G O E) where
   stopped_or_run : (is : Bool) (met : Fault) (words : List (List ℕ)) (part : Seen) (code : ℕ) (fault : Option Fault)
@@ -120,9 +120,9 @@ module _ {T S G O E : Type 0} (views : Views T S G O E) where
         ((does, says.0), says.1)
 
   pub each_call_is_safe : EachCallIsSafe views
-  each_call_is_safe calls first last latest premise runs =
+  each_call_is_safe calls first last shelf premise runs =
       let says = says_each (Calls views) (CallsSafely views) (Premise (shelf_course views) first) (Kept (shelf_course views) first)
       (λ call old new does. call_back first (is_script call.words) call.words call.from call.to (devices call.old old) (devices call.new new) call.code call.fault does)
       (λ call old new does. call_each first (is_script call.words) call.words call.from call.to (devices call.old old) (devices call.new new) call.code call.fault does)
-      calls first last runs premise (kept_first (shelf_course views) first latest) in
-      (says.0, says.1.1, keeps_data (shelf_course views) first last premise says.1.1)
+      calls first last runs premise (kept_first (shelf_course views) first shelf) in
+      (says.0, says.1.2, keeps_data (shelf_course views) first last premise says.1)

@@ -27,7 +27,7 @@ use Rattle.hg_tree.specs.History as tree
 pub record LeadsOn (looked : Looked) (saved : Saved) : Type 0 where
   pub tree : tree.Extends looked.tree.old looked.tree.new
   pub goes : Goes saved.old saved.new
-  pub latest : IsFair looked saved → IsLatest (last_scene saved.old) → IsLatest (last_scene saved.new)
+  pub latest : IsFair looked saved → IsLatest (last_scene saved.old) → LeavesGood looked.tree.old (last_scene saved.old) → IsLatest (last_scene saved.new)
   pub good : StaysGood looked saved
 
 module _ (x y z : tree.History) (a b c : Course) (fx fy fz : ℕ) (p q r : Watched shelf.History) (m n o : Count) (first_past : tree.Extends x y) (second_past : tree.Extends y z) (goes : Goes a b) (behind : Goes b c) where
@@ -119,10 +119,11 @@ module _ (x y z : tree.History) (a b c : Course) (fx fy fz : ℕ) (p q r : Watch
   leads_both one two = record {
     tree = extends_trans x y z first_past second_past;
     goes = goes_trans a b c goes behind;
-    latest = λ fair latest. two.latest (fair_second fair) (one.latest (fair_first fair) latest);
+    latest = λ fair latest good.
+        two.latest (fair_second fair) (one.latest (fair_first fair) latest good) (one.good (fair_first fair) latest good b.history.last goes.past.later (omega arith));
     good = λ fair latest good k after within. elim (cases_lt b.history.last k) [
       | inl late ↦
-          two.good (fair_second fair) (one.latest (fair_first fair) latest) (one.good (fair_first fair) latest good b.history.last goes.past.later (omega arith)) k (omega (arith, late)) within
+          two.good (fair_second fair) (one.latest (fair_first fair) latest good) (one.good (fair_first fair) latest good b.history.last goes.past.later (omega arith)) k (omega (arith, late)) within
       | inr early ↦ good_on k early (one.good (fair_first fair) latest good k after early)
     ];
   }

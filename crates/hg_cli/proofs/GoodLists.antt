@@ -14,11 +14,13 @@ use Rattle.hg_report.specs.declared.fault.Fault.{Fault}
 use Rattle.hg_report.specs.declared.fault.Fault.TheVariants as a_fault
 use Rattle.hg_session.proofs.Crashes.{crash_unwritten}
 use Rattle.hg_session.proofs.GoodCalls.{alone_past, ran_good, unwritten_good}
+use Rattle.hg_session.proofs.GoodParts.{data_before, from_moment}
 use Rattle.hg_session.proofs.GoodStays.{good_later}
 use Rattle.hg_session.specs.Answered.{IsAnswered, IsIdle}
 use Rattle.hg_session.specs.Call.{Call, Count, IsLeftAlone, Looked, Saved, Sink}
-use Rattle.hg_session.specs.Change.{IsUnwritten}
-use Rattle.hg_session.specs.Good.{KeepsGood, LeavesGood}
+use Rattle.hg_session.specs.Change.{IsUnwritten, up_to}
+use Rattle.hg_session.specs.Crash.{IsFirmGround}
+use Rattle.hg_session.specs.Good.{IsFair, KeepsGood, LeavesGood}
 use Rattle.hg_shelf.proofs.Scenes.{goes_same}
 use Rattle.hg_shelf.specs.Images.{Goes, Scene, last_scene, scene}
 use Rattle.hg_tree.specs.History as tree
@@ -31,8 +33,15 @@ unwritten_leads : (looked : Looked) (saved : Saved) → IsLeftAlone looked.tree 
 unwritten_leads looked saved alone goes none = record {
   tree = alone_past looked.tree alone;
   goes = goes;
-  latest = λ fair latest. (crash_unwritten saved.old saved.new goes fair.calm fair.keep none latest).latest;
+  latest = λ fair latest good. (crash_unwritten saved.old saved.new goes fair.calm fair.keep none latest).latest;
   good = unwritten_good looked saved (alone_past looked.tree alone) goes none;
+}
+
+-- what is good is firm ground, where others keep the data that dockets name
+firm_by : (looked : Looked) (saved : Saved) → IsFair looked saved → LeavesGood looked.tree.old (last_scene saved.old) → IsFirmGround saved
+firm_by looked saved fair good = record {
+  sound = λ f left. let there = good f left in (there.0, there.1);
+  kept = λ k later within none. data_before (up_to k saved.new.history) saved.new.history (from_moment saved.new.history k within) saved.old.history.last fair.kept;
 }
 
 pub idle_leads : (looked : Looked) (saved : Saved) (locks : Count) (out : Sink) → IsIdle looked saved locks out → LeadsOn looked saved
@@ -82,7 +91,12 @@ module _ {T S G O E : Type 0} (views : Views T S G O E)
       let good : KeepsGood (seen views old new).looked (seen views old new).saved =
       ran_good (seen views old new).looked.tree (seen views old new).looked.shelf (seen views old new).looked.oversize (seen views old new).locks (views.images old.1) (views.images new.1)
       (seen views old new).out (seen views old new).err code fault (shown new.1) command answered.ran in
-      record { tree = good.past; goes = answered.kept; latest = λ fair latest. (answered.crash fair.calm fair.keep latest).1.latest; good = good.stays }
+      record {
+        tree = good.past;
+        goes = answered.kept;
+        latest = λ fair latest begun. (answered.crash fair.calm fair.keep latest (firm_by (seen views old new).looked (seen views old new).saved fair begun)).1.latest;
+        good = good.stays;
+      }
 
   carried_leads : (command : Command) (old new : Devices) (code : ℕ) (fault : Option Fault)
       → Carries command (seen views old new).looked (seen views old new).saved (seen views old new).locks (seen views old new).out (seen views old new).err code fault → Leads old new
@@ -140,7 +154,7 @@ module _ {T S G O E : Type 0} (views : Views T S G O E)
       let leads = call_leads call.words call.from call.to (devices call.old old.0) (devices call.new new.0) call.code call.fault does.does in
       let begun : LeavesGood (views.tree call.old.tree) (last_scene (shelf_course views old.0)) = since (last_scene (shelf_course views old.0)) old.1 (views.tree call.old.tree) does.since sound.good in
       let all : CallsGood views call old new = λ k after within. subst (λ (h : tree.History). LeavesGood h (scene (shelf_course views new.0) k)) (sym does.behind) (leads.good does.fair sound.latest begun k after within) in
-      (all, record { latest = leads.latest does.fair sound.latest; good = all (shelf_course views new.0).history.last leads.goes.past.later (omega arith) })
+      (all, record { latest = leads.latest does.fair sound.latest begun; good = all (shelf_course views new.0).history.last leads.goes.past.later (omega arith) })
 
   pub each_call_is_good : EachCallIsGood views
   each_call_is_good calls first last sound runs =

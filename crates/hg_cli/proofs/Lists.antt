@@ -1,21 +1,24 @@
 -- What holds of each run of a list.
-use Rattle.std.proofs.Common.{ℕ, ◌≤◌, ◌<◌, ◌+◌, List, Option, sym, ◌∙◌, subst, arith, inl, inr}
-use Rattle.std.proofs.lemmas.Bool.{cases_lt}
+use Rattle.std.proofs.Common.{ℕ, ◌≤◌, ◌<◌, ◌+◌, ◌⊎◌, List, Option, IsTrue, sym, ◌∙◌, subst, arith, inl, inr}
 use Rattle.hg_base.proofs.Runs.{says_each}
-use Rattle.hg_cli.specs.Run.{Carries, EachIsSafe, IsRun, IsSafe, KeepsAll, OthersKeep, Runs, saved_over}
+use Rattle.hg_cli.specs.Run.{Carries, EachIsSafe, IsRun, IsSafe, IsSoundShelf, KeepsAll, OthersKeep, Runs, saved_over}
 use Rattle.hg_report.specs.declared.fault.Fault.{Fault}
 use Rattle.hg_save.proofs.Published.{keeps_later, orderly_same}
-use Rattle.hg_save.proofs.Spans.{keep_beside}
 use Rattle.hg_save.specs.Loads.{files_at}
-use Rattle.hg_save.specs.Others.{HasData, IsKeeping, KeepData, KeepsFiles, KeepsRecords}
-use Rattle.hg_save.specs.Saved.{IsLatest}
+use Rattle.hg_save.specs.Others.{HasData, KeepData, KeepsRecords}
 use Rattle.hg_session.proofs.Crashes.{crash_unwritten}
+use Rattle.hg_save_behind.specs.Behind.{KeepsUsed}
+use Rattle.hg_session.proofs.Firm.{kept_upto}
+use Rattle.hg_session.proofs.GoodParts.{data_before, data_later, from_moment}
+use Rattle.hg_session.proofs.UsedSteps.{used_beside, used_both, used_later, used_shorter}
 use Rattle.hg_session.specs.Answered.{IsIdle}
 use Rattle.hg_session.specs.Call.{Count, Looked, Saved, Sink}
+use Rattle.hg_session.specs.Change.{NoneOurs, up_to}
 use Rattle.hg_session.specs.Crash.{IsSafeFromCrashes}
 use Rattle.hg_shelf.proofs.Scenes.{only_before, only_later}
-use Rattle.hg_shelf.specs.History.{Extends, Files, History, Who, others, us}
+use Rattle.hg_shelf.specs.History.{Who, others, us}
 use Rattle.hg_shelf.specs.Images.{Course, Goes, last_scene}
+use Rattle.hg_shelf.specs.Polite.{Undisturbed}
 use Rattle.hg_words.specs.declared.given.Command.{Command}
 use Rattle.hg_words.specs.declared.given.Command.TheVariants as a_command
 
@@ -28,24 +31,13 @@ keeps_before by a b from goes keep = record {
       (keep.each k after (omega (arith, before, later)) (goes.past.who k before ∙ who));
 }
 
--- steps that keep data up to a call and in it
-keeps_both : (by : Who) (a b : History) (from : ℕ) → Extends a b → KeepsFiles by a from → KeepsFiles by b a.last → KeepsFiles by b from
-keeps_both by a b from past first second = record {
-  each = λ k after before who. elim (cases_lt k a.last) [
-    | inl less ↦
-        subst (λ (f : Files). IsKeeping f (files_at b (k + 1))) (sym (past.stay k (omega (arith, less))).shown)
-        (subst (λ (f : Files). IsKeeping (files_at a k) f) (sym (past.stay (k + 1) (omega (arith, less))).shown) (first.each k after less (sym (past.who k less) ∙ who)))
-    | inr most ↦ second.each k (omega (arith, most)) before who
-  ];
-}
-
 -- what a call keeps whatever it was: the moments so far, and what a crash may leave
 abbrev pub Steps : Saved → Type 0
 Steps saved = Goes saved.old saved.new × IsSafeFromCrashes saved
 
 pub idle_steps : (looked : Looked) (saved : Saved) (locks : Count) (out : Sink) → IsIdle looked saved locks out → Steps saved
 idle_steps looked saved locks out idle =
-    (idle.kept, λ calm keep latest. (_, crash_unwritten saved.old saved.new idle.kept calm keep idle.unwritten latest))
+    (idle.kept, λ calm keep latest ground. (_, crash_unwritten saved.old saved.new idle.kept calm keep idle.unwritten latest))
 
 carried_steps : (command : Command) (looked : Looked) (saved : Saved) (locks : Count) (out err : Sink) (code : ℕ) (fault : Option Fault)
     → Carries command looked saved locks out err code fault → Steps saved
@@ -58,7 +50,7 @@ carried_steps (a_command.SetParents p1 p2) looked saved locks out err code fault
 carried_steps a_command.DebugDirstate looked saved locks out err code fault answered = (answered.kept, answered.crash)
 carried_steps a_command.DebugScript looked saved locks out err code fault answered = (answered.kept, answered.crash)
 carried_steps (a_command.DebugLoad n) looked saved locks out err code fault loaded =
-    (loaded.untouched.kept, λ calm keep latest. (_, crash_unwritten saved.old saved.new loaded.untouched.kept calm keep loaded.untouched.unwritten latest))
+    (loaded.untouched.kept, λ calm keep latest ground. (_, crash_unwritten saved.old saved.new loaded.untouched.kept calm keep loaded.untouched.unwritten latest))
 
 pub run_steps : (words : List (List ℕ)) (looked : Looked) (saved : Saved) (locks : Count) (out err : Sink) (code : ℕ) (fault : Option Fault)
     → IsRun words looked saved locks out err code fault → Steps saved
@@ -74,23 +66,61 @@ module _ {S : Type 0} (course_of : S → Course) (first : S) where
   Premise shelf = OthersKeep (course_of first) (course_of shelf)
 
   abbrev pub Kept : S → Type 0
-  Kept shelf = (start ≤ (course_of shelf).history.last) × KeepsAll (course_of first) (course_of shelf)
+  Kept shelf = (start ≤ (course_of shelf).history.last) × HasData (files_at (course_of shelf).history start) × KeepsAll (course_of first) (course_of shelf)
 
   pub back : (old new : S) → Steps (saved_over course_of old new) → Premise new → Premise old
   back old new steps premise = record {
     told = sym steps.0.past.told ∙ premise.told;
     only = only_before (course_of old) (course_of new) start steps.0 premise.only;
     keep = keeps_before others (course_of old) (course_of new) start steps.0 premise.keep;
+    kept = elim premise.kept [
+      | inl kept ↦ inl (data_before (course_of old).history (course_of new).history steps.0.past start kept)
+      | inr used ↦ inr (used_shorter others (course_of old).history (course_of new).history start steps.0.past used)
+    ];
   }
+
+  -- the data that dockets name are kept up to where a call makes its first step, and in all of it once its own steps keep the bytes that dockets use
+  record KeepsOn (a b : Course) : Type 0 where
+    upto : (k : ℕ) → a.history.last ≤ k → k ≤ b.history.last → NoneOurs b.history a.history.last k → KeepData (up_to k b.history) a.history.last
+    whole : KeepsUsed us b.history a.history.last → KeepData b.history a.history.last
+
+  keeps_on : (a b : Course) → Goes a b → Undisturbed a b → start ≤ a.history.last → IsTrue b.history.told → HasData (last_scene a).files
+      → KeepData b.history start ⊎ KeepsUsed others b.history start → KeepsOn a b
+  keeps_on a b goes calm later told there (inl kept) =
+      let from : KeepData b.history a.history.last = data_later b.history start a.history.last later kept in
+      record { upto = λ k after within none. data_before (up_to k b.history) b.history (from_moment b.history k within) a.history.last from; whole = λ own. from }
+  keeps_on a b goes calm later told there (inr used) =
+      let theirs = used_later others b.history start a.history.last later used in
+      record {
+        upto = kept_upto a b goes calm there theirs;
+        whole = λ own. used_beside b a.history.last told calm.others (subst HasData (sym (goes.kept a.history.last (omega arith)).shown) there) own theirs;
+      }
 
   pub each : (words : List (List ℕ)) (old new : S) → Steps (saved_over course_of old new) → Premise new → Kept old → IsSafe course_of words old new × Kept new
   each words old new steps premise kept =
+      let a : Course = course_of old in
+      let b : Course = course_of new in
+      let calm : Undisturbed a b =
+      record { told = sym steps.0.past.told ∙ premise.told; others = only_later b start a.history.last kept.0 premise.only } in
+      let shelf : IsSoundShelf a = kept.2.shelf in
+      let on : KeepsOn a b = keeps_on a b steps.0 calm kept.0 premise.told shelf.there premise.kept in
       let safe : IsSafe course_of words old new =
-      steps.1
-      (record { told = sym steps.0.past.told ∙ premise.told; others = only_later (course_of new) start (course_of old).history.last kept.0 premise.only })
-      (keeps_later others (course_of new) start (course_of old).history.last kept.0 premise.keep) kept.1.latest in (
+      steps.1 calm (keeps_later others b start a.history.last kept.0 premise.keep) shelf.latest (record { sound = shelf.sound; kept = on.upto }) in
+      let within = steps.0.past.later in
+      let keeps : KeepData b.history a.history.last = on.whole safe.1.keeping in (
         safe,
-        (omega (arith, kept.0, steps.0.past.later), record { latest = safe.1.latest; keeping = keeps_both us (course_of old).history (course_of new).history start steps.0.past kept.1.keeping safe.1.keeping }),
+        (
+          omega (arith, kept.0, within),
+          subst HasData (sym (steps.0.past.stay start kept.0).shown) kept.1,
+          record {
+            shelf = record {
+              latest = safe.1.latest;
+              sound = safe.1.sound shelf.sound b.history.last within (omega arith);
+              there = keeps.there b.history.last within (omega arith);
+            };
+            keeping = used_both us a.history b.history start steps.0.past kept.2.keeping safe.1.keeping;
+          },
+        ),
       )
 
   steps_of : (words : List (List ℕ)) (old new : S) → Runs course_of words old new → Steps (saved_over course_of old new)
@@ -107,15 +137,17 @@ none_before k last after before = omega (arith, after, before)
 
 module _ {S : Type 0} (course_of : S → Course) where
   -- at the start of a list nothing was done
-  pub kept_first : (first : S) → IsLatest (last_scene (course_of first)) → Kept course_of first first
-  kept_first first latest =
-      (omega arith, record { latest = latest; keeping = record { each = λ k after before who. absurd (none_before k (course_of first).history.last after before) } })
+  pub kept_first : (first : S) → IsSoundShelf (course_of first) → Kept course_of first first
+  kept_first first shelf =
+      (omega arith, shelf.there, record { shelf = shelf; keeping = record { each = λ k after before who. absurd (none_before k (course_of first).history.last after before) } })
 
-  pub keeps_data : (first last : S) → Premise course_of first last → KeepsAll (course_of first) (course_of last) → HasData (files_at (course_of last).history (course_of first).history.last)
-      → KeepsFiles others (course_of last).history (course_of first).history.last → KeepData (course_of last).history (course_of first).history.last
-  keeps_data first last premise kept there theirs = keep_beside (course_of last) (course_of first).history.last premise.told premise.only there kept.keeping theirs
+  pub keeps_data : (first last : S) → Premise course_of first last → Kept course_of first last → KeepData (course_of last).history (course_of first).history.last
+  keeps_data first last premise kept = elim premise.kept [
+    | inl keeps ↦ keeps
+    | inr used ↦ used_beside (course_of last) (course_of first).history.last premise.told premise.only kept.1 kept.2.keeping used
+  ]
 
   pub each_is_safe : EachIsSafe course_of
-  each_is_safe calls first last latest premise runs =
-      let says = says_each (Runs course_of) (IsSafe course_of) (Premise course_of first) (Kept course_of first) (back_run course_of first) (each_run course_of first) calls first last runs premise (kept_first first latest) in
-      (says.0, says.1.1, keeps_data first last premise says.1.1)
+  each_is_safe calls first last shelf premise runs =
+      let says = says_each (Runs course_of) (IsSafe course_of) (Premise course_of first) (Kept course_of first) (back_run course_of first) (each_run course_of first) calls first last runs premise (kept_first first shelf) in
+      (says.0, says.1.2, keeps_data first last premise says.1)

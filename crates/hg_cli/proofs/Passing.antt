@@ -1,21 +1,29 @@
 -- A status over the copy that asks for all letters and meets no fault: what it prints, and what stands behind it.
 use Rattle.std.proofs.Common.{ℕ, ◌≡◌, ◌*◌, ◌%◌, ◌<◌, ◌≤◌, ◌⊎◌, Bool, true, false, List, [], ◌++◌, Option, Some, None, Ok, inl, inr, refl, sym, ap, subst, ◌∙◌, arith, eqb}
 use Rattle.std.specs.Prelude.{IfSome, IsTrue, codes, option_map}
+use Rattle.hg_append.specs.declared.way.Way.{Way}
+use Rattle.hg_append.specs.declared.way.Way.TheVariants as a_way
+use Rattle.hg_appended.specs.Loss.{plan_of}
 use Rattle.hg_base.specs.Fault.{Rose}
 use Rattle.hg_compare.specs.Tracked.{ParentRow}
+use Rattle.hg_docket.specs.Docket.{Contents}
 use Rattle.hg_entry.specs.Entry.{StampData}
 use Rattle.hg_entry.specs.Table.{Table, flat_of}
 use Rattle.hg_flat.specs.Patterns.{ignored_at}
 use Rattle.hg_gen.specs.Copy.{AreFiles}
+use Rattle.hg_publish.proofs.Solid.{sound_data}
 use Rattle.hg_report.specs.Status.{sign_of}
+use Rattle.hg_save.specs.Others.{HasData, KeepData}
 use Rattle.hg_save.specs.Record.{data_name, reading}
 use Rattle.hg_save.specs.Saved.{new_docket}
+use Rattle.hg_save_behind.proofs.Spans.{keep_used}
 use Rattle.hg_session.proofs.Longer.{right_by_start, rows_stay}
 use Rattle.hg_session.proofs.SameTables.{one_table}
 use Rattle.hg_session.specs.Call.{Count, Looked, Saved, Sink}
-use Rattle.hg_session.specs.Change.{IsSafe}
+use Rattle.hg_session.specs.Change.{IsSafe, up_to}
 use Rattle.hg_session.specs.Listed.{IsOwn, IsRightFor}
 use Rattle.hg_session.specs.Saving.{IsLockedToSave, IsNotedHeld}
+use Rattle.hg_session.specs.Ways.{KeepsBy}
 use Rattle.hg_session.specs.Status.{AreEarnedFor, IsFullText, IsLoadedFirst, RanStatus, SavesLast, noted_in}
 use Rattle.hg_shelf.specs.History as shelf
 use Rattle.hg_shelf.specs.Images.{Images, course}
@@ -60,6 +68,13 @@ none_seen : (seen : Option DirNote) (gone : Bool) (cache : Option StampData) →
 none_seen None true cache is none = refl
 none_seen None false cache is none = none
 none_seen (Some note) gone cache is none = absurd (cc (is))
+
+-- a publication keeps the plain store, by either way
+plain_kept : (way : Way) (docket : Contents) (old new : shelf.Files) → KeepsBy way docket old new → (name : List ℕ) → is_plain name ≡ true → new name ≡ old name
+plain_kept a_way.Rewrite docket old new kept name plain =
+    kept.2.others name (not_plain name (codes "dirstate") refl plain) (not_plain name new_docket refl plain) (not_plain name (data_name docket.id) refl plain) (not_plain name (data_name kept.0) refl plain)
+plain_kept a_way.Append docket old new kept name plain =
+    kept.others name (not_plain name (codes "dirstate") refl plain) (not_plain name new_docket refl plain) (not_plain name (data_name docket.id) refl plain)
 
 module _ (dirs : ℕ) (looked : Looked) (before after : ℕ → Images) (locks : Count) (out err : Sink) (tree_told : IsTrue looked.tree.old.told) (honest : IsHonest looked.tree.new)
     (tree_ours : (k : ℕ) → looked.tree.new.who k ≡ tree.us) (shelf_told : IsTrue looked.shelf.old.told)
@@ -106,9 +121,15 @@ module _ (dirs : ℕ) (looked : Looked) (before after : ℕ → Images) (locks :
           each = λ name plain k from upto.
               let kept = published.is.others k (omega (arith, front, from)) (omega (arith, back, upto)) in
               let first : published.stretch.from ≡ start = omega (arith, front, from_start) in
-              kept.others name (not_plain name (codes "dirstate") refl plain) (not_plain name new_docket refl plain) (not_plain name (data_name _) refl plain) (not_plain name (data_name _) refl plain)
+              plain_kept (plan_of published.is.held) published.is.held.docket (looked.shelf.new.at published.stretch.from).files (looked.shelf.new.at k).files kept name plain
               ∙ ap (λ (j : ℕ). (looked.shelf.new.at j).files name) first;
         }
+
+    -- the data file that the docket names is there
+    kept_here : KeepData (up_to start looked.shelf.new) start
+    kept_here =
+        keep_used (up_to start looked.shelf.new) start (past.told ∙ shelf_told) (subst HasData (sym shown_first) (sound_data there (between.table, between.reads)))
+        (λ by. record { each = λ k after before who. absurd (omega (arith, after, before)) })
 
     -- nothing was written, or the record with the notes is what is recorded then
     locked_still : (t : Table) → locks.before ≡ 0 → Rose locks.before locks.after → IsLockedToSave looked.shelf.old looked.shelf saved locks t notes None → end ≤ start
@@ -123,7 +144,11 @@ module _ (dirs : ℕ) (looked : Looked) (before after : ℕ → Images) (locks :
         let made = noted calm in
         elim made.1 [
           | inl unsaved ↦ inl (none_late looked.shelf.new shelf_ours start end (omega arith) unsaved.1.none)
-          | inr kept ↦
+          | inr over ↦
+              let from_start : start ≤ made.0.from = made.0.start in
+              let front : made.0.from ≤ start = none_late looked.shelf.new shelf_ours start made.0.from (omega (arith, made.0.order, made.0.end)) made.0.before in
+              let first : made.0.from ≡ start = omega (arith, front, from_start) in
+              let kept = over.kept (λ way. subst (λ (k : ℕ). KeepData (up_to k looked.shelf.new) start) (sym first) kept_here) in
               let upto_end : made.0.to ≤ end = made.0.end in
               let back : end ≤ made.0.to = none_late looked.shelf.new shelf_ours made.0.to end (omega arith) made.0.behind in
               let last : end ≡ made.0.to = omega (arith, upto_end, back) in

@@ -1,17 +1,14 @@
 -- What holds of lists of calls of the program, scripts included, and in a script of each of its turns.
 use Rattle.std.specs.Prelude.{ℕ, List, Option, MatchBool}
 use Rattle.hg_base.specs.Runs.{RunsEach}
-use Rattle.hg_cli.specs.Run.{IsRun, KeepsAll, OthersKeep, saved_over}
+use Rattle.hg_cli.specs.Run.{IsRun, IsSoundShelf, KeepsAll, OthersKeep, saved_over}
 use Rattle.hg_cli.specs.Script.{Does, RunsWords, Seen, Views, is_script, seen}
 use Rattle.hg_entry.specs.Table.{Table}
 use Rattle.hg_lines.specs.Turns.{RunsScript, Turn}
 use Rattle.hg_report.specs.declared.fault.Fault.{Fault}
-use Rattle.hg_save.specs.Loads.{files_at}
-use Rattle.hg_save.specs.Others.{HasData, KeepData, KeepsFiles}
-use Rattle.hg_save.specs.Saved.{IsLatest}
+use Rattle.hg_save.specs.Others.{KeepData}
 use Rattle.hg_session.specs.Crash.{IsCrashSafe}
-use Rattle.hg_shelf.specs.History.{others}
-use Rattle.hg_shelf.specs.Images.{Course, course, last_scene}
+use Rattle.hg_shelf.specs.Images.{Course, course}
 
 -- the devices of a call other than the files below `.hg`: the working copy, what compiles regexps, standard output and the error stream
 pub record Beside (T G O E : Type 0) : Type 0 where
@@ -66,9 +63,7 @@ CallsSafely views call old new = RunsSafely views call.words call.from call.to (
 -- (`EachIsSafe`); of the other devices each call may have its own. And the calls keep as one what such a list keeps
 abbrev pub EachCallIsSafe : {T S G O E : Type 0} → Views T S G O E → Type 0
 EachCallIsSafe {T = T} {S = S} {G = G} {O = O} {E = E} views =
-    (calls : List (Given T G O E)) (first last : S) → IsLatest (last_scene (shelf_course views first)) → OthersKeep (shelf_course views first) (shelf_course views last)
+    (calls : List (Given T G O E)) (first last : S) → IsSoundShelf (shelf_course views first) → OthersKeep (shelf_course views first) (shelf_course views last)
     → RunsEach (Calls views) calls first last
     → RunsEach (CallsSafely views) calls first last × KeepsAll (shelf_course views first) (shelf_course views last)
-    × (HasData (files_at (shelf_course views last).history (shelf_course views first).history.last)
-    → KeepsFiles others (shelf_course views last).history (shelf_course views first).history.last
-    → KeepData (shelf_course views last).history (shelf_course views first).history.last)
+    × KeepData (shelf_course views last).history (shelf_course views first).history.last

@@ -5,12 +5,12 @@ use Rattle.hg_entry.specs.Table.{Table}
 use Rattle.hg_cli.specs.Load.{IsLoaded}
 use Rattle.hg_report.specs.Cause.{of_words}
 use Rattle.hg_report.specs.declared.fault.Fault.{Fault}
-use Rattle.hg_save.specs.Loads.{files_at}
-use Rattle.hg_save.specs.Others.{HasData, KeepData, KeepsFiles, KeepsRecords}
+use Rattle.hg_save.specs.Others.{HasData, KeepData, KeepsRecords}
 use Rattle.hg_save.specs.Saved.{IsLatest}
+use Rattle.hg_save_behind.specs.Behind.{KeepsUsed}
 use Rattle.hg_session.specs.Answered.{IsAnswered, IsIdle}
 use Rattle.hg_session.specs.Call.{Count, Looked, Saved, Sink}
-use Rattle.hg_session.specs.Crash.{IsCrashSafe}
+use Rattle.hg_session.specs.Crash.{IsCrashSafe, LeavesSound}
 use Rattle.hg_session.specs.Put.{IsFaultOrMemory, Tells}
 use Rattle.hg_shelf.specs.History.{others, us}
 use Rattle.hg_shelf.specs.Images.{Course, last_scene}
@@ -55,29 +55,33 @@ abbrev pub Runs : {S : Type 0} → (S → Course) → List (List ℕ) → S → 
 Runs course_of words old new =
     (looked : Looked) × (locks : Count) × (out : Sink) × (err : Sink) × (code : ℕ) × (fault : Option Fault) × IsRun words looked (saved_over course_of old new) locks out err code fault
 
--- from a first course on others only read while the lock is held, and publish as a record is published
+-- from a first course on others only read while the lock is held, and publish as a record is published; and the data that dockets name are kept, or each step of
+-- others keeps the bytes that dockets use, as this program's do
 pub record OthersKeep (first last : Course) : Type 0 where
   pub told : IsTrue last.history.told
   pub only : OthersOnlyRead last first.history.last
   pub keep : KeepsRecords others last first.history.last
+  pub kept : KeepData last.history first.history.last ⊎ KeepsUsed others last.history first.history.last
 
 -- at each moment of a run a crash leaves a record of what it might have left at its start, of what it published, or of what others published since
 abbrev pub IsSafe : {S : Type 0} → (S → Course) → List (List ℕ) → S → S → Type 0
 IsSafe course_of words old new = (own : Option Table) × IsCrashSafe own (saved_over course_of old new)
 
--- what holds of a list of runs as one
-pub record KeepsAll (first last : Course) : Type 0 where
-  -- no docket that a crash might leave is ahead of the one that stands
-  pub latest : IsLatest (last_scene last)
-  -- each step of the runs keeps the data that dockets name
-  pub keeping : KeepsFiles us last.history first.history.last
+-- at the end of a course whatever a crash may leave is a sound record, none of its dockets is ahead of the one that stands, and the data file that this one
+-- names is there
+pub record IsSoundShelf (c : Course) : Type 0 where
+  pub latest : IsLatest (last_scene c)
+  pub sound : LeavesSound (last_scene c)
+  pub there : HasData (last_scene c).files
 
--- so it is of each run of every list of runs, with others publishing between and beside them, from a first shelf on of which no docket that a crash
--- might leave is ahead; and then none is at the end. Where the standing docket's data file is there at first, and others keep the data that dockets name
--- too, it is kept throughout, which is what a load asks of others
+-- what holds of a list of runs as one: it leads to such a shelf again, and each step of the runs keeps the bytes that dockets use
+pub record KeepsAll (first last : Course) : Type 0 where
+  pub shelf : IsSoundShelf last
+  pub keeping : KeepsUsed us last.history first.history.last
+
+-- so it is of each run of every list of runs, with others publishing between and beside them, from a first shelf on that is sound; and it is at the end. The
+-- data that dockets name are kept throughout, which is what a load asks of others
 abbrev pub EachIsSafe : {S : Type 0} → (S → Course) → Type 0
 EachIsSafe {S = S} course_of =
-    (calls : List (List (List ℕ))) (first last : S) → IsLatest (last_scene (course_of first)) → OthersKeep (course_of first) (course_of last) → RunsEach (Runs course_of) calls first last
-    → RunsEach (IsSafe course_of) calls first last × KeepsAll (course_of first) (course_of last)
-    × (HasData (files_at (course_of last).history (course_of first).history.last) → KeepsFiles others (course_of last).history (course_of first).history.last
-    → KeepData (course_of last).history (course_of first).history.last)
+    (calls : List (List (List ℕ))) (first last : S) → IsSoundShelf (course_of first) → OthersKeep (course_of first) (course_of last) → RunsEach (Runs course_of) calls first last
+    → RunsEach (IsSafe course_of) calls first last × KeepsAll (course_of first) (course_of last) × KeepData (course_of last).history (course_of first).history.last

@@ -11,7 +11,9 @@ use crate::holder::{ProcessId, holder};
 use crate::lock_file::{Names, give_back, take};
 use crate::opened::Opened;
 use crate::root::Root;
-use crate::writing::{look, make_folder, remove_file, rename_seen, sync, sync_file, write_file};
+use crate::writing::{
+    folder_of, look, make_folder, remove_file, rename_seen, sync, sync_file, write_file,
+};
 use hg_base::{Failed, Got, risen};
 use hg_shelf::Shelf;
 use hg_stream::fill;
@@ -23,8 +25,9 @@ use std::rt::{Env, Files};
 ///
 /// It tells nothing of its history but whether it has the lock, and counts each call that the file system failed, and each lock that was
 /// refused. A file is absent where `.hg` or the file is missing, and where the system can't hold its name. What reads follows links;
-/// what is no regular file behind them is a failure. What writes follows none, and makes the folders that are missing. A file that was
-/// written is made sure by `sync`, or before the next write. The lock is one of the system's on the file `wlock`, which it gives back at the
+/// what is no regular file behind them is a failure. What writes follows none, and makes the folders that are missing. Where it
+/// writes behind the beginning of a file that has other names or may only be read, a copy takes that one's place first. A file that was written is
+/// made sure by `sync`, or before the next write. The lock is one of the system's on the file `wlock`, which it gives back at the
 /// end of the process.
 ///
 /// Files and folders that are made sure, or read under the lock, stay open until the shelf is dropped, up to 64: of a close that fails
@@ -201,7 +204,7 @@ fn make_sure<R: Files<File = File> + Env + AllocGlobal>(
 ) -> Result<(), Reason> {
     let path = below_hg(rt, root, name)?;
     sync_file(rt, opened, path.as_str())?;
-    sync_folder(rt, root, opened, folder_of(name))
+    sync_folder(rt, root, opened, folder_of(name).unwrap_or(""))
 }
 
 fn change_name<R: Files<File = File> + Env + AllocGlobal>(
@@ -269,14 +272,6 @@ fn sync_folder<R: Files<File = File> + Env + AllocGlobal>(
     match sync(rt, opened, path.as_str()) {
         Err(error) if !is_absence(&error) => Err(Reason::System(error)),
         _ => Ok(()),
-    }
-}
-
-// The folder that a file stands in, below `.hg`.
-fn folder_of(name: &str) -> &str {
-    match name.rsplit_once('/') {
-        Some((folder, _)) => folder,
-        None => "",
     }
 }
 

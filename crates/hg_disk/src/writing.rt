@@ -4,14 +4,19 @@ use crate::disk::is_absence;
 use crate::failure::Reason;
 use crate::opened::{Opened, Written};
 use crate::spot::spot_of;
+use hg_stream::fill;
+use std::format;
 use std::fs::{self, File, Metadata, OpenFile};
-use std::io::{Error, ErrorKind, Seek, SeekFrom, Write};
+use std::io::{Error, ErrorKind, Read, Seek, SeekFrom, Write};
 use std::os::unix::fs::{MetadataExt, OpenOptionsExt};
 use std::rt::Files;
 use std::time::{Duration, SystemTime, UNIX_EPOCH};
 
 /// How new files can be used, less what the user's mask takes away: as Mercurial makes them.
 pub(crate) const MODE: u32 = 0o644;
+
+// The bits of a mode that say who may read, write and run a file.
+const RIGHTS: u32 = 0o777;
 
 // What a name stands for whose file went away while it was opened.
 const EXCHANGED: Reason = Reason::Words("another file took its place");
@@ -59,27 +64,98 @@ pub(crate) fn open_seen<R: Files>(
     Ok(Some(file))
 }
 
-// Opens a file for writing, which is made where it is absent.
-fn open_or_make<R: Files>(rt: &R, path: &str) -> Result<R::File, Reason> {
+// Opens a file for writing at a place, which is made where it is absent. What stands before the place has to stay as it is for all who read it: so
+// where the file has other names too, or may only be read, a copy takes its place.
+fn open_or_make<R: Files<File = File> + AllocGlobal>(
+    rt: &R,
+    opened: &mut Opened,
+    path: &str,
+    place: u64,
+) -> Result<File, Reason> {
     let Some(seen) = look(rt, path)? else {
         return Ok(make(rt, path, MODE)?);
     };
-    match open_seen(rt, path, &seen, true)? {
-        Some(file) => Ok(file),
-        None => Err(EXCHANGED),
+    if place > 0 && seen.nlink() > 1 {
+        return put_copy(rt, opened, path, &seen);
+    }
+    match open_seen(rt, path, &seen, true) {
+        Err(Reason::System(error)) if place > 0 && error.kind() == ErrorKind::PermissionDenied => {
+            put_copy(rt, opened, path, &seen)
+        }
+        there => there?.ok_or(EXCHANGED),
     }
 }
 
-/// Writes bytes at a place of a file, which is made where it is absent. A place past the end has zeros before it. It is then the
-/// one that was written last.
-pub(crate) fn write_file<R: Files<File = File>>(
+// Has a copy take the place of the regular file that was seen at the path, and opens it for writing. It is made beside it, and what a process that
+// was stopped left there is taken away first. Where that fails the file stays that stood there.
+fn put_copy<R: Files<File = File> + AllocGlobal>(
+    rt: &R,
+    opened: &mut Opened,
+    path: &str,
+    seen: &Metadata,
+) -> Result<File, Reason> {
+    let Some(mut from) = open_seen(rt, path, seen, false)? else {
+        return Err(EXCHANGED);
+    };
+    let Ok(beside) = format!(in rt.alloc(); "{path}-new") else {
+        return Err(Reason::Words("out of memory"));
+    };
+    remove_file(rt, beside.as_str())?;
+    let mut to = make(rt, beside.as_str(), seen.mode() & RIGHTS)?;
+    if let Err(error) = replace(rt, &mut from, &mut to, beside.as_str(), path, seen) {
+        let _ = fs::remove_file(rt, beside.as_str());
+        return Err(Reason::System(error));
+    }
+    opened.keep(from);
+    sync(rt, opened, folder_of(path).unwrap_or("."))?;
+    Ok(to)
+}
+
+// Fills a new file from the one that it then takes the place of, and whose rights it has from the first.
+fn replace<R: Files<File = File>>(
+    rt: &R,
+    from: &mut File,
+    to: &mut File,
+    beside: &str,
+    path: &str,
+    seen: &Metadata,
+) -> Result<(), Error> {
+    // (the user's mask took some away)
+    fs::set_permissions(rt, beside, seen.permissions())?;
+    copy(from, to)?;
+    to.sync_all()?;
+    fs::rename(rt, beside, path)
+}
+
+// Writes all that is read up to its end.
+fn copy<F: Read, T: Write>(from: &mut F, to: &mut T) -> Result<(), Error> {
+    let mut piece = [0; 4096];
+    for _ in 0..u64::MAX {
+        let n = fill(from, &mut piece)?;
+        to.write_all(&piece[..n])?;
+        if n < piece.len() {
+            break;
+        }
+    }
+    Ok(())
+}
+
+/// The folder that a path leads to its last name in, where it names one.
+pub(crate) fn folder_of(path: &str) -> Option<&str> {
+    let (folder, _) = path.rsplit_once('/')?;
+    Some(folder)
+}
+
+/// Writes bytes at a place of a file, which is made where it is absent, and copied first where bytes are put behind the beginning of one that isn't
+/// one's own alone. A place past the end has zeros before it. It is then the one that was written last.
+pub(crate) fn write_file<R: Files<File = File> + AllocGlobal>(
     rt: &R,
     opened: &mut Opened,
     path: &str,
     place: u64,
     bytes: &[u8],
 ) -> Result<(), Reason> {
-    let mut file = open_or_make(rt, path)?;
+    let mut file = open_or_make(rt, opened, path, place)?;
     let metadata = file.metadata()?;
     if metadata.len() < place {
         file.set_len(place)?;

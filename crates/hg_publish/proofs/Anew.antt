@@ -66,7 +66,7 @@ module _ (held : Held) (new : Encoded) (plan : plan_of held ≡ a_way.Rewrite) (
       found = reads.found;
       is = encoded_anew;
       crash = λ ground. subst (LeavesOnly a z) published_is (says.crash (free ground.stands ground.latest));
-      shown = λ ground. subst (ShowsOnly a z) published_is (says.left (free ground.stands ground.latest));
+      shown = λ stands latest nodes. subst (ShowsOnly a z) published_is (says.left (free stands (latest plan)));
       torn = says.torn;
       latest = says.latest;
       intact = λ stands latest solid. subst (λ (id : List ℕ). LeavesData id a z) (sym same_id) (intact_anew loaded.docket.items new over a z stands says.torn (says.keeping stands) (says.orderly stands latest (reads.found, published_is)) goes lock calm (says.named (free stands latest)) solid);

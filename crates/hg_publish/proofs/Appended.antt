@@ -59,8 +59,8 @@ module _ (loaded : Loaded) (held : Held) (new : Encoded) (said : held.docket ≡
   pub encoded_behind : IsEncoded held new reads.found
   encoded_behind = record { by = subst (λ (w : Way). IsEncodedBy w held new) (sym plan) appended; reads = reads.is; same = reads.same }
 
-  pub base_of : (s : Scene) → IsGround loaded s → IsBase loaded s
-  base_of s ground = record { stands = ground.stands; nodes = ground.nodes behind.some; solid = ground.solid }
+  pub base_of : (s : Scene) → IsGround (plan_of held) loaded s → IsBase loaded s
+  base_of s ground = record { stands = ground.stands; nodes = ground.nodes plan behind.some; solid = ground.solid plan }
 
   pub put_behind : (a z : Course) → IsSaidBehind loaded new a z → IsPutOver held loaded a z
   put_behind a z says = record {
@@ -68,14 +68,14 @@ module _ (loaded : Loaded) (held : Held) (new : Encoded) (said : held.docket ≡
     found = reads.found;
     is = encoded_behind;
     crash = λ ground. subst (LeavesOnly a z) published_is (says.crash (base_of (last_scene a) ground));
-    shown = λ ground. subst (ShowsOnly a z) published_is (says.left ground.stands (ground.nodes behind.some));
+    shown = λ stands latest has. subst (ShowsOnly a z) published_is (says.left stands (has plan behind.some));
     torn = says.torn;
     latest = says.latest;
     intact = λ stands latest solid. subst (λ (id : List ℕ). LeavesData id a z) (sym appended.same) (says.intact stands solid);
     intact_new = λ stands latest solid. says.intact stands solid;
     solid = λ stands latest solid. says.solid stands solid;
     orderly = λ ground. says.orderly (base_of (last_scene a) ground) ground.latest (reads.found, published_is);
-    keeping = λ stands has. says.keeping stands (has behind.some);
+    keeping = λ stands has. says.keeping stands (has plan behind.some);
     others =
         subst (λ (w : Way). KeepsOthersBy w held a z) (sym plan)
         (subst (λ (id : List ℕ). Leads (KeepsUsedBytes id held.docket.used) a z) (sym appended.same) (subst (λ (n : ℕ). Leads (KeepsUsedBytes new.id n) a z) appended.place says.others));

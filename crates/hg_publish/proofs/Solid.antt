@@ -22,7 +22,7 @@ use Rattle.hg_shelf.specs.Rules.{content}
 -- ---- data that is there
 
 -- where files have the docket that others have, and record what these do, they have the data that the docket names where these have it
-named_is : (bytes : List ℕ) (f : Files) → UsesData bytes → named_reading bytes f ≡ option_map (reading_of bytes) (named_file bytes f)
+pub named_is : (bytes : List ℕ) (f : Files) → UsesData bytes → named_reading bytes f ≡ option_map (reading_of bytes) (named_file bytes f)
 named_is bytes f uses =
     ap (λ r. option_map (reading_of bytes) (needed_in r (docket_of bytes) f)) uses.sound
     ∙ ap (option_map (reading_of bytes))
@@ -37,7 +37,7 @@ has_along d f same has =
     front_read bytes (named_file bytes d) (named_file bytes f) uses (sym (named_is bytes f uses) ∙ read ∙ named_is bytes d uses) (has uses))
 
 -- so they have where what they record is sound
-sound_data : (c : Files) → IsReadable (reading c) → HasData c
+pub sound_data : (c : Files) → IsReadable (reading c) → HasData c
 sound_data c (t, is) = λ uses. front_sound (docket_in c) (named_file (docket_in c) c) t uses (sym (named_is (docket_in c) c uses) ∙ is)
 
 pub sound_solid : (s : Scene) → ((c : Files) → s.leaves c → IsReadable (reading c)) → IsLatest s → IsSolid s

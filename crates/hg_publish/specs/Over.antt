@@ -15,7 +15,7 @@ use Rattle.hg_image.specs.Reading.{reading_of}
 use Rattle.hg_image.specs.Rows.{rows_of}
 use Rattle.hg_mixed.specs.Edits.{IsSame}
 use Rattle.hg_mixed.specs.Held.{Held, is_lent, table}
-use Rattle.hg_mixed.specs.Shown.{list_place}
+use Rattle.hg_mixed.specs.Shown.{AreLentWhole, ArePlacesOfImage, list_place}
 use Rattle.hg_publish.specs.declared.fault.PublishFault.{PublishFault}
 use Rattle.hg_publish.specs.declared.fault.PublishFault.TheVariants as a_fault
 use Rattle.hg_save.specs.Leads.{Leads}
@@ -34,12 +34,18 @@ use Rattle.hg_shelf.specs.Rules.{content}
 abbrev pub HasUsed : Loaded → Scene → Type 0
 HasUsed loaded s = 0 < (docket_of loaded.docket.items).used → HasNodes loaded s
 
--- the loaded record stands, its docket and the nodes that it uses; what a crash may leave is solid, and names no later identifier
-pub record IsGround (loaded : Loaded) (s : Scene) : Type 0 where
+-- the moment over which a table is published by a way: the loaded docket stands, and what a crash may leave names no later identifier; and where it goes behind
+-- the data file, that begins with the nodes that the docket uses, and what a crash may leave is solid
+pub record IsGround (way : Way) (loaded : Loaded) (s : Scene) : Type 0 where
   pub stands : Stands loaded.docket.items s
-  pub nodes : HasUsed loaded s
-  pub solid : IsSolid s
   pub latest : IsLatest s
+  pub nodes : way ≡ a_way.Append → HasUsed loaded s
+  pub solid : way ≡ a_way.Append → IsSolid s
+
+-- what of a table is lent lies in the image as the image has it: a list with all below it, and the text of a path or of a copy source
+pub record IsLentRight (held : Held) : Type 0 where
+  pub lists : AreLentWhole held
+  pub places : ArePlacesOfImage held
 
 -- ---- what is published
 
@@ -68,15 +74,16 @@ pub record IsPutOver (held : Held) (loaded : Loaded) (old new : Course) : Type 0
   pub encoded : Encoded
   pub found : Table
   pub is : IsEncoded held encoded found
-  pub crash : IsGround loaded (last_scene old) → LeavesOnly old new (Some (Ok found))
-  pub shown : IsGround loaded (last_scene old) → ShowsOnly old new (Some (Ok found))
+  pub crash : IsGround (plan_of held) loaded (last_scene old) → LeavesOnly old new (Some (Ok found))
+  pub shown : Stands loaded.docket.items (last_scene old) → (plan_of held ≡ a_way.Rewrite → IsLatest (last_scene old)) → (plan_of held ≡ a_way.Append → HasUsed loaded (last_scene old))
+      → ShowsOnly old new (Some (Ok found))
   pub torn : Leads (WritesOnly encoded (last_scene old).files) old new
   pub latest : Stands loaded.docket.items (last_scene old) → IsLatest (last_scene old) → IsLatest (last_scene new)
   pub intact : Stands loaded.docket.items (last_scene old) → IsLatest (last_scene old) → IsSolid (last_scene old) → LeavesData held.docket.id old new
   pub intact_new : Stands loaded.docket.items (last_scene old) → IsLatest (last_scene old) → IsSolid (last_scene old) → LeavesData encoded.id old new
   pub solid : Stands loaded.docket.items (last_scene old) → IsLatest (last_scene old) → IsSolid (last_scene old) → IsSolid (last_scene new)
-  pub orderly : IsGround loaded (last_scene old) → KeepsRecords us new old.history.last
-  pub keeping : Stands loaded.docket.items (last_scene old) → HasUsed loaded (last_scene old) → KeepsUsed us new.history old.history.last
+  pub orderly : IsGround (plan_of held) loaded (last_scene old) → KeepsRecords us new old.history.last
+  pub keeping : Stands loaded.docket.items (last_scene old) → (plan_of held ≡ a_way.Append → HasUsed loaded (last_scene old)) → KeepsUsed us new.history old.history.last
   pub others : KeepsOthersBy (plan_of held) held old new
 
 -- this is so, unless the table couldn't be encoded

@@ -7,7 +7,8 @@ ghost use Rattle.hg_appended.specs.Appended.{IsOverImage};
 ghost use Rattle.hg_appended.specs.Loss.{plan_of};
 ghost use Rattle.hg_docket.specs.Docket.{docket_of, docket_refusal};
 ghost use Rattle.hg_entry.specs.Table.{Table};
-ghost use Rattle.hg_publish.specs.Over.{HasPublishCause, HasUsed, IsEncoded, IsPutOver, IsRecorded, LeavesLists, UnlessEncode};
+ghost use Rattle.hg_mixed.specs.Shown.{AreLentWhole, ArePlacesOfImage};
+ghost use Rattle.hg_publish.specs.Over.{HasPublishCause, HasUsed, IsEncoded, IsLentRight, IsPutOver, IsRecorded, LeavesLists, UnlessEncode};
 ghost use Rattle.hg_publish.specs.declared.fault.PublishFault.TheVariants as a_fault;
 ghost use Rattle.hg_save.specs.Leads.{IsHeld};
 ghost use Rattle.hg_shelf.specs.Asks.{AsksNothing};
@@ -32,6 +33,14 @@ fn over(table: &Mixed<'_>)
     let _ = table.image();
 }
 
+// (so it does what lists are lent)
+fn lent(table: &Mixed<'_>)
+    ensures lists { AreLentWhole table.now }
+    ensures places { ArePlacesOfImage table.now }
+{
+    let _ = table.image();
+}
+
 // Publishes a table anew.
 fn publish_anew<S: Shelf>(
     alloc: Global,
@@ -52,7 +61,7 @@ fn publish_anew<S: Shelf>(
     ensures untouched { IfErr result (λ e. (e ≡ a_fault.Failed) ⊎ (shelf.new ≡ shelf.old)) }
     // Where it succeeded, the table is recorded by exactly its bytes, also after a crash.
     ensures recorded { Undisturbed (course (S.history shelf.old) (S.images shelf.old)) (course (S.history shelf.new) (S.images shelf.new))
-        → HasUsed loaded.now (last_scene (course (S.history shelf.old) (S.images shelf.old)))
+        → (plan_of table.now ≡ a_way.Append → HasUsed loaded.now (last_scene (course (S.history shelf.old) (S.images shelf.old))))
         → OnOk result (IsRecorded table.now (course (S.history shelf.old) (S.images shelf.old)) (course (S.history shelf.new) (S.images shelf.new))) }
     // And where it was appended, each list that is lent lies where it lay.
     ensures kept_lists { Undisturbed (course (S.history shelf.old) (S.images shelf.old)) (course (S.history shelf.new) (S.images shelf.new))
@@ -96,7 +105,7 @@ fn publish_appended<S: Shelf>(
     ensures untouched { IfErr result (λ e. (e ≡ a_fault.Failed) ⊎ (shelf.new ≡ shelf.old)) }
     // Where it succeeded, the table is recorded by exactly its bytes, also after a crash.
     ensures recorded { Undisturbed (course (S.history shelf.old) (S.images shelf.old)) (course (S.history shelf.new) (S.images shelf.new))
-        → HasUsed loaded.now (last_scene (course (S.history shelf.old) (S.images shelf.old)))
+        → (plan_of table.now ≡ a_way.Append → HasUsed loaded.now (last_scene (course (S.history shelf.old) (S.images shelf.old))))
         → OnOk result (IsRecorded table.now (course (S.history shelf.old) (S.images shelf.old)) (course (S.history shelf.new) (S.images shelf.new))) }
     // And where it was appended, each list that is lent lies where it lay.
     ensures kept_lists { Undisturbed (course (S.history shelf.old) (S.images shelf.old)) (course (S.history shelf.new) (S.images shelf.new))
@@ -143,7 +152,7 @@ pub fn publish_table<S: Shelf>(
     ensures untouched { IfErr result (λ e. (e ≡ a_fault.Failed) ⊎ (shelf.new ≡ shelf.old)) }
     // Where it succeeded, the table is recorded by exactly its bytes, also after a crash.
     ensures recorded { Undisturbed (course (S.history shelf.old) (S.images shelf.old)) (course (S.history shelf.new) (S.images shelf.new))
-        → HasUsed loaded.now (last_scene (course (S.history shelf.old) (S.images shelf.old)))
+        → (plan_of table.now ≡ a_way.Append → HasUsed loaded.now (last_scene (course (S.history shelf.old) (S.images shelf.old))))
         → OnOk result (IsRecorded table.now (course (S.history shelf.old) (S.images shelf.old)) (course (S.history shelf.new) (S.images shelf.new))) }
     // And where it was appended, each list that is lent lies where it lay.
     ensures kept_lists { Undisturbed (course (S.history shelf.old) (S.images shelf.old)) (course (S.history shelf.new) (S.images shelf.new))
@@ -161,7 +170,10 @@ pub fn publish_table<S: Shelf>(
     ensures ours { (S.history shelf.new).ours ≡ (S.history shelf.old).ours }
     ensures unasked { AsksNothing (S.history shelf.old) (S.history shelf.new) }
     ensures held { S.held shelf.new ≡ S.held shelf.old }
+    // What is lent lies in the image as the image has it.
+    ensures lent { IsLentRight table.now }
 {
+    lent(table);
     match plan(table) {
         Way::Rewrite => publish_anew(alloc, shelf, loaded, table),
         Way::Append => publish_appended(alloc, shelf, loaded, table),

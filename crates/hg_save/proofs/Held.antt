@@ -1,8 +1,8 @@
 -- Who makes the steps while the lock is held.
-use Rattle.std.proofs.Common.{ℕ, ◌≡◌, ◌⊎◌, ◌∙◌, true, ap, sym, subst, inl, inr, arith}
+use Rattle.std.proofs.Common.{◌≡◌, ◌⊎◌, ◌∙◌, true, ap, inl, inr, arith}
 use Rattle.std.proofs.lemmas.Bool.{cases_lt}
 use Rattle.hg_save.specs.Leads.{IsHeld}
-use Rattle.hg_shelf.specs.History.{Extends, History, Passes, Who, label, readers, us}
+use Rattle.hg_shelf.specs.History.{Extends, History, Passes, label}
 use Rattle.hg_shelf.specs.Images.{Acts, Course, Scene}
 
 -- no step was made

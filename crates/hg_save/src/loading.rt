@@ -68,6 +68,7 @@ fn read_front<S: Shelf>(
     ensures found { IsTrue (S.history shelf.old).told
         → FrontFinds id want (bytes_of result) ((now (S.history shelf.new)).files (data_name id)) }
     ensures cause { HasCause (S.faults shelf.old) (S.faults shelf.new) result (λ e. e ≡ a_fault.Failed) }
+    ensures most { IfOk result (λ nodes. length nodes.items ≤ want) }
 {
     let name = DataName::of(&id);
     let mut nodes = vec![in alloc; 0u8; want]?;
@@ -95,6 +96,7 @@ fn read_file<S: Shelf>(
     ensures found { IsTrue (S.history shelf.old).told
         → FileFindsDuring (S.history shelf.old) (S.history shelf.new) id used (bytes_of result) }
     ensures cause { HasCause (S.faults shelf.old) (S.faults shelf.new) result (λ e. e ≡ a_fault.Failed) }
+    ensures most { IfOk result (λ nodes. length nodes.items ≤ used) }
 {
     match shelf.size(DataName::of(&id).as_str()) {
         Err(_) => Err(LoadFault::Failed),
@@ -117,6 +119,7 @@ fn read_data<S: Shelf>(
     ensures found { IsTrue (S.history shelf.old).told
         → DataFindsDuring (S.history shelf.old) (S.history shelf.new) (view docket.now) (bytes_of result) }
     ensures cause { HasCause (S.faults shelf.old) (S.faults shelf.new) result (λ e. e ≡ a_fault.Failed) }
+    ensures most { IfOk result (λ nodes. length nodes.items ≤ (view docket.now).used) }
 {
     if docket.used == 0 {
         return Ok(Vec::new(alloc));
@@ -137,6 +140,7 @@ fn load_named<S: Shelf>(alloc: Global, shelf: &mut S, bytes: &[u8]) -> Result<Lo
     ensures found { IsTrue (S.history shelf.old).told → NamedFinds (S.history shelf.old) (S.history shelf.new) bytes.now result }
     ensures few { IfOk result (λ l. length l.docket.items ≤ 512) }
     ensures whole { IfOk result (λ l. docket_refusal l.docket.items ≡ None) }
+    ensures most { IfOk result (λ l. length l.nodes.items ≤ (docket_of l.docket.items).used) }
     ensures cause { HasCause (S.faults shelf.old) (S.faults shelf.new) result (λ e. e ≡ a_fault.Failed) }
 {
     let docket = Docket::read(bytes)?;
@@ -161,6 +165,8 @@ pub fn load<S: Shelf>(alloc: Global, shelf: &mut S) -> Result<Loaded, LoadFault>
     // What was loaded has a sound docket.
     ensures few { IfOk result (λ l. length l.docket.items ≤ 512) }
     ensures whole { IfOk result (λ l. docket_refusal l.docket.items ≡ None) }
+    // And no more nodes than its docket uses.
+    ensures most { IfOk result (λ l. length l.nodes.items ≤ (docket_of l.docket.items).used) }
     ensures cause { HasCause (S.faults shelf.old) (S.faults shelf.new) result (λ e. e ≡ a_fault.Failed) }
 {
     let mut buf = [0; MOST];

@@ -12,6 +12,8 @@ use Rattle.hg_ops.specs.declared.refusal.OpFault.TheVariants as an_op_fault
 use Rattle.hg_report.specs.Cause.{of_op, of_status}
 use Rattle.hg_report.specs.declared.fault.Fault.{Fault}
 use Rattle.hg_report.specs.declared.fault.Fault.TheVariants as a_fault
+use Rattle.hg_session.proofs.Firm.{firm_for, noted_upto}
+use Rattle.hg_session.proofs.Makers.{asks_none}
 use Rattle.hg_session.specs.Answered.{IsAnswered, IsIdle, IsUnbuilt, Ran}
 use Rattle.hg_session.specs.Call.{Call, Count, Fails, IsLeftAlone, Looked, Saved, Sink, Watched}
 use Rattle.hg_session.specs.Cause.{CommandCause}
@@ -33,7 +35,7 @@ use Rattle.hg_session.specs.declared.print_fault.PrintFault.{PrintFault}
 use Rattle.hg_session.specs.declared.print_fault.PrintFault.TheVariants as a_print
 use Rattle.hg_session.specs.declared.read_fault.ReadFault.{ReadFault}
 use Rattle.hg_session.specs.declared.read_fault.ReadFault.TheVariants as a_read
-use Rattle.hg_session.proofs.Crashes.{crash_unwritten}
+use Rattle.hg_session.proofs.Crashes.{crash_unwritten, latest_safe}
 use Rattle.hg_session.proofs.Looks.{joined, not_without, status_failed}
 use Rattle.hg_session.proofs.Readings.{first_read, was_loaded}
 use Rattle.hg_session.proofs.Records.{record_by}
@@ -155,7 +157,8 @@ answered_looked call code fault ran look cause = record {
   cause = cause;
   calm = look.calm;
   kept = look.only.kept;
-  crash = λ calm keep first. (None, look.crash calm keep first);
+  crash = λ calm keep first ground. (None, look.crash calm keep first);
+  latest = λ calm keep first. (look.crash calm keep first).latest;
   status = looked_status code fault look.status;
 }
 
@@ -189,7 +192,13 @@ answered_changed call code fault is changed status = record {
   calm = λ none.
       record { tree = changed.calm_tree none; shelf = changed.calm_shelf (inl none); regexps = changed.uncounted; out = changed.silent.count; err = changed.calm_err none };
   kept = changed.kept;
-  crash = λ calm keep first. (published_in (makes_in call) call.saved fault (changed.safe calm), changed.crash calm keep first);
+  crash = λ calm keep first ground. (
+    published_in (makes_in call) call.saved fault (changed.safe calm),
+    changed.crash calm keep first
+        (firm_for call.saved.old call.saved.new ground (makes_in call) fault (changed.safe calm)
+        (λ k later within none. asks_none call.command call.looked.tree call.looked.shelf call.saved.new.history k)),
+  );
+  latest = λ calm keep first. latest_safe call.saved.old call.saved.new changed.kept calm keep (makes_in call) first fault (changed.safe calm);
   status = status;
 }
 
@@ -199,9 +208,9 @@ some_read files None is = tt
 some_read files (Some t) is = first_read files t is
 
 pub answered_status : (command : Command) (flags : StatusFlags) (looked : Looked) (saved : Saved) (locks : Count) (out mid tail : Sink) (bytes : tail.old ≡ mid.new) (count : tail.before ≡ mid.after)
-    (done : Result Unit Fault) (code : ℕ) (fault : Option Fault) → command ≡ a_command.Status flags → DoesStatus flags looked saved locks out mid done → EndsAs tail done code fault
-    → IsAnswered (record { command = command; looked = looked; saved = saved; locks = locks; out = out; err = joined mid tail bytes count }) code fault
-answered_status command flags looked saved locks out mid tail bytes count done code fault is does ends =
+    (done : Result Unit Fault) (code : ℕ) (fault : Option Fault) → looked.shelf.old.last ≡ saved.old.history.last → command ≡ a_command.Status flags → DoesStatus flags looked saved locks out mid done
+    → EndsAs tail done code fault → IsAnswered (record { command = command; looked = looked; saved = saved; locks = locks; out = out; err = joined mid tail bytes count }) code fault
+answered_status command flags looked saved locks out mid tail bytes count done code fault same is does ends =
     let call : Call = record { command = command; looked = looked; saved = saved; locks = locks; out = out; err = joined mid tail bytes count } in
     let ran : RanStatus flags call code fault = ran_status command flags looked saved locks out mid tail bytes count done code fault does ends in
     record {
@@ -209,7 +218,13 @@ answered_status command flags looked saved locks out mid tail bytes count done c
       cause = status_cause call flags is ran.table (some_read looked.shelf ran.table ran.loaded) fault ran.looks;
       calm = ran.calm;
       kept = ran.saving.kept;
-      crash = λ calm keep first. (published_in (noted_in looked.shelf ran.table ran.notes) saved fault (ran.saving.safe calm), ran.crash calm keep first);
+      crash = λ calm keep first ground. (
+        published_in (noted_in looked.shelf ran.table ran.notes) saved fault (ran.saving.safe calm),
+        ran.crash calm keep first
+            (firm_for saved.old saved.new ground (noted_in looked.shelf ran.table ran.notes) fault (ran.saving.safe calm)
+            (noted_upto saved.old saved.new ground looked.shelf same ran.table ran.notes)),
+      );
+      latest = λ calm keep first. latest_safe saved.old saved.new ran.saving.kept calm keep (noted_in looked.shelf ran.table ran.notes) first fault (ran.saving.safe calm);
       status = looked_status code fault ran.status;
     }
 

@@ -1,38 +1,44 @@
 -- What a command that changes the record did, from what its parts did.
-use Rattle.std.proofs.Common.{ℕ, ◌≡◌, Bool, true, false, List, [], ◌∷◌, Option, Some, None, is_some, Ok, Err, IsTrue, refl, sym, ap, ◌∙◌, subst, inl, inr, arith}
+use Rattle.std.proofs.Common.{ℕ, ◌≡◌, ◌<◌, Bool, true, false, List, [], ◌∷◌, Option, Some, None, Ok, Err, IsTrue, refl, sym, ap, ◌∙◌, subst, inl, inr, arith}
 use Rattle.std.proofs.lemmas.Bool.{cases_Bool}
-use Rattle.hg_append.specs.Encoded.{HasCause}
 use Rattle.hg_append.specs.declared.fault.EncodeFault.{EncodeFault}
 use Rattle.hg_append.specs.declared.fault.EncodeFault.TheVariants as an_encode
+use Rattle.hg_appended.specs.Either.{HasCauseBy}
+use Rattle.hg_appended.specs.Loss.{plan_of}
 use Rattle.hg_base.specs.Fault.{Rose}
 use Rattle.hg_docket.specs.Docket.{Contents, docket_of, docket_refusal}
-use Rattle.hg_docket.specs.Number.{next_name}
 use Rattle.hg_entry.specs.Table.{Table}
 use Rattle.hg_image.specs.Reading.{data_reading, of_data}
 use Rattle.hg_mixed.specs.Edits.{IsOfSameImage, IsSame}
 use Rattle.hg_mixed.specs.Held.{Held, table}
 use Rattle.hg_ops.proofs.Added.{same_table}
+use Rattle.hg_publish.specs.Over.{HasUsed, IsLentRight}
 use Rattle.hg_ops.specs.declared.refusal.OpFault.{OpFault}
 use Rattle.hg_ops.specs.declared.refusal.OpFault.TheVariants as an_op
 use Rattle.hg_report.specs.declared.fault.Fault.{Fault}
 use Rattle.hg_save.specs.Loads.{IsLoad, IsTry, Loads, Tries, Try, files_at, found_by}
-use Rattle.hg_save.specs.Record.{docket_in, id_in, reading}
+use Rattle.hg_save.specs.Others.{IsFrontOf, named_file}
+use Rattle.hg_save.specs.Record.{docket_in, reading}
 use Rattle.hg_save.specs.Saved.{Stands}
 use Rattle.hg_save.specs.declared.load_fault.LoadFault.{LoadFault}
 use Rattle.hg_save.specs.declared.loaded.Loaded.{Loaded}
 use Rattle.hg_save.proofs.Loads.{found_longer, last_within, tries_longer}
-use Rattle.hg_session.specs.Acts.{AsksBehind, ChangesTree, Makes, StandsAt}
-use Rattle.hg_session.specs.Anew.{CanWrite, IsOpened, IsOverwritten, IsRecorded, LoadsOrRefuses, MetWriting, WritesOnly}
+use Rattle.hg_session.specs.Acts.{AsksBehind, ChangesTree, Makes}
+use Rattle.hg_session.specs.Anew.{IsOpened, IsOverwritten, IsRecorded, LoadsOrRefuses, MetWriting, WritesOnly}
 use Rattle.hg_session.specs.Call.{Fails, IsLeftAlone, Watched}
-use Rattle.hg_session.specs.Change.{AsksChange, ChangesBehind, FitsFirst, IsDone, IsKept, IsMade, IsPublished, IsReadFirst, IsReadSome, IsSafeHeld, IsToBlame, IsUnwritten, MetChanging, up_to}
+use Rattle.hg_session.specs.Change.{AsksChange, ChangesBehind, FitsFirst, IsDone, IsKept, IsMade, IsPublished, IsReadFirst, IsReadSome, IsSafeHeld, IsToBlame, IsUnwritten, MetChanging, MetUnfit, up_to}
 use Rattle.hg_session.specs.Load.{by_load}
 use Rattle.hg_session.specs.Loaded.{AsksRecord, NodesFind, Refuses}
+use Rattle.hg_session.specs.Kept.{KeepsLent}
+use Rattle.hg_session.specs.Ways.{CanWrite, IsMadeOver, LendsUnchanged, stood_by, stood_in}
 use Rattle.hg_session.specs.declared.change_fault.ChangeFault.{ChangeFault}
 use Rattle.hg_session.specs.declared.change_fault.ChangeFault.TheVariants as a_change_fault
 use Rattle.hg_session.specs.declared.read_fault.ReadFault.{ReadFault}
 use Rattle.hg_session.specs.declared.read_fault.ReadFault.TheVariants as a_read
-use Rattle.hg_session.proofs.Locked.{end_remains, front_docket, front_found, none_front, unwritten, unwritten_then}
-use Rattle.hg_session.proofs.Publishing.{kept_over, published_over}
+use Rattle.hg_session.proofs.Lending.{lends_by}
+use Rattle.hg_session.proofs.Locked.{end_remains, front_docket, front_files, front_found, none_front, unwritten, unwritten_then}
+use Rattle.hg_session.proofs.Publishing.{kept_over, over_there, published_over}
+use Rattle.hg_session.proofs.ReadNodes.{nodes_by}
 use Rattle.hg_session.proofs.Readings.{refused_by, sound_reading}
 use Rattle.hg_session.proofs.SameTables.{one_table}
 use Rattle.hg_shelf.specs.History as shelf
@@ -80,6 +86,8 @@ module _ (Does : Makes) (copy : Watched tree.History) (files : Watched shelf.His
 pub record HasLoaded (old new : History) (tries : List Try) (loaded : Loaded) : Type 0 where
   pub tried : Tries old new tries
   pub answer : IsLoad (docket_in (files_at new tried.last.docket)) (found_by new tried.last) loaded
+  pub nodes : (recorded : Table) → docket_refusal loaded.docket.items ≡ None → data_reading (docket_of loaded.docket.items) loaded.nodes.items ≡ Ok recorded → 0 < (docket_of loaded.docket.items).used
+      → IsFrontOf (named_file loaded.docket.items (files_at new tried.last.file)) (docket_of loaded.docket.items).used loaded.nodes.items
 
 loaded_longer : (old mid new : History) (tries : List Try) (loaded : Loaded) → Extends mid new → Loads old mid tries (Ok loaded) → HasLoaded old new tries loaded
 loaded_longer old mid new tries loaded past loads = record {
@@ -88,6 +96,9 @@ loaded_longer old mid new tries loaded past loads = record {
     docket = loads.answer.docket ∙ ap docket_in (sym (past.stay loads.tried.last.docket (last_within old mid tries loads.tried).docket.to).shown);
     reading = found_longer old mid new tries past loads.tried ∙ loads.answer.reading;
   };
+  nodes = λ recorded sound nodes uses.
+      subst (λ (f : Files). IsFrontOf (named_file loaded.docket.items f) (docket_of loaded.docket.items).used loaded.nodes.items)
+      (sym (past.stay loads.tried.last.file (last_within old mid tries loads.tried).file.to).shown) (nodes_by old mid tries loaded recorded loads sound nodes uses);
 }
 
 -- so it was, seen from a later place
@@ -121,30 +132,42 @@ module _ (a b c : Course) (passes : Passes a.history b.history) (goes : Goes b c
         };
       }
 
-  -- the docket that was read names the identifier of the table
-  read_id : (told : IsTrue a.history.told) (docket : Contents) → docket ≡ docket_of loaded.docket.items → id_in (files_at c.history (loads told).1.tried.last.docket) ≡ docket.id
-  read_id told docket is =
-      ap (λ (bytes : List ℕ). (docket_of bytes).id) (ap docket_in (goes.past.stay (loads told).1.tried.last.docket (tried_within told).docket.to).shown ∙ sym (loads told).1.answer.docket)
-      ∙ ap (λ (d : Contents). d.id) (sym is)
+  -- the docket that was read
+  docket_read : (told : IsTrue a.history.told) → docket_in (files_at c.history (loads told).1.tried.last.docket) ≡ loaded.docket.items
+  docket_read told = ap docket_in (goes.past.stay (loads told).1.tried.last.docket (tried_within told).docket.to).shown ∙ sym (loads told).1.answer.docket
 
-  -- what can be written could be over the record that was read
-  pub fits_first : (held : Held) → held.docket ≡ docket_of loaded.docket.items → CanWrite held → IsTrue a.history.told → FitsFirst a.history c.history (table held)
-  fits_first held is can told =
-      let within = (tried_within told).docket in
-      record {
-        at = (loads told).1.tried.last.docket;
-        later = within.from;
-        within = omega (arith, within.to, goes.past.later);
-        none = λ k from to. none_front a b c passes goes k from (omega (arith, to, within.to));
-        fits = record {
-          held = held;
+  -- a table in memory that was opened over what was loaded, whatever was changed in it
+  module _ (held : Held) (is : held.docket ≡ docket_of loaded.docket.items) (bytes : held.bytes ≡ loaded.nodes.items) (lends : LendsUnchanged held) where
+    pub over_read : (told : IsTrue a.history.told) → IsMadeOver (stood_by c.history (loads told).1.tried.last) (table held) held
+    over_read told =
+        let tried : Try = (loads told).1.tried.last in
+        record {
+          docket = is ∙ ap docket_of (sym (docket_read told));
+          nodes =
+              subst (λ (f : Files). 0 < held.docket.used → IsFrontOf (named_file (docket_in (files_at c.history tried.docket)) f) held.docket.used held.bytes)
+              (sym (goes.past.stay tried.file (tried_within told).file.to).shown)
+              (subst (λ (l : List ℕ). 0 < held.docket.used → IsFrontOf (named_file l (files_at b.history tried.file)) held.docket.used held.bytes) (sym (docket_read told))
+              (subst (λ (l : List ℕ). 0 < held.docket.used → IsFrontOf (named_file loaded.docket.items (files_at b.history tried.file)) held.docket.used l) (sym bytes)
+              (subst (λ (d : Contents). 0 < d.used → IsFrontOf (named_file loaded.docket.items (files_at b.history tried.file)) d.used loaded.nodes.items) (sym is)
+              ((loads told).1.nodes recorded sound nodes))));
           same = same_table (table held);
-          tree = can.tree;
-          is = can.is;
-          small = can.small;
-          next = ap (λ (id : List ℕ). is_some (next_name id)) (read_id told held.docket is) ∙ can.next;
-        };
-      }
+          lends = lends;
+        }
+
+    -- what can be written could be over the record that was read
+    pub fits_first : CanWrite held → IsTrue a.history.told → FitsFirst a.history c.history (table held)
+    fits_first can told =
+        let within = tried_within told in
+        record {
+          tried = (loads told).1.tried.last;
+          is = record {
+            docket = record { from = within.docket.from; to = omega (arith, within.docket.to, goes.past.later) };
+            file = record { from = within.file.from; to = omega (arith, within.file.to, goes.past.later) };
+            order = within.order;
+          };
+          none = λ k from to. none_front a b c passes goes k from (omega (arith, to, within.file.to));
+          fits = record { held = held; over = over_read told; can = can };
+        }
 
   -- ---- what the words made of it
 
@@ -154,7 +177,7 @@ module _ (a b c : Course) (passes : Passes a.history b.history) (goes : Goes b c
   to_blame copy files fault tree_failed shelf_failed = tt
 
   -- what the command met behind it
-  pub met_acting : (Does : Makes) (copy : Watched tree.History) (opened : Held) (begun : IsOpened (docket_of loaded.docket.items) recorded opened) (before mid after : ℕ) (fault : OpFault)
+  pub met_acting : (Does : Makes) (copy : Watched tree.History) (opened : Held) (begun : IsOpened loaded recorded opened) (before mid after : ℕ) (fault : OpFault)
       → mid ≡ before → Does.stops (table opened) fault → (fault ≡ an_op.TreeFailed → Fails copy) → (fault ≡ an_op.ShelfFailed → Rose mid after)
       → MetChanging Does copy (record { old = a.history; new = c.history; before = before; after = after }) (a_change_fault.Op fault)
   met_acting Does copy opened begun before mid after fault still stops tree_failed shelf_failed = (
@@ -167,12 +190,12 @@ module _ (a b c : Course) (passes : Passes a.history b.history) (goes : Goes b c
   read_some = λ told. (recorded, read_first told)
 
   -- what becomes of the working copy behind it
-  pub changes_by : (command : Command) (copy : Watched tree.History) (opened : Held) (begun : IsOpened (docket_of loaded.docket.items) recorded opened) → ChangesTree command (table opened) copy
+  pub changes_by : (command : Command) (copy : Watched tree.History) (opened : Held) (begun : IsOpened loaded recorded opened) → ChangesTree command (table opened) copy
       → ChangesBehind command copy (record { old = a.history; new = c.history; before = 0; after = 0 })
   changes_by command copy opened begun changes = inr (recorded, read_first, subst (λ (t : Table). ChangesTree command t copy) (one_table (table opened) recorded begun.same) changes)
 
   -- what was asked for, the record first
-  pub asks_by : (command : Command) (copy : Watched tree.History) (opened : Held) (begun : IsOpened (docket_of loaded.docket.items) recorded opened) (mid : History) → Extends mid b.history → c.history.asked ≡ b.history.asked
+  pub asks_by : (command : Command) (copy : Watched tree.History) (opened : Held) (begun : IsOpened loaded recorded opened) (mid : History) → Extends mid b.history → c.history.asked ≡ b.history.asked
       → (IsTrue a.history.told → AsksRecord a.history mid) → (IsTrue mid.told → AsksBehind command copy (table opened) mid b.history) → Extends a.history mid → IsTrue a.history.told → AsksChange command copy a.history c.history
   asks_by command copy opened begun mid past quiet load asks first told = record {
     mid = mid;
@@ -184,7 +207,7 @@ module _ (a b c : Course) (passes : Passes a.history b.history) (goes : Goes b c
     behind = inr (recorded, read_first told, subst (λ (t : Table). AsksBehind command copy t mid b.history) (one_table (table opened) recorded begun.same) (asks (first.told ∙ told)));
   }
 
-  module _ (Does : Makes) (opened made : Held) (begun : IsOpened (docket_of loaded.docket.items) recorded opened) (image : IsOfSameImage opened made)
+  module _ (Does : Makes) (opened made : Held) (begun : IsOpened loaded recorded opened) (image : IsOfSameImage opened made) (keeps : KeepsLent opened made)
       (lines : List ℕ) (acted : Does.does (table opened) (table made) lines made.changed) where
     does_from : Does.does recorded (table made) lines made.changed
     does_from = subst (λ (t : Table). Does.does t (table made) lines made.changed) (one_table (table opened) recorded begun.same) acted
@@ -195,6 +218,12 @@ module _ (a b c : Course) (passes : Passes a.history b.history) (goes : Goes b c
     docket_is : made.docket ≡ docket_of loaded.docket.items
     docket_is = image.docket ∙ begun.contents
 
+    bytes_is : made.bytes ≡ loaded.nodes.items
+    bytes_is = image.bytes ∙ begun.nodes
+
+    lends_made : IsLentRight made → LendsUnchanged made
+    lends_made = lends_by opened made image.docket image.bytes begun.image begun.lent keeps
+
     abbrev made_by : (before after : ℕ) → IsMade Does (record { old = a.history; new = c.history; before = before; after = after }) (table made) lines made.changed
     made_by before after = record { loaded = recorded; read = read_first; does = does_from }
 
@@ -202,28 +231,25 @@ module _ (a b c : Course) (passes : Passes a.history b.history) (goes : Goes b c
     abbrev made_anew : (before after : ℕ) → made.changed ≡ true → IsMade Does (record { old = a.history; new = c.history; before = before; after = after }) (table made) lines true
     made_anew before after set = record { loaded = recorded; read = read_first; does = subst (λ (changed : Bool). Does.does recorded (table made) lines changed) set does_from }
 
-    by_encode : (copy : Watched tree.History) (before after : ℕ) (fault : EncodeFault) → HasCause made fault → made.changed ≡ true → MetChanging Does copy (record { old = a.history; new = c.history; before = before; after = after }) (a_change_fault.Encode fault)
-    by_encode copy before after an_encode.OutOfMemory cause set = record { made = table made; lines = lines; changed = true; is = made_anew before after set }
-    by_encode copy before after (an_encode.TooLarge size) cause set = record {
+    by_unfit : (copy : Watched tree.History) (before after : ℕ) (fault : EncodeFault) → HasCauseBy made (plan_of made) fault → made.changed ≡ true → IsLentRight made
+        → MetUnfit Does (record { old = a.history; new = c.history; before = before; after = after }) fault
+    by_unfit copy before after fault cause set whole = record {
       made = table made;
       lines = lines;
       is = made_anew before after set;
-      held = made;
-      same = same_table (table made);
-      large = cause;
-      next = λ told. ap (λ (id : List ℕ). is_some (next_name id)) (read_id told made.docket docket_is) ∙ ap (λ (o : Option (List ℕ)). is_some o) cause.next.1;
-    }
-    by_encode copy before after an_encode.IdsSpent cause set = record {
-      made = table made;
-      lines = lines;
-      is = made_anew before after set;
-      spent = λ told. ap next_name (read_id told made.docket docket_is) ∙ cause;
+      unfit = λ told. record { held = made; over = over_read made docket_is bytes_is (lends_made whole) told; cause = cause };
     }
 
+    by_encode : (copy : Watched tree.History) (before after : ℕ) (fault : EncodeFault) → HasCauseBy made (plan_of made) fault → made.changed ≡ true → IsLentRight made
+        → MetChanging Does copy (record { old = a.history; new = c.history; before = before; after = after }) (a_change_fault.Encode fault)
+    by_encode copy before after an_encode.OutOfMemory cause set whole = record { made = table made; lines = lines; changed = true; is = made_anew before after set }
+    by_encode copy before after (an_encode.TooLarge size) cause set whole = by_unfit copy before after (an_encode.TooLarge size) cause set whole
+    by_encode copy before after an_encode.IdsSpent cause set whole = by_unfit copy before after an_encode.IdsSpent cause set whole
+
     -- it was not written
-    pub met_writing : (copy : Watched tree.History) (before mid after : ℕ) (fault : ChangeFault) → mid ≡ before → MetWriting made mid after fault → MetChanging Does copy (record { old = a.history; new = c.history; before = before; after = after }) fault
-    met_writing copy before mid after fault still (inl (e, is, cause, set)) = subst (MetChanging Does copy (record { old = a.history; new = c.history; before = before; after = after })) (sym is) (by_encode copy before after e cause set)
-    met_writing copy before mid after fault still (inr (is, rose)) =
+    pub met_writing : (copy : Watched tree.History) (before mid after : ℕ) (fault : ChangeFault) → mid ≡ before → (made.changed ≡ true → IsLentRight made) → MetWriting made mid after fault → MetChanging Does copy (record { old = a.history; new = c.history; before = before; after = after }) fault
+    met_writing copy before mid after fault still whole (inl (e, is, cause, set)) = subst (MetChanging Does copy (record { old = a.history; new = c.history; before = before; after = after })) (sym is) (by_encode copy before after e cause set (whole set))
+    met_writing copy before mid after fault still whole (inr (is, rose)) =
         subst (MetChanging Does copy (record { old = a.history; new = c.history; before = before; after = after })) (sym is) (subst (λ (n : ℕ). Rose n after) still rose, inr (record { made = table made; lines = lines; changed = made.changed; is = made_by before after }))
 
     -- ---- what is left of it
@@ -238,26 +264,33 @@ module _ (a b c : Course) (passes : Passes a.history b.history) (goes : Goes b c
       pub stands : Stands loaded.docket.items (last_scene b)
       stands = front_docket a b c ours passes goes calm tried (tried_within calm.told) ∙ sym (loads calm.told).1.answer.docket
 
-      published_by : (StandsAt c a.history.last recorded → Does.stands c a.history.last recorded) → IsOverwritten made b c → IsPublished Does c a.history.last c.history.last
-      published_by standing over =
-          published_over a b c ours passes goes calm loaded.docket.items stands made (ap (λ (d : Contents). d.id) docket_is) Does recorded lines (standing there)
+      pub used_there : HasUsed loaded (last_scene b)
+      used_there = λ uses.
+          subst (λ (f : Files). IsFrontOf (named_file loaded.docket.items f) (docket_of loaded.docket.items).used loaded.nodes.items)
+          (front_files a b c ours passes goes calm tried.file (tried_within calm.told).file ∙ sym (end_remains a b c ours passes goes calm).shown)
+          ((loads calm.told).1.nodes recorded sound nodes uses)
+
+      published_by : (made.changed ≡ true → IsLentRight made) → IsOverwritten made loaded b c → IsPublished Does c a.history.last c.history.last
+      published_by whole over =
+          published_over a b c ours passes goes calm loaded stands made docket_is bytes_is Does (λ fair. used_there) (lends_made (whole over.changed)) recorded lines (λ fair. there)
           (subst (λ (changed : Bool). Does.does recorded (table made) lines changed) over.changed does_from) over
 
       -- nothing was written, or the table was over the record that stood
-      pub safe_by : (StandsAt c a.history.last recorded → Does.stands c a.history.last recorded) → (fault : Option Fault) → WritesOnly made b c fault → IsSafeHeld Does (record { old = a; new = c }) fault
-      safe_by standing fault (inl none) = inl (unwritten_then a b c passes goes none)
-      safe_by standing fault (inr (follows, over)) = inr (follows, published_by standing over)
+      pub safe_by : (made.changed ≡ true → IsLentRight made) → (fault : Option Fault) → WritesOnly made loaded b c fault → IsSafeHeld Does (record { old = a; new = c }) fault
+      safe_by whole fault (inl none) = inl (unwritten_then a b c passes goes none)
+      safe_by whole fault (inr (follows, over)) = inr (follows, published_by whole over)
 
-      kept_written : IsRecorded made b c → IsKept recorded (table made) (record { old = a; new = c }) a.history.last c.history.last
-      kept_written = kept_over a b c ours passes goes calm loaded.docket.items stands made (ap (λ (d : Contents). d.id) docket_is) recorded
+      kept_written : IsLentRight made → IsRecorded made b c → IsKept (stood_in (scene c a.history.last).files) recorded (table made) (record { old = a; new = c }) a.history.last c.history.last
+      kept_written whole =
+          kept_over a b c ours passes goes calm loaded stands made docket_is bytes_is (λ way. used_there) (stood_in (scene c a.history.last).files)
+          (over_there a b c ours passes goes calm loaded stands made docket_is bytes_is used_there (lends_made whole)) recorded
 
-      kept_still : c ≡ b → IsSame (table made) recorded → IsKept recorded (table made) (record { old = a; new = c }) a.history.last c.history.last
+      kept_still : c ≡ b → IsSame (table made) recorded → IsKept (stood_in (scene c a.history.last).files) recorded (table made) (record { old = a; new = c }) a.history.last c.history.last
       kept_still none same = record {
         found = recorded;
         is = subst (λ (t : Table). IsSame t (table made)) (one_table (table made) recorded same) (same_table (table made));
         shown = subst (λ (x : Course). reading (last_scene x).files ≡ Some (Ok recorded)) (sym none) (ap reading (end_remains a b c ours passes goes calm).shown ∙ there);
         left = inr (same, unwritten_still none);
-        gone = inr (unwritten_still none);
         bytes = inr (unwritten_still none);
       }
 
@@ -266,18 +299,18 @@ module _ (a b c : Course) (passes : Passes a.history b.history) (goes : Goes b c
 
     -- it was done, and what was made is recorded
     pub done_by : (before after : ℕ) → a.history.ours ≡ true → (made.changed ≡ false → IsSame (table made) (table opened))
-        → (made.changed ≡ true → CanWrite made) → (made.changed ≡ false → c ≡ b) → (Undisturbed a c → made.changed ≡ true → IsRecorded made b c)
+        → (made.changed ≡ true → CanWrite made) → (made.changed ≡ true → IsLentRight made) → (made.changed ≡ false → c ≡ b) → (Undisturbed a c → made.changed ≡ true → IsRecorded made b c)
         → IsDone Does (record { old = a.history; new = c.history; before = before; after = after }) (record { old = a; new = c }) a.history.last c.history.last lines
-    done_by before after ours stays can none records = record {
+    done_by before after ours stays can whole none records = record {
       made = table made;
       changed = made.changed;
       is = made_by before after;
       fits = λ told. elim (cases_Bool made.changed) [
-        | inl set ↦ inr (fits_first made docket_is (can set) told)
+        | inl set ↦ inr (fits_first made docket_is bytes_is (lends_made (whole set)) (can set) told)
         | inr unset ↦ inl (unset, same_by stays unset)
       ];
       kept = λ calm. elim (cases_Bool made.changed) [
-        | inl set ↦ kept_written ours calm (records calm set)
+        | inl set ↦ kept_written ours calm (whole set) (records calm set)
         | inr unset ↦ kept_still ours calm (none unset) (same_by stays unset)
       ];
       idle = λ unset. unwritten_still (none unset);

@@ -1,19 +1,23 @@
 -- What a crash may leave at each moment of a whole call, from what was said of the stretch in which the lock was held.
 use Rattle.std.proofs.Common.{ℕ, ◌≡◌, ◌≤◌, Option, Some, None, Result, Ok, refl, sym, ◌∙◌, subst, arith, inl, inr, ◌⊎◌}
 use Rattle.std.proofs.lemmas.Bool.{cases_lt}
+use Rattle.hg_append.specs.declared.way.Way.TheVariants as a_way
+use Rattle.hg_appended.specs.Loss.{plan_of}
 use Rattle.hg_entry.specs.Table.{Table}
 use Rattle.hg_image.specs.Reading.{RecordFault}
 use Rattle.hg_mixed.specs.Edits.{IsSame}
 use Rattle.hg_report.specs.declared.fault.Fault.{Fault}
+use Rattle.hg_publish.proofs.Solid.{sound_solid}
 use Rattle.hg_save.proofs.Published.{keeps_front, keeps_later, latest_still, latest_until, left_until, published_earlier, published_later, published_sound}
-use Rattle.hg_save.proofs.Spans.{files_front}
 use Rattle.hg_save.specs.Others.{KeepsRecords, WasPublished}
 use Rattle.hg_save.specs.Record.{IsReadable, reading}
 use Rattle.hg_save.specs.Saved.{IsLatest, ReadsAsBeforeOr}
+use Rattle.hg_session.proofs.UsedSteps.{used_front}
 use Rattle.hg_session.specs.Acts.{Makes}
 use Rattle.hg_session.specs.Call.{Saved}
-use Rattle.hg_session.specs.Change.{IsKept, IsSafe, IsUnwritten, NoneOurs, Publishes, Stretch}
-use Rattle.hg_session.specs.Crash.{IsCrashSafe, IsLasting, LeavesSound, MightBeLeft, published_in}
+use Rattle.hg_session.specs.Change.{IsFirm, IsKept, IsSafe, IsUnwritten, NoneOurs, Publishes, Stretch}
+use Rattle.hg_session.specs.Crash.{IsCrashSafe, IsFirmFor, IsLasting, LeavesSound, MightBeLeft, published_in}
+use Rattle.hg_session.specs.Ways.{Stood}
 use Rattle.hg_shelf.proofs.Scenes.{only_later}
 use Rattle.hg_shelf.specs.History.{Files, others, us}
 use Rattle.hg_shelf.specs.Images.{Course, Goes, last_scene, scene}
@@ -69,15 +73,32 @@ module _ (a b : Course) (goes : Goes a b) (calm : Undisturbed a b) (keep : Keeps
     first_there : IsLatest (scene b start)
     first_there = latest_still (last_scene a) (scene b start) (goes.kept start (omega arith)) first
 
-    module _ (is : Publishes Does saved) where
+    latest_got : (is : Publishes Does saved) → IsLatest (scene b is.stretch.from)
+    latest_got is = latest_until b start calm.others keep is.stretch.from is.stretch.start is.stretch.before (omega (arith, is.stretch.order, is.stretch.end)) first_there
+
+    latest_last : (is : Publishes Does saved) → IsLatest (last_scene b)
+    latest_last is =
+        let later : start ≤ is.stretch.to = omega (arith, is.stretch.start, is.stretch.order) in
+        latest_until b is.stretch.to (only_later b start is.stretch.to later calm.others) (keeps_later others b start is.stretch.to later keep) b.history.last is.stretch.end is.stretch.behind (omega arith)
+        (is.is.latest (latest_got is))
+
+    module _ (is : Publishes Does saved) (firm : plan_of is.is.held ≡ a_way.Append → LeavesSound (last_scene a) × Does.fair b.history is.stretch.from) where
       abbrev Own : Option (Result Table RecordFault) → Type 0
       Own r = r ≡ Some (Ok is.is.found)
 
       latest_from : IsLatest (scene b is.stretch.from)
-      latest_from = latest_until b start calm.others keep is.stretch.from is.stretch.start is.stretch.before (omega (arith, is.stretch.order, is.stretch.end)) first_there
+      latest_from = latest_got is
 
       known_from : (f : Files) → (scene b is.stretch.from).leaves f → IsKnown Own is.stretch.from (reading f)
       known_from = known_before Own is.stretch.from is.stretch.start is.stretch.before (omega (arith, is.stretch.order, is.stretch.end))
+
+      sound_from : LeavesSound (last_scene a) → LeavesSound (scene b is.stretch.from)
+      sound_from sound f left =
+          known_sound (λ r. ⊥) (λ r never. absurd never) sound is.stretch.from (omega (arith, is.stretch.order, is.stretch.end)) (reading f)
+          (known_before (λ r. ⊥) is.stretch.from is.stretch.start is.stretch.before (omega (arith, is.stretch.order, is.stretch.end)) f left)
+
+      firm_from : plan_of is.is.held ≡ a_way.Append → IsFirm Does b is.stretch.from
+      firm_from way = let ground = firm way in record { solid = sound_solid (scene b is.stretch.from) (sound_from ground.0) latest_from; fair = ground.1 }
 
       known_by : (k : ℕ) (f : Files) → is.stretch.from ≤ k → ReadsAsBeforeOr (scene b is.stretch.from) (Some (Ok is.is.found)) f → IsKnown Own k (reading f)
       known_by k f after (inl was) =
@@ -85,7 +106,7 @@ module _ (a b : Course) (goes : Goes a b) (calm : Undisturbed a b) (keep : Keeps
       known_by k f after (inr own) = inr (inl own)
 
       known_within : (k : ℕ) → is.stretch.from ≤ k → k ≤ is.stretch.to → (f : Files) → (scene b k).leaves f → IsKnown Own k (reading f)
-      known_within k after upto f left = known_by k f after (is.is.crash latest_from k f after upto left)
+      known_within k after upto f left = known_by k f after (is.is.crash latest_from firm_from k f after upto left)
 
       known_to : (f : Files) → (scene b is.stretch.to).leaves f → IsKnown Own is.stretch.to (reading f)
       known_to = known_within is.stretch.to is.stretch.order (omega arith)
@@ -101,14 +122,13 @@ module _ (a b : Course) (goes : Goes a b) (calm : Undisturbed a b) (keep : Keeps
         ]
       ]
 
-      latest_end : IsLatest (last_scene b)
-      latest_end =
-          let later : start ≤ is.stretch.to = omega (arith, is.stretch.start, is.stretch.order) in
-          latest_until b is.stretch.to (only_later b start is.stretch.to later calm.others) (keeps_later others b start is.stretch.to later keep) b.history.last is.stretch.end is.stretch.behind (omega arith)
-          (is.is.latest latest_from)
+    -- no docket that a crash might leave is ahead at the end, upon whatever ground the call appended
+    pub latest_safe : (fault : Option Fault) → IsSafe Does saved fault → IsLatest (last_scene b)
+    latest_safe fault (inl none) = latest_until b start calm.others keep b.history.last goes.past.later none.none (omega arith) first_there
+    latest_safe fault (inr (may, is)) = latest_last is
 
-    pub crash_safe : (fault : Option Fault) (safe : IsSafe Does saved fault) → IsCrashSafe (published_in Does saved fault safe) saved
-    crash_safe fault (inl none) =
+    pub crash_safe : (fault : Option Fault) (safe : IsSafe Does saved fault) → IsFirmFor Does saved fault safe → IsCrashSafe (published_in Does saved fault safe) saved
+    crash_safe fault (inl none) firm =
         let known : (k : ℕ) (f : Files) → start ≤ k → k ≤ b.history.last → (scene b k).leaves f → IsKnown (λ r. ⊥) k (reading f) =
         λ k f after within left. known_before (λ r. ⊥) k after (none_before b start b.history.last k within none.none) within f left in
         record {
@@ -118,29 +138,29 @@ module _ (a b : Course) (goes : Goes a b) (calm : Undisturbed a b) (keep : Keeps
           keeping = record { each = λ k after before who. absurd (none.none k after before who) };
           latest = latest_until b start calm.others keep b.history.last goes.past.later none.none (omega arith) first_there;
         }
-    crash_safe fault (inr (may, is)) = record {
-      each = known_each is;
-      sound = λ sound k after within f left. known_sound (Own is) (λ r own. (is.is.found, own)) sound k within (reading f) (known_each is k f after within left);
-      orderly = keeps_front us b start is.stretch.from is.stretch.before (is.is.orderly (latest_from is));
-      keeping = files_front us b.history start is.stretch.from is.stretch.before is.is.keeping;
-      latest = latest_end is;
+    crash_safe fault (inr (may, is)) firm = record {
+      each = known_each is firm;
+      sound = λ sound k after within f left. known_sound (Own is firm) (λ r own. (is.is.found, own)) sound k within (reading f) (known_each is firm k f after within left);
+      orderly = keeps_front us b start is.stretch.from is.stretch.before (is.is.orderly (latest_from is firm) (firm_from is firm));
+      keeping = used_front us b.history start is.stretch.from is.stretch.before (is.is.keeping (λ way. (firm way).1));
+      latest = latest_last is;
     }
 
   -- also where the caller makes no step
   pub crash_unwritten : IsUnwritten a.history b.history → IsLatest (last_scene a) → IsCrashSafe None saved
-  crash_unwritten none first = crash_safe (record { does = λ old new lines changed. ⊥; stops = λ loaded fault. ⊥; stands = λ c from loaded. ⊥ }) first None (inl none)
+  crash_unwritten none first = crash_safe (record { does = λ old new lines changed. ⊥; stops = λ loaded fault. ⊥; fair = λ h at. ⊥ }) first None (inl none) tt
 
-  lasts_by : (loaded made : Table) (stretch : Stretch a.history b.history) (kept : IsKept loaded made saved stretch.from stretch.to)
+  lasts_by : (stood : Stood) (loaded made : Table) (stretch : Stretch a.history b.history) (kept : IsKept stood loaded made saved stretch.from stretch.to)
       → (((c : Files) → (scene b stretch.to).leaves c → reading c ≡ Some (Ok kept.found)) ⊎ (IsSame made loaded × IsUnwritten a.history b.history))
-      → IsLasting loaded made saved stretch.from stretch.to kept
-  lasts_by loaded made stretch kept (inl each) =
+      → IsLasting stood loaded made saved stretch.from stretch.to kept
+  lasts_by stood loaded made stretch kept (inl each) =
       let later : start ≤ stretch.to = omega (arith, stretch.start, stretch.order) in
       inl (record {
         each = λ k f after within left.
             left_until b stretch.to (only_later b start stretch.to later calm.others) (keeps_later others b start stretch.to later keep) (λ r. r ≡ Some (Ok kept.found)) k after
             (none_before b stretch.to b.history.last k within stretch.behind) within each f left;
       })
-  lasts_by loaded made stretch kept (inr same) = inr same
+  lasts_by stood loaded made stretch kept (inr same) = inr same
 
-  pub lasting : (loaded made : Table) (stretch : Stretch a.history b.history) (kept : IsKept loaded made saved stretch.from stretch.to) → IsLasting loaded made saved stretch.from stretch.to kept
-  lasting loaded made stretch kept = lasts_by loaded made stretch kept kept.left
+  pub lasting : (stood : Stood) (loaded made : Table) (stretch : Stretch a.history b.history) (kept : IsKept stood loaded made saved stretch.from stretch.to) → IsLasting stood loaded made saved stretch.from stretch.to kept
+  lasting stood loaded made stretch kept = lasts_by stood loaded made stretch kept kept.left

@@ -21,6 +21,7 @@ use Rattle.hg_session.specs.Change.{IsEarly, of_change}
 use Rattle.hg_session.specs.declared.change_fault.ChangeFault.{ChangeFault}
 use Rattle.hg_session.specs.Acts.{ActsOn, IsActed, IsCopied, IsNothingMade, IsRemoved, IsTreeFault, NeedsSome, OnlyLooks, OnlyPuts, OnlyTakes, StopsRemoving, name, span_of, steps_of}
 use Rattle.hg_session.specs.Call.{IsLeftAlone, Watched}
+use Rattle.hg_session.specs.Kept.{KeepsLent}
 use Rattle.hg_session.specs.Manifests.{IsReparented, StopsParents}
 use Rattle.hg_session.specs.declared.acting.Changing.TheVariants as a_change
 use Rattle.hg_shelf.specs.Asks.{AsksFrontOf}
@@ -74,11 +75,12 @@ module _ (copy : Watched tree.History) (h : shelf.History) (count : ℕ) (old ne
 
   pub acts_add : (command : Command) (words : List (List ℕ)) → command ≡ a_command.Add words
       → (old.changed ≡ false → IfOk result (λ lines. IsActed (name a_change.Add) (steps_of a_change.Add) words copy (table old) (table new) lines.items new.changed))
-      → OnlyLooks copy → ActsOn command copy still old new result
-  acts_add command words is does changes = subst (λ (c : Command). ActsOn c copy still old new result) (sym is) (record {
+      → OnOk result (KeepsLent old new) → OnlyLooks copy → ActsOn command copy still old new result
+  acts_add command words is does lent changes = subst (λ (c : Command). ActsOn c copy still old new result) (sym is) (record {
     does = does;
     stops = λ unset. kind;
     same = same_if (IsActed (name a_change.Add) (steps_of a_change.Add) words copy) (λ a b lines changed acted. acted.same) old new result does;
+    lent = lent;
     image = image;
     tree = changes;
     below = shelves.passes_same h;
@@ -90,11 +92,12 @@ module _ (copy : Watched tree.History) (h : shelf.History) (count : ℕ) (old ne
 
   pub acts_forget : (command : Command) (words : List (List ℕ)) → command ≡ a_command.Forget words
       → (old.changed ≡ false → IfOk result (λ lines. IsActed (name a_change.Forget) (steps_of a_change.Forget) words copy (table old) (table new) lines.items new.changed))
-      → IsLeftAlone copy → ActsOn command copy still old new result
-  acts_forget command words is does alone = subst (λ (c : Command). ActsOn c copy still old new result) (sym is) (record {
+      → OnOk result (KeepsLent old new) → IsLeftAlone copy → ActsOn command copy still old new result
+  acts_forget command words is does lent alone = subst (λ (c : Command). ActsOn c copy still old new result) (sym is) (record {
     does = does;
     stops = λ unset. kind;
     same = same_if (IsActed (name a_change.Forget) (steps_of a_change.Forget) words copy) (λ a b lines changed acted. acted.same) old new result does;
+    lent = lent;
     image = image;
     tree = alone;
     below = shelves.passes_same h;
@@ -106,11 +109,12 @@ module _ (copy : Watched tree.History) (h : shelf.History) (count : ℕ) (old ne
 
   pub acts_copy : (command : Command) (source target : List ℕ) → command ≡ a_command.Copy source target
       → (old.changed ≡ false → IfOk result (λ line. IsCopied source target copy (table old) (table new) line.items new.changed))
-      → OnlyPuts source target (table old) copy → ActsOn command copy still old new result
-  acts_copy command source target is does puts = subst (λ (c : Command). ActsOn c copy still old new result) (sym is) (record {
+      → OnOk result (KeepsLent old new) → OnlyPuts source target (table old) copy → ActsOn command copy still old new result
+  acts_copy command source target is does lent puts = subst (λ (c : Command). ActsOn c copy still old new result) (sym is) (record {
     does = does;
     stops = λ unset. kind;
     same = same_if (IsCopied source target copy) (λ a b lines changed acted. acted.same) old new result does;
+    lent = lent;
     image = image;
     tree = puts;
     below = shelves.passes_same h;
@@ -125,13 +129,14 @@ module _ (copy : Watched tree.History) (h : shelf.History) (count : ℕ) (old ne
 pub acts_remove : (copy : Watched tree.History) (files : Watched shelf.History) (old new : Held) (result : Result (Vec ℕ Global) OpFault) (command : Command) (after : Bool) (words : List (List ℕ))
     → command ≡ a_command.Remove after words
     → (old.changed ≡ false → IfOk result (λ lines. IsRemoved after words copy files (table old) (table new) lines.items new.changed))
-    → (old.changed ≡ false → IfErr result (StopsRemoving after words copy files (table old))) → IsOfSameImage old new → OnlyTakes after words (table old) copy → shelf.Passes files.old files.new
+    → (old.changed ≡ false → IfErr result (StopsRemoving after words copy files (table old))) → OnOk result (KeepsLent old new) → IsOfSameImage old new → OnlyTakes after words (table old) copy → shelf.Passes files.old files.new
     → (IsTrue files.old.told → (files.new.asked ≡ files.old.asked) ⊎ (NeedsSome after words (table old) copy × AsksStore (span_of (table old) files.old files.new))) → HasCause copy.before copy.after result (λ e. e ≡ an_op.TreeFailed)
     → (copy.before < copy.after → result ≡ Err an_op.TreeFailed) → HasCause files.before files.after result (λ e. e ≡ an_op.ShelfFailed) → ActsOn command copy files old new result
-acts_remove copy files old new result command after words is does stops image takes passes asked cause failed shelf_cause = subst (λ (c : Command). ActsOn c copy files old new result) (sym is) (record {
+acts_remove copy files old new result command after words is does stops lent image takes passes asked cause failed shelf_cause = subst (λ (c : Command). ActsOn c copy files old new result) (sym is) (record {
   does = does;
   stops = stops;
   same = same_if (IsRemoved after words copy files) (λ a b lines changed acted. acted.acted.same) old new result does;
+  lent = lent;
   image = image;
   tree = takes;
   below = passes;
@@ -147,13 +152,14 @@ module _ (h : tree.History) (count : ℕ) (files : Watched shelf.History) (old n
 
   pub acts_parents : (command : Command) (p1 p2 : Id20) → command ≡ a_command.SetParents p1 p2
       → (old.changed ≡ false → IfOk result (λ lines. IsReparented p1 p2 files (table old) (table new) lines.items new.changed))
-      → IfErr result (StopsParents p1 p2 files) → IsOfSameImage old new → shelf.Passes files.old files.new
+      → IfErr result (StopsParents p1 p2 files) → OnOk result (KeepsLent old new) → IsOfSameImage old new → shelf.Passes files.old files.new
       → (IsTrue files.old.told → AsksFrontOf (asks_of p1 ++ asks_of p2) files.old files.new) → HasCause files.before files.after result (λ e. e ≡ an_op.ShelfFailed)
       → IfErr result (λ e. e ≡ an_op.TreeFailed → ⊥) → ActsOn command alone files old new result
-  acts_parents command p1 p2 is does stops image passes asked shelf_cause kind = subst (λ (c : Command). ActsOn c alone files old new result) (sym is) (record {
+  acts_parents command p1 p2 is does stops lent image passes asked shelf_cause kind = subst (λ (c : Command). ActsOn c alone files old new result) (sym is) (record {
     does = does;
     stops = λ unset. stops;
     same = same_if (IsReparented p1 p2 files) (λ a b lines changed acted. acted.same) old new result does;
+    lent = lent;
     image = image;
     tree = record { history = refl; count = refl };
     below = passes;
@@ -186,6 +192,7 @@ module _ (h : tree.History) (count : ℕ) (files : shelf.History) (counted : ℕ
     does = nothing;
     stops = λ unset. tt;
     same = λ unset still. same_table (table held);
+    lent = λ dir same. refl;
     image = record { docket = refl; bytes = refl };
     tree = record { history = refl; count = refl };
     below = shelves.passes_same files;

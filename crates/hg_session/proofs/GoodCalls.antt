@@ -8,7 +8,7 @@ use Rattle.hg_save.proofs.Others.{last_record}
 use Rattle.hg_save.specs.Others.{KeepData}
 use Rattle.hg_save.specs.Record.{reading}
 use Rattle.hg_session.proofs.Longer.{right_by_start}
-use Rattle.hg_session.specs.Acts.{AllSteps, ChangesTree, Deed, StandsAt, Stepping, TakesAway, makes_of, span_of, steps_of}
+use Rattle.hg_session.specs.Acts.{AllSteps, ChangesTree, Deed, Stepping, TakesAway, makes_of, span_of, steps_of}
 use Rattle.hg_session.specs.Answered.{Ran}
 use Rattle.hg_session.specs.Call.{Call, Count, IsLeftAlone, Looked, Saved, Sink, Watched}
 use Rattle.hg_session.specs.Change.{ChangesBehind, IsUnwritten, up_to}
@@ -21,9 +21,10 @@ use Rattle.hg_session.proofs.Crashes.{crash_unwritten}
 use Rattle.hg_session.proofs.GoodParents.{reparented_good}
 use Rattle.hg_session.proofs.GoodStays.{before, good_by, good_later, good_stays, one_table}
 use Rattle.hg_session.proofs.GoodParts.{data_before, from_moment}
+use Rattle.hg_session.proofs.Makers.{asks_none}
 use Rattle.hg_session.proofs.GoodTables.{KeepsTable, added_keeps, copied_keeps, forgotten_keeps, noted_good, table_good, table_same, table_through}
 use Rattle.hg_shelf.specs.History as shelf
-use Rattle.hg_shelf.specs.Images.{Course, Goes, Images, course}
+use Rattle.hg_shelf.specs.Images.{Goes, Images, course}
 use Rattle.hg_shelf.specs.Polite.{KeepsPlain}
 use Rattle.hg_tree.proofs.Histories.{extends_same}
 use Rattle.hg_tree.specs.History as tree
@@ -72,20 +73,11 @@ module _ (copy : Watched tree.History) (files : Watched shelf.History) (past : s
   made_good (a_command.SetParents p1 p2) h loaded made lines changed does = reparented_good files past told plain p1 p2 h loaded made lines changed does
   made_good command h loaded made lines changed does = table_good store loaded made h (table_same loaded made does.table)
 
--- it is made of the record that stands
-stands_there : (command : Command) (copy : Watched tree.History) (files : Watched shelf.History) (c : Course) (from : ℕ) (loaded : Table) → (makes_of command copy files).stands c from loaded → StandsAt c from loaded
-stands_there (a_command.Add words) copy files c from loaded is = is
-stands_there (a_command.Forget words) copy files c from loaded is = is
-stands_there (a_command.Remove gone words) copy files c from loaded is = is
-stands_there (a_command.Copy source target) copy files c from loaded is = is
-stands_there (a_command.SetParents p1 p2) copy files c from loaded is = is
-stands_there command copy files c from loaded is = is
-
 -- ---- what a status makes
 
-noted_stands : (files : Watched shelf.History) (table : Option Table) (notes : NotesData) (c : Course) → KeepData c.history files.old.last → (from : ℕ) (loaded : Table) → (noted_in files table notes).stands c from loaded → StandsAt c from loaded
-noted_stands files None notes c keeps from loaded is = absurd is
-noted_stands files (Some t) notes c keeps from loaded is = is keeps
+noted_fair : (files : Watched shelf.History) (table : Option Table) (notes : NotesData) (h : shelf.History) → KeepData h files.old.last → (from : ℕ) → from ≤ h.last → (noted_in files table notes).fair h from
+noted_fair files None notes h keeps from within = tt
+noted_fair files (Some t) notes h keeps from within = data_before (up_to from h) h (from_moment h from within) files.old.last keeps
 
 noted_does : (looked : Looked) (table : Option Table) (notes : NotesData) → tree.Extends looked.tree.old looked.tree.new → IfSome table (λ t. AreEarnedFor looked t notes)
     → IsHonest looked.tree.new → IsTrue looked.tree.old.told → KeepsPlain looked.shelf.new looked.shelf.old.last
@@ -137,7 +129,7 @@ module _ (copy : Watched tree.History) (files : Watched shelf.History) (oversize
   change_stays : (command : Command) → tree.Extends copy.old copy.new → RanChange (call command) code fault → StaysGood looked saved
   change_stays command past is fair latest good =
       good_stays saved.old saved.new is.kept fair.calm fair.keep fair.plain copy.old copy.new past fair.published good (shown (is.kept.past.told ∙ fair.calm.told)) (makes_of command copy files)
-      (stands_there command copy files saved.new)
+      (λ from after within. asks_none command copy files files.new from)
       (λ loaded made lines changed does there.
       good_later (shelf.now files.old).files made copy.old copy.new past (made_good copy files is.kept.past fair.calm.told fair.plain command copy.old loaded made lines changed does there))
       fault (is.safe fair.calm) (is.crash fair.calm fair.keep latest)
@@ -145,7 +137,7 @@ module _ (copy : Watched tree.History) (files : Watched shelf.History) (oversize
   status_stays : (flags : StatusFlags) → RanStatus flags (call (a_command.Status flags)) code fault → StaysGood looked saved
   status_stays flags ran fair latest good =
       good_stays saved.old saved.new ran.saving.kept fair.calm fair.keep fair.plain copy.old copy.new ran.tree.past fair.published good (shown (ran.saving.kept.past.told ∙ fair.calm.told)) (noted_in files ran.table ran.notes)
-      (noted_stands files ran.table ran.notes saved.new fair.kept)
+      (λ from after within. noted_fair files ran.table ran.notes files.new fair.kept from within)
       (noted_does looked ran.table ran.notes ran.tree.past ran.earned fair.honest fair.told fair.plain)
       fault (ran.saving.safe fair.calm) (ran.crash fair.calm fair.keep latest)
 

@@ -16,10 +16,10 @@ use Rattle.hg_report.specs.declared.fault.Fault.{Fault}
 use Rattle.hg_save.proofs.Published.{left_until, published_later, published_sound}
 use Rattle.hg_save.specs.Others.{KeepsRecords, WasPublished}
 use Rattle.hg_save.specs.Record.{reading}
-use Rattle.hg_session.specs.Acts.{Makes, StandsAt}
+use Rattle.hg_session.specs.Acts.{Makes}
 use Rattle.hg_session.specs.Call.{Saved}
 use Rattle.hg_session.specs.Change.{IsSafe, NoneOurs, Publishes}
-use Rattle.hg_session.specs.Crash.{IsCrashSafe, IsOwnRecord, published_in}
+use Rattle.hg_session.specs.Crash.{IsCrashSafe, IsFirmFor, IsOwnRecord, published_in}
 use Rattle.hg_session.specs.Good.{IsGoodIn, IsGoodRecord, LeavesGood}
 use Rattle.hg_session.proofs.GoodTables.{table_good, table_same}
 use Rattle.hg_shelf.specs.History.{Files, others}
@@ -124,14 +124,14 @@ module _ (a b : Course) (goes : Goes a b) (calm : Undisturbed a b) (keep : Keeps
   ])
 
   module _ (shown : (k : ℕ) → k ≤ b.history.last → (scene b k).leaves (scene b k).files) (Does : Makes)
-      (stands : (from : ℕ) (loaded : Table) → Does.stands b from loaded → StandsAt b from loaded)
+      (fair : (from : ℕ) → start ≤ from → from ≤ b.history.last → Does.fair b.history from)
       (makes : (loaded made : Table) (lines : List ℕ) (changed : Bool) → Does.does loaded made lines changed → IsGoodIn store loaded h → IsGoodIn store made later) where
     own_good : (is : Publishes Does saved) → IsGoodIn store is.is.found later
     own_good is =
         let from = is.stretch.from in
         let within : from ≤ b.history.last = omega (arith, is.stretch.order, is.stretch.end) in
         let stood = before from is.stretch.start within is.stretch.before (scene b from).files (shown from within) in
-        let same : stood.0 ≡ is.is.loaded = one_table (reading (scene b from).files) stood.0 is.is.loaded stood.1 (stands from is.is.loaded is.is.there) in
+        let same : stood.0 ≡ is.is.loaded = one_table (reading (scene b from).files) stood.0 is.is.loaded stood.1 (is.is.there (fair from is.stretch.start within)) in
         let loaded : IsGoodIn store is.is.loaded h = subst (λ (t : Table). IsGoodIn store t h) same stood.2 in
         table_good store is.is.made is.is.found later (table_same is.is.made is.is.found is.is.is) (makes is.is.loaded is.is.made is.is.lines true is.is.does loaded)
 
@@ -139,7 +139,15 @@ module _ (a b : Course) (goes : Goes a b) (calm : Undisturbed a b) (keep : Keeps
     own_record fault (inl none) r own = absurd own
     own_record fault (inr (may, is)) r own = (is.is.found, own, own_good is)
 
+    -- what an append asks besides holds
+    firm_good : (fault : Option Fault) (safe : IsSafe Does saved fault) → IsFirmFor Does saved fault safe
+    firm_good fault (inl none) = tt
+    firm_good fault (inr (may, is)) = λ way. (
+      λ f left. let there = good f left in (there.0, there.1),
+      fair is.stretch.from is.stretch.start (omega (arith, is.stretch.order, is.stretch.end)),
+    )
+
     -- at each moment, where the call makes good tables of good ones
-    pub good_stays : (fault : Option Fault) (safe : IsSafe Does saved fault) → IsCrashSafe (published_in Does saved fault safe) saved
+    pub good_stays : (fault : Option Fault) (safe : IsSafe Does saved fault) → (IsFirmFor Does saved fault safe → IsCrashSafe (published_in Does saved fault safe) saved)
         → (k : ℕ) → start ≤ k → k ≤ b.history.last → LeavesGood later (scene b k)
-    good_stays fault safe crash = good_by (published_in Does saved fault safe) (own_record fault safe) crash
+    good_stays fault safe crash = good_by (published_in Does saved fault safe) (own_record fault safe) (crash (firm_good fault safe))

@@ -7,6 +7,7 @@ pub mod CopyLines
 pub mod Crashes
 pub mod Doing
 pub mod Expectations
+pub mod Firm
 pub mod Freed
 pub mod GoodCalls
 pub mod GoodParents
@@ -14,18 +15,22 @@ pub mod GoodParts
 pub mod GoodStays
 pub mod GoodTables
 pub mod HeldNotes
+pub mod KeptLists
+pub mod Lending
 pub mod Listings
 pub mod Locked
 pub mod Locks
 pub mod Longer
 pub mod Looks
 pub mod Makers
+pub mod NotesKept
 pub mod Overs
 pub mod ParentLoads
 pub mod Parents
 pub mod Printing
 pub mod Promises
 pub mod Publishing
+pub mod ReadNodes
 pub mod Readings
 pub mod Records
 pub mod Refusals
@@ -38,4 +43,5 @@ pub mod Standing
 pub mod Statuses
 pub mod TakenWords
 pub mod Texts
+pub mod UsedSteps
 pub mod Widening

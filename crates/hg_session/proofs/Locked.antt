@@ -4,6 +4,7 @@ use Rattle.std.proofs.lemmas.Bool.{cases_lt}
 use Rattle.hg_save.specs.Loads.{During, IsTry, Try, files_at, found_by}
 use Rattle.hg_save.specs.Record.{docket_in, id_in, reading, record_in}
 use Rattle.hg_save.specs.Saved.{IsLatest, name_after, used_in}
+use Rattle.hg_save_behind.specs.Behind.{IsSolid}
 use Rattle.hg_session.specs.Change.{FailsOrUnwritten, IsUnwritten, NoneOurs}
 use Rattle.hg_session.specs.declared.change_fault.ChangeFault.{ChangeFault}
 use Rattle.hg_shelf.specs.History.{By, Files, History, Passes, label, readers}
@@ -77,4 +78,11 @@ module _ (a b c : Course) (ours : a.history.ours ≡ true) (passes : Passes a.hi
   front_latest latest = record {
     latest = λ f is n after. latest.latest f (end_remains.left f is) n (ap (λ (x : Files). name_after n (id_in x)) (sym end_remains.shown) ∙ after);
     used = λ f is named. subst (λ (x : Files). used_in f ≤ used_in x) (sym end_remains.shown) (latest.used f (end_remains.left f is) (named ∙ ap id_in end_remains.shown));
+  }
+
+  -- and what it may leave is solid, where it was
+  pub front_solid : IsSolid (scene c a.history.last) → IsSolid (last_scene b)
+  front_solid solid = record {
+    used = λ f is named. subst (λ (x : Files). used_in f ≤ used_in x) (sym end_remains.shown) (solid.used f (end_remains.left f is) (named ∙ ap id_in end_remains.shown));
+    front = λ f is named. solid.front f (end_remains.left f is) (named ∙ ap id_in end_remains.shown);
   }

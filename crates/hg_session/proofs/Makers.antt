@@ -20,31 +20,35 @@ use Rattle.hg_words.specs.declared.given.Command.{Command}
 use Rattle.hg_words.specs.declared.given.Command.TheVariants as a_command
 use Rattle.std.specs.Prelude.{Result}
 
--- what the one says of its course, which the other goes on, the other says of its own
-abbrev pub StandsWider : Makes → Makes → Type 1
-StandsWider Part Whole = (c d : Course) → Goes c d → (at : ℕ) → at ≤ c.history.last → (loaded : Table) → Part.stands c at loaded → Whole.stands d at loaded
+-- what the other asks of a history, which goes on from that of the one, the one asks of its own
+abbrev pub FairWider : Makes → Makes → Type 0
+FairWider Part Whole = (c d : History) → Extends c d → (at : ℕ) → at ≤ c.last → Whole.fair d at → Part.fair c at
 
 -- what the one says the other says
-pub record IsWider (Part Whole : Makes) : Type 1 where
+pub record IsWider (Part Whole : Makes) : Type 0 where
   pub does : (old new : Table) (lines : List ℕ) (changed : Bool) → Part.does old new lines changed → Whole.does old new lines changed
   pub stops : (loaded : Table) (fault : OpFault) → Part.stops loaded fault → Whole.stops loaded fault
-  pub stands : StandsWider Part Whole
+  pub fair : FairWider Part Whole
 
 -- the files of a moment record it, seen from later on too
 pub stands_later : (c d : Course) → Goes c d → (at : ℕ) → at ≤ c.history.last → (loaded : Table) → StandsAt c at loaded → StandsAt d at loaded
 stands_later c d goes at within loaded is = ap reading (goes.kept at within).shown ∙ is
 
-pub as_wide : (One : Makes) → StandsWider One One → IsWider One One
-as_wide One stands = record { does = λ old new lines changed is. is; stops = λ loaded fault is. is; stands = stands }
+pub as_wide : (One : Makes) → FairWider One One → IsWider One One
+as_wide One fair = record { does = λ old new lines changed is. is; stops = λ loaded fault is. is; fair = fair }
 
--- what a command makes is made of the record that stands
-pub stands_as : (command : Command) (copy : Watched tree.History) (files : Watched History) (c : Course) (at : ℕ) (loaded : Table) → StandsAt c at loaded → (makes_of command copy files).stands c at loaded
-stands_as (a_command.Add words) copy files c at loaded is = is
-stands_as (a_command.Forget words) copy files c at loaded is = is
-stands_as (a_command.Remove after words) copy files c at loaded is = is
-stands_as (a_command.Copy source target) copy files c at loaded is = is
-stands_as (a_command.SetParents p1 p2) copy files c at loaded is = is
-stands_as command copy files c at loaded is = is
+-- nothing is asked
+pub none_asked : (c d : History) → Extends c d → (at : ℕ) → at ≤ c.last → Unit {0} → Unit {0}
+none_asked c d past at within none = none
+
+-- a command asks nothing of others
+pub asks_none : (command : Command) (copy : Watched tree.History) (files : Watched History) (h : History) (at : ℕ) → (makes_of command copy files).fair h at
+asks_none (a_command.Add words) copy files h at = tt
+asks_none (a_command.Forget words) copy files h at = tt
+asks_none (a_command.Remove after words) copy files h at = tt
+asks_none (a_command.Copy source target) copy files h at = tt
+asks_none (a_command.SetParents p1 p2) copy files h at = tt
+asks_none command copy files h at = tt
 
 module _ (part whole : Watched History) (before : Extends whole.old part.old) (behind : Extends part.new whole.new) where
   rows_wide : (id : Id20) (answer : Result Rows ManifestFault) → LoadsRows part id answer → LoadsRows whole id answer
@@ -130,17 +134,17 @@ module _ (part whole : Watched History) (before : Extends whole.old part.old) (b
   parents_stopped p1 p2 (an_op.NoContents id) stops = stops
 
   pub makes_wide : (command : Command) (copy : Watched tree.History) → IsWider (makes_of command copy part) (makes_of command copy whole)
-  makes_wide (a_command.Add words) copy = as_wide (makes_of (a_command.Add words) copy whole) stands_later
-  makes_wide (a_command.Forget words) copy = as_wide (makes_of (a_command.Forget words) copy whole) stands_later
+  makes_wide (a_command.Add words) copy = as_wide (makes_of (a_command.Add words) copy whole) none_asked
+  makes_wide (a_command.Forget words) copy = as_wide (makes_of (a_command.Forget words) copy whole) none_asked
   makes_wide (a_command.Remove after words) copy = record {
     does = λ old new lines changed is. removed_wide after words copy old new lines changed is;
     stops = λ loaded fault is. stopped_wide after words copy loaded fault is;
-    stands = stands_later;
+    fair = none_asked;
   }
-  makes_wide (a_command.Copy source target) copy = as_wide (makes_of (a_command.Copy source target) copy whole) stands_later
+  makes_wide (a_command.Copy source target) copy = as_wide (makes_of (a_command.Copy source target) copy whole) none_asked
   makes_wide (a_command.SetParents p1 p2) copy = record {
     does = λ old new lines changed is. reparented_wide p1 p2 old new lines changed is;
     stops = λ loaded fault is. parents_stopped p1 p2 fault is;
-    stands = stands_later;
+    fair = none_asked;
   }
-  makes_wide command copy = record { does = λ old new lines changed is. is; stops = λ loaded fault is. is; stands = stands_later }
+  makes_wide command copy = record { does = λ old new lines changed is. is; stops = λ loaded fault is. is; fair = none_asked }

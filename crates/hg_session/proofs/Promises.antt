@@ -1,37 +1,39 @@
 -- What a command that changes the record promises, from what was done under the lock and told behind it.
-use Rattle.std.proofs.Common.{ℕ, ◌≡◌, ◌<◌, ◌≤◌, Bool, true, List, Option, Some, None, Ok, IfSome, IsTrue, is_some, refl, sym, ap, ◌∙◌, subst, arith, inl, inr, ◌⊎◌}
+use Rattle.std.proofs.Common.{ℕ, ◌≡◌, ◌<◌, ◌≤◌, Bool, true, List, [], ◌∷◌, Option, Some, None, Ok, IfSome, IsTrue, refl, sym, ap, ◌∙◌, subst, arith, inl, inr, ◌⊎◌}
 use Rattle.std.proofs.lemmas.Bool.{cases_lt}
 use Rattle.hg_base.proofs.Faults.{steady_not_rose}
 use Rattle.hg_base.specs.Fault.{IsSteady}
-use Rattle.hg_docket.specs.Number.{next_name}
 use Rattle.hg_entry.specs.Table.{Table}
 use Rattle.hg_report.specs.declared.fault.Fault.{Fault}
 use Rattle.hg_report.specs.declared.fault.Fault.TheVariants as a_fault
 use Rattle.hg_save.proofs.Loads.{last_within, unstepped_found}
-use Rattle.hg_save.specs.Loads.{files_at}
-use Rattle.hg_save.specs.Record.{id_in, reading}
+use Rattle.hg_save.specs.Loads.{Try, files_at}
+use Rattle.hg_save.specs.Others.{named_file}
+use Rattle.hg_save.specs.Record.{docket_in, reading}
 use Rattle.hg_session.proofs.Looks.{not_without}
 use Rattle.hg_session.proofs.Crashes.{crash_safe, lasting}
 use Rattle.hg_session.proofs.Readings.{unreadable_now}
+use Rattle.hg_append.specs.declared.fault.EncodeFault.{EncodeFault}
 use Rattle.hg_append.specs.declared.fault.EncodeFault.TheVariants as an_encode
 use Rattle.hg_ops.specs.declared.refusal.OpFault.{OpFault}
 use Rattle.hg_ops.specs.declared.refusal.OpFault.TheVariants as an_op
 use Rattle.hg_report.specs.Cause.{of_op}
 use Rattle.hg_session.specs.Acts.{Makes}
 use Rattle.hg_session.specs.Call.{Call, Count, Fails, IsLeftAlone, Saved, Serves, Watched}
-use Rattle.hg_session.specs.Change.{ChangesBehind, FailsOrUnwritten, Fits, FitsFirst, IsDone, IsEarly, IsLocked, IsMade, IsReadFirst, IsReadSome, IsSafe, MayFollowWriting, AsksChange, MetChanging, MetDoing, MetLocking, MetStop, NoneOurs, Stretch, id_read, makes_in, of_change, up_to}
-use Rattle.hg_session.specs.Changed.{IsChangeText, IsExpectedChange, IsMadeOf, IsStoppedFor, RanChange, change_look, status_of}
+use Rattle.hg_session.specs.Change.{ChangesBehind, FailsOrUnwritten, FitsFirst, IsDone, IsEarly, IsLocked, IsMade, IsReadFirst, IsReadSome, IsSafe, MayFollowWriting, AsksChange, MetChanging, MetDoing, MetLocking, MetStop, MetUnfit, NoneOurs, Stretch, makes_in, of_change, up_to}
+use Rattle.hg_session.specs.Changed.{IsChangeText, IsExpectedChange, IsMadeOf, IsStoppedFor, IsUnfitFor, RanChange, change_look, status_of}
 use Rattle.hg_session.proofs.Records.{puts_none}
 use Rattle.hg_session.specs.Look.{LeavesAt, Stage, at_first, at_saving, at_telling}
 use Rattle.hg_session.specs.Put.{IsFaultOrMemory, IsSilent, Tells, TellsLine}
 use Rattle.hg_session.specs.Load.{of_read}
 use Rattle.hg_session.specs.Loaded.{MetReading}
+use Rattle.hg_session.specs.Ways.{Fits, IsUnfit, Stood, stood_by, stood_in}
 use Rattle.hg_session.specs.declared.change_fault.ChangeFault.{ChangeFault}
 use Rattle.hg_session.specs.declared.change_fault.ChangeFault.TheVariants as a_change_fault
 use Rattle.hg_session.specs.declared.read_fault.ReadFault.{ReadFault}
 use Rattle.hg_session.specs.declared.read_fault.ReadFault.TheVariants as a_read
 use Rattle.hg_shelf.specs.History.{Extends, Files, History, IsOurs, now, readers, us}
-use Rattle.hg_shelf.specs.Images.{Course, Goes}
+use Rattle.hg_shelf.specs.Images.{Course, Goes, scene}
 use Rattle.hg_shelf.specs.Polite.{Undisturbed}
 use Rattle.hg_stream.specs.Stream.{Grown, GrownByFront}
 use Rattle.hg_tree.specs.History as tree
@@ -73,20 +75,36 @@ module _ (Does : Makes) (copy : Watched tree.History) (a b : Course) (before aft
       let first = none_own a.history b.history is.upto own is.later is.within is.none in
       sym (unstepped_found a.history (up_to is.upto b.history) is.read.tries (extends_first a.history b.history is.upto past is.later) first is.read.tried) ∙ is.read.found
 
-  id_own : (loaded : Table) (is : IsReadFirst a.history b.history loaded) → id_in there ≡ id_read is
-  id_own loaded is =
-      let first = none_own a.history b.history is.upto own is.later is.within is.none in
-      let tried = (last_within a.history (up_to is.upto b.history) is.read.tries is.read.tried).docket in
-      let at : is.read.tried.last.docket ≡ a.history.last = omega (arith, tried.from, tried.to, first) in
-      sym (ap id_in (ap (files_at b.history) at ∙ (past.stay a.history.last (omega arith)).shown))
-
   abbrev made_own : (made : Table) (lines : List ℕ) (changed : Bool) → IsMade Does files made lines changed → IsMadeOf Does there made lines changed
   made_own made lines changed is = record { loaded = is.loaded; recorded = read_own is.loaded (is.read own.told); does = is.does }
 
-  fits_own : (made : Table) → FitsFirst a.history b.history made → Fits there made
-  fits_own made is =
-      let first = none_own a.history b.history is.at own is.later is.within is.none in
-      subst (λ (f : Files). Fits f made) (ap (files_at b.history) first ∙ (past.stay a.history.last (omega arith)).shown) is.fits
+  -- what a try read before a step stands there
+  stood_own : (tried : Try) → a.history.last ≤ tried.docket → tried.docket ≤ tried.file → tried.file ≤ b.history.last → NoneOurs b.history a.history.last tried.file → stood_by b.history tried ≡ stood_in there
+  stood_own tried from order to none =
+      let later : a.history.last ≤ tried.file = omega (arith, from, order) in
+      let last : tried.file ≡ a.history.last = none_own a.history b.history tried.file own later to none in
+      let first : tried.docket ≡ a.history.last = omega (arith, from, order, last) in
+      let same : files_at b.history a.history.last ≡ there = (past.stay a.history.last (omega arith)).shown in
+      let docket : files_at b.history tried.docket ≡ there = ap (files_at b.history) first ∙ same in
+      let file : files_at b.history tried.file ≡ there = ap (files_at b.history) last ∙ same in
+      λ i. record { docket = docket_in (docket i); file = named_file (docket_in (docket i)) (file i) }
+
+  fits_own : (made : Table) → FitsFirst a.history b.history made → Fits (stood_in there) made
+  fits_own made is = subst (λ (stood : Stood). Fits stood made) (stood_own is.tried is.is.docket.from is.is.order is.is.file.to is.none) is.fits
+
+  unfit_own : (fault : EncodeFault) → MetUnfit Does files fault → IsUnfitFor Does there fault
+  unfit_own fault met =
+      let read : IsReadFirst a.history b.history met.is.loaded = met.is.read own.told in
+      let within = last_within a.history (up_to read.upto b.history) read.read.tries read.read.tried in
+      record {
+        made = met.made;
+        lines = met.lines;
+        is = made_own met.made met.lines true met.is;
+        unfit =
+            subst (λ (stood : Stood). IsUnfit stood met.made fault)
+            (stood_own read.read.tried.last within.docket.from within.order (omega (arith, within.file.to, read.within)) (λ k from to. read.none k from (omega (arith, to, within.file.to))))
+            (met.unfit own.told);
+      }
 
   pub done_own : (from to : ℕ) (lines : List ℕ) → IsDone Does files saved from to lines → IsExpectedChange Does there None
   done_own from to lines done = record {
@@ -134,23 +152,15 @@ module _ (Does : Makes) (copy : Watched tree.History) (a b : Course) (before aft
   met_own (a_change_fault.Read fault) safe met p q = reading_own fault safe met.0 q
   met_own (a_change_fault.Op fault) safe met p q = doing_own fault met p q
   met_own (a_change_fault.Encode an_encode.OutOfMemory) safe met p q = tt
-  met_own (a_change_fault.Encode (an_encode.TooLarge size)) safe met p q = record {
-    made = met.made;
-    lines = met.lines;
-    is = made_own met.made met.lines true met.is;
-    held = met.held;
-    same = met.same;
-    large = met.large;
-    next = ap (λ (id : List ℕ). is_some (next_name id)) (id_own met.is.loaded (met.is.read own.told)) ∙ met.next own.told;
-  }
-  met_own (a_change_fault.Encode an_encode.IdsSpent) safe met p q = record {
-    made = met.made;
-    lines = met.lines;
-    is = made_own met.made met.lines true met.is;
-    spent = ap next_name (id_own met.is.loaded (met.is.read own.told)) ∙ met.spent own.told;
-  }
+  met_own (a_change_fault.Encode (an_encode.TooLarge size)) safe met p q = unfit_own (an_encode.TooLarge size) met
+  met_own (a_change_fault.Encode an_encode.IdsSpent) safe met p q = unfit_own an_encode.IdsSpent met
   met_own a_change_fault.Held safe met p q = absurd met
   met_own a_change_fault.ShelfFailed safe met p q = steady_not_rose before after q met.0
+
+-- a status of lines is 0 or 1
+pub status_either : (n : ℕ) (lines : List ℕ) → n ≡ status_of lines → (n ≡ 0) ⊎ (n ≡ 1)
+status_either n [] is = inl is
+status_either n (byte ∷ lines) is = inr is
 
 -- a fault of what the command met is told as another than those of the streams
 not_err : (fault : ChangeFault) → of_change fault ≡ a_fault.ErrFailed → ⊥
@@ -233,7 +243,7 @@ module _ (command : Command) (copy : Watched tree.History) (a b : Course) (befor
   never_none fault is = not_without None fault is refl
 
   change_text : (stretch : Stretch a.history b.history) (lines : List ℕ) → IsDone Does call.looked.shelf call.saved stretch.from stretch.to lines → IsChangeText Does call lines
-  change_text stretch lines done = record { stretch = stretch; done = done; lasts = λ calm keep. lasting a b kept calm keep done.is.loaded done.made stretch (done.kept calm) }
+  change_text stretch lines done = record { stretch = stretch; done = done; lasts = λ calm keep. lasting a b kept calm keep (stood_in (scene b stretch.from).files) done.is.loaded done.made stretch (done.kept calm) }
 
   pub ran_done : LockedBy None → (status : ℕ) (stretch : Stretch a.history b.history) (lines : List ℕ) (done : IsDone Does call.looked.shelf call.saved stretch.from stretch.to lines) → Grown err.old err.new lines → status ≡ status_of lines
       → (Undisturbed a b → IsSafe Does call.saved None) → copy.after ≡ copy.before → after ≡ before → err.after ≡ err.before → (locks.before < locks.after → ⊥) → (copy.before < copy.after → ⊥)

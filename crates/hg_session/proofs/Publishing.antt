@@ -1,25 +1,48 @@
 -- A table that was written over the record that stood, behind a part in which the caller only asked.
-use Rattle.std.proofs.Common.{ℕ, ◌≡◌, ◌≤◌, ◌⊎◌, true, List, Some, None, Ok, refl, sym, ap, ◌∙◌, subst, inl, inr, arith}
+use Rattle.std.proofs.Common.{ℕ, ◌≡◌, ◌≤◌, ◌<◌, ◌⊎◌, true, List, Some, Ok, refl, sym, ap, ◌∙◌, subst, inl, inr, arith, length}
 use Rattle.std.proofs.lemmas.Bool.{cases_lt}
-use Rattle.hg_docket.specs.Docket.{docket_of}
-use Rattle.hg_docket.specs.Number.{next_name}
+use Rattle.hg_append.specs.declared.encoding.Encoded.{Encoded}
+use Rattle.hg_append.specs.declared.way.Way.{Way}
+use Rattle.hg_append.specs.declared.way.Way.TheVariants as a_way
+use Rattle.hg_appended.specs.Loss.{plan_of}
+use Rattle.hg_docket.specs.Docket.{Contents, docket_of}
 use Rattle.hg_entry.specs.Table.{Table}
 use Rattle.hg_mixed.specs.Held.{Held, table}
+use Rattle.hg_ops.proofs.Added.{same_table}
+use Rattle.hg_publish.specs.Over.{HasUsed, IsGround, KeepsLists, KeepsOthersBy}
+use Rattle.hg_save.proofs.Parts.{torn_nowhere}
 use Rattle.hg_save.proofs.Published.{keeps_front}
-use Rattle.hg_save.proofs.Spans.{files_front}
 use Rattle.hg_save.specs.Leads.{Leads}
-use Rattle.hg_save.specs.Record.{data_name, id_in, reading}
-use Rattle.hg_save.specs.Saved.{KeepsOthers, LeavesOnly, ReadsAsBeforeOr, ShowsOnly, Stands}
-use Rattle.hg_session.proofs.Locked.{end_remains, front_latest, front_remains, none_front}
-use Rattle.hg_session.specs.Acts.{Makes}
+use Rattle.hg_save.specs.Others.{IsFrontOf, named_file}
+use Rattle.hg_save.specs.Record.{data_name, docket_in, reading}
+use Rattle.hg_save.specs.Saved.{IsExact, IsLatest, KeepsOthers, LeavesOnly, ReadsAsBeforeOr, ShowsOnly, Stands, WritesOnly, new_docket}
+use Rattle.hg_save.specs.declared.loaded.Loaded.{Loaded}
+use Rattle.hg_save_behind.specs.Behind.{KeepsUsedBytes}
+use Rattle.hg_session.proofs.Locked.{end_remains, front_latest, front_remains, front_solid, none_front}
+use Rattle.hg_session.proofs.UsedSteps.{used_front}
+use Rattle.hg_session.specs.Acts.{Makes, StandsAt}
 use Rattle.hg_session.specs.Anew.{IsOverwritten, IsRecorded}
-use Rattle.hg_session.specs.Change.{IsKept, IsPublished, IsWritten}
+use Rattle.hg_session.specs.Change.{IsFirm, IsKept, IsPublished}
+use Rattle.hg_session.specs.Ways.{IsMadeOver, KeepsBy, KeepsUnchanged, LendsUnchanged, Stood, stood_in}
 use Rattle.hg_shelf.specs.History.{Files, Passes, us}
 use Rattle.hg_shelf.specs.Images.{Course, Goes, last_scene, scene}
 use Rattle.hg_shelf.specs.Polite.{Undisturbed}
 
--- the start, behind the part that only asks, and the end; the docket that stood has these bytes
-module _ (a b c : Course) (ours : a.history.ours ≡ true) (passes : Passes a.history b.history) (goes : Goes b c) (calm : Undisturbed a c) (bytes : List ℕ) (stands : Stands bytes (last_scene b)) where
+-- files keep their own bytes
+used_itself : (id : List ℕ) (used : ℕ) (f : Files) → KeepsUsedBytes id used f f
+used_itself id used f = record { others = λ at p q r. refl; front = record { there = λ m most has. has; same = λ m most has. refl } }
+
+others_itself : (was id : List ℕ) (f : Files) → KeepsOthers was id f f
+others_itself was id f = record { others = λ at p q r s. refl; named = inl refl }
+
+writes_nothing : (new : Encoded) (start f : Files) → WritesOnly new start f f
+writes_nothing new start f = record {
+  file = torn_nowhere new.place (length new.bytes.items) (f (data_name new.id));
+  stage = inl (record { docket = refl; beside = torn_nowhere 0 (length new.docket.items) (f new_docket) });
+}
+
+-- the start, behind the part that only asks, and the end; the record that stood was loaded
+module _ (a b c : Course) (ours : a.history.ours ≡ true) (passes : Passes a.history b.history) (goes : Goes b c) (calm : Undisturbed a c) (loaded : Loaded) (stands : Stands loaded.docket.items (last_scene b)) where
   -- what a crash leaves of a table that was written over the record
   crash_over : (found : Table) → LeavesOnly b c (Some (Ok found)) → (k : ℕ) (f : Files) → a.history.last ≤ k → k ≤ c.history.last → (scene c k).leaves f → ReadsAsBeforeOr (scene c a.history.last) (Some (Ok found)) f
   crash_over found only k f from to is = elim (cases_lt b.history.last k) [
@@ -40,60 +63,115 @@ module _ (a b c : Course) (ours : a.history.ours ≡ true) (passes : Passes a.hi
     | inr early ↦ inl (ap reading (front_remains a b c ours passes goes calm k from early).shown)
   ]
 
-  -- what is kept of the other files
-  others_over : (was id : List ℕ) → Leads (KeepsOthers was id) b c → (k : ℕ) → a.history.last ≤ k → k ≤ c.history.last → KeepsOthers was id (scene c a.history.last).files (scene c k).files
-  others_over was id leads k from to = elim (cases_lt b.history.last k) [
-    | inl late ↦
-        subst (λ (f : Files). KeepsOthers was id f (scene c k).files) (end_remains a b c ours passes goes calm).shown (leads.shown k (omega (arith, late)) to)
-    | inr early ↦
-        let same = (front_remains a b c ours passes goes calm k from early).shown in
-        record { others = λ at p q r s. ap (λ (f : Files). f at) same; named = inl (ap (λ (f : Files). f (data_name was)) same) }
-  ]
+  -- what a change that files make of themselves leads to
+  module _ (Change : Files → Files → Type 0) (itself : (f : Files) → Change f f) (leads : Leads Change b c) where
+    others_over : (k : ℕ) → a.history.last ≤ k → k ≤ c.history.last → Change (scene c a.history.last).files (scene c k).files
+    others_over k from to = elim (cases_lt b.history.last k) [
+      | inl late ↦ subst (λ (f : Files). Change f (scene c k).files) (end_remains a b c ours passes goes calm).shown (leads.shown k (omega (arith, late)) to)
+      | inr early ↦
+          subst (Change (scene c a.history.last).files) (sym (front_remains a b c ours passes goes calm k from early).shown) (itself (scene c a.history.last).files)
+    ]
 
-  spared_over : (was id : List ℕ) → Leads (KeepsOthers was id) b c → (k : ℕ) (f : Files) → a.history.last ≤ k → k ≤ c.history.last → (scene c k).leaves f
-      → (d : Files) × (scene c a.history.last).leaves d × KeepsOthers was id d f
-  spared_over was id leads k f from to is = elim (cases_lt b.history.last k) [
-    | inl late ↦
-        let before = leads.left k f (omega (arith, late)) to is in
-        (before.0, (end_remains a b c ours passes goes calm).left before.0 before.1, before.2)
-    | inr early ↦ (f, (front_remains a b c ours passes goes calm k from early).left f is, record { others = λ at p q r s. refl; named = inl refl })
-  ]
+    spared_over : (k : ℕ) (f : Files) → a.history.last ≤ k → k ≤ c.history.last → (scene c k).leaves f → (d : Files) × (scene c a.history.last).leaves d × Change d f
+    spared_over k f from to is = elim (cases_lt b.history.last k) [
+      | inl late ↦
+          let before = leads.left k f (omega (arith, late)) to is in
+          (before.0, (end_remains a b c ours passes goes calm).left before.0 before.1, before.2)
+      | inr early ↦ (f, (front_remains a b c ours passes goes calm k from early).left f is, itself f)
+    ]
 
-  -- the docket at the start names the identifier of the table
-  module _ (made : Held) (named : made.docket.id ≡ (docket_of bytes).id) where
-    pub id_there : id_in (scene c a.history.last).files ≡ made.docket.id
-    id_there = ap id_in (sym (end_remains a b c ours passes goes calm).shown) ∙ ap (λ (docket : List ℕ). (docket_of docket).id) stands ∙ sym named
+  torn_from : (new : Encoded) → Leads (WritesOnly new (last_scene b).files) b c → Leads (WritesOnly new (scene c a.history.last).files) b c
+  torn_from new leads = subst (λ (f : Files). Leads (WritesOnly new f) b c) (end_remains a b c ours passes goes calm).shown leads
 
-    pub published_over : (Does : Makes) (loaded : Table) (lines : List ℕ) → Does.stands c a.history.last loaded → Does.does loaded (table made) lines true → IsOverwritten made b c
-        → IsPublished Does c a.history.last c.history.last
-    published_over Does loaded lines there does over = record {
-      loaded = loaded;
-      there = there;
-      made = table made;
-      lines = lines;
-      does = does;
-      found = over.found;
-      is = over.is;
-      crash = λ latest. crash_over over.found (over.crash (front_latest a b c ours passes goes calm latest));
-      shown = λ latest. shown_over over.found (over.shown (front_latest a b c ours passes goes calm latest));
-      id = over.id;
-      next = ap next_name id_there ∙ over.next;
-      others = others_over (id_in (scene c a.history.last).files) over.id (subst (λ (i : List ℕ). Leads (KeepsOthers i over.id) b c) (sym id_there) over.others);
-      spared = spared_over (id_in (scene c a.history.last).files) over.id (subst (λ (i : List ℕ). Leads (KeepsOthers i over.id) b c) (sym id_there) over.others);
-      orderly = λ latest. keeps_front us c a.history.last b.history.last (none_front a b c passes goes) (over.orderly (front_latest a b c ours passes goes calm latest));
-      keeping = files_front us c.history a.history.last b.history.last (none_front a b c passes goes) over.keeping;
-      latest = λ latest. over.latest (front_latest a b c ours passes goes calm latest);
-    }
+  others_by : (held : Held) (way : Way) → KeepsOthersBy way held b c → (k : ℕ) → a.history.last ≤ k → k ≤ c.history.last → KeepsBy way held.docket (scene c a.history.last).files (scene c k).files
+  others_by held a_way.Rewrite (id, next, leads) k from to = (id, next, others_over (KeepsOthers held.docket.id id) (others_itself held.docket.id id) leads k from to)
+  others_by held a_way.Append leads k from to = others_over (KeepsUsedBytes held.docket.id held.docket.used) (used_itself held.docket.id held.docket.used) leads k from to
+
+  spared_by : (held : Held) (way : Way) → KeepsOthersBy way held b c → (k : ℕ) (f : Files) → a.history.last ≤ k → k ≤ c.history.last → (scene c k).leaves f
+      → (d : Files) × (scene c a.history.last).leaves d × KeepsBy way held.docket d f
+  spared_by held a_way.Rewrite (id, next, leads) k f from to is =
+      let was = spared_over (KeepsOthers held.docket.id id) (others_itself held.docket.id id) leads k f from to is in
+      (was.0, was.1, (id, next, was.2))
+  spared_by held a_way.Append leads k f from to is = spared_over (KeepsUsedBytes held.docket.id held.docket.used) (used_itself held.docket.id held.docket.used) leads k f from to is
+
+  -- the table was opened over what was loaded
+  module _ (made : Held) (named : made.docket ≡ docket_of loaded.docket.items) (bytes : made.bytes ≡ loaded.nodes.items) where
+    docket_there : made.docket ≡ docket_of (docket_in (scene c a.history.last).files)
+    docket_there = named ∙ ap docket_of (sym stands ∙ ap docket_in (end_remains a b c ours passes goes calm).shown)
+
+    -- the nodes that its docket uses stand there
+    nodes_there : HasUsed loaded (last_scene b) → 0 < made.docket.used → IsFrontOf (named_file (docket_in (scene c a.history.last).files) (scene c a.history.last).files) made.docket.used made.bytes
+    nodes_there used =
+        subst (λ (f : Files). 0 < made.docket.used → IsFrontOf (named_file (docket_in f) f) made.docket.used made.bytes) (end_remains a b c ours passes goes calm).shown
+        (subst (λ (l : List ℕ). 0 < made.docket.used → IsFrontOf (named_file l (last_scene b).files) made.docket.used made.bytes) (sym stands)
+        (subst (λ (l : List ℕ). 0 < made.docket.used → IsFrontOf (named_file loaded.docket.items (last_scene b).files) made.docket.used l) (sym bytes)
+        (subst (λ (d : Contents). 0 < d.used → IsFrontOf (named_file loaded.docket.items (last_scene b).files) d.used loaded.nodes.items) (sym named) used)))
+
+    -- so it is made over the record that stands
+    pub over_there : HasUsed loaded (last_scene b) → LendsUnchanged made → IsMadeOver (stood_in (scene c a.history.last).files) (table made) made
+    over_there used lends = record { docket = docket_there; nodes = nodes_there used; same = same_table (table made); lends = lends }
+
+    module _ (Does : Makes) (used : Does.fair c.history a.history.last → HasUsed loaded (last_scene b)) (lends : LendsUnchanged made) where
+      ground_over : IsLatest (scene c a.history.last) → (plan_of made ≡ a_way.Append → IsFirm Does c a.history.last) → IsGround (plan_of made) loaded (last_scene b)
+      ground_over latest firm = record {
+        stands = stands;
+        latest = front_latest a b c ours passes goes calm latest;
+        nodes = λ way. used (firm way).fair;
+        solid = λ way. front_solid a b c ours passes goes calm (firm way).solid;
+      }
+
+      pub published_over : (recorded : Table) (lines : List ℕ) → (Does.fair c.history a.history.last → StandsAt c a.history.last recorded) → Does.does recorded (table made) lines true → IsOverwritten made loaded b c
+          → IsPublished Does c a.history.last c.history.last
+      published_over recorded lines there does over = record {
+        loaded = recorded;
+        there = there;
+        held = made;
+        docket = docket_there;
+        nodes = λ fair. nodes_there (used fair);
+        lends = lends;
+        made = table made;
+        same = same_table (table made);
+        lines = lines;
+        does = does;
+        found = over.put.found;
+        is = over.put.is.same;
+        crash = λ latest firm. crash_over over.put.found (over.put.crash (ground_over latest firm));
+        shown = λ latest fair. shown_over over.put.found (over.put.shown stands (λ way. front_latest a b c ours passes goes calm (latest way)) (λ way. used (fair way)));
+        new = over.put.encoded;
+        encoded = over.put.is;
+        torn = others_over (WritesOnly over.put.encoded (scene c a.history.last).files) (writes_nothing over.put.encoded (scene c a.history.last).files) (torn_from over.put.encoded over.put.torn);
+        torn_left = spared_over (WritesOnly over.put.encoded (scene c a.history.last).files) (writes_nothing over.put.encoded (scene c a.history.last).files) (torn_from over.put.encoded over.put.torn);
+        others = others_by made (plan_of made) over.put.others;
+        spared = spared_by made (plan_of made) over.put.others;
+        orderly = λ latest firm. keeps_front us c a.history.last b.history.last (none_front a b c passes goes) (over.put.orderly (ground_over latest firm));
+        keeping = λ fair. used_front us c.history a.history.last b.history.last (none_front a b c passes goes) (over.put.keeping stands (λ way. used (fair way)));
+        latest = λ latest. over.put.latest stands (front_latest a b c ours passes goes calm latest);
+      }
 
     -- the table is what is recorded
-    pub kept_over : (loaded : Table) → IsRecorded made b c → IsKept loaded (table made) (record { old = a; new = c }) a.history.last c.history.last
-    kept_over loaded is = record {
-      found = is.found;
-      is = is.is;
-      shown = is.records.shown;
-      left = inl is.records.left;
-      gone =
-          inl (λ some.
-          subst (λ (id : List ℕ). (last_scene c).files (data_name id) ≡ None) (sym id_there) (is.gone (λ empty. some (id_there ∙ empty))));
-      bytes = inl (subst (λ (f : Files). IsWritten is.found f (last_scene c)) (end_remains a b c ours passes goes calm).shown is.bytes);
-    }
+    module _ (used : plan_of made ≡ a_way.Append → HasUsed loaded (last_scene b)) (stood : Stood) (over : IsMadeOver stood (table made) made) where
+      unchanged_by : (f : Files) → KeepsLists made f → KeepsUnchanged made f
+      unchanged_by f kept = record { same = kept.same; lists = λ dir has same. kept.lists dir (over.lends.kept dir same ∙ has) }
+
+      pub kept_over : (recorded : Table) → IsRecorded made b c → IsKept stood recorded (table made) (record { old = a; new = c }) a.history.last c.history.last
+      kept_over recorded written =
+          let start = (end_remains a b c ours passes goes calm).shown in
+          record {
+            found = written.is.found;
+            is = written.is.is.same;
+            shown = written.is.records.shown;
+            left = inl written.is.records.left;
+            bytes = inl (record {
+              new = written.is.encoded;
+              held = made;
+              over = over;
+              docket = docket_there;
+              is = written.is.is;
+              shown = subst (λ (f : Files). IsExact written.is.encoded f (last_scene c).files) start written.is.exact.shown;
+              left = λ f left. subst (λ (x : Files). IsExact written.is.encoded x f) start (written.is.exact.left f left);
+              gone = written.is.gone;
+              nodes = λ way. nodes_there (used way);
+              kept_lists = λ way. unchanged_by (last_scene c).files (written.lists way).shown;
+              kept_left = λ way f left. unchanged_by f ((written.lists way).left f left);
+            });
+          }

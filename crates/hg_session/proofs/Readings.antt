@@ -4,7 +4,7 @@ use Rattle.std.specs.List.{AllByRecursion}
 use Rattle.std.proofs.lemmas.Bool.{cases_Bool}
 use Rattle.hg_base.proofs.Faults.{steady_not_rose}
 use Rattle.hg_base.specs.Fault.{HasCause}
-use Rattle.hg_docket.specs.Docket.{Contents, docket_of, docket_refusal}
+use Rattle.hg_docket.specs.Docket.{docket_of, docket_refusal}
 use Rattle.hg_docket.specs.declared.fault.DocketFault.{DocketFault}
 use Rattle.hg_entry.specs.Table.{Table}
 use Rattle.hg_image.specs.Reading.{RecordFault, data_reading, docket_reading, of_data, reading_of}
@@ -92,26 +92,31 @@ loaded_as IsOf files mid made second found some = elim (cases_Bool files.old.tol
   | inr not ↦ (some.0, (λ told. absurd (true≢false (sym told ∙ not))), some.1)
 ]
 
+-- what was made of the nodes was made of some table
+pub found_some : {X : Type 0} (IsOf : Table → X → Type 0) (result : Result X ReadFault) (found : Result Table NodeFault) → NodesFind IsOf result found → IfOk result (λ made. (t : Table) × IsOf t made)
+found_some IsOf (Ok made) found is = (is.0, is.2)
+found_some IsOf (Err fault) found is = tt
+
 -- ---- a record that was loaded and opened
 
 pub opened_as : (old new : History) (loaded : Loaded) (result : Result Held ReadFault) → docket_refusal loaded.docket.items ≡ None
-    → NodesFind (IsOpened (docket_of loaded.docket.items)) result (data_reading (docket_of loaded.docket.items) loaded.nodes.items)
-    → (IsTrue old.told → (tried : Try) × LoadsOrRefuses old new (tried ∷ []) (Ok loaded)) → IsTrue old.told → (tried : Try) × Reads (IsOpened (docket_of loaded.docket.items)) old new (tried ∷ []) result
+    → NodesFind (IsOpened loaded) result (data_reading (docket_of loaded.docket.items) loaded.nodes.items)
+    → (IsTrue old.told → (tried : Try) × LoadsOrRefuses old new (tried ∷ []) (Ok loaded)) → IsTrue old.told → (tried : Try) × Reads (IsOpened loaded) old new (tried ∷ []) result
 opened_as old new loaded result sound finds found told =
-    let m = found told in (m.0, read_by (IsOpened (docket_of loaded.docket.items)) old new m.0 loaded result sound finds m.1)
+    let m = found told in (m.0, read_by (IsOpened loaded) old new m.0 loaded result sound finds m.1)
 
 -- the nodes that were opened are those of the table that was opened
-pub opened_nodes : (docket : Contents) (found : Result Table NodeFault) (opened : Held) → (t : Table) × (found ≡ Ok t) × IsOpened docket t opened → found ≡ Ok (table opened)
-opened_nodes docket found opened is = is.1 ∙ ap (λ (t : Table). Ok t) (sym (one_table (table opened) is.0 is.2.same))
+pub opened_nodes : (all : Loaded) (found : Result Table NodeFault) (opened : Held) → (t : Table) × (found ≡ Ok t) × IsOpened all t opened → found ≡ Ok (table opened)
+opened_nodes all found opened is = is.1 ∙ ap (λ (t : Table). Ok t) (sym (one_table (table opened) is.0 is.2.same))
 
 pub same_as : (t : Table) → IsSame t t
 same_as t = record { p1 = refl; p2 = refl; hash = refl; entries = λ at. refl; sources = λ at. refl; nodes = λ at. refl; caches = λ at. refl }
 
 -- the table that was opened is the one that was loaded
-pub loaded_table : (files : Watched History) (mid : History) (docket : Contents) (opened : Held) → Extends mid files.new
-    → (IsTrue files.old.told → (tried : Try) × Reads (IsOpened docket) files.old mid (tried ∷ []) (Ok opened)) → ((t : Table) × IsOpened docket t opened) → IsLoaded files (table opened)
-loaded_table files mid docket opened second found some =
-    let l = loaded_as (IsOpened docket) files mid opened second found some in
+pub loaded_table : (files : Watched History) (mid : History) (all : Loaded) (opened : Held) → Extends mid files.new
+    → (IsTrue files.old.told → (tried : Try) × Reads (IsOpened all) files.old mid (tried ∷ []) (Ok opened)) → ((t : Table) × IsOpened all t opened) → IsLoaded files (table opened)
+loaded_table files mid all opened second found some =
+    let l = loaded_as (IsOpened all) files mid opened second found some in
     subst (IsLoaded files) (sym (one_table (table opened) l.0 l.2.same)) l.1
 
 -- what was read before the caller made a step was read

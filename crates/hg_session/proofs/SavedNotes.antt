@@ -6,26 +6,27 @@ use Rattle.hg_base.specs.declared.fault.Failed.{Failed}
 use Rattle.hg_entry.specs.Table.{Table}
 use Rattle.hg_save.specs.Asked.{docket_ask}
 use Rattle.hg_save.specs.Leads.{IsHeld}
-use Rattle.hg_save.specs.Loads.{files_at}
+use Rattle.hg_save.specs.Loads.{IsTry, Try, files_at, found_by}
 use Rattle.hg_save.specs.Record.{docket_in, record_in}
 use Rattle.hg_session.proofs.Freed.{rose_last, rose_twice}
 use Rattle.hg_session.proofs.Locked.{unwritten_here}
 use Rattle.hg_session.proofs.Locks.{not_returned_by, returned_by}
-use Rattle.hg_session.proofs.Makers.{IsWider, stands_later}
+use Rattle.hg_session.proofs.Makers.{IsWider}
 use Rattle.hg_session.proofs.Standing.{keep_earlier}
-use Rattle.hg_session.proofs.Widening.{calm_within, held_stretch, kept_wide, safe_wide, unwritten_wide}
+use Rattle.hg_session.proofs.Widening.{calm_within, extends_up_to, held_stretch, kept_wide, safe_wide, stood_wide, unwritten_wide}
 use Rattle.hg_session.specs.Acts.{Makes}
 use Rattle.hg_session.specs.Call.{Count, Saved, Watched}
-use Rattle.hg_session.specs.Change.{IsSafe, IsSafeHeld}
+use Rattle.hg_session.specs.Change.{IsKept, IsSafe, IsSafeHeld, up_to}
 use Rattle.hg_session.specs.Locks.{NotTaken, Refused, TakenAt}
 use Rattle.hg_session.specs.Look.{OnlyReads}
-use Rattle.hg_session.specs.Saving.{AnotherStood, IsLockedToSave, IsNoted, IsNotedHeld, IsUnfit, IsUnsaved, SavesHeld, SavesNotes, noted_makes, once_saved, save_fault}
+use Rattle.hg_session.specs.Saving.{AnotherStood, CannotWrite, IsLockedToSave, IsNoted, IsNotedHeld, IsUnsaved, SavesHeld, SavesNotes, noted_makes, once_saved, save_fault}
+use Rattle.hg_session.specs.Ways.{IsMadeOver, IsUnfit, Stood, stood_by}
 use Rattle.hg_session.specs.declared.save_fault.SaveFault.{SaveFault}
 use Rattle.hg_session.specs.declared.save_fault.SaveFault.TheVariants as a_save
 use Rattle.hg_shelf.proofs.Histories.{passes_same}
 use Rattle.hg_shelf.proofs.Scenes.{goes_same}
 use Rattle.hg_shelf.specs.Asks.{AsksFrontOf}
-use Rattle.hg_shelf.specs.History.{Files, History, Waits}
+use Rattle.hg_shelf.specs.History.{History, Waits}
 use Rattle.hg_shelf.specs.Images.{Course, Goes}
 use Rattle.hg_shelf.specs.Lock as locks_are
 use Rattle.hg_shelf.specs.Lock.{NotesUnlock, Unlocks}
@@ -105,37 +106,68 @@ module _ (start : History) (recorded : Table) (notes : NotesData) (a b c d : Cou
   wide = record {
     does = λ old new lines changed is. is;
     stops = λ loaded fault is. is;
-    stands = λ x y goes at within loaded is keep. stands_later x y goes at within loaded (is (keep_earlier x.history y.history start.last goes.past keep));
+    fair = λ x y past at within keep. keep_earlier (up_to at x) (up_to at y) start.last (extends_up_to at x y within past) keep;
   }
 
   -- ---- what became of the notes
 
+  try_wide : (tried : Try) → IsTry start c.history tried → IsTry start d.history tried
+  try_wide tried is = record {
+    docket = record { from = is.docket.from; to = omega (arith, is.docket.to, r.past.later) };
+    file = record { from = is.file.from; to = omega (arith, is.file.to, r.past.later) };
+    order = is.order;
+  }
+
+  found_wide : (tried : Try) → IsTry start c.history tried → found_by d.history tried ≡ found_by c.history tried
+  found_wide tried is =
+      let docket : files_at d.history tried.docket ≡ files_at c.history tried.docket = (r.past.stay tried.docket is.docket.to).shown in
+      let file : files_at d.history tried.file ≡ files_at c.history tried.file = (r.past.stay tried.file is.file.to).shown in
+      λ i. record_in (docket i) (file i)
+
+  stood_same : (tried : Try) → IsTry start c.history tried → stood_by d.history tried ≡ stood_by c.history tried
+  stood_same tried is = stood_wide a b c d lock unlock p q r taken held tried is.docket.to is.file.to
+
   another_wide : AnotherStood start c.history recorded b.history.last c.history.last → AnotherStood start d.history recorded b.history.last c.history.last
   another_wide is =
       let docket : files_at d.history is.tried.docket ≡ files_at c.history is.tried.docket = (r.past.stay is.tried.docket is.within.docket.to).shown in
-      let file : files_at d.history is.tried.file ≡ files_at c.history is.tried.file = (r.past.stay is.tried.file is.within.file.to).shown in
       record {
         tried = is.tried;
-        within = record {
-          docket = record { from = is.within.docket.from; to = omega (arith, is.within.docket.to, r.past.later) };
-          file = record { from = is.within.file.from; to = omega (arith, is.within.file.to, r.past.later) };
-          order = is.within.order;
-        };
-        found = (λ i. record_in (docket i) (file i)) ∙ is.found;
+        within = try_wide is.tried is.within;
+        found = found_wide is.tried is.within ∙ is.found;
         at = is.at;
         later = is.later;
         upto = is.upto;
         other = λ equal. is.other (sym (ap docket_in (r.past.stay is.at is.upto).shown) ∙ equal ∙ ap docket_in docket);
       }
 
+  cannot_wide : CannotWrite start c.history recorded notes → CannotWrite start d.history recorded notes
+  cannot_wide is = record {
+    tried = is.tried;
+    within = try_wide is.tried is.within;
+    found = found_wide is.tried is.within ∙ is.found;
+    fault = is.fault;
+    told = is.told;
+    unfit = subst (λ (stood : Stood). IsUnfit stood (applied notes recorded) is.fault) (sym (stood_same is.tried is.within)) is.unfit;
+  }
+
   why_wide : IsUnsaved start recorded notes inner b.history.last c.history.last → IsUnsaved start recorded notes outer b.history.last c.history.last
   why_wide (inl other) = inl (another_wide other)
-  why_wide (inr (inl unfit)) = inr (inl (subst (λ (f : Files). IsUnfit f (applied notes recorded)) (sym (r.kept b.history.last q.past.later).shown) unfit))
+  why_wide (inr (inl cannot)) = inr (inl (cannot_wide cannot))
   why_wide (inr (inr equal)) = inr (inr equal)
 
   noted_wide : IsNoted start recorded notes inner b.history.last c.history.last → IsNoted start recorded notes outer b.history.last c.history.last
   noted_wide (inl (why, none)) = inl (why_wide why, unwritten_wide a b c d lock unlock p q r taken held none)
-  noted_wide (inr kept) = inr (kept_wide a b c d lock unlock p q r taken held Part Whole wide alone before after first end recorded (applied notes recorded) kept)
+  noted_wide (inr is) = inr (record {
+    tried = is.tried;
+    within = try_wide is.tried is.within;
+    found = found_wide is.tried is.within ∙ is.found;
+    held = is.held;
+    over = subst (λ (stood : Stood). IsMadeOver stood (applied notes recorded) is.held) (sym (stood_same is.tried is.within)) is.over;
+    kept = λ keep.
+        subst (λ (stood : Stood). IsKept stood recorded (applied notes recorded) outer b.history.last c.history.last) (sym (stood_same is.tried is.within))
+        (kept_wide a b c d lock unlock p q r taken held Part Whole wide alone before after first end (stood_by c.history is.tried) recorded (applied notes recorded)
+        (is.kept (λ way. wide.fair c.history d.history r.past b.history.last q.past.later (keep way))));
+  })
 
   noted_held : (IsNotedIn : Undisturbed b c → IsNoted start recorded notes inner b.history.last c.history.last) → IsNotedHeld start recorded notes outer
   noted_held is = λ calm. (held_stretch a b c d lock unlock p q r taken held, noted_wide (is (calm_within a b c d lock unlock p q r taken held calm)))

@@ -12,6 +12,7 @@ use Rattle.hg_session.specs.Locks.{NotReturned, NotTaken, came_to}
 use Rattle.hg_session.specs.Look.{OnlyReads}
 use Rattle.hg_session.specs.Saving.{IsLockedToSave, IsNoted, IsNotedHeld, SavesNotes, WasNotGivenBack, WasNotGot, WasPassedOver, noted_makes}
 use Rattle.hg_session.specs.Status.{SavesLast}
+use Rattle.hg_session.specs.Ways.{Stood, stood_by}
 use Rattle.hg_shelf.proofs.Histories.{passes_trans, us_apart}
 use Rattle.hg_shelf.proofs.Scenes.{goes_trans, second_part}
 use Rattle.hg_shelf.specs.History.{History, Passes}
@@ -56,8 +57,8 @@ module _ (a c d : Course) (only : Passes a.history c.history) (first : Goes a c)
   safe_earlier Does fault (inl none) = inl (unwritten_earlier none)
   safe_earlier Does fault (inr (may, is)) = inr (may, record { stretch = stretch_earlier is.stretch; is = is.is })
 
-  kept_earlier : (loaded made : Table) (from to : ℕ) → IsKept loaded made (record { old = c; new = d }) from to → IsKept loaded made (record { old = a; new = d }) from to
-  kept_earlier loaded made from to is = record {
+  kept_earlier : (stood : Stood) (loaded made : Table) (from to : ℕ) → IsKept stood loaded made (record { old = c; new = d }) from to → IsKept stood loaded made (record { old = a; new = d }) from to
+  kept_earlier stood loaded made from to is = record {
     found = is.found;
     is = is.is;
     shown = is.shown;
@@ -65,11 +66,6 @@ module _ (a c d : Course) (only : Passes a.history c.history) (first : Goes a c)
         elim is.left [
           | inl each ↦ inl each
           | inr same ↦ inr (same.0, unwritten_earlier same.1)
-        ];
-    gone =
-        elim is.gone [
-          | inl gone ↦ inl gone
-          | inr none ↦ inr (unwritten_earlier none)
         ];
     bytes =
         elim is.bytes [
@@ -81,7 +77,14 @@ module _ (a c d : Course) (only : Passes a.history c.history) (first : Goes a c)
   module _ (t : Table) (notes : NotesData) where
     noted_earlier : (from to : ℕ) → IsNoted a.history t notes (record { old = c; new = d }) from to → IsNoted a.history t notes (record { old = a; new = d }) from to
     noted_earlier from to (inl (why, none)) = inl (why, unwritten_earlier none)
-    noted_earlier from to (inr kept) = inr (kept_earlier t (applied notes t) from to kept)
+    noted_earlier from to (inr is) = inr (record {
+      tried = is.tried;
+      within = is.within;
+      found = is.found;
+      held = is.held;
+      over = is.over;
+      kept = λ keep. kept_earlier (stood_by d.history is.tried) t (applied notes t) from to (is.kept keep);
+    })
 
     held_earlier : IsNotedHeld a.history t notes (record { old = c; new = d }) → IsNotedHeld a.history t notes (record { old = a; new = d })
     held_earlier is calm =

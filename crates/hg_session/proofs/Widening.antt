@@ -1,28 +1,33 @@
 -- What was done while the lock was held, said of the whole call.
-use Rattle.std.proofs.Common.{ℕ, ◌≡◌, ◌≤◌, Bool, true, List, ◌∷◌, [], map, Option, Some, None, is_some, Result, Ok, IsTrue, refl, sym, ap, ◌∙◌, subst, arith, inl, inr}
+use Rattle.std.proofs.Common.{ℕ, ◌≡◌, ◌≤◌, ◌<◌, Bool, true, List, ◌∷◌, [], map, Option, Some, None, Result, Ok, IsTrue, refl, sym, ap, ◌∙◌, subst, arith, inl, inr}
 use Rattle.std.specs.List.{AllByRecursion}
 use Rattle.std.proofs.lemmas.Bool.{cases_lt}
 use Rattle.hg_base.specs.Fault.{Rose}
-use Rattle.hg_docket.specs.Number.{next_name}
+use Rattle.hg_docket.specs.Docket.{docket_of}
 use Rattle.hg_entry.specs.Table.{Table}
 use Rattle.hg_image.specs.Reading.{RecordFault}
 use Rattle.hg_report.specs.declared.fault.Fault.{Fault}
+use Rattle.hg_append.specs.declared.fault.EncodeFault.{EncodeFault}
 use Rattle.hg_append.specs.declared.fault.EncodeFault.TheVariants as an_encode
+use Rattle.hg_appended.specs.Loss.{plan_of}
 use Rattle.hg_ops.specs.declared.refusal.OpFault.{OpFault}
 use Rattle.hg_ops.specs.declared.refusal.OpFault.TheVariants as an_op
-use Rattle.hg_session.proofs.Makers.{IsWider}
+use Rattle.hg_session.proofs.Makers.{IsWider, stands_later}
+use Rattle.hg_session.proofs.UsedSteps.{used_longer}
 use Rattle.hg_session.specs.declared.change_fault.ChangeFault.{ChangeFault}
 use Rattle.hg_session.specs.declared.change_fault.ChangeFault.TheVariants as a_change_fault
 use Rattle.hg_save.proofs.Loads.{found_longer, last_within, tries_longer}
 use Rattle.hg_save.proofs.Published.{keeps_longer}
-use Rattle.hg_save.proofs.Spans.{files_longer}
 use Rattle.hg_save.specs.Leads.{IsHeld}
-use Rattle.hg_save.specs.Loads.{IsTry, Tries, Try, found_by, id_by}
-use Rattle.hg_save.specs.Record.{data_name, id_in, reading}
-use Rattle.hg_save.specs.Saved.{IsExact, IsLatest, KeepsOthers, ReadsAsBeforeOr, name_after, used_in}
+use Rattle.hg_save.specs.Loads.{IsTry, Tries, Try, files_at, found_by, id_by}
+use Rattle.hg_save.specs.Others.{IsFrontOf, named_file}
+use Rattle.hg_save.specs.Record.{data_name, docket_in, id_in, reading}
+use Rattle.hg_save.specs.Saved.{IsExact, IsLatest, ReadsAsBeforeOr, WritesOnly, name_after, used_in}
+use Rattle.hg_save_behind.specs.Behind.{IsSolid}
 use Rattle.hg_session.specs.Acts.{Makes}
 use Rattle.hg_session.specs.Call.{Watched}
-use Rattle.hg_session.specs.Change.{AsksChange, ChangesBehind, Fits, FitsFirst, IsDone, IsKept, IsMade, IsPublished, IsReadFirst, IsSafe, IsSafeHeld, IsUnwritten, IsToBlame, IsWritten, MetChanging, MetMade, MetStop, NoneOurs, Stretch, id_read, up_to}
+use Rattle.hg_session.specs.Change.{AsksChange, ChangesBehind, FitsFirst, IsDone, IsFirm, IsKept, IsMade, IsPublished, IsReadFirst, IsSafe, IsSafeHeld, IsUnwritten, IsToBlame, IsWritten, MetChanging, MetMade, MetStop, MetUnfit, NoneOurs, Stretch, up_to}
+use Rattle.hg_session.specs.Ways.{Fits, IsUnfit, KeepsBy, KeepsUnchanged, Stood, stood_by, stood_in}
 use Rattle.hg_session.specs.Loaded.{LoadMet, MetReading}
 use Rattle.hg_session.specs.Loaded.{IsRefused}
 use Rattle.hg_session.specs.Locks.{TakenAt}
@@ -45,13 +50,19 @@ latest_same a b to back is = record {
   used = λ c left named. subst (λ (f : Files). used_in c ≤ used_in f) (sym to.shown) (is.used c (to.left c left) (named ∙ ap id_in to.shown));
 }
 
+solid_same : (a b : Scene) → Remains a b → Remains b a → IsSolid a → IsSolid b
+solid_same a b to back is = record {
+  used = λ c left named. subst (λ (f : Files). used_in c ≤ used_in f) (sym to.shown) (is.used c (to.left c left) (named ∙ ap id_in to.shown));
+  front = λ c left named. is.front c (to.left c left) (named ∙ ap id_in to.shown);
+}
+
 reads_same : (a b : Scene) (table : Option (Result Table RecordFault)) (c : Files) → Remains b a → ReadsAsBeforeOr a table c → ReadsAsBeforeOr b table c
 reads_same a b table c back (inl was) = inl (was.0, back.left was.0 was.1, was.2)
 reads_same a b table c back (inr is) = inr is
 
 -- ---- tries of a load
 
-extends_up_to : (k : ℕ) (old new : History) → k ≤ old.last → Extends old new → Extends (up_to k old) (up_to k new)
+pub extends_up_to : (k : ℕ) (old new : History) → k ≤ old.last → Extends old new → Extends (up_to k old) (up_to k new)
 extends_up_to k old new within past = record {
   told = past.told;
   later = omega arith;
@@ -179,33 +190,29 @@ module _ (a b c d : Course) (lock : Waits a.history b.history) (unlock : Waits c
         ];
   }
 
-  -- the identifier that was read is the same, seen from the end
-  id_wide : (loaded : Table) (is : IsReadFirst b.history c.history loaded) → id_read (read_wide loaded is) ≡ id_read is
-  id_wide loaded is =
-      let tried = (last_within b.history (up_to is.upto c.history) is.read.tries is.read.tried).docket in
-      ap id_in (r.past.stay is.read.tried.last.docket (omega (arith, tried.to, is.within))).shown
+  -- what a try read is the same, seen from the end
+  pub stood_wide : (tried : Try) → tried.docket ≤ c.history.last → tried.file ≤ c.history.last → stood_by d.history tried ≡ stood_by c.history tried
+  stood_wide tried first second =
+      let docket : files_at d.history tried.docket ≡ files_at c.history tried.docket = (r.past.stay tried.docket first).shown in
+      let file : files_at d.history tried.file ≡ files_at c.history tried.file = (r.past.stay tried.file second).shown in
+      λ i. record { docket = docket_in (docket i); file = named_file (docket_in (docket i)) (file i) }
 
-  -- a file that the docket of one moment named is gone at another
-  abbrev IsGone : Course → ℕ → ℕ → Type 0
-  IsGone x from to = (id_in (scene x from).files ≡ [] → ⊥) → (scene x to).files (data_name (id_in (scene x from).files)) ≡ None
-
-  gone_wide : (from to : ℕ) → from ≤ c.history.last → to ≤ c.history.last → IsGone c from to → IsGone d from to
-  gone_wide from to near far gone some =
-      subst (λ (f : Files). (scene d to).files (data_name (id_in f)) ≡ None) (sym (to_end from near).shown)
-      (subst (λ (f : Files). f (data_name (id_in (scene c from).files)) ≡ None) (sym (to_end to far).shown) (gone (λ empty. some (ap id_in (to_end from near).shown ∙ empty))))
-
-  written_wide : (found : Table) (from to : ℕ) → from ≤ c.history.last → to ≤ c.history.last → IsWritten found (scene c from).files (scene c to) → IsWritten found (scene d from).files (scene d to)
-  written_wide found from to near far is =
-      subst (λ (f : Files). IsWritten found f (scene d to)) (sym (to_end from near).shown)
+  written_wide : (stood : Stood) (made found : Table) (from to : ℕ) → from ≤ c.history.last → to ≤ c.history.last → IsWritten stood made found (scene c from).files (scene c to)
+      → IsWritten stood made found (scene d from).files (scene d to)
+  written_wide stood made found from to near far is =
+      subst (λ (f : Files). IsWritten stood made found f (scene d to)) (sym (to_end from near).shown)
       (record {
         new = is.new;
-        over = is.over;
-        reads = is.reads;
         held = is.held;
-        same = is.same;
-        encoded = is.encoded;
+        over = is.over;
+        docket = is.docket;
+        is = is.is;
         shown = subst (IsExact is.new (scene c from).files) (sym (to_end to far).shown) is.shown;
         left = λ f left. is.left f ((to_end to far).left f left);
+        gone = λ way some. subst (λ (f : Files). f (data_name is.held.docket.id) ≡ None) (sym (to_end to far).shown) (is.gone way some);
+        nodes = is.nodes;
+        kept_lists = λ way. subst (KeepsUnchanged is.held) (sym (to_end to far).shown) (is.kept_lists way);
+        kept_left = λ way f left. is.kept_left way f ((to_end to far).left f left);
       })
 
   module _ (Part Whole : Makes) (wide : IsWider Part Whole)
@@ -224,15 +231,19 @@ module _ (a b c d : Course) (lock : Waits a.history b.history) (unlock : Waits c
 
     fits_wide : (made : Table) → FitsFirst b.history c.history made → FitsFirst a.history d.history made
     fits_wide made is = record {
-      at = is.at;
-      later = omega (arith, later, is.later);
-      within = omega (arith, is.within, r.past.later);
-      none = none_wide is.at is.within is.none;
-      fits = subst (λ (f : Files). Fits f made) (sym (r.past.stay is.at is.within).shown) is.fits;
+      tried = is.tried;
+      is = record {
+        docket = record { from = omega (arith, later, is.is.docket.from); to = omega (arith, is.is.docket.to, r.past.later) };
+        file = record { from = omega (arith, later, is.is.file.from); to = omega (arith, is.is.file.to, r.past.later) };
+        order = is.is.order;
+      };
+      none = none_wide is.tried.file is.is.file.to is.none;
+      fits = subst (λ (stood : Stood). Fits stood made) (sym (stood_wide is.tried is.is.docket.to is.is.file.to)) is.fits;
     }
 
-    pub kept_wide : (loaded made : Table) → IsKept loaded made (record { old = b; new = c }) b.history.last c.history.last → IsKept loaded made (record { old = a; new = d }) b.history.last c.history.last
-    kept_wide loaded made is = record {
+    pub kept_wide : (stood : Stood) (loaded made : Table) → IsKept stood loaded made (record { old = b; new = c }) b.history.last c.history.last
+        → IsKept stood loaded made (record { old = a; new = d }) b.history.last c.history.last
+    kept_wide stood loaded made is = record {
       found = is.found;
       is = is.is;
       shown = reading_wide c.history.last (omega arith) ∙ is.shown;
@@ -241,14 +252,9 @@ module _ (a b c d : Course) (lock : Waits a.history b.history) (unlock : Waits c
             | inl each ↦ inl (λ f left. each f ((to_end c.history.last (omega arith)).left f left))
             | inr same ↦ inr (same.0, unwritten_wide same.1)
           ];
-      gone =
-          elim is.gone [
-            | inl gone ↦ inl (gone_wide b.history.last c.history.last q.past.later (omega arith) gone)
-            | inr none ↦ inr (unwritten_wide none)
-          ];
       bytes =
           elim is.bytes [
-            | inl written ↦ inl (written_wide is.found b.history.last c.history.last q.past.later (omega arith) written)
+            | inl written ↦ inl (written_wide stood made is.found b.history.last c.history.last q.past.later (omega arith) written)
             | inr none ↦ inr (unwritten_wide none)
           ];
     }
@@ -259,7 +265,9 @@ module _ (a b c d : Course) (lock : Waits a.history b.history) (unlock : Waits c
       changed = done.changed;
       is = made_wide done.made lines done.changed done.is;
       fits = λ told. elim (done.fits (told_part told)) [ inl same ↦ inl same | inr fits ↦ inr (fits_wide done.made fits) ];
-      kept = λ calm. kept_wide done.is.loaded done.made (done.kept (calm_within calm));
+      kept = λ calm.
+          subst (λ (f : Files). IsKept (stood_in f) done.is.loaded done.made (record { old = a; new = d }) b.history.last c.history.last) (sym (to_end b.history.last q.past.later).shown)
+          (kept_wide (stood_in (scene c b.history.last).files) done.is.loaded done.made (done.kept (calm_within calm)));
       idle = λ idle. unwritten_wide (done.idle idle);
     }
 
@@ -268,34 +276,45 @@ module _ (a b c d : Course) (lock : Waits a.history b.history) (unlock : Waits c
         let from = b.history.last in
         let near : from ≤ c.history.last = q.past.later in
         let latest : IsLatest (scene d from) → IsLatest (scene c from) = latest_same (scene d from) (scene c from) (from_end from near) (to_end from near) in
+        let firm : IsFirm Whole d from → IsFirm Part c from = λ f. record { solid = solid_same (scene d from) (scene c from) (from_end from near) (to_end from near) f.solid; fair = wide.fair c.history d.history r.past from near f.fair } in
         record {
           loaded = is.loaded;
-          there = wide.stands c d r from near is.loaded is.there;
+          there = λ fair. stands_later c d r from near is.loaded (is.there (wide.fair c.history d.history r.past from near fair));
+          held = is.held;
+          docket = is.docket ∙ ap (λ (f : Files). docket_of (docket_in f)) (sym (to_end from near).shown);
+          nodes = λ fair.
+              subst (λ (f : Files). 0 < is.held.docket.used → IsFrontOf (named_file (docket_in f) f) is.held.docket.used is.held.bytes) (sym (to_end from near).shown)
+              (is.nodes (wide.fair c.history d.history r.past from near fair));
+          lends = is.lends;
           made = is.made;
+          same = is.same;
           lines = is.lines;
           does = wide.does is.loaded is.made is.lines true is.does;
           found = is.found;
           is = is.is;
-          crash = λ first k f after upto left.
+          crash = λ first ground k f after upto left.
               reads_same (scene c from) (scene d from) (Some (Ok is.found)) f (from_end from near)
-              (is.crash (latest first) k f after upto ((to_end k upto).left f left));
-          shown = λ first k after upto. elim (is.shown (latest first) k after upto) [
+              (is.crash (latest first) (λ way. firm (ground way)) k f after upto ((to_end k upto).left f left));
+          new = is.new;
+          encoded = is.encoded;
+          torn = λ k after upto.
+              subst (λ (f : Files). WritesOnly is.new f f (scene d k).files) (sym (to_end from near).shown)
+              (subst (WritesOnly is.new (scene c from).files (scene c from).files) (sym (to_end k upto).shown) (is.torn k after upto));
+          torn_left = λ k f after upto left.
+              let was = is.torn_left k f after upto ((to_end k upto).left f left) in
+              (was.0, (from_end from near).left was.0 was.1, subst (λ (x : Files). WritesOnly is.new x was.0 f) (sym (to_end from near).shown) was.2);
+          shown = λ first fair k after upto. elim (is.shown (λ way. latest (first way)) (λ way. wide.fair c.history d.history r.past from near (fair way)) k after upto) [
             | inl same ↦ inl (reading_wide k upto ∙ same ∙ sym (reading_wide from near))
             | inr new ↦ inr (reading_wide k upto ∙ new)
           ];
-          id = is.id;
-          next = ap (λ (f : Files). next_name (id_in f)) (to_end from near).shown ∙ is.next;
           others = λ k after upto.
-              subst (λ (f : Files). KeepsOthers (id_in f) is.id f (scene d k).files) (sym (to_end from near).shown)
-              (subst (λ (f : Files). KeepsOthers (id_in (scene c from).files) is.id (scene c from).files f) (sym (to_end k upto).shown) (is.others k after upto));
+              subst (λ (f : Files). KeepsBy (plan_of is.held) is.held.docket f (scene d k).files) (sym (to_end from near).shown)
+              (subst (KeepsBy (plan_of is.held) is.held.docket (scene c from).files) (sym (to_end k upto).shown) (is.others k after upto));
           spared = λ k f after upto left.
-              let was = is.spared k f after upto ((to_end k upto).left f left) in (
-                was.0,
-                (from_end from near).left was.0 was.1,
-                subst (λ (x : Files). KeepsOthers (id_in x) is.id was.0 f) (sym (to_end from near).shown) was.2,
-              );
-          orderly = λ first. keeps_longer us c d from r unlock.none (is.orderly (latest first));
-          keeping = files_longer us c.history d.history from r.past unlock.none is.keeping;
+              let was = is.spared k f after upto ((to_end k upto).left f left) in
+              (was.0, (from_end from near).left was.0 was.1, was.2);
+          orderly = λ first ground. keeps_longer us c d from r unlock.none (is.orderly (latest first) (λ way. firm (ground way)));
+          keeping = λ fair. used_longer us c.history d.history from r.past unlock.none (is.keeping (λ way. wide.fair c.history d.history r.past from near (fair way)));
           latest = λ first. latest_same (scene c c.history.last) (scene d c.history.last) (to_end c.history.last (omega arith)) (from_end c.history.last (omega arith)) (is.latest (latest first));
         }
 
@@ -335,24 +354,23 @@ module _ (a b c d : Course) (lock : Waits a.history b.history) (unlock : Waits c
     pub done_met : MetMade Part part → MetMade Whole whole
     done_met met = record { made = met.made; lines = met.lines; changed = met.changed; is = made_wide met.made met.lines met.changed met.is }
 
+    unfit_wide : (fault : EncodeFault) → MetUnfit Part part fault → MetUnfit Whole whole fault
+    unfit_wide fault met = record {
+      made = met.made;
+      lines = met.lines;
+      is = made_wide met.made met.lines true met.is;
+      unfit = λ told.
+          let read : IsReadFirst b.history c.history met.is.loaded = met.is.read (told_part told) in
+          let within = last_within b.history (up_to read.upto c.history) read.read.tries read.read.tried in
+          subst (λ (stood : Stood). IsUnfit stood met.made fault)
+          (sym (stood_wide read.read.tried.last (omega (arith, within.docket.to, read.within)) (omega (arith, within.file.to, read.within)))) (met.unfit (told_part told));
+    }
+
     pub met_wide : (fault : ChangeFault) → (Rose before after → Rose start end) → MetChanging Part copy part fault → MetChanging Whole copy whole fault
     met_wide (a_change_fault.Read fault) rose met = (reading_met fault rose met.0, met.1)
     met_wide (a_change_fault.Op fault) rose met = (stop_wide fault met.0, blame_wide fault rose met.1)
     met_wide (a_change_fault.Encode an_encode.OutOfMemory) rose met = done_met met
-    met_wide (a_change_fault.Encode (an_encode.TooLarge size)) rose met = record {
-      made = met.made;
-      lines = met.lines;
-      is = made_wide met.made met.lines true met.is;
-      held = met.held;
-      same = met.same;
-      large = met.large;
-      next = λ told. ap (λ (id : List ℕ). is_some (next_name id)) (id_wide met.is.loaded (met.is.read (told_part told))) ∙ met.next (told_part told);
-    }
-    met_wide (a_change_fault.Encode an_encode.IdsSpent) rose met = record {
-      made = met.made;
-      lines = met.lines;
-      is = made_wide met.made met.lines true met.is;
-      spent = λ told. ap next_name (id_wide met.is.loaded (met.is.read (told_part told))) ∙ met.spent (told_part told);
-    }
+    met_wide (a_change_fault.Encode (an_encode.TooLarge size)) rose met = unfit_wide (an_encode.TooLarge size) met
+    met_wide (a_change_fault.Encode an_encode.IdsSpent) rose met = unfit_wide an_encode.IdsSpent met
     met_wide a_change_fault.Held rose met = absurd met
     met_wide a_change_fault.ShelfFailed rose met = (rose met.0, elim met.1 [ inl alone ↦ inl alone | inr made ↦ inr (done_met made) ])

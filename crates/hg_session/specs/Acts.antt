@@ -21,6 +21,7 @@ use Rattle.hg_ops.specs.declared.refusal.Refusal.{Refusal}
 use Rattle.hg_report.specs.Refusal.{refusal_line}
 use Rattle.hg_save.specs.Record.{reading}
 use Rattle.hg_session.specs.Call.{Fails, IsLeftAlone, Watched}
+use Rattle.hg_session.specs.Kept.{KeepsLent}
 use Rattle.hg_session.specs.Manifests.{IsReparented, StopsParents}
 use Rattle.hg_session.specs.declared.acting.Changing.{Changing}
 use Rattle.hg_session.specs.declared.acting.Changing.TheVariants as a_change
@@ -35,11 +36,16 @@ use Rattle.hg_words.specs.declared.given.Command.{Command}
 use Rattle.hg_words.specs.declared.given.Command.TheVariants as a_command
 
 -- what a command does to the record: of the one that was read the one that is made, with the lines that are told, and whether something was
--- changed; for which faults of what stands below `.hg` it stops; and how the one that was read stands at the moment over which another is published
+-- changed; for which faults of what stands below `.hg` it stops; and what is asked of others up to the moment over which another record is published, so
+-- that the one that was read stands there
 pub record Makes : Type 1 where
   pub does : Table → Table → List ℕ → Bool → Type 0
   pub stops : Table → OpFault → Type 0
-  pub stands : Course → ℕ → Table → Type 0
+  pub fair : shelf.History → ℕ → Type 0
+
+-- nothing is asked of others: the record is read while the lock is held
+abbrev pub AskNothing : shelf.History → ℕ → Type 0
+AskNothing h at = Unit {0}
 
 -- the files of a moment record it
 abbrev pub StandsAt : Course → ℕ → Table → Type 0
@@ -193,12 +199,12 @@ IsTreeFault fault = (fault ≡ an_op_fault.OutOfMemory) ⊎ (fault ≡ an_op_fau
 
 -- what a command makes of the record, by what the working copy and the files below `.hg` tell of the call
 abbrev pub makes_of : Command → Watched tree.History → Watched shelf.History → Makes
-makes_of (a_command.Add words) copy files = record { does = IsActed (codes "add") (steps_of a_change.Add) words copy; stops = λ loaded fault. IsTreeFault fault; stands = StandsAt }
-makes_of (a_command.Forget words) copy files = record { does = IsActed (codes "forget") (steps_of a_change.Forget) words copy; stops = λ loaded fault. IsTreeFault fault; stands = StandsAt }
-makes_of (a_command.Remove after words) copy files = record { does = IsRemoved after words copy files; stops = StopsRemoving after words copy files; stands = StandsAt }
-makes_of (a_command.Copy source target) copy files = record { does = IsCopied source target copy; stops = λ loaded fault. IsTreeFault fault; stands = StandsAt }
-makes_of (a_command.SetParents p1 p2) copy files = record { does = IsReparented p1 p2 files; stops = λ loaded fault. StopsParents p1 p2 files fault; stands = StandsAt }
-makes_of command copy files = record { does = IsNothingMade; stops = λ loaded fault. ⊥; stands = StandsAt }
+makes_of (a_command.Add words) copy files = record { does = IsActed (codes "add") (steps_of a_change.Add) words copy; stops = λ loaded fault. IsTreeFault fault; fair = AskNothing }
+makes_of (a_command.Forget words) copy files = record { does = IsActed (codes "forget") (steps_of a_change.Forget) words copy; stops = λ loaded fault. IsTreeFault fault; fair = AskNothing }
+makes_of (a_command.Remove after words) copy files = record { does = IsRemoved after words copy files; stops = StopsRemoving after words copy files; fair = AskNothing }
+makes_of (a_command.Copy source target) copy files = record { does = IsCopied source target copy; stops = λ loaded fault. IsTreeFault fault; fair = AskNothing }
+makes_of (a_command.SetParents p1 p2) copy files = record { does = IsReparented p1 p2 files; stops = λ loaded fault. StopsParents p1 p2 files fault; fair = AskNothing }
+makes_of command copy files = record { does = IsNothingMade; stops = λ loaded fault. ⊥; fair = AskNothing }
 
 -- ---- the working copy
 
@@ -278,6 +284,8 @@ pub record ActsOn (command : Command) (copy : Watched tree.History) (files : Wat
   pub stops : old.changed ≡ false → IfErr result ((makes_of command copy files).stops (table old))
   -- what isn't marked as changed is the same
   pub same : old.changed ≡ false → OnOk result (new.changed ≡ false → IsSame (table new) (table old))
+  -- each list below which nothing differs is lent still
+  pub lent : OnOk result (KeepsLent old new)
   pub image : IsOfSameImage old new
   pub tree : ChangesTree command (table old) copy
   pub below : shelf.Passes files.old files.new

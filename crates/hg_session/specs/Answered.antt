@@ -2,6 +2,8 @@
 use Rattle.std.specs.Prelude.{ℕ, ◌≡◌, ◌⊎◌, None, Option, IfSome, MatchOption}
 use Rattle.hg_report.specs.declared.fault.Fault.{Fault}
 use Rattle.hg_report.specs.declared.fault.Fault.TheVariants as a_fault
+use Rattle.hg_save.specs.Others.{KeepsRecords}
+use Rattle.hg_save.specs.Saved.{IsLatest}
 use Rattle.hg_session.specs.Call.{Call, Count, IsLeftAlone, Looked, Saved, Sink}
 use Rattle.hg_session.specs.Cause.{CommandCause}
 use Rattle.hg_session.specs.Change.{IsUnwritten}
@@ -11,7 +13,9 @@ use Rattle.hg_session.specs.Debug.{RanRecord}
 use Rattle.hg_session.specs.Look.{IsCalm, IsLook}
 use Rattle.hg_session.specs.Put.{IsFaultOrMemory, IsSilent, Tells}
 use Rattle.hg_session.specs.Status.{RanStatus}
-use Rattle.hg_shelf.specs.Images.{Goes}
+use Rattle.hg_shelf.specs.History.{others}
+use Rattle.hg_shelf.specs.Images.{Goes, last_scene}
+use Rattle.hg_shelf.specs.Polite.{Undisturbed}
 use Rattle.hg_words.specs.declared.given.Command.{Command}
 use Rattle.hg_words.specs.declared.given.Command.TheVariants as a_command
 
@@ -56,7 +60,10 @@ pub record IsAnswered (call : Call) (code : ℕ) (fault : Option Fault) : Type 0
   -- the moments so far stay, with what a crash may leave of them
   pub kept : Goes call.saved.old call.saved.new
   -- at each moment of the call a crash leaves a record of what it might have left at the start, of what the call published, or of what others
-  -- published since; and the premise holds at the end, so that this can be said of the next call
+  -- published since; and the premises hold at the end, so that this can be said of the next call
   pub crash : IsSafeFromCrashes call.saved
+  -- the premise on identifiers holds at the end upon any ground
+  pub latest : Undisturbed call.saved.old call.saved.new → KeepsRecords others call.saved.new call.saved.old.history.last → IsLatest (last_scene call.saved.old)
+      → IsLatest (last_scene call.saved.new)
   -- the status is 0 without a fault, or 1, and 255 with one
   pub status : MatchOption fault ((code ≡ 0) ⊎ (code ≡ 1)) (λ f. code ≡ 255)

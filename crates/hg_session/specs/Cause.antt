@@ -1,5 +1,6 @@
 -- Why a command met a fault: one table, a line a fault, for every command.
 use Rattle.std.specs.Prelude.{◌≡◌, ◌⊎◌, false, true}
+use Rattle.hg_append.specs.declared.fault.EncodeFault.TheVariants as an_encode_fault
 use Rattle.hg_base.specs.Fault.{Rose}
 use Rattle.hg_entry.specs.Table.{Table}
 use Rattle.hg_listing.specs.declared.fault.StatusFault.{StatusFault}
@@ -9,7 +10,7 @@ use Rattle.hg_ops.specs.declared.refusal.OpFault.TheVariants as an_op_fault
 use Rattle.hg_report.specs.declared.fault.Fault.{Fault}
 use Rattle.hg_report.specs.declared.fault.Fault.TheVariants as a_fault
 use Rattle.hg_session.specs.Call.{Call, Fails}
-use Rattle.hg_session.specs.Change.{MetLarge, MetSpent, MetStop, makes_in}
+use Rattle.hg_session.specs.Change.{MetStop, MetUnfit, makes_in}
 use Rattle.hg_session.specs.Commands.{is_change, is_done}
 use Rattle.hg_session.specs.Flags.{wanted_of}
 use Rattle.hg_session.specs.Listed.{StatusMet}
@@ -50,8 +51,8 @@ CommandCause call (a_fault.BadRegexp line) = MetByStatus call (a_status.BadRegex
 CommandCause call (a_fault.RegexpTooBig line) = MetByStatus call (a_status.RegexpTooBig line) × Rose call.looked.oversize.before call.looked.oversize.after
 CommandCause call (a_fault.BadInclude line) = MetByStatus call (a_status.BadInclude line)
 CommandCause call a_fault.Held = MetByChange call (Rose call.locks.before call.locks.after)
-CommandCause call (a_fault.TooLarge size) = MetByChange call (MetLarge (makes_in call) call.looked.shelf size)
-CommandCause call a_fault.IdsSpent = MetByChange call (MetSpent (makes_in call) call.looked.shelf)
+CommandCause call (a_fault.TooLarge size) = MetByChange call (MetUnfit (makes_in call) call.looked.shelf (an_encode_fault.TooLarge size))
+CommandCause call a_fault.IdsSpent = MetByChange call (MetUnfit (makes_in call) call.looked.shelf an_encode_fault.IdsSpent)
 CommandCause call a_fault.TreeFailed = Fails call.looked.tree × WasLoaded call.looked.shelf
 CommandCause call a_fault.ShelfFailed = Fails call.looked.shelf
 CommandCause call a_fault.OutFailed = Fails call.out

@@ -1,32 +1,35 @@
 -- What a command that changes the record answers and leaves, and why.
-use Rattle.std.specs.Prelude.{ℕ, ◌≡◌, ◌⊎◌, ◌≤◌, ◌<◌, ◌^◌, Bool, true, false, List, [], Option, Some, None, Result, Ok, Err, IsTrue, is_some}
-use Rattle.hg_append.specs.Encoded.{IsTooLarge}
-use Rattle.hg_append.specs.Encoded as anew
-use Rattle.hg_append.specs.Layout.{size_of}
-use Rattle.hg_append.specs.Tree.{IsTreeOf, Tree}
+use Rattle.std.specs.Prelude.{ℕ, ◌≡◌, ◌⊎◌, ◌≤◌, ◌<◌, Bool, true, false, List, [], Option, Some, None, Result, Ok, Err, IsTrue}
 use Rattle.hg_append.specs.declared.encoding.Encoded.{Encoded}
+use Rattle.hg_append.specs.declared.fault.EncodeFault.{EncodeFault}
+use Rattle.hg_append.specs.declared.way.Way.TheVariants as a_way
+use Rattle.hg_appended.specs.Loss.{plan_of}
 use Rattle.hg_base.specs.Fault.{Rose}
-use Rattle.hg_docket.specs.Number.{next_name}
+use Rattle.hg_docket.specs.Docket.{docket_of}
 use Rattle.hg_entry.specs.Table.{Table}
-use Rattle.hg_image.specs.Reading.{reading_of}
 use Rattle.hg_mixed.specs.Edits.{IsSame}
 use Rattle.hg_mixed.specs.Held.{Held, table}
+use Rattle.hg_publish.specs.Over.{IsEncoded}
+use Rattle.hg_publish.specs.declared.fault.PublishFault.{PublishFault}
+use Rattle.hg_publish.specs.declared.fault.PublishFault.TheVariants as a_publish_fault
 use Rattle.hg_ops.specs.declared.refusal.OpFault.{OpFault}
 use Rattle.hg_ops.specs.declared.refusal.OpFault.TheVariants as an_op_fault
 use Rattle.hg_append.specs.declared.fault.EncodeFault.TheVariants as an_encode_fault
 use Rattle.hg_report.specs.Cause.{of_encode, of_op}
 use Rattle.hg_report.specs.declared.fault.Fault.{Fault}
 use Rattle.hg_report.specs.declared.fault.Fault.TheVariants as a_fault
-use Rattle.hg_save.specs.Loads.{files_at}
-use Rattle.hg_save.specs.Others.{KeepsFiles, KeepsRecords}
-use Rattle.hg_save.specs.Record.{data_name, docket_in, id_in, reading}
-use Rattle.hg_save.specs.Saved.{IsExact, IsLatest, IsOver, KeepsOthers, ReadsAsBeforeOr}
-use Rattle.hg_session.specs.Acts.{AsksBehind, ChangesTree, Makes, makes_of}
+use Rattle.hg_save.specs.Loads.{IsTry, Try}
+use Rattle.hg_save.specs.Others.{IsFrontOf, KeepsRecords, named_file}
+use Rattle.hg_save.specs.Record.{data_name, docket_in, reading}
+use Rattle.hg_save.specs.Saved.{IsExact, IsLatest, ReadsAsBeforeOr, WritesOnly}
+use Rattle.hg_save_behind.specs.Behind.{IsSolid, KeepsUsed}
+use Rattle.hg_session.specs.Acts.{AsksBehind, ChangesTree, Makes, StandsAt, makes_of}
 use Rattle.hg_session.specs.Call.{Call, Count, Fails, FailsTwice, IsLeftAlone, Saved, Watched}
 use Rattle.hg_session.specs.Load.{of_read}
 use Rattle.hg_session.specs.Loaded.{AsksRecord, IsRead, MetReading}
 use Rattle.hg_session.specs.Locks.{NotReturned, NotTaken, Refused, Returned, TakenAt}
 use Rattle.hg_session.specs.Put.{IsFaultOrMemory}
+use Rattle.hg_session.specs.Ways.{Fits, IsMadeOver, IsUnfit, KeepsBy, KeepsUnchanged, LendsUnchanged, Stood, stood_by, stood_in}
 use Rattle.hg_session.specs.declared.change_fault.ChangeFault.{ChangeFault}
 use Rattle.hg_session.specs.declared.change_fault.ChangeFault.TheVariants as a_change_fault
 use Rattle.hg_shelf.specs.History as shelf
@@ -53,9 +56,9 @@ pub record IsReadFirst (old new : shelf.History) (loaded : Table) : Type 0 where
   pub none : NoneOurs new old.last upto
   pub read : IsRead old (up_to upto new) loaded
 
--- the identifier that the docket names that was read
-abbrev pub id_read : {old new : shelf.History} {loaded : Table} → IsReadFirst old new loaded → List ℕ
-id_read {new = new} is = id_in (files_at new is.read.tried.last.docket)
+-- the docket and the data file that were read
+abbrev pub stood_read : {old new : shelf.History} {loaded : Table} → IsReadFirst old new loaded → Stood
+stood_read {new = new} is = stood_by new is.read.tried.last
 
 -- a command made this of the record that was read in the call
 pub record IsMade (Does : Makes) (files : Watched shelf.History) (made : Table) (lines : List ℕ) (changed : Bool) : Type 0 where
@@ -84,31 +87,46 @@ pub record IsUnwritten (old new : shelf.History) : Type 0 where
 abbrev pub FailsOrUnwritten : shelf.History → shelf.History → ChangeFault → Type 0
 FailsOrUnwritten old new fault = (fault ≡ a_change_fault.ShelfFailed) ⊎ IsUnwritten old new
 
--- between two moments a record was published over the one that stood at the first
+-- what an append asks of the moment over which it is made: what a crash may leave is solid, and others kept what was read
+pub record IsFirm (Does : Makes) (c : Course) (from : ℕ) : Type 0 where
+  pub solid : IsSolid (scene c from)
+  pub fair : Does.fair c.history from
+
+-- between two moments a record was published over the one that stood at the first, anew, or behind the data file where that is planned
 pub record IsPublished (Does : Makes) (c : Course) (from to : ℕ) : Type 0 where
   pub loaded : Table
-  pub there : Does.stands c from loaded
+  pub there : Does.fair c.history from → StandsAt c from loaded
+  -- the table in memory, over the docket that stood
+  pub held : Held
+  pub docket : held.docket ≡ docket_of (docket_in (scene c from).files)
+  -- and over the data file; its lists are lent exactly where nothing differs below: so the way that is planned is one
+  pub nodes : Does.fair c.history from → 0 < held.docket.used → IsFrontOf (named_file (docket_in (scene c from).files) (scene c from).files) held.docket.used held.bytes
+  pub lends : LendsUnchanged held
   pub made : Table
+  pub same : IsSame (table held) made
   pub lines : List ℕ
   pub does : Does.does loaded made lines true
-  -- what is recorded once it is published
+  -- what is recorded once it is published, and what is written for it
   pub found : Table
   pub is : IsSame found made
+  pub new : Encoded
+  pub encoded : IsEncoded held new found
   -- a crash leaves a record of what it might have left at the first moment, or the new one, and reads show the one or the other
-  pub crash : IsLatest (scene c from) → (k : ℕ) (f : shelf.Files) → from ≤ k → k ≤ to → (scene c k).leaves f → ReadsAsBeforeOr (scene c from) (Some (Ok found)) f
-  pub shown : IsLatest (scene c from) → (k : ℕ) → from ≤ k → k ≤ to
+  pub crash : IsLatest (scene c from) → (plan_of held ≡ a_way.Append → IsFirm Does c from) → (k : ℕ) (f : shelf.Files) → from ≤ k → k ≤ to → (scene c k).leaves f
+      → ReadsAsBeforeOr (scene c from) (Some (Ok found)) f
+  pub shown : (plan_of held ≡ a_way.Rewrite → IsLatest (scene c from)) → (plan_of held ≡ a_way.Append → Does.fair c.history from) → (k : ℕ) → from ≤ k → k ≤ to
       → (reading (scene c k).files ≡ reading (scene c from).files) ⊎ (reading (scene c k).files ≡ Some (Ok found))
-  -- the data file that is written has the identifier that follows that of the docket that stood
-  pub id : List ℕ
-  pub next : next_name (id_in (scene c from).files) ≡ Some id
-  -- no file is changed but the docket, the one that is written first and the data files with these two identifiers, of which the old one at most goes:
-  -- reads show each other file as it was, and a crash leaves it as it might have left it
-  pub others : (k : ℕ) → from ≤ k → k ≤ to → KeepsOthers (id_in (scene c from).files) id (scene c from).files (scene c k).files
+  -- no file is changed but those that its way changes: reads show each other file as it was, and a crash leaves it as it might have left it
+  pub others : (k : ℕ) → from ≤ k → k ≤ to → KeepsBy (plan_of held) held.docket (scene c from).files (scene c k).files
   pub spared : (k : ℕ) (f : shelf.Files) → from ≤ k → k ≤ to → (scene c k).leaves f
-      → (d : shelf.Files) × (scene c from).leaves d × KeepsOthers (id_in (scene c from).files) id d f
-  -- each step of the caller's keeps to how a record is published, and the data that dockets name
-  pub orderly : IsLatest (scene c from) → KeepsRecords shelf.us c from
-  pub keeping : KeepsFiles shelf.us c.history from
+      → (d : shelf.Files) × (scene c from).leaves d × KeepsBy (plan_of held) held.docket d f
+  -- also where the shelf failed: the data file and the docket beside are as they were, or changed at most where the new bytes go and past the old end, with the
+  -- docket as it was; or all is exactly what is written
+  pub torn : (k : ℕ) → from ≤ k → k ≤ to → WritesOnly new (scene c from).files (scene c from).files (scene c k).files
+  pub torn_left : (k : ℕ) (f : shelf.Files) → from ≤ k → k ≤ to → (scene c k).leaves f → (d : shelf.Files) × (scene c from).leaves d × WritesOnly new (scene c from).files d f
+  -- each step of the caller's keeps to how a record is published, and the bytes that dockets use
+  pub orderly : IsLatest (scene c from) → (plan_of held ≡ a_way.Append → IsFirm Does c from) → KeepsRecords shelf.us c from
+  pub keeping : (plan_of held ≡ a_way.Append → Does.fair c.history from) → KeepsUsed shelf.us c.history from
   -- the next one finds its identifier free
   pub latest : IsLatest (scene c from) → IsLatest (scene c to)
 
@@ -117,17 +135,22 @@ pub record Publishes (Does : Makes) (saved : Saved) : Type 0 where
   pub stretch : Stretch saved.old.history saved.new.history
   pub is : IsPublished Does saved.new stretch.from stretch.to
 
--- reads show exactly the bytes of this table, written anew over these files under the next identifier, and a crash leaves exactly them
-pub record IsWritten (found : Table) (before : shelf.Files) (behind : Scene) : Type 0 where
+-- reads show exactly the bytes of a table that was made of a record, written over these files by the better way, and a crash leaves exactly them
+pub record IsWritten (stood : Stood) (made found : Table) (before : shelf.Files) (behind : Scene) : Type 0 where
   pub new : Encoded
-  pub over : IsOver (docket_in before) new
-  pub reads : reading_of new.docket.items new.bytes.items ≡ Ok found
-  -- they are the encoding of a table in memory that is the same
+  -- they are the encoding of a table in memory over that record, whose docket stood
   pub held : Held
-  pub same : IsSame (table held) found
-  pub encoded : anew.IsWritten held new
+  pub over : IsMadeOver stood made held
+  pub docket : held.docket ≡ docket_of (docket_in before)
+  pub is : IsEncoded held new found
   pub shown : IsExact new before behind.files
   pub left : (f : shelf.Files) → behind.leaves f → IsExact new before f
+  -- where they were written anew, the data file that the docket named is gone
+  pub gone : plan_of held ≡ a_way.Rewrite → (held.docket.id ≡ [] → ⊥) → behind.files (data_name held.docket.id) ≡ None
+  -- and where behind, that stays: it is the one that the table was read from, and each of its lists below which nothing differs lies where it lay
+  pub nodes : plan_of held ≡ a_way.Append → 0 < held.docket.used → IsFrontOf (named_file (docket_in before) before) held.docket.used held.bytes
+  pub kept_lists : plan_of held ≡ a_way.Append → KeepsUnchanged held behind.files
+  pub kept_left : plan_of held ≡ a_way.Append → (f : shelf.Files) → behind.leaves f → KeepsUnchanged held f
 
 -- the record was asked for, and behind it, up to a place, what its command needs
 pub record AsksChange (command : Command) (copy : Watched tree.History) (old new : shelf.History) : Type 0 where
@@ -139,34 +162,22 @@ pub record AsksChange (command : Command) (copy : Watched tree.History) (old new
   pub load : AsksRecord old mid
   pub behind : (end.asked ≡ mid.asked) ⊎ ((loaded : Table) × IsReadFirst old new loaded × AsksBehind command copy loaded mid end)
 
--- at the second of two moments reads show a record of this table, and so does whatever a crash leaves, unless nothing was to be published
-pub record IsKept (loaded made : Table) (saved : Saved) (from to : ℕ) : Type 0 where
+-- at the second of two moments reads show a record of the table that was made of another record, and so does whatever a crash leaves, unless nothing was to be
+-- published
+pub record IsKept (stood : Stood) (loaded made : Table) (saved : Saved) (from to : ℕ) : Type 0 where
   pub found : Table
   pub is : IsSame found made
   pub shown : reading (scene saved.new to).files ≡ Some (Ok found)
   pub left : ((c : shelf.Files) → (scene saved.new to).leaves c → reading c ≡ Some (Ok found)) ⊎ (IsSame made loaded × IsUnwritten saved.old.history saved.new.history)
-  -- and the data file that the docket named at the first is gone
-  pub gone : ((id_in (scene saved.new from).files ≡ [] → ⊥) → (scene saved.new to).files (data_name (id_in (scene saved.new from).files)) ≡ None)
-      ⊎ IsUnwritten saved.old.history saved.new.history
   -- the new bytes stand there exactly, over what stood at the first
-  pub bytes : IsWritten found (scene saved.new from).files (scene saved.new to) ⊎ IsUnwritten saved.old.history saved.new.history
+  pub bytes : IsWritten stood made found (scene saved.new from).files (scene saved.new to) ⊎ IsUnwritten saved.old.history saved.new.history
 
--- a table can be written anew over the record in these files: an identifier is left, and it isn't too large
-pub record Fits (files : shelf.Files) (made : Table) : Type 0 where
-  pub held : Held
-  pub same : IsSame (table held) made
-  pub tree : Tree
-  pub is : IsTreeOf held None tree
-  pub small : size_of tree < 2 ^ 32
-  pub next : is_some (next_name (id_in files)) ≡ true
-
--- it could be written over the record that stood at a moment of the call before which the caller made no step
+-- it could be written over a record that stood in the call before the caller made a step: the docket at one moment, the data file at that or a later one
 pub record FitsFirst (old new : shelf.History) (made : Table) : Type 0 where
-  pub at : ℕ
-  pub later : old.last ≤ at
-  pub within : at ≤ new.last
-  pub none : NoneOurs new old.last at
-  pub fits : Fits (files_at new at) made
+  pub tried : Try
+  pub is : IsTry old new tried
+  pub none : NoneOurs new old.last tried.file
+  pub fits : Fits (stood_by new tried) made
 
 -- it was done between two moments, and what it made is recorded
 pub record IsDone (Does : Makes) (files : Watched shelf.History) (saved : Saved) (from to : ℕ) (lines : List ℕ) : Type 0 where
@@ -174,11 +185,16 @@ pub record IsDone (Does : Makes) (files : Watched shelf.History) (saved : Saved)
   pub changed : Bool
   pub is : IsMade Does files made lines changed
   pub fits : IsTrue files.old.told → ((changed ≡ false) × IsSame made is.loaded) ⊎ FitsFirst files.old files.new made
-  pub kept : Undisturbed saved.old saved.new → IsKept is.loaded made saved from to
+  pub kept : Undisturbed saved.old saved.new → IsKept (stood_in (scene saved.new from).files) is.loaded made saved from to
   -- where nothing was changed nothing is written
   pub idle : changed ≡ false → IsUnwritten saved.old.history saved.new.history
 
 -- ---- why it met a fault
+
+-- why a record wasn't published, among the faults of a change
+abbrev pub of_publish : PublishFault → ChangeFault
+of_publish (a_publish_fault.Encode fault) = a_change_fault.Encode fault
+of_publish a_publish_fault.Failed = a_change_fault.ShelfFailed
 
 -- a fault of a change, as a command tells it
 abbrev pub of_change : ChangeFault → Fault
@@ -193,22 +209,12 @@ abbrev pub fault_of : {A : Type 0} → Result A ChangeFault → Option Fault
 fault_of (Ok done) = None
 fault_of (Err fault) = Some (of_change fault)
 
--- something was changed, an identifier is left, and the new record would take so many bytes, which are too many
-pub record MetLarge (Does : Makes) (files : Watched shelf.History) (size : ℕ) : Type 0 where
+-- all that the command says was done, and what it made of the record that was read can't be written over it
+pub record MetUnfit (Does : Makes) (files : Watched shelf.History) (fault : EncodeFault) : Type 0 where
   pub made : Table
   pub lines : List ℕ
   pub is : IsMade Does files made lines true
-  pub held : Held
-  pub same : IsSame (table held) made
-  pub large : IsTooLarge held size
-  pub next : (told : IsTrue files.old.told) → is_some (next_name (id_read (is.read told))) ≡ true
-
--- something was changed, and the docket that was read names the last identifier
-pub record MetSpent (Does : Makes) (files : Watched shelf.History) : Type 0 where
-  pub made : Table
-  pub lines : List ℕ
-  pub is : IsMade Does files made lines true
-  pub spent : (told : IsTrue files.old.told) → next_name (id_read (is.read told)) ≡ None
+  pub unfit : (told : IsTrue files.old.told) → IsUnfit (stood_read (is.read told)) made fault
 
 -- the record was read in the call, where the files are told
 abbrev pub IsReadSome : Watched shelf.History → Type 0
@@ -248,8 +254,7 @@ abbrev pub MetChanging : Makes → Watched tree.History → Watched shelf.Histor
 MetChanging Does copy files (a_change_fault.Read fault) = MetReading files fault × IsLeftAlone copy
 MetChanging Does copy files (a_change_fault.Op fault) = MetDoing Does copy files fault
 MetChanging Does copy files (a_change_fault.Encode an_encode_fault.OutOfMemory) = MetMade Does files
-MetChanging Does copy files (a_change_fault.Encode (an_encode_fault.TooLarge size)) = MetLarge Does files size
-MetChanging Does copy files (a_change_fault.Encode an_encode_fault.IdsSpent) = MetSpent Does files
+MetChanging Does copy files (a_change_fault.Encode fault) = MetUnfit Does files fault
 MetChanging Does copy files a_change_fault.Held = ⊥
 MetChanging Does copy files a_change_fault.ShelfFailed = Fails files × (IsLeftAlone copy ⊎ MetMade Does files)
 

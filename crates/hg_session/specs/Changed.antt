@@ -1,30 +1,30 @@
 -- What the commands that change the record promise.
-use Rattle.std.specs.Prelude.{ℕ, Bool, true, false, ◌≡◌, ◌⊎◌, ◌<◌, List, [], ◌∷◌, Option, Some, None, Ok, IsTrue, IsSomeAnd, is_some}
-use Rattle.hg_append.specs.Encoded.{IsTooLarge}
+use Rattle.std.specs.Prelude.{ℕ, Bool, true, false, ◌≡◌, ◌⊎◌, ◌<◌, List, [], ◌∷◌, Option, Some, None, Ok, IsTrue, IsSomeAnd}
+use Rattle.hg_append.specs.declared.fault.EncodeFault.{EncodeFault}
+use Rattle.hg_append.specs.declared.fault.EncodeFault.TheVariants as an_encode_fault
 use Rattle.hg_base.specs.Fault.{IsSteady}
-use Rattle.hg_docket.specs.Number.{next_name}
 use Rattle.hg_entry.specs.Table.{Table}
 use Rattle.hg_mixed.specs.Edits.{IsSame}
-use Rattle.hg_mixed.specs.Held.{Held, table}
 use Rattle.hg_ops.specs.declared.refusal.OpFault.{OpFault}
 use Rattle.hg_ops.specs.declared.refusal.OpFault.TheVariants as an_op_fault
 use Rattle.hg_report.specs.declared.fault.Fault.{Fault}
 use Rattle.hg_report.specs.declared.fault.Fault.TheVariants as a_fault
 use Rattle.hg_save.specs.Others.{KeepsRecords}
-use Rattle.hg_save.specs.Record.{id_in, reading}
+use Rattle.hg_save.specs.Record.{reading}
 use Rattle.hg_save.specs.Saved.{IsLatest}
 use Rattle.hg_session.specs.Acts.{Makes}
 use Rattle.hg_session.specs.Call.{Call, IsLeftAlone, Serves}
-use Rattle.hg_session.specs.Change.{AsksChange, ChangesBehind, Fits, IsDone, IsEarly, IsLocked, IsReadSome, IsSafe, IsUnwritten, MetChanging, MetLocking, Stretch, makes_in, of_change}
+use Rattle.hg_session.specs.Change.{AsksChange, ChangesBehind, IsDone, IsEarly, IsLocked, IsReadSome, IsSafe, IsUnwritten, MetChanging, MetLocking, Stretch, makes_in, of_change}
 use Rattle.hg_session.specs.Loaded.{IsUnreadable}
 use Rattle.hg_session.specs.Look.{Look, Concludes, saves_first}
 use Rattle.hg_session.specs.Put.{IsEmpty, IsFaultOrMemory, IsSilent}
-use Rattle.hg_session.specs.Crash.{IsCrashSafe, IsLasting, published_in}
+use Rattle.hg_session.specs.Crash.{IsCrashSafe, IsFirmFor, IsLasting, published_in}
 use Rattle.hg_session.specs.Listed.{IsOwn}
+use Rattle.hg_session.specs.Ways.{Fits, IsUnfit, stood_in}
 use Rattle.hg_session.specs.declared.change_fault.ChangeFault.{ChangeFault}
 use Rattle.hg_session.specs.declared.change_fault.ChangeFault.TheVariants as a_change_fault
 use Rattle.hg_shelf.specs.History as shelf
-use Rattle.hg_shelf.specs.Images.{Goes, last_scene}
+use Rattle.hg_shelf.specs.Images.{Goes, last_scene, scene}
 use Rattle.hg_shelf.specs.Polite.{Undisturbed}
 
 -- 1 where a line is told, and else 0
@@ -38,7 +38,7 @@ pub record IsChangeText (Does : Makes) (call : Call) (lines : List ℕ) : Type 0
   pub done : IsDone Does call.looked.shelf call.saved stretch.from stretch.to lines
   -- what was published is what a crash leaves from then on, until others publish
   pub lasts : (calm : Undisturbed call.saved.old call.saved.new) → KeepsRecords shelf.others call.saved.new call.saved.old.history.last
-      → IsLasting done.is.loaded done.made call.saved stretch.from stretch.to (done.kept calm)
+      → IsLasting (stood_in (scene call.saved.new stretch.from).files) done.is.loaded done.made call.saved stretch.from stretch.to (done.kept calm)
 
 -- a command that changes the record prints nothing, and tells its lines once it is done; the caller wrote nothing before a fault, whatever others do,
 -- unless the shelf failed while it saved, for whose line there may be no memory
@@ -68,24 +68,14 @@ pub record CanBeDone (Does : Makes) (files : shelf.Files) : Type 0 where
   pub lines : List ℕ
   pub changed : Bool
   pub is : IsMadeOf Does files made lines changed
-  pub fits : ((changed ≡ false) × IsSame made is.loaded) ⊎ Fits files made
+  pub fits : ((changed ≡ false) × IsSame made is.loaded) ⊎ Fits (stood_in files) made
 
--- the record is changed, an identifier is left, and what is made takes so many bytes, which are too many
-pub record IsTooLargeFor (Does : Makes) (files : shelf.Files) (size : ℕ) : Type 0 where
+-- the record is changed, and what is made of it can't be written over it, for this
+pub record IsUnfitFor (Does : Makes) (files : shelf.Files) (fault : EncodeFault) : Type 0 where
   pub made : Table
   pub lines : List ℕ
   pub is : IsMadeOf Does files made lines true
-  pub held : Held
-  pub same : IsSame (table held) made
-  pub large : IsTooLarge held size
-  pub next : is_some (next_name (id_in files)) ≡ true
-
--- the record is changed, and no identifier is left
-pub record IsSpentFor (Does : Makes) (files : shelf.Files) : Type 0 where
-  pub made : Table
-  pub lines : List ℕ
-  pub is : IsMadeOf Does files made lines true
-  pub spent : next_name (id_in files) ≡ None
+  pub unfit : IsUnfit (stood_in files) made fault
 
 -- of the record in these files nothing is made, for this fault of the plain store
 pub record IsStoppedFor (Does : Makes) (files : shelf.Files) (fault : OpFault) : Type 0 where
@@ -96,8 +86,8 @@ pub record IsStoppedFor (Does : Makes) (files : shelf.Files) (fault : OpFault) :
 -- the answer where the files stand so, nobody else steps, no device fails and no lock is refused; want of memory may come at any time
 abbrev pub IsExpectedChange : Makes → shelf.Files → Option Fault → Type 0
 IsExpectedChange Does files None = CanBeDone Does files
-IsExpectedChange Does files (Some (a_fault.TooLarge size)) = IsTooLargeFor Does files size
-IsExpectedChange Does files (Some a_fault.IdsSpent) = IsSpentFor Does files
+IsExpectedChange Does files (Some (a_fault.TooLarge size)) = IsUnfitFor Does files (an_encode_fault.TooLarge size)
+IsExpectedChange Does files (Some a_fault.IdsSpent) = IsUnfitFor Does files an_encode_fault.IdsSpent
 IsExpectedChange Does files (Some (a_fault.NoManifest id)) = IsStoppedFor Does files (an_op_fault.NoManifest id)
 IsExpectedChange Does files (Some (a_fault.ManifestTooLarge size)) = IsStoppedFor Does files (an_op_fault.ManifestTooLarge size)
 IsExpectedChange Does files (Some (a_fault.ManifestLine line)) = IsStoppedFor Does files (an_op_fault.ManifestLine line)
@@ -116,10 +106,10 @@ pub record RanChange (call : Call) (status : ℕ) (fault : Option Fault) : Type 
   pub ends : (none : fault ≡ None) → status ≡ status_of (shows.done none).told.text
   -- whatever the answer, at each moment of the call a crash leaves the record as it was or as it is after, and so do reads
   pub safe : Undisturbed call.saved.old call.saved.new → IsSafe (makes_in call) call.saved fault
-  -- and where others keep to how a record is published, also before the lock was got and behind it: at each moment since the call's start a crash
-  -- leaves a record of what it might have left then, of what the call published, or of what others published since
+  -- and where others keep to how a record is published, also before the lock was got and behind it, and for an append where it is made upon firm ground: at each
+  -- moment since the call's start a crash leaves a record of what it might have left then, of what the call published, or of what others published since
   pub crash : (calm : Undisturbed call.saved.old call.saved.new) → KeepsRecords shelf.others call.saved.new call.saved.old.history.last → IsLatest (last_scene call.saved.old)
-      → IsCrashSafe (published_in (makes_in call) call.saved fault (safe calm)) call.saved
+      → IsFirmFor (makes_in call) call.saved fault (safe calm) → IsCrashSafe (published_in (makes_in call) call.saved fault (safe calm)) call.saved
   -- a lock that was refused is told as such
   pub held : call.locks.before < call.locks.after → IsFaultOrMemory fault a_fault.Held
   -- and so is a tree that failed, whatever else failed behind it

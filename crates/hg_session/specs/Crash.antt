@@ -1,16 +1,20 @@
 -- What a crash may leave at each moment of a call, also where others publish before or behind its change.
 use Rattle.std.specs.Prelude.{ℕ, ◌≡◌, ◌⊎◌, ◌≤◌, Option, Some, None, Result, Ok, IsSomeAnd}
 use Rattle.std.proofs.Common.{inl, inr}
+use Rattle.hg_append.specs.declared.way.Way.TheVariants as a_way
+use Rattle.hg_appended.specs.Loss.{plan_of}
 use Rattle.hg_entry.specs.Table.{Table}
 use Rattle.hg_image.specs.Reading.{RecordFault}
 use Rattle.hg_mixed.specs.Edits.{IsSame}
 use Rattle.hg_report.specs.declared.fault.Fault.{Fault}
-use Rattle.hg_save.specs.Others.{KeepsFiles, KeepsRecords, WasPublished}
+use Rattle.hg_save.specs.Others.{KeepData, KeepsRecords, WasPublished}
 use Rattle.hg_save.specs.Record.{IsReadable, reading}
 use Rattle.hg_save.specs.Saved.{IsLatest}
+use Rattle.hg_save_behind.specs.Behind.{KeepsUsed}
 use Rattle.hg_session.specs.Acts.{Makes}
 use Rattle.hg_session.specs.Call.{Saved}
-use Rattle.hg_session.specs.Change.{IsKept, IsSafe, IsUnwritten}
+use Rattle.hg_session.specs.Change.{IsKept, IsSafe, IsUnwritten, NoneOurs, up_to}
+use Rattle.hg_session.specs.Ways.{Stood}
 use Rattle.hg_shelf.specs.History.{Files, others, us}
 use Rattle.hg_shelf.specs.Images.{Scene, last_scene, scene}
 use Rattle.hg_shelf.specs.Polite.{Undisturbed}
@@ -28,31 +32,44 @@ abbrev pub published_in : (Does : Makes) (saved : Saved) (fault : Option Fault) 
 published_in Does saved fault (inl none) = None
 published_in Does saved fault (inr (may, is)) = Some is.is.found
 
+-- what is asked besides where a change published by an append: that what a crash might have left at the start is sound, and that others kept what was read
+-- until the lock was got
+abbrev pub IsFirmFor : (Does : Makes) (saved : Saved) (fault : Option Fault) → IsSafe Does saved fault → Type 0
+IsFirmFor Does saved fault (inl none) = Unit {0}
+IsFirmFor Does saved fault (inr (may, is)) = plan_of is.is.held ≡ a_way.Append → LeavesSound (last_scene saved.old) × Does.fair saved.new.history is.stretch.from
+
 -- that is what is recorded
 abbrev pub IsOwnRecord : Option Table → Option (Result Table RecordFault) → Type 0
 IsOwnRecord own recorded = IsSomeAnd own (λ table. recorded ≡ Some (Ok table))
 
 -- at each moment from the call's start to its end, whatever a crash leaves records what it might have left at the start, what the call published (own), or
 -- what others published since the start; it is sound where that at the start was; each step of the call keeps to how a record is published, as those
--- of others do, and keeps the data that dockets name, so that this can be said beside another call; and no docket that a crash might leave at the end is ahead of the one that stands, so
+-- of others do, and keeps the bytes that dockets use, so that this can be said beside another call; and no docket that a crash might leave at the end is ahead of the one that stands, so
 -- that it can be said of the next one
 pub record IsCrashSafe (own : Option Table) (saved : Saved) : Type 0 where
   pub each : (k : ℕ) (c : Files) → saved.old.history.last ≤ k → k ≤ saved.new.history.last → (scene saved.new k).leaves c
       → MightBeLeft (last_scene saved.old) (reading c) ⊎ (IsOwnRecord own (reading c) ⊎ WasPublished saved.new saved.old.history.last k (reading c))
   pub sound : LeavesSound (last_scene saved.old) → (k : ℕ) → saved.old.history.last ≤ k → k ≤ saved.new.history.last → LeavesSound (scene saved.new k)
   pub orderly : KeepsRecords us saved.new saved.old.history.last
-  pub keeping : KeepsFiles us saved.new.history saved.old.history.last
+  pub keeping : KeepsUsed us saved.new.history saved.old.history.last
   pub latest : IsLatest (last_scene saved.new)
 
--- where others keep to how a record is published, and no docket that a crash might have left at the start was ahead of the one that stood
+-- firm ground for an append: what a crash might have left at the start is sound, and others keep the data that dockets name as long as the call made no step
+pub record IsFirmGround (saved : Saved) : Type 0 where
+  pub sound : LeavesSound (last_scene saved.old)
+  pub kept : (k : ℕ) → saved.old.history.last ≤ k → k ≤ saved.new.history.last → NoneOurs saved.new.history saved.old.history.last k
+      → KeepData (up_to k saved.new.history) saved.old.history.last
+
+-- where others keep to how a record is published, and no docket that a crash might have left at the start was ahead of the one that stood, upon firm ground
 abbrev pub IsSafeFromCrashes : Saved → Type 0
 IsSafeFromCrashes saved =
-    Undisturbed saved.old saved.new → KeepsRecords others saved.new saved.old.history.last → IsLatest (last_scene saved.old) → (own : Option Table) × IsCrashSafe own saved
+    Undisturbed saved.old saved.new → KeepsRecords others saved.new saved.old.history.last → IsLatest (last_scene saved.old) → IsFirmGround saved
+    → (own : Option Table) × IsCrashSafe own saved
 
 -- from a moment to the call's end, whatever a crash leaves records what was made, or what others published since
 pub record Lasts (saved : Saved) (to : ℕ) (found : Table) : Type 0 where
   pub each : (k : ℕ) (c : Files) → to ≤ k → k ≤ saved.new.history.last → (scene saved.new k).leaves c → (reading c ≡ Some (Ok found)) ⊎ WasPublished saved.new to k (reading c)
 
 -- so it does, unless nothing was to be published
-abbrev pub IsLasting : (loaded made : Table) (saved : Saved) (from to : ℕ) → IsKept loaded made saved from to → Type 0
-IsLasting loaded made saved from to kept = Lasts saved to kept.found ⊎ (IsSame made loaded × IsUnwritten saved.old.history saved.new.history)
+abbrev pub IsLasting : (stood : Stood) (loaded made : Table) (saved : Saved) (from to : ℕ) → IsKept stood loaded made saved from to → Type 0
+IsLasting stood loaded made saved from to kept = Lasts saved to kept.found ⊎ (IsSame made loaded × IsUnwritten saved.old.history saved.new.history)

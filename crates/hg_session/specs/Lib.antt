@@ -11,6 +11,7 @@ pub mod Debug
 pub mod Flags
 pub mod Good
 pub mod GoodLaws
+pub mod Kept
 pub mod Listed
 pub mod Load
 pub mod Loaded
@@ -20,3 +21,4 @@ pub mod Manifests
 pub mod Put
 pub mod Saving
 pub mod Status
+pub mod Ways

@@ -1,32 +1,34 @@
 -- What a status saves of what it noted, and what comes of it.
-use Rattle.std.specs.Prelude.{ℕ, ◌≡◌, ◌⊎◌, ◌≤◌, [], ◌∷◌, Option, Some, None, Result, Ok, Err, IsTrue}
-use Rattle.hg_append.specs.Encoded.{IsTooLarge}
+use Rattle.std.specs.Prelude.{ℕ, ◌≡◌, ◌⊎◌, ◌≤◌, List, [], ◌∷◌, Option, Some, None, Result, Ok, Err, IsTrue}
+use Rattle.hg_append.specs.declared.fault.EncodeFault.{EncodeFault}
 use Rattle.hg_append.specs.declared.fault.EncodeFault.TheVariants as an_encode
+use Rattle.hg_append.specs.declared.way.Way.TheVariants as a_way
+use Rattle.hg_appended.specs.Loss.{plan_of}
 use Rattle.hg_base.specs.Fault.{Rose}
 use Rattle.hg_docket.specs.Docket.{docket_of}
-use Rattle.hg_docket.specs.Number.{next_name}
 use Rattle.hg_entry.specs.Table.{Table}
 use Rattle.hg_image.specs.Reading.{data_reading}
+use Rattle.hg_image.specs.Rows.{rows_of}
 use Rattle.hg_mixed.specs.Edits.{IsSame}
-use Rattle.hg_mixed.specs.Held.{Held, table}
+use Rattle.hg_mixed.specs.Held.{Held, has_list, image_table, is_lent, table}
 use Rattle.hg_report.specs.declared.fault.Fault.{Fault}
 use Rattle.hg_report.specs.declared.fault.Fault.TheVariants as a_fault
 use Rattle.hg_save.specs.Loads.{IsTry, Loads, Try, files_at, found_by}
 use Rattle.hg_save.specs.Others.{KeepData}
-use Rattle.hg_save.specs.Record.{docket_in, id_in}
+use Rattle.hg_save.specs.Record.{docket_in}
 use Rattle.hg_save.specs.declared.loaded.Loaded.{Loaded}
-use Rattle.hg_session.specs.Acts.{Makes, StandsAt}
+use Rattle.hg_session.specs.Acts.{Makes}
 use Rattle.hg_session.specs.Call.{Count, Fails, FailsTwice, Saved, Watched}
-use Rattle.hg_session.specs.Change.{IsKept, IsSafe, IsSafeHeld, IsUnwritten, Stretch, WasReturned}
+use Rattle.hg_session.specs.Change.{IsKept, IsSafe, IsSafeHeld, IsUnwritten, Stretch, WasReturned, up_to}
 use Rattle.hg_session.specs.Locks.{NotReturned, NotTaken, Refused}
 use Rattle.hg_session.specs.Look.{OnlyReads}
 use Rattle.hg_session.specs.Put.{IsFaultOrMemory}
+use Rattle.hg_session.specs.Ways.{IsMadeOver, IsUnfit, stood_by}
 use Rattle.hg_session.specs.declared.change_fault.ChangeFault.{ChangeFault}
 use Rattle.hg_session.specs.declared.change_fault.ChangeFault.TheVariants as a_change
 use Rattle.hg_session.specs.declared.save_fault.SaveFault.{SaveFault}
 use Rattle.hg_session.specs.declared.save_fault.SaveFault.TheVariants as a_save
-use Rattle.hg_shelf.specs.History.{Extends, Files, History}
-use Rattle.hg_shelf.specs.Images.{scene}
+use Rattle.hg_shelf.specs.History.{Extends, History}
 use Rattle.hg_shelf.specs.Polite.{Undisturbed}
 use Rattle.hg_walk.specs.Applying.{IsBlank}
 use Rattle.hg_walk.specs.Notes.{NotesData, applied}
@@ -58,7 +60,7 @@ once_saved (Ok done) (Ok unit) = Ok done
 
 -- ---- what is saved
 
--- a table in memory was opened from a record of this table that was loaded since a start
+-- a table in memory was opened from a record of this table that was loaded since a start, and all its lists are lent
 pub record IsOpenedSince (start now : History) (loaded : Loaded) (recorded : Table) (opened : Held) : Type 0 where
   pub mid : History
   pub front : Extends start mid
@@ -66,14 +68,16 @@ pub record IsOpenedSince (start now : History) (loaded : Loaded) (recorded : Tab
   pub loads : IsTrue start.told → (tried : Try) × Loads start mid (tried ∷ []) (Ok loaded)
   pub nodes : data_reading (docket_of loaded.docket.items) loaded.nodes.items ≡ Ok recorded
   pub same : IsSame (table opened) recorded
+  pub image : IsSame (table opened) (image_table opened)
+  pub lent : (dir : Option (List ℕ)) → is_lent opened dir ≡ has_list (rows_of opened.docket opened.bytes) dir
 
 -- what a status makes of the record of this table, which it read in a call: the same with what it noted. It was read before the lock was taken, so
--- it stands under the lock where others keep the data that dockets name
+-- others are asked to keep the data that dockets name until then
 abbrev pub noted_makes : Watched History → Table → NotesData → Makes
 noted_makes files recorded notes = record {
   does = λ loaded made lines changed. IsSame loaded recorded × IsSame made (applied notes recorded) × (lines ≡ []);
   stops = λ loaded fault. ⊥;
-  stands = λ c at loaded. KeepData c.history files.old.last → StandsAt c at loaded;
+  fair = λ h at. KeepData (up_to at h) files.old.last;
 }
 
 -- between two moments another docket stood than the one that was read with the record since a start
@@ -86,20 +90,34 @@ pub record AnotherStood (start new : History) (recorded : Table) (from to : ℕ)
   pub upto : at ≤ to
   pub other : docket_in (files_at new at) ≡ docket_in (files_at new tried.docket) → ⊥
 
--- a table can't be written anew over the record in these files: no identifier is left, or it is too large
-abbrev pub IsUnfit : Files → Table → Type 0
-IsUnfit files made = (next_name (id_in files) ≡ None) ⊎ ((held : Held) × (size : ℕ) × IsSame (table held) made × IsTooLarge held size)
+-- the record that a try found, which was made since a start, can't be written with notes, for a fault that isn't want of memory
+pub record CannotWrite (start new : History) (recorded : Table) (notes : NotesData) : Type 0 where
+  pub tried : Try
+  pub within : IsTry start new tried
+  pub found : found_by new tried ≡ Some (Ok recorded)
+  pub fault : EncodeFault
+  pub told : fault ≡ an_encode.OutOfMemory → ⊥
+  pub unfit : IsUnfit (stood_by new tried) (applied notes recorded) fault
 
 -- why nothing was to be saved between two moments: another docket stood, the record can't be written, or the notes say what it says
 abbrev pub IsUnsaved : History → Table → NotesData → Saved → ℕ → ℕ → Type 0
 IsUnsaved start recorded notes saved from to =
     AnotherStood start saved.new.history recorded from to
-    ⊎ (IsUnfit (scene saved.new from).files (applied notes recorded) ⊎ IsSame (applied notes recorded) recorded)
+    ⊎ (CannotWrite start saved.new.history recorded notes ⊎ IsSame (applied notes recorded) recorded)
+
+-- the record with the notes is what is recorded then, and by what a crash leaves; where it was appended, others were asked to keep what was read
+pub record IsNotedOver (start : History) (recorded : Table) (notes : NotesData) (saved : Saved) (from to : ℕ) : Type 0 where
+  pub tried : Try
+  pub within : IsTry start saved.new.history tried
+  pub found : found_by saved.new.history tried ≡ Some (Ok recorded)
+  pub held : Held
+  pub over : IsMadeOver (stood_by saved.new.history tried) (applied notes recorded) held
+  pub kept : (plan_of held ≡ a_way.Append → KeepData (up_to from saved.new.history) start.last) → IsKept (stood_by saved.new.history tried) recorded (applied notes recorded) saved from to
 
 -- nothing was to be saved between two moments, and nothing was written; or the record with the notes is what is recorded then, and by what a crash leaves
 abbrev pub IsNoted : History → Table → NotesData → Saved → ℕ → ℕ → Type 0
 IsNoted start recorded notes saved from to =
-    (IsUnsaved start recorded notes saved from to × IsUnwritten saved.old.history saved.new.history) ⊎ IsKept recorded (applied notes recorded) saved from to
+    (IsUnsaved start recorded notes saved from to × IsUnwritten saved.old.history saved.new.history) ⊎ IsNotedOver start recorded notes saved from to
 
 -- so it is where the lock is held all along, and where others only read meanwhile
 pub record SavesHeld (start : History) (files : Watched History) (saved : Saved) (recorded : Table) (notes : NotesData) (fault : Option Fault) : Type 0 where

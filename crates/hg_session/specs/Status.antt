@@ -27,10 +27,10 @@ use Rattle.hg_report.specs.declared.fault.Fault.TheVariants as a_fault
 use Rattle.hg_save.specs.Others.{KeepsRecords}
 use Rattle.hg_save.specs.Record.{record_in}
 use Rattle.hg_save.specs.Saved.{IsLatest}
-use Rattle.hg_session.specs.Acts.{Makes}
+use Rattle.hg_session.specs.Acts.{AskNothing, Makes}
 use Rattle.hg_session.specs.Call.{Call, Count, Fails, Looked, Saved, Serves, Sink, Watched}
 use Rattle.hg_session.specs.Change.{IsReadFirst, IsSafe}
-use Rattle.hg_session.specs.Crash.{IsCrashSafe, published_in}
+use Rattle.hg_session.specs.Crash.{IsCrashSafe, IsFirmFor, published_in}
 use Rattle.hg_session.specs.Flags.{style_of, wanted_of}
 use Rattle.hg_session.specs.Listed.{AsksBelow, AsksLittle, AsksOver, AsksOwn, AsksPlain, IsAskedAt, IsListable, IsListed, IsListedFor, IsOwn, IsRightFor, StatusCause, first_parent}
 use Rattle.hg_session.specs.Load.{of_read}
@@ -209,7 +209,7 @@ listed_to end looked = record looked { shelf = record looked.shelf { new = end }
 
 -- what a status makes of the record: where a table was read, it with the notes
 abbrev pub noted_in : Watched shelf.History → Option Table → NotesData → Makes
-noted_in files None notes = record { does = λ loaded made lines changed. ⊥; stops = λ loaded fault. ⊥; stands = λ c from loaded. ⊥ }
+noted_in files None notes = record { does = λ loaded made lines changed. ⊥; stops = λ loaded fault. ⊥; fair = AskNothing }
 noted_in files (Some table) notes = noted_makes files table notes
 
 -- what came of the lock: where no table was read it wasn't called for
@@ -287,10 +287,10 @@ pub record RanStatus (flags : StatusFlags) (call : Call) (code : ℕ) (fault : O
   pub recorded : fault ≡ None → IsSomeAnd table (λ t. IsRecordedFor call.looked (wanted_of flags) t notes)
   -- what became of that
   pub saving : SavesLast call.looked.shelf call.saved call.locks table notes fault
-  -- and where others keep to how a record is published: at each moment since the call's start a crash leaves a record of what it might have left then, of what
-  -- the call published, or of what others published since
+  -- and where others keep to how a record is published, and for an append where it is made upon firm ground: at each moment since the call's start a crash
+  -- leaves a record of what it might have left then, of what the call published, or of what others published since
   pub crash : (calm : Undisturbed call.saved.old call.saved.new) → KeepsRecords shelf.others call.saved.new call.saved.old.history.last → IsLatest (last_scene call.saved.old)
-      → IsCrashSafe (published_in (noted_in call.looked.shelf table notes) call.saved fault (saving.safe calm)) call.saved
+      → IsFirmFor (noted_in call.looked.shelf table notes) call.saved fault (saving.safe calm) → IsCrashSafe (published_in (noted_in call.looked.shelf table notes) call.saved fault (saving.safe calm)) call.saved
   -- where a device failed, or a regexp was too big, there is a fault
   pub calm : fault ≡ None → IsCalm call.looked call.out call.err
   -- the status is 0 without a fault, and 255 with one

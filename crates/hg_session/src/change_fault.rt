@@ -3,6 +3,7 @@
 use crate::read_fault::ReadFault;
 use hg_append::EncodeFault;
 use hg_ops::OpFault;
+use hg_publish::PublishFault;
 use hg_report::Fault;
 
 /// Why the record could not be changed.
@@ -42,14 +43,17 @@ impl From<OpFault> for ChangeFault {
     }
 }
 
-impl From<EncodeFault> for ChangeFault {
+impl From<PublishFault> for ChangeFault {
     ghost use Rattle.std.specs.Prelude.{◌≡◌};
-    ghost use Rattle.hg_session.specs.declared.change_fault.ChangeFault.TheVariants as a_fault;
+    ghost use Rattle.hg_session.specs.Change.{of_publish};
 
-    ghost from_gives = { λ f e. e ≡ a_fault.Encode f };
+    ghost from_gives = { λ f e. e ≡ of_publish f };
 
-    fn from(fault: EncodeFault) -> ChangeFault {
-        ChangeFault::Encode(fault)
+    fn from(fault: PublishFault) -> ChangeFault {
+        match fault {
+            PublishFault::Encode(fault) => ChangeFault::Encode(fault),
+            PublishFault::Failed => ChangeFault::ShelfFailed,
+        }
     }
 }
 

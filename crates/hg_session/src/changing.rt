@@ -1,16 +1,19 @@
 //! A command that changes the record: the record, what its words make of it, a publication.
 
 ghost use Rattle.std.specs.Prelude.{◌≡◌, ◌⊎◌, ◌<◌, ◌≤◌, ◌∷◌, [], Err, IfErr, IfOk, IsTrue, None, OnOk, false, length, true};
+ghost use Rattle.hg_append.specs.declared.way.Way.TheVariants as a_way;
+ghost use Rattle.hg_appended.specs.Loss.{plan_of};
 ghost use Rattle.hg_base.specs.Fault.{HasCause};
 ghost use Rattle.hg_docket.specs.Docket.{docket_of, docket_refusal};
 ghost use Rattle.hg_image.specs.Reading.{data_reading};
+ghost use Rattle.hg_publish.specs.Over.{HasUsed, IsLentRight};
 ghost use Rattle.hg_save.specs.Leads.{IsHeld};
 ghost use Rattle.hg_save.specs.Loads.{Try};
-ghost use Rattle.hg_save.specs.Saved.{Stands};
 ghost use Rattle.hg_session.specs.Acts.{makes_of};
-ghost use Rattle.hg_session.specs.Anew.{CanWrite, IsOpened, IsRecorded, LoadsOrRefuses, MetWriting, WritesOnly};
+ghost use Rattle.hg_session.specs.Anew.{IsOpened, IsRecorded, LoadsOrRefuses, MetWriting, WritesOnly};
 ghost use Rattle.hg_session.specs.Change.{AsksChange, ChangesBehind, FailsOrUnwritten, IsDone, IsEarly, IsReadSome, IsSafeHeld, MetChanging, fault_of, of_change};
 ghost use Rattle.hg_session.specs.Loaded.{AsksRecord, NodesFind};
+ghost use Rattle.hg_session.specs.Ways.{CanWrite};
 ghost use Rattle.hg_ops.specs.declared.refusal.OpFault.TheVariants as an_op_fault;
 ghost use Rattle.hg_session.specs.declared.change_fault.ChangeFault.TheVariants as a_fault;
 ghost use Rattle.hg_session.specs.declared.read_fault.ReadFault.TheVariants as a_read;
@@ -22,9 +25,9 @@ ghost use Rattle.hg_shelf.specs.Polite.{Undisturbed};
 use crate::acting::act;
 use crate::change_fault::ChangeFault;
 use crate::reading::{opened, read};
-use hg_append::{encode, plan};
 use hg_mixed::Mixed;
-use hg_save::{Loaded, publish};
+use hg_publish::publish_table;
+use hg_save::Loaded;
 use hg_shelf::Shelf;
 use hg_tree::Tree;
 use hg_words::Command;
@@ -40,19 +43,21 @@ pub(crate) fn save<S: Shelf>(
     requires held { (S.history shelf.old).ours ≡ true }
     requires few { length loaded.now.docket.items ≤ 512 }
     requires whole { docket_refusal loaded.now.docket.items ≡ None }
-    requires over { table.now.docket.id ≡ (docket_of loaded.now.docket.items).id }
+    requires docket { table.now.docket ≡ docket_of loaded.now.docket.items }
+    requires nodes { table.now.bytes ≡ loaded.now.nodes.items }
     ensures still { table.now.changed ≡ false → shelf.new ≡ shelf.old }
     ensures fits { OnOk result (table.now.changed ≡ true → CanWrite table.now) }
+    ensures lent { table.now.changed ≡ true → IsLentRight table.now }
     ensures recorded { Undisturbed (course (S.history shelf.old) (S.images shelf.old)) (course (S.history shelf.new) (S.images shelf.new))
-        → Stands loaded.now.docket.items (last_scene (course (S.history shelf.old) (S.images shelf.old)))
+        → (plan_of table.now ≡ a_way.Append → HasUsed loaded.now (last_scene (course (S.history shelf.old) (S.images shelf.old))))
         → OnOk
         result
         (table.now.changed ≡ true
         → IsRecorded table.now (course (S.history shelf.old) (S.images shelf.old)) (course (S.history shelf.new) (S.images shelf.new))) }
     ensures safe { Undisturbed (course (S.history shelf.old) (S.images shelf.old)) (course (S.history shelf.new) (S.images shelf.new))
-        → Stands loaded.now.docket.items (last_scene (course (S.history shelf.old) (S.images shelf.old)))
         → WritesOnly
         table.now
+        loaded.now
         (course (S.history shelf.old) (S.images shelf.old))
         (course (S.history shelf.new) (S.images shelf.new))
         (fault_of result) }
@@ -70,11 +75,8 @@ pub(crate) fn save<S: Shelf>(
     if !table.changed() {
         return Ok(());
     }
-    let new = encode(alloc, table, plan(table))?;
-    match publish(shelf, loaded, &new) {
-        Err(_) => Err(ChangeFault::ShelfFailed),
-        Ok(()) => Ok(()),
-    }
+    publish_table(alloc, shelf, loaded, table)?;
+    Ok(())
 }
 
 // Changes the record, and answers the lines of the words that were refused. The caller holds the lock.

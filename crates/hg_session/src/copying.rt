@@ -7,6 +7,7 @@ ghost use Rattle.hg_mixed.specs.Held.{table};
 ghost use Rattle.hg_ops.specs.Copy.{IsCopyFault};
 ghost use Rattle.hg_ops.specs.declared.refusal.OpFault.TheVariants as an_op_fault;
 ghost use Rattle.hg_session.specs.Acts.{IsCopied, OnlyPuts, copy_line};
+ghost use Rattle.hg_session.specs.Kept.{KeepsLent};
 
 use hg_base::OutOfMemory;
 use hg_mixed::Mixed;
@@ -67,6 +68,7 @@ pub(crate) fn copy_one<T: Tree>(
         (table mixed.new)
         line.items
         mixed.new.changed) }
+    ensures lent { OnOk result (KeepsLent mixed.old mixed.new) }
     ensures image { IsOfSameImage mixed.old mixed.new }
     ensures puts { OnlyPuts
         source.now

@@ -26,6 +26,7 @@ pub(crate) fn read<S: Shelf>(alloc: Global, shelf: &mut S) -> Result<Loaded, Rea
         → ((tried : Try) × LoadsOrRefuses (S.history shelf.old) (S.history shelf.new) (tried ∷ []) result) }
     ensures few { IfOk result (λ l. length l.docket.items ≤ 512) }
     ensures whole { IfOk result (λ l. docket_refusal l.docket.items ≡ None) }
+    ensures most { IfOk result (λ l. length l.nodes.items ≤ (docket_of l.docket.items).used) }
     ensures cause { HasCause (S.faults shelf.old) (S.faults shelf.new) result (λ e. e ≡ a_read.Failed) }
     ensures asked { IsTrue (S.history shelf.old).told → AsksRecord (S.history shelf.old) (S.history shelf.new) }
     ensures kept { Goes (course (S.history shelf.old) (S.images shelf.old)) (course (S.history shelf.new) (S.images shelf.new)) }
@@ -39,8 +40,9 @@ pub(crate) fn read<S: Shelf>(alloc: Global, shelf: &mut S) -> Result<Loaded, Rea
 pub(crate) fn opened<'a>(alloc: Global, loaded: &'a Loaded) -> Result<Mixed<'a>, ReadFault>
     requires few { length loaded.now.docket.items ≤ 512 }
     requires whole { docket_refusal loaded.now.docket.items ≡ None }
+    requires most { length loaded.now.nodes.items ≤ (docket_of loaded.now.docket.items).used }
     ensures { NodesFind
-        (IsOpened (docket_of loaded.now.docket.items))
+        (IsOpened loaded.now)
         result
         (data_reading (docket_of loaded.now.docket.items) loaded.now.nodes.items) }
 {

@@ -7,6 +7,7 @@ ghost use Rattle.hg_mixed.specs.Held.{table};
 ghost use Rattle.hg_ops.specs.Parent.{AsksStore};
 ghost use Rattle.hg_ops.specs.declared.refusal.OpFault.TheVariants as an_op_fault;
 ghost use Rattle.hg_session.specs.Acts.{IsRemoved, NeedsSome, OnlyTakes, StopsRemoving, span_of};
+ghost use Rattle.hg_session.specs.Kept.{KeepsLent};
 ghost use Rattle.hg_shelf.specs.History as shelves;
 ghost use Rattle.hg_shelf.specs.Images.{Goes, course};
 
@@ -49,6 +50,7 @@ pub(crate) fn remove_words<T: Tree, S: Shelf>(
         (record { old = T.history tree.old; new = T.history tree.new; before = T.faults tree.old; after = T.faults tree.new })
         (record { old = S.history shelf.old; new = S.history shelf.new; before = S.faults shelf.old; after = S.faults shelf.new })
         (table mixed.old)) }
+    ensures lent { OnOk result (KeepsLent mixed.old mixed.new) }
     ensures image { IsOfSameImage mixed.old mixed.new }
     ensures takes { OnlyTakes
         after

@@ -6,8 +6,9 @@ ghost use Rattle.hg_manifest.specs.Load.{asks_of};
 ghost use Rattle.hg_manifest.specs.declared.fault.ManifestFault.TheVariants as a_manifest_fault;
 ghost use Rattle.hg_mixed.specs.Edits.{IsOfSameImage, IsSame, Marks};
 ghost use Rattle.hg_mixed.specs.Held.{table};
-ghost use Rattle.hg_ops.specs.Parents.{HasParents};
+ghost use Rattle.hg_ops.specs.Parents.{HasParents, LendsParents};
 ghost use Rattle.hg_ops.specs.declared.refusal.OpFault.TheVariants as an_op_fault;
+ghost use Rattle.hg_session.specs.Kept.{KeepsLent};
 ghost use Rattle.hg_session.specs.Manifests.{Answers, IsReparented, StopsParents};
 ghost use Rattle.hg_shelf.specs.Asks.{AsksFrontOf, AsksInOrder};
 ghost use Rattle.hg_shelf.specs.History.{Passes};
@@ -43,6 +44,7 @@ fn set_rows(
 ) -> Result<(), OpFault>
     ensures parents { OnOk result (HasParents p1.0 p2.0 m1.now m2.now (table mixed.old) (table mixed.new)) }
     ensures changed { OnOk result (Marks (IsSame (table mixed.new) (table mixed.old)) mixed.old.changed mixed.new.changed) }
+    ensures lent { OnOk result (LendsParents mixed.old mixed.new) }
     ensures image { IsOfSameImage mixed.old mixed.new }
     ensures memory { IfErr result (λ e. e ≡ an_op_fault.OutOfMemory) }
 {
@@ -78,6 +80,7 @@ pub(crate) fn reparent<S: Shelf>(
         p1
         p2
         (record { old = S.history shelf.old; new = S.history shelf.new; before = S.faults shelf.old; after = S.faults shelf.new })) }
+    ensures lent { OnOk result (KeepsLent mixed.old mixed.new) }
     ensures image { IsOfSameImage mixed.old mixed.new }
     ensures passes { Passes (S.history shelf.old) (S.history shelf.new) }
     ensures kept { Goes (course (S.history shelf.old) (S.images shelf.old)) (course (S.history shelf.new) (S.images shelf.new)) }

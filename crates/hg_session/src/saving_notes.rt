@@ -10,6 +10,7 @@ ghost use Rattle.hg_save.specs.Leads.{IsHeld};
 ghost use Rattle.hg_save.specs.Record.{docket_in};
 ghost use Rattle.hg_session.specs.Call.{counted, saved_by, watched};
 ghost use Rattle.hg_session.specs.Change.{IsUnwritten};
+ghost use Rattle.hg_session.specs.Kept.{AreNews};
 ghost use Rattle.hg_session.specs.Saving.{IsOpenedSince, SavesHeld, SavesNotes, once_saved, save_fault, unless_full};
 ghost use Rattle.hg_session.specs.declared.save_fault.SaveFault.TheVariants as a_fault;
 ghost use Rattle.hg_shelf.specs.Asks.{AsksFrontOf, AsksInOrder};
@@ -69,10 +70,11 @@ fn save_held<S: Shelf>(
     requires few { length loaded.now.docket.items ≤ 512 }
     requires whole { docket_refusal loaded.now.docket.items ≡ None }
     requires over { mixed.old.docket ≡ docket_of loaded.now.docket.items }
+    requires nodes { mixed.old.bytes ≡ loaded.now.nodes.items }
     requires unchanged { mixed.old.changed ≡ false }
     requires can { CanApply notes.now (table mixed.old) }
     // `SavesHeld` in specs/Saving.antt.
-    ensures saves { (start : History) (recorded : Table) → IsOpenedSince start (S.history shelf.old) loaded.now recorded mixed.old
+    ensures saves { (start : History) (recorded : Table) → IsOpenedSince start (S.history shelf.old) loaded.now recorded mixed.old → AreNews recorded notes.now
         → SavesHeld
         start
         (watched S.history S.faults shelf.old shelf.new)
@@ -123,10 +125,11 @@ pub(crate) fn save_notes<S: Shelf>(
     requires few { length loaded.now.docket.items ≤ 512 }
     requires whole { docket_refusal loaded.now.docket.items ≡ None }
     requires over { mixed.old.docket ≡ docket_of loaded.now.docket.items }
+    requires nodes { mixed.old.bytes ≡ loaded.now.nodes.items }
     requires unchanged { mixed.old.changed ≡ false }
     requires can { CanApply notes.now (table mixed.old) }
     // `SavesNotes` in specs/Saving.antt.
-    ensures saves { (start : History) (recorded : Table) → IsOpenedSince start (S.history shelf.old) loaded.now recorded mixed.old
+    ensures saves { (start : History) (recorded : Table) → IsOpenedSince start (S.history shelf.old) loaded.now recorded mixed.old → AreNews recorded notes.now
         → SavesNotes
         start
         (watched S.history S.faults shelf.old shelf.new)

@@ -56,7 +56,7 @@ pub returns-clause-recorded : goal.returns-clause-recorded
 returns-clause-recorded g c = λ calm has.
     recorded_behind c.args.loaded.now c.args.table.now c.in_ok-new.new c.requires.docket c.requires.nodes c.over.ensures c.requires.way (c.in_ok-new.ensures.appended refl) c.in_ok-new.ensures.reads
     (course (g.S.Shelf.history c.args.shelf.now) (g.S.Shelf.images c.args.shelf.now)) (course (g.S.Shelf.history c.publish_behind.new.shelf) (g.S.Shelf.images c.publish_behind.new.shelf))
-    has (c.in_ok-publish_behind.ensures.sure calm) (c.in_ok-publish_behind.ensures.exact calm)
+    (has c.requires.way) (c.in_ok-publish_behind.ensures.sure calm) (c.in_ok-publish_behind.ensures.exact calm)
 
 pub returns-clause-kept_lists : goal.returns-clause-kept_lists
 returns-clause-kept_lists g c = λ calm has way.

@@ -1,5 +1,6 @@
 use Rattle.std.proofs.Common.{◌∙◌}
 use Rattle.std.proofs.lemmas.Result.{err_from_is_err_and}
+use Rattle.hg_shelf.proofs.Histories.{passes_trans}
 use Rattle.hg_shelf.proofs.Scenes.{goes_trans}
 use Rattle.hg_save.proofs.Loads.{loaded, unloaded}
 use Rattle.hg_save.proofs.Asking.{read_asks, unread_asks}
@@ -30,3 +31,6 @@ returns-clause-asked g c = λ told.
     read_asks (g.S.Shelf.history c.args.shelf.now) (g.S.Shelf.history c.read_docket.new.shelf) (g.S.Shelf.history c.load_named.new.shelf) c.split_at.result.0.now c.load_named.result
     c.read_docket.ensures.passes c.load_named.ensures.passes (c.in_ok-n.ensures.asked told) (c.split_at.ensures.front ∙ c.in_ok-n.ensures.found told)
     (c.load_named.ensures.asked later) (c.load_named.ensures.found later)
+
+pub returns-clause-passes : goal.returns-clause-passes
+returns-clause-passes g c = passes_trans _ _ _ c.read_docket.ensures.passes c.load_named.ensures.passes

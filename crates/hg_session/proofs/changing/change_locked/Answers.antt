@@ -1,7 +1,6 @@
 -- A change of the record: the load, what the command makes of it, the publication.
 use Rattle.std.proofs.Common.{Some, None, Err, inl, inr, refl, ap, ◌∙◌}
 use Rattle.std.proofs.lemmas.Result.{err_from_is_err_and}
-use Rattle.hg_docket.specs.Docket.{docket_of}
 use Rattle.hg_ops.specs.declared.refusal.OpFault.{OpFault}
 use Rattle.hg_session.specs.Acts.{Makes, makes_of}
 use Rattle.hg_session.specs.Anew.{IsOpened}
@@ -9,10 +8,10 @@ use Rattle.hg_session.specs.Call.{Watched}
 use Rattle.hg_session.specs.declared.change_fault.ChangeFault.TheVariants as a_change_fault
 use Rattle.hg_save.proofs.Held.{held_passes, held_then}
 use Rattle.hg_session.proofs.Asking.{asks_read}
-use Rattle.hg_session.proofs.Changes.{asks_by, changes_by, done_by, loads_upto, met_acting, met_opened, met_read, met_writing, read_some, safe_by, stands}
+use Rattle.hg_session.proofs.Changes.{asks_by, changes_by, done_by, loads_upto, met_acting, met_opened, met_read, met_writing, read_some, safe_by, used_there}
 use Rattle.hg_session.proofs.Doing.{op_late, writing_late}
 use Rattle.hg_session.proofs.Locked.{unwritten, unwritten_unless}
-use Rattle.hg_session.proofs.Makers.{makes_wide, stands_as}
+use Rattle.hg_session.proofs.Makers.{makes_wide}
 use Rattle.hg_session.specs.Change.{of_change}
 use Rattle.hg_shelf.specs.History as shelf
 use Rattle.hg_shelf.specs.Images.{Course, course}
@@ -48,8 +47,12 @@ pub returns-in_err-table-clause-met : goal.returns-in_err-table-clause-met
 returns-in_err-table-clause-met g c =
     let p = err_from_is_err_and c.from_residual-in_err-table.result c.from_residual-in_err-table.ensures.1 in
     rw (p.1, p.2)
-    (met_opened (makes_of c.args.command.now (record { old = g.T.Tree.history c.args.tree.now; new = g.T.Tree.history c.args.tree.now; before = g.T.Tree.faults c.args.tree.now; after = g.T.Tree.faults c.args.tree.now }) (record { old = g.S.Shelf.history c.args.shelf.now; new = g.S.Shelf.history c.read.new.shelf; before = g.S.Shelf.faults c.args.shelf.now; after = g.S.Shelf.faults c.read.new.shelf })) (record { old = g.T.Tree.history c.args.tree.now; new = g.T.Tree.history c.args.tree.now; before = g.T.Tree.faults c.args.tree.now; after = g.T.Tree.faults c.args.tree.now }) (record { old = g.S.Shelf.history c.args.shelf.now; new = g.S.Shelf.history c.read.new.shelf; before = g.S.Shelf.faults c.args.shelf.now; after = g.S.Shelf.faults c.read.new.shelf }) (IsOpened (docket_of c.in_ok-loaded.loaded.docket.items)) c.in_ok-loaded.loaded c.in_err-table.field-0.0 c.in_ok-loaded.ensures.whole
+    (met_opened (makes_of c.args.command.now (record { old = g.T.Tree.history c.args.tree.now; new = g.T.Tree.history c.args.tree.now; before = g.T.Tree.faults c.args.tree.now; after = g.T.Tree.faults c.args.tree.now }) (record { old = g.S.Shelf.history c.args.shelf.now; new = g.S.Shelf.history c.read.new.shelf; before = g.S.Shelf.faults c.args.shelf.now; after = g.S.Shelf.faults c.read.new.shelf })) (record { old = g.T.Tree.history c.args.tree.now; new = g.T.Tree.history c.args.tree.now; before = g.T.Tree.faults c.args.tree.now; after = g.T.Tree.faults c.args.tree.now }) (record { old = g.S.Shelf.history c.args.shelf.now; new = g.S.Shelf.history c.read.new.shelf; before = g.S.Shelf.faults c.args.shelf.now; after = g.S.Shelf.faults c.read.new.shelf }) (IsOpened c.in_ok-loaded.loaded) c.in_ok-loaded.loaded c.in_err-table.field-0.0 c.in_ok-loaded.ensures.whole
     c.in_ok-loaded.ensures.found c.in_err-table.ensures (record { history = refl; count = refl }))
+
+pub returns-in_err-table-clause-safe : goal.returns-in_err-table-clause-safe
+returns-in_err-table-clause-safe g c = λ calm.
+    inl (unwritten (g.S.Shelf.history c.args.shelf.now) (g.S.Shelf.history c.read.new.shelf) c.in_ok-loaded.ensures.passes)
 
 pub returns-in_err-table-clause-unwritten : goal.returns-in_err-table-clause-unwritten
 returns-in_err-table-clause-unwritten g c =
@@ -163,8 +166,8 @@ returns-in_err-save-clause-met g c =
     let acted = wider.does _ _ _ _ (acts.does c.in_ok-table.ensures.2.unchanged) in
     rw (p.1, p.2)
     (met_writing a m d passes c.in_err-save.ensures.kept c.in_ok-loaded.loaded c.in_ok-loaded.ensures.whole loads c.in_ok-table.ensures.0 c.in_ok-table.ensures.1
-    Does c.in_ok-table.table c.act.new.mixed c.in_ok-table.ensures.2 acts.image c.in_ok-lines.lines.items acted copy
-    (g.S.Shelf.faults c.args.shelf.now) (g.S.Shelf.faults c.act.new.shelf) (g.S.Shelf.faults c.save.new.shelf) c.in_err-save.field-0.0 (acts.shelf_cause.quiet ∙ c.in_ok-loaded.ensures.cause.quiet) c.in_err-save.ensures.met)
+    Does c.in_ok-table.table c.act.new.mixed c.in_ok-table.ensures.2 acts.image acts.lent c.in_ok-lines.lines.items acted copy
+    (g.S.Shelf.faults c.args.shelf.now) (g.S.Shelf.faults c.act.new.shelf) (g.S.Shelf.faults c.save.new.shelf) c.in_err-save.field-0.0 (acts.shelf_cause.quiet ∙ c.in_ok-loaded.ensures.cause.quiet) c.in_err-save.ensures.lent c.in_err-save.ensures.met)
 
 pub returns-in_err-save-clause-unwritten : goal.returns-in_err-save-clause-unwritten
 returns-in_err-save-clause-unwritten g c =
@@ -201,12 +204,9 @@ returns-in_err-save-clause-safe g c = λ calm.
     let acted = wider.does _ _ _ _ (acts.does c.in_ok-table.ensures.2.unchanged) in
     rw (p.1, p.2)
     (safe_by a m d passes c.in_err-save.ensures.kept c.in_ok-loaded.loaded c.in_ok-loaded.ensures.whole loads c.in_ok-table.ensures.0 c.in_ok-table.ensures.1
-    Does c.in_ok-table.table c.act.new.mixed c.in_ok-table.ensures.2 acts.image c.in_ok-lines.lines.items acted
-    c.requires calm (stands_as c.args.command.now copy whole d a.history.last c.in_ok-table.ensures.0) (Some (of_change c.in_err-save.field-0.0))
-    (c.in_err-save.ensures.safe (second_part a m d (goes_trans a b m c.in_ok-loaded.ensures.kept c.in_ok-lines.ensures.kept) calm)
-    (stands a m d passes c.in_err-save.ensures.kept c.in_ok-loaded.loaded c.in_ok-loaded.ensures.whole loads c.in_ok-table.ensures.0 c.in_ok-table.ensures.1
-    Does c.in_ok-table.table c.act.new.mixed c.in_ok-table.ensures.2 acts.image c.in_ok-lines.lines.items acted
-    c.requires calm)))
+    Does c.in_ok-table.table c.act.new.mixed c.in_ok-table.ensures.2 acts.image acts.lent c.in_ok-lines.lines.items acted
+    c.requires calm c.in_err-save.ensures.lent (Some (of_change c.in_err-save.field-0.0))
+    (c.in_err-save.ensures.safe (second_part a m d (goes_trans a b m c.in_ok-loaded.ensures.kept c.in_ok-lines.ensures.kept) calm)))
 
 pub returns-in_err-save-clause-copy : goal.returns-in_err-save-clause-copy
 returns-in_err-save-clause-copy g c =
@@ -257,6 +257,14 @@ returns-in_err-save-clause-lock g c = λ told.
     let loads = loads_upto a.history b.history m.history c.in_ok-loaded.loaded acts.below.past c.in_ok-loaded.ensures.found in
     held_then a.history m.history d.history c.in_err-save.ensures.kept.past (held_passes a.history m.history c.requires passes) (c.in_err-save.ensures.lock (passes.past.told ∙ told))
 
+-- ---- the table stands over what was loaded
+
+pub save-requires-clause-docket : goal.save-requires-clause-docket
+save-requires-clause-docket g c = c.in_ok-lines.ensures.acts.image.docket ∙ c.in_ok-table.ensures.2.contents
+
+pub save-requires-clause-nodes : goal.save-requires-clause-nodes
+save-requires-clause-nodes g c = c.in_ok-lines.ensures.acts.image.bytes ∙ c.in_ok-table.ensures.2.nodes
+
 -- ---- it was done
 
 pub returns-clause-done : goal.returns-clause-done
@@ -275,12 +283,13 @@ returns-clause-done g c =
     let Does : Makes = makes_of c.args.command.now copy whole in
     let acted = wider.does _ _ _ _ (acts.does c.in_ok-table.ensures.2.unchanged) in
     done_by a m d passes c.in_ok-save.ensures.kept c.in_ok-loaded.loaded c.in_ok-loaded.ensures.whole loads c.in_ok-table.ensures.0 c.in_ok-table.ensures.1
-    Does c.in_ok-table.table c.act.new.mixed c.in_ok-table.ensures.2 acts.image c.in_ok-lines.lines.items acted
-    (g.S.Shelf.faults c.args.shelf.now) (g.S.Shelf.faults c.save.new.shelf) c.requires (acts.same c.in_ok-table.ensures.2.unchanged) c.in_ok-save.ensures.fits
+    Does c.in_ok-table.table c.act.new.mixed c.in_ok-table.ensures.2 acts.image acts.lent c.in_ok-lines.lines.items acted
+    (g.S.Shelf.faults c.args.shelf.now) (g.S.Shelf.faults c.save.new.shelf) c.requires (acts.same c.in_ok-table.ensures.2.unchanged) c.in_ok-save.ensures.fits c.in_ok-save.ensures.lent
     (λ none. ap (λ s. course (g.S.Shelf.history s) (g.S.Shelf.images s)) (c.in_ok-save.ensures.still none))
     (λ calm. c.in_ok-save.ensures.recorded (second_part a m d (goes_trans a b m c.in_ok-loaded.ensures.kept c.in_ok-lines.ensures.kept) calm)
-    (stands a m d passes c.in_ok-save.ensures.kept c.in_ok-loaded.loaded c.in_ok-loaded.ensures.whole loads c.in_ok-table.ensures.0 c.in_ok-table.ensures.1
-    Does c.in_ok-table.table c.act.new.mixed c.in_ok-table.ensures.2 acts.image c.in_ok-lines.lines.items acted
+    (λ way.
+    used_there a m d passes c.in_ok-save.ensures.kept c.in_ok-loaded.loaded c.in_ok-loaded.ensures.whole loads c.in_ok-table.ensures.0 c.in_ok-table.ensures.1
+    Does c.in_ok-table.table c.act.new.mixed c.in_ok-table.ensures.2 acts.image acts.lent c.in_ok-lines.lines.items acted
     c.requires calm))
 
 pub returns-clause-safe : goal.returns-clause-safe
@@ -299,12 +308,9 @@ returns-clause-safe g c = λ calm.
     let Does : Makes = makes_of c.args.command.now copy whole in
     let acted = wider.does _ _ _ _ (acts.does c.in_ok-table.ensures.2.unchanged) in
     (safe_by a m d passes c.in_ok-save.ensures.kept c.in_ok-loaded.loaded c.in_ok-loaded.ensures.whole loads c.in_ok-table.ensures.0 c.in_ok-table.ensures.1
-    Does c.in_ok-table.table c.act.new.mixed c.in_ok-table.ensures.2 acts.image c.in_ok-lines.lines.items acted
-    c.requires calm (stands_as c.args.command.now copy whole d a.history.last c.in_ok-table.ensures.0) None
-    (c.in_ok-save.ensures.safe (second_part a m d (goes_trans a b m c.in_ok-loaded.ensures.kept c.in_ok-lines.ensures.kept) calm)
-    (stands a m d passes c.in_ok-save.ensures.kept c.in_ok-loaded.loaded c.in_ok-loaded.ensures.whole loads c.in_ok-table.ensures.0 c.in_ok-table.ensures.1
-    Does c.in_ok-table.table c.act.new.mixed c.in_ok-table.ensures.2 acts.image c.in_ok-lines.lines.items acted
-    c.requires calm)))
+    Does c.in_ok-table.table c.act.new.mixed c.in_ok-table.ensures.2 acts.image acts.lent c.in_ok-lines.lines.items acted
+    c.requires calm c.in_ok-save.ensures.lent None
+    (c.in_ok-save.ensures.safe (second_part a m d (goes_trans a b m c.in_ok-loaded.ensures.kept c.in_ok-lines.ensures.kept) calm)))
 
 pub returns-clause-copy : goal.returns-clause-copy
 returns-clause-copy g c =

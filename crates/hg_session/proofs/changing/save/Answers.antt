@@ -1,63 +1,48 @@
-use Rattle.std.proofs.Common.{inl, inr, refl, sym, ◌∙◌}
+use Rattle.std.proofs.Common.{inl, inr, sym, ◌∙◌}
 use Rattle.std.proofs.lemmas.Result.{err_from_is_err_and}
 use Rattle.hg_save.proofs.Held.{held_same}
-use Rattle.hg_save.proofs.Encodings.{goes_over}
 use Rattle.hg_shelf.specs.Images.{course}
-use Rattle.hg_session.proofs.Locked.{unwritten_here}
-use Rattle.hg_session.proofs.Overs.{over_by, recorded_by}
+use Rattle.hg_session.proofs.Overs.{refused_met, refused_over, refused_same, refused_still}
 use Rattle.hg_session.proofs.changing.save.Goals as goal
 
-pub publish-requires-clause-over : goal.publish-requires-clause-over
-publish-requires-clause-over g c = goes_over c.args.loaded.now.docket.items c.args.table.now c.in_ok-new.new c.requires.over c.in_ok-new.ensures.written c.in_ok-new.ensures.reads
-
-pub returns-in-Err-clause-safe : goal.returns-in-Err-clause-safe
-returns-in-Err-clause-safe g c = λ calm stands.
-    inr (
-      inl refl,
-      over_by c.args.table.now c.in_ok-new.new c.in_ok-new.ensures.reads c.args.loaded.now.docket.items
-          (course (g.S.Shelf.history c.args.shelf.now) (g.S.Shelf.images c.args.shelf.now)) (course (g.S.Shelf.history c.publish.new.shelf) (g.S.Shelf.images c.publish.new.shelf))
-          (sym c.changed.ensures ∙ c.if-not-changed.false) c.requires.over (goes_over c.args.loaded.now.docket.items c.args.table.now c.in_ok-new.new c.requires.over c.in_ok-new.ensures.written c.in_ok-new.ensures.reads)
-          stands (c.in-Err.ensures.crash calm) (c.in-Err.ensures.left calm) (c.in-Err.ensures.latest calm stands) (c.in-Err.ensures.others calm) (c.in-Err.ensures.orderly calm stands) (c.in-Err.ensures.keeping calm stands),
-    )
-
-pub returns-in_err-new-clause-unwritten : goal.returns-in_err-new-clause-unwritten
-returns-in_err-new-clause-unwritten g c =
+pub returns-in_err-publish_table-clause-safe : goal.returns-in_err-publish_table-clause-safe
+returns-in_err-publish_table-clause-safe g c = λ calm.
     let p = err_from_is_err_and c.from_residual.result c.from_residual.ensures.1 in
-    rw (p.1, p.2) (inr (unwritten_here (g.S.Shelf.history c.args.shelf.now)))
+    rw (p.1, p.2)
+    (refused_over c.args.table.now c.args.loaded.now
+    (course (g.S.Shelf.history c.args.shelf.now) (g.S.Shelf.images c.args.shelf.now)) (course (g.S.Shelf.history c.publish_table.new.shelf) (g.S.Shelf.images c.publish_table.new.shelf))
+    c.in_err-publish_table.field-0.0 (sym c.changed.ensures ∙ c.if-not-changed.false) (c.in_err-publish_table.ensures.safe calm)
+    (elim c.in_err-publish_table.ensures.untouched [ inl failed ↦ inl failed | inr same ↦ inr (λ i. course (g.S.Shelf.history (same i)) (g.S.Shelf.images (same i))) ]))
 
-pub returns-in-Err-clause-unwritten : goal.returns-in-Err-clause-unwritten
-returns-in-Err-clause-unwritten g c = inl refl
-
-pub returns-in_err-new-clause-untouched : goal.returns-in_err-new-clause-untouched
-returns-in_err-new-clause-untouched g c =
+pub returns-in_err-publish_table-clause-unwritten : goal.returns-in_err-publish_table-clause-unwritten
+returns-in_err-publish_table-clause-unwritten g c =
     let p = err_from_is_err_and c.from_residual.result c.from_residual.ensures.1 in
-    rw (p.1, p.2) (inr refl)
+    rw (p.1, p.2)
+    (refused_still c.args.table.now c.args.loaded.now
+    (course (g.S.Shelf.history c.args.shelf.now) (g.S.Shelf.images c.args.shelf.now)) (course (g.S.Shelf.history c.publish_table.new.shelf) (g.S.Shelf.images c.publish_table.new.shelf))
+    c.in_err-publish_table.field-0.0
+    (elim c.in_err-publish_table.ensures.untouched [ inl failed ↦ inl failed | inr same ↦ inr (λ i. course (g.S.Shelf.history (same i)) (g.S.Shelf.images (same i))) ]))
 
-pub returns-in-Err-clause-untouched : goal.returns-in-Err-clause-untouched
-returns-in-Err-clause-untouched g c = inl refl
+pub returns-in_err-publish_table-clause-untouched : goal.returns-in_err-publish_table-clause-untouched
+returns-in_err-publish_table-clause-untouched g c =
+    let p = err_from_is_err_and c.from_residual.result c.from_residual.ensures.1 in
+    rw (p.1, p.2) (refused_same c.args.shelf.now c.publish_table.new.shelf c.in_err-publish_table.field-0.0 c.in_err-publish_table.ensures.untouched)
 
-pub returns-in-Err-clause-met : goal.returns-in-Err-clause-met
-returns-in-Err-clause-met g c = inr (refl, c.in-Err.ensures.cause.rose tt)
+pub returns-in_err-publish_table-clause-met : goal.returns-in_err-publish_table-clause-met
+returns-in_err-publish_table-clause-met g c =
+    let p = err_from_is_err_and c.from_residual.result c.from_residual.ensures.1 in
+    rw (p.1, p.2)
+    (refused_met c.args.table.now (g.S.Shelf.faults c.args.shelf.now) (g.S.Shelf.faults c.publish_table.new.shelf) c.in_err-publish_table.field-0.0 (sym c.changed.ensures ∙ c.if-not-changed.false) c.in_err-publish_table.ensures.cause)
+
+pub returns-clause-fits : goal.returns-clause-fits
+returns-clause-fits g c = λ set. let can = c.in_ok-publish_table.ensures.fits in record { new = can.0; found = can.1; is = can.2 }
 
 pub returns-clause-recorded : goal.returns-clause-recorded
-returns-clause-recorded g c = λ calm stands some.
-    recorded_by c.args.table.now c.in_ok-new.new c.in_ok-new.ensures.reads c.in_ok-new.ensures.written c.args.loaded.now.docket.items
-    (course (g.S.Shelf.history c.args.shelf.now) (g.S.Shelf.images c.args.shelf.now)) (course (g.S.Shelf.history c.publish.new.shelf) (g.S.Shelf.images c.publish.new.shelf)) c.requires.over
-    (goes_over c.args.loaded.now.docket.items c.args.table.now c.in_ok-new.new c.requires.over c.in_ok-new.ensures.written c.in_ok-new.ensures.reads) stands
-    (c.in-Ok.ensures.sure calm) (c.in-Ok.ensures.exact calm) (c.in-Ok.ensures.gone calm)
+returns-clause-recorded g c = λ calm used set.
+    record { is = c.in_ok-publish_table.ensures.recorded calm used; lists = λ way. c.in_ok-publish_table.ensures.kept_lists calm (used way) way }
 
 pub returns-clause-safe : goal.returns-clause-safe
-returns-clause-safe g c = λ calm stands.
-    inr (
-      tt,
-      over_by c.args.table.now c.in_ok-new.new c.in_ok-new.ensures.reads c.args.loaded.now.docket.items
-          (course (g.S.Shelf.history c.args.shelf.now) (g.S.Shelf.images c.args.shelf.now)) (course (g.S.Shelf.history c.publish.new.shelf) (g.S.Shelf.images c.publish.new.shelf))
-          (sym c.changed.ensures ∙ c.if-not-changed.false) c.requires.over (goes_over c.args.loaded.now.docket.items c.args.table.now c.in_ok-new.new c.requires.over c.in_ok-new.ensures.written c.in_ok-new.ensures.reads)
-          stands (c.in-Ok.ensures.crash calm) (c.in-Ok.ensures.left calm) (c.in-Ok.ensures.latest calm stands) (c.in-Ok.ensures.others calm) (c.in-Ok.ensures.orderly calm stands) (c.in-Ok.ensures.keeping calm stands),
-    )
+returns-clause-safe g c = λ calm. inr (tt, record { changed = sym c.changed.ensures ∙ c.if-not-changed.false; put = c.in_ok-publish_table.ensures.safe calm })
 
 pub returns-then-not-changed-clause-lock : goal.returns-then-not-changed-clause-lock
 returns-then-not-changed-clause-lock g c = λ told. held_same (g.S.Shelf.history c.args.shelf.now)
-
-pub returns-in_err-new-clause-lock : goal.returns-in_err-new-clause-lock
-returns-in_err-new-clause-lock g c = λ told. held_same (g.S.Shelf.history c.args.shelf.now)

@@ -10,7 +10,7 @@ use Rattle.hg_session.proofs.choosing.command.Goals as goal
 
 pub returns-in-Status : goal.returns-in-Status
 returns-in-Status g c =
-    answered_status c.args.command.now c.in-Status.flags _ _ _ _ _ _ refl refl c.status-done.result c.ended.result.status c.ended.result.fault c.in-Status.is c.status-done.ensures c.ended.ensures
+    answered_status c.args.command.now c.in-Status.flags _ _ _ _ _ _ refl refl c.status-done.result c.ended.result.status c.ended.result.fault refl c.in-Status.is c.status-done.ensures c.ended.ensures
 
 pub returns-in-DebugDirstate : goal.returns-in-DebugDirstate
 returns-in-DebugDirstate g c =

@@ -3,7 +3,7 @@ use Rattle.hg_docket.specs.Docket.{docket_of}
 use Rattle.hg_image.specs.Reading.{data_reading}
 use Rattle.hg_session.specs.Loaded.{IsBytesOf}
 use Rattle.hg_session.proofs.Asking.{asks_load}
-use Rattle.hg_session.proofs.Readings.{cause_still, read_by, unread}
+use Rattle.hg_session.proofs.Readings.{cause_still, found_some, read_by, unread}
 use Rattle.hg_session.proofs.debug.load_text.Goals as goal
 
 pub returns-in_err-loaded-clause-found : goal.returns-in_err-loaded-clause-found
@@ -33,3 +33,6 @@ returns-in_err-loaded-clause-asked g c = λ told. asks_load (g.S.Shelf.history c
 
 pub returns-clause-asked : goal.returns-clause-asked
 returns-clause-asked g c = λ told. asks_load (g.S.Shelf.history c.args.shelf.now) (g.S.Shelf.history c.load.new.shelf) c.load.result (c.load.ensures.asked told)
+
+pub returns-clause-some : goal.returns-clause-some
+returns-clause-some g c = found_some IsBytesOf c.text_in.result (data_reading (docket_of c.in_ok-loaded.loaded.docket.items) c.in_ok-loaded.loaded.nodes.items) c.text_in.ensures

@@ -1,6 +1,6 @@
 -- What is told behind a change, as the promises of the command.
 use Rattle.std.proofs.Common.{ℕ, List, inl, inr, ap, ◌∙◌, subst}
-use Rattle.hg_session.proofs.Promises.{ran_done, ran_failed, ran_untold}
+use Rattle.hg_session.proofs.Promises.{ran_done, ran_failed, ran_untold, status_either}
 use Rattle.hg_session.specs.Changed.{status_of}
 use Rattle.hg_session.specs.Put.{IsFaultOrMemory}
 use Rattle.hg_shelf.specs.Images.{course}
@@ -47,3 +47,6 @@ returns-clause-ran g c = λ out oversize silent uncounted.
     (subst (λ (l : List ℕ). Grown (g.E.Sink.bytes c.args.err.now) (g.E.Sink.bytes c.put_all.new.out) l) c.as_slice.ensures.value c.in-Ok-put_all.ensures.all)
     (c.status_of.ensures ∙ ap status_of c.as_slice-in-Ok-put_all.ensures.value)
     c.in-Ok.ensures.safe c.in-Ok.ensures.calm_tree c.in-Ok.ensures.calm_shelf c.in-Ok-put_all.ensures.cause.quiet (λ rose. cc (c.in-Ok.ensures.held rose)) (λ rose. cc (c.in-Ok.ensures.failed rose))
+
+pub returns-clause-status : goal.returns-clause-status
+returns-clause-status g c = status_either c.status_of.result _ c.status_of.ensures

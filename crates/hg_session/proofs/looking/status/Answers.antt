@@ -9,6 +9,7 @@ use Rattle.hg_shelf.proofs.Histories.{extends_same, passes_trans}
 use Rattle.hg_shelf.proofs.Scenes.{goes_trans}
 use Rattle.hg_shelf.specs.Images.{course}
 use Rattle.hg_tree.proofs.Spans.{passes_same}
+use Rattle.hg_session.proofs.NotesKept.{needed_are_news}
 use Rattle.hg_session.proofs.Readings.{cause_still, loaded_table, met_reading, met_refused, opened_as, opened_nodes, same_as}
 use Rattle.hg_session.proofs.Saves.{saves_earlier}
 use Rattle.hg_session.proofs.Stages.{does_saved, does_unread, does_unsaved, does_unshown, needed_can, save_met}
@@ -51,7 +52,7 @@ returns-in_err-mixed g c =
     let nodes = data_reading docket c.in_ok-loaded.loaded.nodes.items in
     let found = opened_as looked.shelf.old looked.shelf.new c.in_ok-loaded.loaded (Err fault) c.in_ok-loaded.ensures.whole c.in_err-mixed.ensures c.in_ok-loaded.ensures.found in
     rw (p.1, p.2) (does_unread c.args.flags looked saved locks _ _ alone (passes_same looked.tree.old) c.read.ensures.passes unsaved fault
-    (met_reading (IsOpened docket) looked.shelf fault found (cause_still (IsOpened docket) looked.shelf.before looked.shelf.after (Err fault) nodes c.in_ok-loaded.ensures.cause.quiet c.in_err-mixed.ensures).rose)
+    (met_reading (IsOpened c.in_ok-loaded.loaded) looked.shelf fault found (cause_still (IsOpened c.in_ok-loaded.loaded) looked.shelf.before looked.shelf.after (Err fault) nodes c.in_ok-loaded.ensures.cause.quiet c.in_err-mixed.ensures).rose)
     c.read.ensures.asked (record { bytes = refl; count = refl }) (record { bytes = refl; count = refl }))
 
 pub returns-in_err-notes : goal.returns-in_err-notes
@@ -64,13 +65,12 @@ returns-in_err-notes g c =
     } in
     let saved : Saved = record { old = course (g.S.Shelf.history c.args.shelf.now) (g.S.Shelf.images c.args.shelf.now); new = course (g.S.Shelf.history c.show.new.shelf) (g.S.Shelf.images c.show.new.shelf) } in
     let locks : Count = record { before = g.S.Shelf.held c.args.shelf.now; after = g.S.Shelf.held c.show.new.shelf } in
-    let docket = docket_of c.in_ok-loaded.loaded.docket.items in
     let start = g.S.Shelf.history c.args.shelf.now in
     let behind = g.S.Shelf.history c.read.new.shelf in
     let end = g.S.Shelf.history c.show.new.shelf in
     let found = opened_as start behind c.in_ok-loaded.loaded (Ok c.in_ok-mixed.mixed) c.in_ok-loaded.ensures.whole c.in_ok-mixed.ensures c.in_ok-loaded.ensures.found in
     let t = table c.in_ok-mixed.mixed in
-    let loaded = loaded_table (listed_to end looked).shelf behind docket c.in_ok-mixed.mixed c.show.ensures.only.passes.past found (c.in_ok-mixed.ensures.0, c.in_ok-mixed.ensures.2) in
+    let loaded = loaded_table (listed_to end looked).shelf behind c.in_ok-loaded.loaded c.in_ok-mixed.mixed c.show.ensures.only.passes.past found (c.in_ok-mixed.ensures.0, c.in_ok-mixed.ensures.2) in
     let only = passes_trans start behind end c.read.ensures.passes c.show.ensures.only.passes in
     let unsaved : OnlyAsksBelow saved locks = record {
       passes = only;
@@ -91,13 +91,12 @@ returns-in_err-save_notes g c =
     } in
     let saved : Saved = record { old = course (g.S.Shelf.history c.args.shelf.now) (g.S.Shelf.images c.args.shelf.now); new = course (g.S.Shelf.history c.save_notes.new.shelf) (g.S.Shelf.images c.save_notes.new.shelf) } in
     let locks : Count = record { before = g.S.Shelf.held c.args.shelf.now; after = g.S.Shelf.held c.save_notes.new.shelf } in
-    let docket = docket_of c.in_ok-loaded.loaded.docket.items in
     let start = g.S.Shelf.history c.args.shelf.now in
     let behind = g.S.Shelf.history c.read.new.shelf in
     let end = g.S.Shelf.history c.show.new.shelf in
     let found = opened_as start behind c.in_ok-loaded.loaded (Ok c.in_ok-mixed.mixed) c.in_ok-loaded.ensures.whole c.in_ok-mixed.ensures c.in_ok-loaded.ensures.found in
     let t = table c.in_ok-mixed.mixed in
-    let loaded = loaded_table (listed_to end looked).shelf behind docket c.in_ok-mixed.mixed c.show.ensures.only.passes.past found (c.in_ok-mixed.ensures.0, c.in_ok-mixed.ensures.2) in
+    let loaded = loaded_table (listed_to end looked).shelf behind c.in_ok-loaded.loaded c.in_ok-mixed.mixed c.show.ensures.only.passes.past found (c.in_ok-mixed.ensures.0, c.in_ok-mixed.ensures.2) in
     let only = passes_trans start behind end c.read.ensures.passes c.show.ensures.only.passes in
     let first = goes_trans saved.old (course behind (g.S.Shelf.images c.read.new.shelf)) (course end (g.S.Shelf.images c.show.new.shelf)) c.read.ensures.kept c.show.ensures.only.kept in
     let since : IsOpenedSince start end c.in_ok-loaded.loaded t c.in_ok-mixed.mixed = record {
@@ -105,12 +104,16 @@ returns-in_err-save_notes g c =
       front = c.read.ensures.passes.past;
       past = c.show.ensures.only.passes.past;
       loads = c.in_ok-loaded.ensures.found;
-      nodes = opened_nodes docket _ c.in_ok-mixed.mixed c.in_ok-mixed.ensures;
+      nodes = opened_nodes c.in_ok-loaded.loaded _ c.in_ok-mixed.mixed c.in_ok-mixed.ensures;
       same = same_as t;
+      image = c.in_ok-mixed.ensures.2.image;
+      lent = c.in_ok-mixed.ensures.2.lent;
     } in
+    let noted = c.in_ok-notes.ensures.shows.noted in
+    let news = needed_are_news t _ _ c.in_ok-notes.notes noted.needed noted.noted in
     let quiet = c.in_ok-notes.ensures.shows.calm.shelf ∙ c.in_ok-loaded.ensures.cause.quiet in
     let saving = saves_earlier saved.old (course end (g.S.Shelf.images c.show.new.shelf)) saved.new only first c.save_notes.ensures.kept t c.in_ok-notes.notes looked.shelf.before (g.S.Shelf.faults c.show.new.shelf) looked.shelf.after
-    locks.before (g.S.Shelf.held c.show.new.shelf) locks.after quiet (c.show.ensures.only.held ∙ c.read.ensures.locks) _ (c.in_err-save_notes.ensures.saves start t since) in
+    locks.before (g.S.Shelf.held c.show.new.shelf) locks.after quiet (c.show.ensures.only.held ∙ c.read.ensures.locks) _ (c.in_err-save_notes.ensures.saves start t since news) in
     let fault = c.in_err-save_notes.field-0.0 in
     rw (p.1, p.2) (does_unsaved c.args.flags looked saved locks _ _ behind end (g.S.Shelf.faults c.read.new.shelf) (g.S.Shelf.faults c.show.new.shelf) t c.read.ensures.passes c.show.ensures.only.passes
     c.save_notes.ensures.kept.past loaded c.read.ensures.asked only c.in_ok-notes.notes c.in_ok-notes.ensures.shows (of_save fault) saving c.save_notes.ensures.asked
@@ -125,13 +128,12 @@ returns g c =
     } in
     let saved : Saved = record { old = course (g.S.Shelf.history c.args.shelf.now) (g.S.Shelf.images c.args.shelf.now); new = course (g.S.Shelf.history c.save_notes.new.shelf) (g.S.Shelf.images c.save_notes.new.shelf) } in
     let locks : Count = record { before = g.S.Shelf.held c.args.shelf.now; after = g.S.Shelf.held c.save_notes.new.shelf } in
-    let docket = docket_of c.in_ok-loaded.loaded.docket.items in
     let start = g.S.Shelf.history c.args.shelf.now in
     let behind = g.S.Shelf.history c.read.new.shelf in
     let end = g.S.Shelf.history c.show.new.shelf in
     let found = opened_as start behind c.in_ok-loaded.loaded (Ok c.in_ok-mixed.mixed) c.in_ok-loaded.ensures.whole c.in_ok-mixed.ensures c.in_ok-loaded.ensures.found in
     let t = table c.in_ok-mixed.mixed in
-    let loaded = loaded_table (listed_to end looked).shelf behind docket c.in_ok-mixed.mixed c.show.ensures.only.passes.past found (c.in_ok-mixed.ensures.0, c.in_ok-mixed.ensures.2) in
+    let loaded = loaded_table (listed_to end looked).shelf behind c.in_ok-loaded.loaded c.in_ok-mixed.mixed c.show.ensures.only.passes.past found (c.in_ok-mixed.ensures.0, c.in_ok-mixed.ensures.2) in
     let only = passes_trans start behind end c.read.ensures.passes c.show.ensures.only.passes in
     let first = goes_trans saved.old (course behind (g.S.Shelf.images c.read.new.shelf)) (course end (g.S.Shelf.images c.show.new.shelf)) c.read.ensures.kept c.show.ensures.only.kept in
     let since : IsOpenedSince start end c.in_ok-loaded.loaded t c.in_ok-mixed.mixed = record {
@@ -139,12 +141,16 @@ returns g c =
       front = c.read.ensures.passes.past;
       past = c.show.ensures.only.passes.past;
       loads = c.in_ok-loaded.ensures.found;
-      nodes = opened_nodes docket _ c.in_ok-mixed.mixed c.in_ok-mixed.ensures;
+      nodes = opened_nodes c.in_ok-loaded.loaded _ c.in_ok-mixed.mixed c.in_ok-mixed.ensures;
       same = same_as t;
+      image = c.in_ok-mixed.ensures.2.image;
+      lent = c.in_ok-mixed.ensures.2.lent;
     } in
+    let noted = c.in_ok-notes.ensures.shows.noted in
+    let news = needed_are_news t _ _ c.in_ok-notes.notes noted.needed noted.noted in
     let quiet = c.in_ok-notes.ensures.shows.calm.shelf ∙ c.in_ok-loaded.ensures.cause.quiet in
     let saving = saves_earlier saved.old (course end (g.S.Shelf.images c.show.new.shelf)) saved.new only first c.save_notes.ensures.kept t c.in_ok-notes.notes looked.shelf.before (g.S.Shelf.faults c.show.new.shelf) looked.shelf.after
-    locks.before (g.S.Shelf.held c.show.new.shelf) locks.after quiet (c.show.ensures.only.held ∙ c.read.ensures.locks) _ (c.in_ok-save_notes.ensures.saves start t since) in
+    locks.before (g.S.Shelf.held c.show.new.shelf) locks.after quiet (c.show.ensures.only.held ∙ c.read.ensures.locks) _ (c.in_ok-save_notes.ensures.saves start t since news) in
     does_saved c.args.flags looked saved locks _ _ behind end (g.S.Shelf.faults c.read.new.shelf) (g.S.Shelf.faults c.show.new.shelf) t c.read.ensures.passes c.show.ensures.only.passes
     c.save_notes.ensures.kept.past loaded c.read.ensures.asked only c.in_ok-notes.notes c.in_ok-notes.ensures.shows tt saving c.save_notes.ensures.asked (c.in_ok-save_notes.ensures.cause.quiet ∙ quiet)
 

@@ -1,6 +1,9 @@
 use Rattle.std.proofs.Common.{sym, ◌∙◌}
+use Rattle.std.proofs.lemmas.List.{take_all}
+use Rattle.hg_docket.specs.Docket.{docket_of}
 use Rattle.std.proofs.lemmas.Result.{err_from_is_err_and}
 use Rattle.hg_image.specs.Reading.{table_in}
+use Rattle.hg_session.proofs.Lending.{few_bytes, image_same, lists_same}
 use Rattle.hg_session.proofs.reading.opened.Goals as goal
 
 pub returns-in_err-image : goal.returns-in_err-image
@@ -14,8 +17,16 @@ returns-in_err-mixed c =
     rw (p.1, p.2) tt
 
 pub returns : goal.returns
-returns c = (
-  table_in c.in_ok-image.image,
-  sym c.in_ok-image.ensures.read,
-  record { same = c.in_ok-mixed.ensures.table; unchanged = c.in_ok-mixed.ensures.changed; contents = c.in_ok-mixed.ensures.docket ∙ c.in_ok-image.ensures.docket },
-)
+returns c =
+    let few = few_bytes c.in_ok-image.image (docket_of c.args.loaded.now.docket.items) c.args.loaded.now.nodes.items c.in_ok-image.ensures.docket c.in_ok-image.ensures.bytes c.requires.most in (
+      table_in c.in_ok-image.image,
+      sym c.in_ok-image.ensures.read,
+      record {
+        same = c.in_ok-mixed.ensures.table;
+        unchanged = c.in_ok-mixed.ensures.changed;
+        contents = c.in_ok-mixed.ensures.docket ∙ c.in_ok-image.ensures.docket;
+        image = image_same c.in_ok-image.image c.in_ok-mixed.mixed c.in_ok-mixed.ensures.docket c.in_ok-mixed.ensures.bytes few c.in_ok-mixed.ensures.table;
+        lent = lists_same c.in_ok-image.image c.in_ok-mixed.mixed c.in_ok-mixed.ensures.docket c.in_ok-mixed.ensures.bytes few c.in_ok-mixed.ensures.lent.lists;
+        nodes = c.in_ok-mixed.ensures.bytes ∙ c.in_ok-image.ensures.bytes ∙ take_all (docket_of c.args.loaded.now.docket.items).used c.args.loaded.now.nodes.items c.requires.most;
+      },
+    )

@@ -13,12 +13,12 @@ use Rattle.hg_shelf.specs.declared.asked.LockAnswer.TheVariants as an_answer
 use Rattle.hg_session.proofs.saving_notes.save_notes.Goals as goal
 
 pub returns-then-is_empty-clause-saves : goal.returns-then-is_empty-clause-saves
-returns-then-is_empty-clause-saves g c start recorded since =
+returns-then-is_empty-clause-saves g c start recorded since news =
     saves_blank start (course (g.S.Shelf.history c.args.shelf.now) (g.S.Shelf.images c.args.shelf.now)) (g.S.Shelf.faults c.args.shelf.now) (g.S.Shelf.held c.args.shelf.now) recorded c.args.notes.now
     (c.is_empty.ensures.0 c.if-is_empty.true)
 
 pub returns-in-Err-clause-saves : goal.returns-in-Err-clause-saves
-returns-in-Err-clause-saves g c start recorded since =
+returns-in-Err-clause-saves g c start recorded since news =
     let a : Course = course (g.S.Shelf.history c.args.shelf.now) (g.S.Shelf.images c.args.shelf.now) in
     let b : Course = course (g.S.Shelf.history c.lock.new.self) (g.S.Shelf.images c.lock.new.self) in
     saves_not_taken start a b c.lock.ensures.waits (g.S.Shelf.faults c.args.shelf.now) (g.S.Shelf.faults c.lock.new.self)
@@ -27,7 +27,7 @@ returns-in-Err-clause-saves g c start recorded since =
     (λ told. not_taken_by a.history b.history (c.in-Err.ensures.noted told)) c.in-Err.ensures.locks.1 (c.in-Err.ensures.cause.rose tt)
 
 pub returns-in-Ok-false-clause-saves : goal.returns-in-Ok-false-clause-saves
-returns-in-Ok-false-clause-saves g c start recorded since =
+returns-in-Ok-false-clause-saves g c start recorded since news =
     let a : Course = course (g.S.Shelf.history c.args.shelf.now) (g.S.Shelf.images c.args.shelf.now) in
     let b : Course = course (g.S.Shelf.history c.lock.new.self) (g.S.Shelf.images c.lock.new.self) in
     let was = refused_same _ _ _ _ c.in-Ok-false.field-0 c.in-Ok-false.field-0-test c.in-Ok-false.ensures.locks in
@@ -37,7 +37,7 @@ returns-in-Ok-false-clause-saves g c start recorded since =
     (λ told. refused_by a.history b.history c.in-Ok-false.field-0 c.in-Ok-false.field-0-test (c.in-Ok-false.ensures.noted told)) was.1
 
 pub returns-in-Ok-true-clause-saves : goal.returns-in-Ok-true-clause-saves
-returns-in-Ok-true-clause-saves g c start recorded since =
+returns-in-Ok-true-clause-saves g c start recorded since news =
     let a : Course = course (g.S.Shelf.history c.args.shelf.now) (g.S.Shelf.images c.args.shelf.now) in
     let b : Course = course (g.S.Shelf.history c.lock.new.self) (g.S.Shelf.images c.lock.new.self) in
     let x : Course = course (g.S.Shelf.history c.save_held-done.new.shelf) (g.S.Shelf.images c.save_held-done.new.shelf) in
@@ -56,6 +56,8 @@ returns-in-Ok-true-clause-saves g c start recorded since =
       loads = since.loads;
       nodes = since.nodes;
       same = since.same;
+      image = since.image;
+      lent = since.lent;
     } in
     rw c.first_fault.ensures
     (saves_locked start recorded c.args.notes.now a b x d c.lock.ensures.waits c.unlock-freed.ensures.waits c.lock.ensures.kept c.save_held-done.ensures.kept c.unlock-freed.ensures.kept noted c.save_held-done.ensures.uncalled taken
@@ -63,7 +65,7 @@ returns-in-Ok-true-clause-saves g c start recorded since =
     (record { before = g.S.Shelf.held c.args.shelf.now; after = g.S.Shelf.held c.unlock-freed.new.self }) (λ blank. true≢false (sym (c.is_empty.ensures.1 blank) ∙ c.if-is_empty.false))
     c.save_held-done.result c.unlock-freed.result c.in-Ok-true.ensures.cause.quiet
     (c.unlock-freed.ensures.held ∙ c.save_held-done.ensures.locks ∙ taken_same _ _ _ _ c.in-Ok-true.field-0 c.in-Ok-true.field-0-test c.in-Ok-true.ensures.locks)
-    (c.save_held-done.ensures.saves start recorded later) c.save_held-done.ensures.cause c.unlock-freed.ensures.cause c.unlock-freed.ensures.unlocks c.unlock-freed.ensures.noted)
+    (c.save_held-done.ensures.saves start recorded later news) c.save_held-done.ensures.cause c.unlock-freed.ensures.cause c.unlock-freed.ensures.unlocks c.unlock-freed.ensures.noted)
 
 pub returns-in-Ok-true-clause-kept : goal.returns-in-Ok-true-clause-kept
 returns-in-Ok-true-clause-kept g c =

@@ -1,0 +1,46 @@
+-- Firm ground for an append, from what each step of others keeps.
+use Rattle.std.proofs.Common.{ℕ, ◌≡◌, ◌≤◌, Option, Some, None, sym, ◌∙◌, subst, arith, inl, inr}
+use Rattle.hg_entry.specs.Table.{Table}
+use Rattle.hg_report.specs.declared.fault.Fault.{Fault}
+use Rattle.hg_save.specs.Loads.{files_at}
+use Rattle.hg_save.specs.Others.{HasData, KeepData}
+use Rattle.hg_save_behind.proofs.Spans.{keep_used}
+use Rattle.hg_save_behind.specs.Behind.{IsKeepingUsed, KeepsUsed}
+use Rattle.hg_session.proofs.GoodParts.{from_moment}
+use Rattle.hg_session.proofs.UsedSteps.{used_shorter, using_itself}
+use Rattle.hg_session.specs.Acts.{Makes}
+use Rattle.hg_session.specs.Call.{Watched}
+use Rattle.hg_session.specs.Change.{IsSafe, NoneOurs, up_to}
+use Rattle.hg_session.specs.Crash.{IsFirmFor, IsFirmGround}
+use Rattle.hg_session.specs.Status.{noted_in}
+use Rattle.hg_shelf.specs.History.{History, Who, others, readers, us}
+use Rattle.hg_shelf.specs.Images.{Course, Goes, last_scene}
+use Rattle.hg_shelf.specs.Polite.{Undisturbed}
+use Rattle.hg_walk.specs.Notes.{NotesData}
+
+-- where others keep the bytes that dockets use, and the standing docket's are there at first, the data that dockets name are kept up to a moment before which the
+-- caller made no step
+pub kept_upto : (a b : Course) → Goes a b → Undisturbed a b → HasData (last_scene a).files → KeepsUsed others b.history a.history.last
+    → (k : ℕ) → a.history.last ≤ k → k ≤ b.history.last → NoneOurs b.history a.history.last k → KeepData (up_to k b.history) a.history.last
+kept_upto a b goes calm there used k later within none =
+    keep_used (up_to k b.history) a.history.last (goes.past.told ∙ calm.told) (subst HasData (sym (goes.kept a.history.last (omega arith)).shown) there) by_each
+  where
+    by_each : (by : Who) → KeepsUsed by (up_to k b.history) a.history.last
+    by_each us = record { each = λ j after before who. absurd (none j after before who) }
+    by_each others = used_shorter others (up_to k b.history) b.history a.history.last (from_moment b.history k within) used
+    by_each readers = record {
+      each = λ j after before who.
+          subst (IsKeepingUsed (files_at b.history j)) (sym (calm.others.same j after (omega (arith, before, within)) who).shown) (using_itself (files_at b.history j));
+    }
+
+module _ (a b : Course) (ground : IsFirmGround (record { old = a; new = b })) where
+  pub firm_for : (Does : Makes) (fault : Option Fault) (safe : IsSafe Does (record { old = a; new = b }) fault)
+      → ((k : ℕ) → a.history.last ≤ k → k ≤ b.history.last → NoneOurs b.history a.history.last k → Does.fair b.history k) → IsFirmFor Does (record { old = a; new = b }) fault safe
+  firm_for Does fault (inl none) fair = tt
+  firm_for Does fault (inr (may, is)) fair =
+      λ way. (ground.sound, fair is.stretch.from is.stretch.start (omega (arith, is.stretch.order, is.stretch.end)) is.stretch.before)
+
+  pub noted_upto : (files : Watched History) → files.old.last ≡ a.history.last → (table : Option Table) (notes : NotesData) (k : ℕ) → a.history.last ≤ k → k ≤ b.history.last
+      → NoneOurs b.history a.history.last k → (noted_in files table notes).fair b.history k
+  noted_upto files same None notes k later within none = tt
+  noted_upto files same (Some t) notes k later within none = subst (KeepData (up_to k b.history)) (sym same) (ground.kept k later within none)

@@ -1,0 +1,34 @@
+-- Which lists stay lent while a command changes a table in memory: each below which nothing differs.
+use Rattle.std.specs.Prelude.{ℕ, ◌≡◌, true, List, [], Option, Some}
+use Rattle.std.specs.List.{Contains}
+use Rattle.hg_base.specs.Within.{is_above}
+use Rattle.hg_entry.specs.Entry.{EntryData}
+use Rattle.hg_entry.specs.Steps.{seen_clean}
+use Rattle.hg_entry.specs.Table.{Table}
+use Rattle.hg_mixed.specs.Held.{Held, is_lent, table}
+use Rattle.hg_walk.specs.Notes.{CleanNote, NotesData}
+
+-- below a directory nothing differs: no node, no entry, no source and no cache
+pub record IsSameBelow (dir : Option (List ℕ)) (old new : Table) : Type 0 where
+  pub nodes : (at : List ℕ) → is_above dir at ≡ true → new.nodes at ≡ old.nodes at
+  pub entries : (at : List ℕ) → is_above dir at ≡ true → new.entries at ≡ old.entries at
+  pub sources : (at : List ℕ) → is_above dir at ≡ true → new.sources at ≡ old.sources at
+  pub caches : (at : List ℕ) → is_above dir at ≡ true → new.caches at ≡ old.caches at
+
+-- each list below which nothing differs is lent as it was
+abbrev pub KeepsLent : Held → Held → Type 0
+KeepsLent old new = (dir : Option (List ℕ)) → IsSameBelow dir (table old) (table new) → is_lent new dir ≡ is_lent old dir
+
+-- ---- notes
+
+-- a note says something else of an entry than what is recorded
+pub record IsNews (t : Table) (note : CleanNote) : Type 0 where
+  pub entry : EntryData
+  pub is : t.entries note.path ≡ Some entry
+  pub other : seen_clean entry note.stat note.stamp ≡ entry → ⊥
+
+-- so does each, and nothing is noted of directories: else one note might take back what another wrote
+pub record AreNews (t : Table) (notes : NotesData) : Type 0 where
+  pub clean : (note : CleanNote) → Contains notes.clean note → IsNews t note
+  pub seen : notes.seen ≡ []
+  pub gone : notes.gone ≡ []
