@@ -184,6 +184,15 @@ def run_torn(tests):
         tests.compare(f"torn: {len(fronts)} ends behind the used bytes", wrong[:2], [])
 
 
+def make_old(root):
+    """Has the docket be one of another second than any that is saved now, for which a save has some calls more."""
+    os.utime(f"{root}/.hg/dirstate", (10**9, 10**9))
+
+
+# A save behind the data file writes it and the docket, makes sure of both and of the folder, and renames.
+LEAST_CALLS = 6
+
+
 def run_stopped(tests):
     """A save behind the data file that is killed before and after each call from its first write on: both programs read the record before, and then the one after."""
     if shutil.which("hg") is None or not has_gcc(tests, "so no save behind a data file was stopped beside hg"):
@@ -193,6 +202,7 @@ def run_stopped(tests):
     with tests.working_copy() as root:
         init(root)
         laid_out(root, head, data)
+        make_old(root)
         names, seen_by = calls.listed(root, ["add", "z"])[1], {"hgtrack": [], "hg": []}
         first, killed = next(i for i, it in enumerate(names, 1) if it.startswith("write ") and "/dirstate." in it), 0
         for number in range(first, len(names) + 1):
@@ -201,15 +211,15 @@ def run_stopped(tests):
                     if name.startswith(("dirstate", "wlock")):
                         os.remove(f"{root}/.hg/{name}")
                 put_record(root, head, data)
+                make_old(root)
                 status = calls.run(root, ["add", "z"], how, number)[0]
                 ours, theirs = tests.run(root, ("status", "-a"))[1], hg(root, "status", "-a").stdout
                 what = f"killed {how} call {number}, {short(names[number - 1])}: read by both"
-                # (it has some calls less where the docket is one of another second, and isn't killed behind them)
-                tests.compare(what, (status in (0, KILLED), ours in texts, theirs), (True, True, ours))
-                killed += status == KILLED
+                tests.compare(what, (status, ours in texts, theirs), (KILLED, True, ours))
+                killed += 1
                 for name, text in (("hgtrack", ours), ("hg", theirs)):
                     seen_by[name].append(texts.index(text) if text in texts else None)
-        tests.compare(f"killed {killed} times", killed > len(names) - first, True)
+        tests.compare(f"killed {killed} times", killed > 2 * LEAST_CALLS, True)
         for name, found in seen_by.items():
             tests.compare(f"{name} reads the record before and then the one after", (set(found), found == sorted(found, key=bool)), ({0, 1}, True))
 
@@ -480,7 +490,7 @@ def run_steps(tests):
                 break
         tests.compare("in turn: something is listed", wanted.count(b"\n") > 150, True)
         ways = ", ".join(f"{count} by {it}" for it, count in sorted(steps.ways.items()))
-        tests.compare(f"in turn: {STEPS} steps, saves {ways}", (steps.ways[f"hgtrack {BEHIND}"] > 50, steps.ways[f"hgtrack {ANEW}"] > 5), (True, True))
+        tests.compare(f"in turn: {STEPS} steps, saves {ways}", (steps.ways[f"hgtrack {BEHIND}"] > 50, steps.ways[f"hgtrack {ANEW}"] > 0), (True, True))
         print(f"saves of {STEPS} steps: {ways}")
 
 

@@ -36,3 +36,9 @@ rows_whole zero bytes dir start count h =
           absurd (cc)
     ]
 rows_whole (suc depth) bytes dir start count h = let same : suc depth - 1 ≡ depth = omega arith in rw same refl
+
+-- a list of no nodes has no rows
+pub rows_none : (depth : ℕ) (bytes : List ℕ) (start count : ℕ) → count ≡ 0 → list_rows depth bytes start count ≡ []
+unfolding list_rows
+rows_none zero bytes start count e = refl
+rows_none (suc depth) bytes start count e = rows_end (list_rows depth bytes) bytes start count e

@@ -136,6 +136,18 @@ module _ (whole : List Row) (row : Row) (under rest : List Row) (sum : Tally) (m
           few_copies = omega (arith, far.few_copies, count_by-le-length is_copy (row ∷ []), count_by-le-length is_copy under, copies, nodes);
         }
 
+-- no rows
+pub within_empty : (most : ℕ) → Within most [] (tally_of [])
+within_empty most = record { room = omega arith; counted = refl; same = refl }
+
+pub plus_empty : (t : Tally) → plus t (tally_of []) ≡ t
+plus_empty t =
+    let n : t.nodes + 0 ≡ t.nodes = omega arith in
+    let e : t.entries + 0 ≡ t.entries = omega arith in
+    let w : t.tracked + 0 ≡ t.tracked = omega arith in
+    let c : t.copies + 0 ≡ t.copies = omega arith in
+    λ i. record { nodes = n i; entries = e i; tracked = w i; copies = c i }
+
 -- nothing is left
 pub summed_all : (whole rest : List Row) (sum : Tally) (most : ℕ) → Summed whole rest sum most → rest ≡ [] → Within most whole sum
 summed_all whole rest sum most far none =

@@ -20,6 +20,7 @@ pub struct Found<'a> {
 }
 
 /// The path of a node right in a directory that has room for so many levels of lists, where a look at the name shows that it is one.
+#[inline(always)]
 pub fn find_below<'a>(
     bytes: &'a [u8],
     dir: Option<PathRef<'_>>,
@@ -54,6 +55,7 @@ pub fn find_below<'a>(
 }
 
 // The name that makes a text with the directory, none for the root, where the text begins so.
+#[inline(always)]
 fn name_in<'a>(dir: Option<PathRef<'_>>, bytes: &'a [u8]) -> Option<&'a str>
     ensures whole { IfSome result (λ name. bytes.now ≡ joined (option_map (λ d. d.text.now) dir.entry) name.now) }
     ensures utf8 { IfSome result (λ name. text.is_utf8 bytes.now ≡ true) }
@@ -66,6 +68,7 @@ fn name_in<'a>(dir: Option<PathRef<'_>>, bytes: &'a [u8]) -> Option<&'a str>
 }
 
 // The name behind the directory and a slash.
+#[inline(always)]
 fn name_behind<'a>(dir: &str, bytes: &'a [u8]) -> Option<&'a str>
     ensures whole { IfSome result (λ name. bytes.now ≡ dir.now ++ 47 ∷ name.now) }
     ensures utf8 { IfSome result (λ name. text.is_utf8 bytes.now ≡ true) }
@@ -81,6 +84,7 @@ fn name_behind<'a>(dir: &str, bytes: &'a [u8]) -> Option<&'a str>
 }
 
 // What is behind the directory and a slash.
+#[inline(always)]
 fn behind<'a>(dir: &[u8], bytes: &'a [u8]) -> Option<&'a [u8]>
     ensures { IfSome result (λ name. bytes.now ≡ dir.now ++ 47 ∷ name.now) }
 {
@@ -98,6 +102,7 @@ fn behind<'a>(dir: &[u8], bytes: &'a [u8]) -> Option<&'a [u8]>
 }
 
 // Whether the name, a component, is seen to make a path in the directory, where it makes a text that isn't too long.
+#[inline(always)]
 #[tactic(auto, using(crate::proofs::Seen::seen_below))]
 fn makes_path(dir: Option<PathRef<'_>>, depth: u32, name: &str) -> bool
     requires short { length (joined (option_map (λ d. d.text.now) dir) name.now) ≤ 65535 }

@@ -47,6 +47,14 @@ fn count_list(list: List<'_>, most: u32) -> Option<Tally>
         if sum.nodes == most {
             return None;
         }
+        // (most nodes are files, which cost no call)
+        if node.rec.kids_count == 0 {
+            if !agrees(node, no_nodes()) {
+                return None;
+            }
+            sum = plus(sum, one_node(node));
+            continue;
+        }
         let under = count_list(node.children(), most - sum.nodes - 1)?;
         if !agrees(node, under) {
             return None;

@@ -29,6 +29,7 @@ impl<'a> List<'a> {
     }
 
     /// One node, counted from 0.
+    #[inline(always)]
     pub fn get(self, i: u32) -> NodeRef<'a>
         requires { i < self.count }
         ensures record { result.rec ≡ record_at self.entry.bytes.now (self.entry.start + 44 * i) }

@@ -14,6 +14,7 @@ use hg_node::Rec;
 
 impl<'a> NodeRef<'a> {
     /// The full path.
+    #[inline(always)]
     pub fn path(self) -> PathRef<'a>
         ensures { result.text.now ≡ (row self.entry).path }
     {
@@ -37,6 +38,7 @@ impl<'a> NodeRef<'a> {
     }
 
     /// The copy source, where there is an entry and it has one.
+    #[inline(always)]
     pub fn source(self) -> Option<PathRef<'a>>
         ensures { option_map (λ p. p.text.now) result ≡ (row self.entry).source }
     {

@@ -19,6 +19,7 @@ use std::cmp::Ordering;
 
 /// The path of a node and its name, in a directory that has room for so many levels of lists, none for the root, behind the name before
 /// it in its list; else the first fault.
+#[inline(always)]
 #[tactic(auto, unfolding(crate::specs::Node::node_fault))]
 pub fn check_node<'a>(
     bytes: &'a [u8],
@@ -54,6 +55,7 @@ pub fn check_node<'a>(
 }
 
 // The path that a node names: by its name alone where that is enough, else from its beginning.
+#[inline(always)]
 fn find_path<'a>(
     bytes: &'a [u8],
     dir: Option<PathRef<'_>>,
@@ -110,6 +112,7 @@ fn stands_in(dir: Option<PathRef<'_>>, path: PathRef<'_>) -> bool
 }
 
 // Whether the name is greater than the one before, where there is one.
+#[inline(always)]
 fn is_after(before: Option<&str>, name: &str) -> bool
     ensures { result ≡ node.is_after (option_map (λ b. b.now) before.entry) name.now }
 {
@@ -120,6 +123,7 @@ fn is_after(before: Option<&str>, name: &str) -> bool
 }
 
 // Whether the copy source is a path, where one is named.
+#[inline(always)]
 fn is_sourced(bytes: &[u8], rec: Rec) -> bool
     requires { length bytes.now < 2 ^ 32 }
     ensures { result ≡ node.is_sourced bytes.now rec }
@@ -145,6 +149,7 @@ fn is_path(text: &str) -> bool
 }
 
 // Whether the time is in range, where one is recorded.
+#[inline(always)]
 fn is_timely(rec: Rec) -> bool
     ensures { result ≡ entry.is_timely (fields_of rec) }
 {

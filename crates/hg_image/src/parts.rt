@@ -11,6 +11,7 @@ use hg_node::{Rec, within};
 pub const RECORD_LEN: usize = 44;
 
 /// The record that stands at a place.
+#[inline(always)]
 #[tactic(auto, unfolding(crate::specs::Node::record_at))]
 pub fn read_record(bytes: &[u8], at: u32) -> Rec
     requires { at + 44 ≤ length bytes.now }
@@ -35,6 +36,7 @@ pub fn read_text(bytes: &[u8], start: u32, len: u16) -> Option<&str>
 }
 
 /// So many bytes from a place on.
+#[inline(always)]
 pub fn part(bytes: &[u8], start: u32, len: u16) -> &[u8]
     requires { start + len ≤ length bytes.now }
     ensures { result.now ≡ part_at bytes.now start len }
@@ -54,6 +56,7 @@ pub fn valid_text(bytes: &[u8]) -> Option<&str>
 }
 
 /// A text that is known to be one.
+#[inline(always)]
 #[tactic(auto, using(crate::proofs::Texts::text_room, crate::proofs::Texts::text_utf8))]
 pub fn sound_text(bytes: &[u8], start: u32, len: u16) -> &str
     requires { IsTrue (is_text bytes.now start len) }
