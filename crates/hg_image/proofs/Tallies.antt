@@ -1,15 +1,22 @@
 -- A count of a list, node by node.
-use Rattle.std.proofs.Common.{◌≡◌, ℕ, ◌+◌, ◌-◌, ◌*◌, ◌/◌, ◌<◌, ◌≤◌, Bool, true, false, ◌&&◌, cond, List, [], ◌∷◌, ◌++◌, length, Some, None, ◌⊎◌, inl, inr, refl, sym, ap, ◌∙◌, arith, eqb, leb, leb-true, leb-false, le-leb}
-use Rattle.std.specs.Prelude.{count_by}
+use Rattle.std.proofs.Common.{◌≡◌, ℕ, ◌+◌, ◌-◌, ◌*◌, ◌/◌, ◌<◌, ◌≤◌, Bool, true, false, not, ◌&&◌, cond, List, [], ◌∷◌, ◌++◌, length, Option, Some, None, ◌⊎◌, inl, inr, refl, sym, ap, ◌∙◌, subst, arith, eqb, leb, leb-true, leb-false, le-leb}
+use Rattle.std.specs.Prelude.{count_by, is_some}
 use Rattle.std.proofs.lemmas.Bool.{and_parts, and_from, and_right}
 use Rattle.std.proofs.lemmas.Bool.Decides.{nat_tests}
 use Rattle.std.proofs.lemmas.List.{length-append}
 use Rattle.std.proofs.lemmas.List.Sums.{count_by-le-length}
 use Rattle.hg_docket.specs.Docket.{Contents}
 use Rattle.hg_image.specs.declared.counts.Tally.{Tally}
-use Rattle.hg_image.specs.Rows.{Row, AreParted}
+use Rattle.hg_entry.specs.Entry.{has_entry}
+use Rattle.hg_entry.specs.Flags.{has, wdir_tracked}
+use Rattle.hg_node.specs.declared.record.Rec.{Rec}
+use Rattle.hg_image.specs.Node.{part_at, path_of, record_at}
+use Rattle.hg_image.specs.Rows.{Row, row_of, nodes_rows, list_rows, AreParted}
+use Rattle.hg_image.specs.Walk.{list_fault}
 use Rattle.hg_image.specs.Counts.{is_entry, is_tracked, is_copy, are_counted, is_counted}
-use Rattle.hg_image.specs.Tally.{tally_of, plus, tally_within}
+use Rattle.hg_image.specs.Tally.{IsFew, one_of, tally_of, plus, tally_within, with_node}
+use Rattle.hg_image.proofs.Parted.{list_parted}
+use Rattle.hg_image.proofs.RowsOf.{rows_end, rows_step, rows_whole}
 use Rattle.hg_image.proofs.Counted.{agrees, count_append, count_cons, counted_parts}
 
 -- rows of which there aren't too many, and each of which records its counts
@@ -70,7 +77,7 @@ pub record Summed (whole rest : List Row) (sum : Tally) (most : ℕ) : Type 0 wh
   pub few_tracked : sum.tracked ≤ sum.nodes
   pub few_copies : sum.copies ≤ sum.nodes
 
-pub summed_none : (whole : List Row) (most : ℕ) → Summed whole whole (tally_of []) most
+summed_none : (whole : List Row) (most : ℕ) → Summed whole whole (tally_of []) most
 summed_none whole most = record {
   counted = refl;
   nodes = omega arith;
@@ -93,30 +100,32 @@ module _ (whole : List Row) (row : Row) (under rest : List Row) (sum : Tally) (m
   all_counted : are_counted whole ≡ (agrees row (count_by is_entry under) (count_by is_tracked under) && (are_counted under && are_counted rest))
   all_counted = far.counted ∙ counted_parts row under rest parts
 
-  -- there is no room for one more
-  pub summed_full : sum.nodes ≡ most → None ≡ tally_within most whole
-  summed_full full = within_long most whole (omega (arith, all_nodes))
-
   -- what is below the node has too many nodes, or doesn't record its counts
-  pub summed_stops : None ≡ tally_within (most - sum.nodes - 1) under → None ≡ tally_within most whole
+  summed_stops : None ≡ tally_within most under → None ≡ tally_within most whole
   summed_stops h =
-      elim (within_none (most - sum.nodes - 1) under (sym h)) [
+      elim (within_none most under (sym h)) [
         | inl long ↦ within_long most whole (omega (arith, all_nodes, long))
         | inr wrong ↦
             within_wrong most whole (all_counted ∙ and_right (agrees row (count_by is_entry under) (count_by is_tracked under)) (are_counted under && are_counted rest)
             (ap (λ (t : Bool). t && are_counted rest) wrong))
       ]
 
-  module _ (u : Tally) (within : Within (most - sum.nodes - 1) under u) where
+  module _ (u : Tally) (within : Within most under u) where
     same_agrees : agrees row u.entries u.tracked ≡ agrees row (count_by is_entry under) (count_by is_tracked under)
     same_agrees = ap (λ (t : Tally). agrees row t.entries t.tracked) within.same
 
     -- the node doesn't record its counts
-    pub summed_differs : agrees row u.entries u.tracked ≡ false → None ≡ tally_within most whole
+    summed_differs : agrees row u.entries u.tracked ≡ false → None ≡ tally_within most whole
     summed_differs wrong = within_wrong most whole (all_counted ∙ ap (λ (t : Bool). t && (are_counted under && are_counted rest)) (sym same_agrees ∙ wrong))
 
-    -- it does
-    pub summed_more : sum.nodes < most → agrees row u.entries u.tracked ≡ true → Summed whole rest (plus sum (plus (tally_of (row ∷ [])) u)) most
+    -- there is no room for them
+    summed_full : most < sum.nodes + 1 + u.nodes → None ≡ tally_within most whole
+    summed_full full =
+        let nodes : u.nodes ≡ length under = ap (λ (t : Tally). t.nodes) within.same in
+        within_long most whole (omega (arith, all_nodes, nodes, full))
+
+    -- it does, and there is
+    summed_more : sum.nodes + 1 + u.nodes ≤ most → agrees row u.entries u.tracked ≡ true → Summed whole rest (plus sum (plus (tally_of (row ∷ [])) u)) most
     summed_more inside right =
         let nodes : u.nodes ≡ length under = ap (λ (t : Tally). t.nodes) within.same in
         let entries : u.entries ≡ count_by is_entry under = ap (λ (t : Tally). t.entries) within.same in
@@ -130,26 +139,14 @@ module _ (whole : List Row) (row : Row) (under rest : List Row) (sum : Tally) (m
           entries = omega (arith, far.entries, count_three is_entry row under rest, entries);
           tracked = omega (arith, far.tracked, count_three is_tracked row under rest, tracked);
           copies = omega (arith, far.copies, count_three is_copy row under rest, copies);
-          room = omega (arith, within.room, nodes);
+          room = omega (arith, inside);
           few_entries = omega (arith, far.few_entries, count_by-le-length is_entry (row ∷ []), count_by-le-length is_entry under, entries, nodes);
           few_tracked = omega (arith, far.few_tracked, count_by-le-length is_tracked (row ∷ []), count_by-le-length is_tracked under, tracked, nodes);
           few_copies = omega (arith, far.few_copies, count_by-le-length is_copy (row ∷ []), count_by-le-length is_copy under, copies, nodes);
         }
 
--- no rows
-pub within_empty : (most : ℕ) → Within most [] (tally_of [])
-within_empty most = record { room = omega arith; counted = refl; same = refl }
-
-pub plus_empty : (t : Tally) → plus t (tally_of []) ≡ t
-plus_empty t =
-    let n : t.nodes + 0 ≡ t.nodes = omega arith in
-    let e : t.entries + 0 ≡ t.entries = omega arith in
-    let w : t.tracked + 0 ≡ t.tracked = omega arith in
-    let c : t.copies + 0 ≡ t.copies = omega arith in
-    λ i. record { nodes = n i; entries = e i; tracked = w i; copies = c i }
-
 -- nothing is left
-pub summed_all : (whole rest : List Row) (sum : Tally) (most : ℕ) → Summed whole rest sum most → rest ≡ [] → Within most whole sum
+summed_all : (whole rest : List Row) (sum : Tally) (most : ℕ) → Summed whole rest sum most → rest ≡ [] → Within most whole sum
 summed_all whole rest sum most far none =
     let nothing : length rest ≡ 0 = ap length none in
     let entries : count_by is_entry rest ≡ 0 = ap (count_by is_entry) none in
@@ -186,3 +183,117 @@ counted_found docket rows sum h =
     true_last : (t : Bool) → (t && true && true) ≡ t
     true_last true = refl
     true_last false = refl
+
+-- ---- a node more
+
+-- one row alone
+one_tally : (bytes : List ℕ) (rec : Rec) → tally_of (row_of bytes rec ∷ []) ≡ one_of rec
+one_tally bytes rec =
+    let row = row_of bytes rec in
+    let copy : is_copy row ≡ (has_entry rec.flags && not (eqb rec.copy_start 0)) = some_if (has_entry rec.flags && not (eqb rec.copy_start 0)) (part_at bytes rec.copy_start rec.copy_len) in
+    let entries : count_by is_entry (row ∷ []) ≡ cond (has_entry rec.flags) 1 0 = omega (arith, count_cons is_entry row []) in
+    let tracked : count_by is_tracked (row ∷ []) ≡ cond (has rec.flags wdir_tracked) 1 0 = omega (arith, count_cons is_tracked row []) in
+    let copies : count_by is_copy (row ∷ []) ≡ cond (has_entry rec.flags && not (eqb rec.copy_start 0)) 1 0 =
+    omega (arith, count_cons is_copy row [], ap (λ (t : Bool). cond {A = ℕ} t 1 0) copy) in
+    λ i. record { nodes = 1; entries = entries i; tracked = tracked i; copies = copies i }
+  where
+    some_if : (t : Bool) (text : List ℕ) → is_some (cond t (Some text) None) ≡ t
+    some_if true text = refl
+    some_if false text = refl
+
+-- what was counted of some rows, where some are left: nothing where there are too many, or one doesn't record its counts
+abbrev pub Tallied : ℕ → List Row → List Row → Option Tally → Type 0
+Tallied most whole rest None = None ≡ tally_within most whole
+Tallied most whole rest (Some sum) = Summed whole rest sum most
+
+pub tallied_none : (most : ℕ) (whole rest : List Row) → whole ≡ rest → Tallied most whole rest (Some (tally_of []))
+tallied_none most whole rest same = subst (λ (r : List Row). Summed whole r (tally_of []) most) same (summed_none whole most)
+
+pub tallied_all : (most : ℕ) (whole rest : List Row) (sum : Option Tally) → Tallied most whole rest sum → rest ≡ [] → sum ≡ tally_within most whole
+tallied_all most whole rest None far none = far
+tallied_all most whole rest (Some sum) far none = within_from most whole sum (summed_all whole rest sum most far none)
+
+pub tallied_more : (most : ℕ) (whole under rest : List Row) (bytes : List ℕ) (rec : Rec) (sum u : Option Tally) → Tallied most whole (row_of bytes rec ∷ (under ++ rest)) sum
+    → AreParted (path_of bytes rec) under rest → u ≡ tally_within most under → Tallied most whole rest (with_node most sum rec u)
+tallied_more most whole under rest bytes rec None u far parts is = far
+tallied_more most whole under rest bytes rec (Some sum) None far parts is = summed_stops whole (row_of bytes rec) under rest sum most far parts is
+tallied_more most whole under rest bytes rec (Some sum) (Some u) far parts is = split (eqb rec.entries_below u.entries && eqb rec.tracked_below u.tracked) (leb (sum.nodes + 1 + u.nodes) most) refl refl
+  where
+    within : Within most under u
+    within = within_some most under u (sym is)
+
+    split : (a b : Bool) → (eqb rec.entries_below u.entries && eqb rec.tracked_below u.tracked) ≡ a → leb (sum.nodes + 1 + u.nodes) most ≡ b
+        → Tallied most whole rest (cond (a && b) (Some (plus sum (plus (one_of rec) u))) None)
+    split false b p q = summed_differs whole (row_of bytes rec) under rest sum most far parts u within p
+    split true false p q = summed_full whole (row_of bytes rec) under rest sum most far parts u within (leb-false (sum.nodes + 1 + u.nodes) most q)
+    split true true p q =
+        subst (λ (one : Tally). Summed whole rest (plus sum (plus one u)) most) (one_tally bytes rec)
+        (summed_more whole (row_of bytes rec) under rest sum most far parts u within (leb-true (sum.nodes + 1 + u.nodes) most q) p)
+
+pub no_rows : (most : ℕ) → Some (tally_of []) ≡ tally_within most []
+no_rows most = within_from most [] (tally_of []) (record { room = omega arith; counted = refl; same = refl })
+
+-- a tally is of at most so many rows
+pub few_within : (most : ℕ) (rows : List Row) (sum : Option Tally) → sum ≡ tally_within most rows → IsFew most sum
+few_within most rows None h = tt
+few_within most rows (Some sum) h =
+    let w = within_some most rows sum (sym h) in
+    let nodes : sum.nodes ≡ length rows = ap (λ (t : Tally). t.nodes) w.same in
+    let entries : sum.entries ≡ count_by is_entry rows = ap (λ (t : Tally). t.entries) w.same in
+    let tracked : sum.tracked ≡ count_by is_tracked rows = ap (λ (t : Tally). t.tracked) w.same in
+    let copies : sum.copies ≡ count_by is_copy rows = ap (λ (t : Tally). t.copies) w.same in (
+      omega (arith, w.room, nodes),
+      omega (arith, count_by-le-length is_entry rows, nodes, entries),
+      omega (arith, count_by-le-length is_tracked rows, nodes, tracked),
+      omega (arith, count_by-le-length is_copy rows, nodes, copies),
+    )
+
+pub few_more : (most : ℕ) (sum u : Option Tally) (rec : Rec) → IsFew most sum → IsFew most u → IsFew most (with_node most sum rec u)
+few_more most None u rec a b = tt
+few_more most (Some sum) None rec a b = tt
+few_more most (Some sum) (Some u) rec a b = split (eqb rec.entries_below u.entries && eqb rec.tracked_below u.tracked) (leb (sum.nodes + 1 + u.nodes) most) refl
+  where
+    one_at_most : (t : Bool) → cond t 1 0 ≤ 1
+    one_at_most true = omega arith
+    one_at_most false = omega arith
+
+    split : (x y : Bool) → leb (sum.nodes + 1 + u.nodes) most ≡ y → IsFew most (cond (x && y) (Some (plus sum (plus (one_of rec) u))) None)
+    split false y q = tt
+    split true false q = tt
+    split true true q = (
+      omega (arith, leb-true (sum.nodes + 1 + u.nodes) most q),
+      omega (arith, one_at_most (has_entry rec.flags), a.1, b.1),
+      omega (arith, one_at_most (has rec.flags wdir_tracked), a.2, b.2),
+      omega (arith, one_at_most (has_entry rec.flags && not (eqb rec.copy_start 0)), a.3, b.3),
+    )
+
+-- ---- over the bytes of a list
+
+module _ (depth : ℕ) (bytes : List ℕ) (dir : Option (List ℕ)) (start count : ℕ) where
+  abbrev kids : ℕ → ℕ → List Row
+  kids = list_rows (depth - 1) bytes
+
+  -- no node was looked at, one more was, and all were
+  pub list_starts : (most at n : ℕ) → at ≡ start → n ≡ count → list_fault depth bytes dir start count ≡ None
+      → Tallied most (list_rows depth bytes start count) (nodes_rows (list_rows (depth - 1) bytes) bytes at n) (Some (tally_of []))
+  list_starts most at n is all h = rw (is, all) (tallied_none most _ _ (rows_whole depth bytes dir start count h))
+
+  pub list_counts : (most at next i n : ℕ) (rec : Rec) (sum u : Option Tally) → i < count → at ≡ start + 44 * i → next ≡ start + 44 * (i + 1) → n ≡ count - (i + 1) → rec ≡ record_at bytes at
+      → list_fault depth bytes dir start count ≡ None
+      → Tallied most (list_rows depth bytes start count) (nodes_rows (list_rows (depth - 1) bytes) bytes at (count - i)) sum
+      → u ≡ tally_within most (list_rows (depth - 1) bytes rec.kids_start rec.kids_count)
+      → Tallied most (list_rows depth bytes start count) (nodes_rows (list_rows (depth - 1) bytes) bytes next n) (with_node most sum rec u)
+  list_counts most at next i n rec sum u inside here there less is h far under =
+      let step : nodes_rows kids bytes at (count - i) ≡ row_of bytes rec ∷ (kids rec.kids_start rec.kids_count ++ nodes_rows kids bytes next n) =
+      rows_step kids bytes at (count - i) (omega (arith, inside))
+      ∙ ap (λ r. row_of bytes r ∷ (kids r.kids_start r.kids_count ++ nodes_rows kids bytes (at + 44) (count - i - 1))) (sym is)
+      ∙ ap (λ m. row_of bytes rec ∷ (kids rec.kids_start rec.kids_count ++ nodes_rows kids bytes m (count - i - 1))) (omega (arith, here, there))
+      ∙ ap (λ m. row_of bytes rec ∷ (kids rec.kids_start rec.kids_count ++ nodes_rows kids bytes next m)) (omega (arith, less)) in
+      let parts : AreParted (path_of bytes rec) (kids rec.kids_start rec.kids_count) (nodes_rows kids bytes next n) =
+      rw (is, here, there, less) (list_parted depth bytes dir start count i inside h) in
+      tallied_more most (list_rows depth bytes start count) (kids rec.kids_start rec.kids_count) (nodes_rows kids bytes next n) bytes rec sum u
+      (subst (λ (r : List Row). Tallied most (list_rows depth bytes start count) r sum) step far) parts under
+
+  pub list_counted : (most at n : ℕ) (sum : Option Tally) → n ≡ 0 → Tallied most (list_rows depth bytes start count) (nodes_rows (list_rows (depth - 1) bytes) bytes at n) sum
+      → sum ≡ tally_within most (list_rows depth bytes start count)
+  list_counted most at n sum none far = tallied_all most _ _ sum far (rows_end kids bytes at n none)

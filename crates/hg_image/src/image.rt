@@ -3,19 +3,21 @@
 ghost use Rattle.std.specs.Prelude.{◌≡◌, IfOk, None, take};
 ghost use Rattle.std.specs.Result.{result_err, result_map_both};
 ghost use Rattle.hg_docket.specs.Docket.{view};
+ghost use Rattle.hg_image.specs.Counts as scratch;
 ghost use Rattle.hg_image.specs.Reading.{data_reading, table_in};
 ghost use Rattle.hg_image.specs.Rows.{rows_of, AreDistinct};
 ghost use Rattle.hg_image.specs.View.{rows, rows_in};
 ghost use Rattle.hg_image.specs.Walk as walk;
 ghost use Rattle.hg_image.specs.Walk.{NeedsNoMore, image_fault};
 
+use crate::counts::are_right;
 use crate::fault::NodeFault;
 use crate::list_check::check_list;
 use crate::opened::{Image, List};
 use hg_docket::Docket;
 
 impl<'a> Image<'a> {
-    /// Walks the used bytes of a data file, and answers its first fault. It takes no memory.
+    /// Walks the used bytes of a data file once, and answers its first fault. It takes no memory.
     #[tactic(auto, using(crate::proofs::Levels::levels_enough))]
     pub fn open(docket: &Docket<'a>, bytes: &'a [u8]) -> Result<Image<'a>, NodeFault>
         ensures fault { result_err result ≡ image_fault (view docket.now) bytes.entry.now }
@@ -34,11 +36,20 @@ impl<'a> Image<'a> {
             });
         }
         let bytes = bytes.split_at(docket.used as usize).0;
-        check_list(bytes, None, docket.root_start, docket.root_count, levels())?;
+        let tally = check_list(bytes, None, docket.root_start, docket.root_count, levels())?;
+        let is_right = are_right(docket, tally);
         Ok(Image {
             docket: *docket,
             bytes,
+            is_right,
         })
+    }
+
+    /// Whether all counts that the docket and the nodes record are those from scratch, and the used bytes have room for all nodes.
+    pub fn counted(&self) -> bool
+        ensures { result ≡ scratch.is_counted (view self.now.docket) (rows self.now) }
+    {
+        self.is_right
     }
 
     /// The docket that the image was opened with.

@@ -15,7 +15,8 @@
 //! | `Copy` | a copy source is named that lies outside the used bytes, isn't UTF-8 or isn't a path |
 //! | `Times` | a time is recorded that is out of range |
 //!
-//! Not looked at: padding, bits without a meaning, counts, bytes behind the used ones, and whether texts share bytes.
+//! Not looked at: padding, bits without a meaning, bytes behind the used ones, and whether texts share bytes. Wrong counts are no fault:
+//! `Image::counted` tells whether there are any.
 //!
 //! `Image` is what `open` found sound, `List` a list of nodes in it, `NodeRef` one node. All are `Copy`, lend from the bytes, take no
 //! memory, and their calls can't fail. `specs/Walk.antt` says what the faults are, `specs/Rows.antt` what a sound file holds.

@@ -3,6 +3,9 @@
 ghost use Rattle.std.specs.Prelude.{◌≡◌, ◌<◌, ◌^◌, IsTrue, Some, None, length, option_map};
 ghost use Rattle.hg_base.specs.PathText.{is_path};
 ghost use Rattle.hg_entry.specs.Entry.{is_timely};
+ghost use Rattle.hg_docket.specs.Docket.{view};
+ghost use Rattle.hg_image.specs.Counts.{is_counted};
+ghost use Rattle.hg_image.specs.Rows.{list_rows};
 ghost use Rattle.hg_image.specs.Node.{is_text, path_of, fields_of, is_sourced};
 ghost use Rattle.hg_image.specs.Walk.{levels, list_fault};
 
@@ -16,8 +19,11 @@ pub struct Image<'a> {
     pub docket: Docket<'a>,
     /// The used bytes of the data file.
     pub bytes: &'a [u8],
+    // (whether all counts are those from scratch)
+    pub(crate) is_right: bool,
     pub ghost is_used: { length bytes.now ≡ docket.used },
     pub ghost is_sound: { list_fault levels bytes.now None docket.root_start docket.root_count ≡ None },
+    pub ghost counts: { is_right ≡ is_counted (view docket) (list_rows levels bytes.now docket.root_start docket.root_count) },
 }
 
 /// The nodes that stand right in one directory, in the order of their names.
