@@ -13,7 +13,12 @@ use Rattle.hg_mixed.specs.Node.{NodeData}
 use Rattle.hg_mixed.specs.declared.node.Node.{Node}
 
 abbrev pub data_of : Node → NodeData
-data_of node = record { entry = option_map view node.entry; source = node.source; text_at = node.text_at; source_at = node.source_at }
+data_of node = record {
+  entry = option_map view node.entry;
+  source = option_map (λ s. s.value.path) node.source;
+  text_at = node.text_at;
+  source_at = option_and_then (λ s. s.value.at) node.source;
+}
 
 -- a directory as a text, where nothing is the root
 abbrev pub or_root : Option (List ℕ) → List ℕ

@@ -3,7 +3,7 @@
 ghost use Rattle.std.specs.Prelude.{◌≡◌, ℕ, List, None, false, option_map};
 ghost use Rattle.hg_entry.specs.Entry.{stamp_view, view};
 ghost use Rattle.hg_mixed.specs.Edits.{IsFormed};
-ghost use Rattle.hg_mixed.specs.Lists.{has_rows_in};
+ghost use Rattle.hg_mixed.specs.Lists.{data_of, has_rows_in};
 ghost use Rattle.hg_mixed.specs.Memory.{memory_table};
 ghost use Rattle.hg_mixed.specs.Node.{node_at, source_text_in, text_in};
 ghost use Rattle.hg_mixed.specs.Shown.{shown_item, shown_in};
@@ -121,7 +121,7 @@ impl<'a> Memory<'a> {
     {
         match self.nodes.get(path) {
             None => (None, None),
-            Some(node) => (node.text_at, node.source_at),
+            Some(node) => (node.text_at, node.source_at()),
         }
     }
 
@@ -142,17 +142,11 @@ impl<'a> Memory<'a> {
 
 // What a node shows, where it has an entry.
 fn item_of(node: &Node) -> Option<Item<'_>>
-    ensures { option_map shown_item result ≡ option_map (λ entry. (view entry, node.now.source)) node.now.entry }
+    ensures { option_map shown_item result ≡ option_map (λ entry. (view entry, (data_of node.now).source)) node.now.entry }
 {
     let entry = node.entry?;
-    match &node.source {
-        None => Some(Item {
-            entry,
-            source: None,
-        }),
-        Some(source) => Some(Item {
-            entry,
-            source: Some(source.as_ref()),
-        }),
-    }
+    Some(Item {
+        entry,
+        source: node.source(),
+    })
 }

@@ -1,6 +1,7 @@
 //! Nodes of an image are taken into memory.
 
-ghost use Rattle.std.specs.Prelude.{◌≡◌, ◌<◌, Some, OnOk, OnErr, is_some, option_map};
+ghost use Rattle.std.specs.Prelude.{◌≡◌, ◌<◌, Some, IfOk, OnOk, OnErr, is_some, option_map};
+ghost use Rattle.std.specs.Option.{option_and_then};
 ghost use Rattle.hg_base.specs.PathText.{parent_of};
 ghost use Rattle.hg_image.specs.View.{dir_of, row, rows_in};
 ghost use Rattle.hg_mixed.specs.Drop.{bare};
@@ -12,9 +13,9 @@ ghost use Rattle.hg_mixed.specs.Opened.{IsThere};
 ghost use Rattle.hg_mixed.specs.Taken.{AddsNodes, AddsOwn, AddsSome, AreOthersKept, IsElsewhere};
 
 use crate::memory::Memory;
-use crate::node::Node;
+use crate::node::{Node, Source};
 use crate::nodes::Nodes;
-use crate::same::copy_of;
+use crate::same::boxed;
 use crate::times::Times;
 use hg_base::{OutOfMemory, PathRef};
 use hg_image::{List, NodeRef};
@@ -28,6 +29,23 @@ pub fn source_place(source: Option<PathRef<'_>>, rec: Rec) -> Option<u32>
     match source {
         None => None,
         Some(_) => Some(rec.copy_start),
+    }
+}
+
+// A copy of a node's copy source, where it has one, with the place of its text.
+fn lent_source(
+    alloc: Global,
+    source: Option<PathRef<'_>>,
+    rec: Rec,
+) -> Result<Option<Box<Source>>, OutOfMemory>
+    ensures path { IfOk result (λ copy. option_map (λ s. s.value.path) copy ≡ option_map (λ s. s.text.now) source.entry) }
+    ensures place { IfOk
+        result
+        (λ copy. option_and_then (λ s. s.value.at) copy ≡ option_map (λ source. rec.copy_start) (option_map (λ s. s.text.now) source.entry)) }
+{
+    match source {
+        None => Ok(None),
+        Some(path) => Ok(Some(boxed(alloc, path, Some(rec.copy_start))?)),
     }
 }
 
@@ -46,12 +64,11 @@ fn add_own(
     let path = node.path();
     let rec = node.rec();
     let named = node.source();
-    let source = copy_of(alloc, named)?;
+    let source = lent_source(alloc, named, rec)?;
     let own = Node {
         entry: node.entry(),
         source,
         text_at: Some(rec.path_start),
-        source_at: source_place(named, rec),
     };
     match node.cache() {
         None => {

@@ -45,16 +45,6 @@ impl<'t> Model for OwnChildren<'t> {
     ghost invariant = { λ c. AreAtPaths c.kids × AreLeftBefore c.nodes.now (option_map (λ n. n.now) c.next) c.kids };
 }
 
-// The copy source of a node.
-fn source_of(node: &Node) -> Option<PathRef<'_>>
-    ensures { option_map (λ s. s.text.now) result ≡ (data_of node.now).source }
-{
-    match &node.source {
-        None => None,
-        Some(source) => Some(source.as_ref()),
-    }
-}
-
 // Whether a path stands before the next directory that has nodes.
 fn is_before(next: Option<&str>, path: &str) -> bool
     ensures { result ≡ is_before (option_map (λ n. n.now) next.entry) path.now }
@@ -119,11 +109,11 @@ impl<'t> OwnChildren<'t> {
                 Some(Child {
                     path: PathRef { text },
                     entry: node.entry,
-                    source: source_of(node),
+                    source: node.source(),
                     cache,
                     has_kids,
                     text_at: node.text_at,
-                    source_at: node.source_at,
+                    source_at: node.source_at(),
                     list: None,
                     fields: written_for(node.entry, cache),
                 })

@@ -1,14 +1,15 @@
 //! Nodes that are put, with the directories above them.
 
 ghost use Rattle.std.specs.Prelude.{◌≡◌, ℕ, true, List, Some, None, is_some, option_map, OnOk, OnErr, MatchBool};
+ghost use Rattle.std.specs.Option.{option_and_then};
 ghost use Rattle.hg_base.specs.PathText.{parent_of};
 ghost use Rattle.hg_entry.specs.Entry.{view};
 ghost use Rattle.hg_mixed.specs.Lists.{data_of};
 ghost use Rattle.hg_mixed.specs.Node.{AreRootedAbove, AreSame, IsMissing, IsPut, blank, cleared, entry_in, node_at, planted, text_in, with_entry, with_source};
 
-use crate::node::Node;
+use crate::node::{Node, Source};
 use crate::nodes::Nodes;
-use hg_base::{OutOfMemory, Path, PathRef};
+use hg_base::{OutOfMemory, PathRef};
 use hg_entry::Entry;
 use std::alloc::Global;
 
@@ -34,7 +35,6 @@ fn blank() -> Node
         entry: None,
         source: None,
         text_at: None,
-        source_at: None,
     }
 }
 
@@ -47,13 +47,11 @@ fn with_entry(node: Option<Node>, entry: Entry) -> Node
             entry: Some(entry),
             source: None,
             text_at: None,
-            source_at: None,
         },
         Some(node) => Node {
             entry: Some(entry),
             source: node.source,
             text_at: node.text_at,
-            source_at: node.source_at,
         },
     }
 }
@@ -83,22 +81,25 @@ pub fn clear(nodes: &mut Nodes, path: PathRef<'_>)
         entry: None,
         source: None,
         text_at: text_at(nodes, path),
-        source_at: None,
     };
     let _ = nodes.replace(path, node);
 }
 
-/// Writes another copy source of a node.
-pub fn write_source(nodes: &mut Nodes, path: PathRef<'_>, source: Option<Path>)
-    requires { is_some (node_at nodes.old path.text.now) ≡ true }
-    ensures { IsPut path.entry.text.now (Some (with_source source (node_at nodes.old path.entry.text.now))) nodes.old nodes.new }
+/// Writes another copy source of a node, of which the text isn't lent.
+pub fn write_source(nodes: &mut Nodes, path: PathRef<'_>, source: Option<Box<Source>>)
+    requires there { is_some (node_at nodes.old path.text.now) ≡ true }
+    requires unlent { option_and_then (λ s. s.value.at) source ≡ None }
+    ensures { IsPut
+        path.entry.text.now
+        (Some (with_source (option_map (λ s. s.value.path) source) (node_at nodes.old path.entry.text.now)))
+        nodes.old
+        nodes.new }
 {
     let entry = entry_at(nodes, path);
     let node = Node {
         entry,
         source,
         text_at: text_at(nodes, path),
-        source_at: None,
     };
     let _ = nodes.replace(path, node);
 }

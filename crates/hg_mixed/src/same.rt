@@ -1,9 +1,11 @@
 //! Whether two records say the same.
 
-ghost use Rattle.std.specs.Prelude.{◌≡◌, option_map, IfOk, MatchBool};
+ghost use Rattle.std.specs.Prelude.{◌≡◌, None, option_map, IfOk, MatchBool};
+ghost use Rattle.std.specs.Option.{option_and_then};
 ghost use Rattle.hg_entry.specs.Entry.{stamp_view, view};
 ghost use Rattle.hg_mixed.specs.Node.{node_at, source_in};
 
+use crate::node::Source;
 use crate::nodes::Nodes;
 use hg_base::{Id20, OutOfMemory, Path, PathRef, Stamp};
 use hg_entry::Entry;
@@ -61,15 +63,18 @@ pub fn same_entry(a: &Entry, b: &Entry) -> bool
     same_time(a.stamp, b.stamp)
 }
 
-// Whether a source is this path, or both are none.
-fn same_source(a: &Option<Path>, b: Option<PathRef<'_>>) -> bool
-    ensures { MatchBool result (a.now ≡ option_map (λ p. p.text.now) b.entry) (a.now ≡ option_map (λ p. p.text.now) b.entry → ⊥) }
+// Whether two sources are one path, or both are none.
+fn same_source(a: Option<PathRef<'_>>, b: Option<PathRef<'_>>) -> bool
+    ensures { MatchBool
+        result
+        (option_map (λ p. p.text.now) a.entry ≡ option_map (λ p. p.text.now) b.entry)
+        (option_map (λ p. p.text.now) a.entry ≡ option_map (λ p. p.text.now) b.entry → ⊥) }
 {
     match a {
         None => b.is_none(),
         Some(a) => match b {
             None => false,
-            Some(b) => a.as_str() == b.text,
+            Some(b) => a.text == b.text,
         },
     }
 }
@@ -83,17 +88,27 @@ pub fn has_source(nodes: &Nodes, path: PathRef<'_>, source: Option<PathRef<'_>>)
 {
     match nodes.get(path) {
         None => source.is_none(),
-        Some(node) => same_source(&node.source, source),
+        Some(node) => same_source(node.source(), source),
     }
 }
 
-/// A copy of a path, where there is one.
-pub fn copy_of(alloc: Global, path: Option<PathRef<'_>>) -> Result<Option<Path>, OutOfMemory>
-    ensures { IfOk result (λ copy. copy ≡ option_map (λ p. p.text.now) path.entry) }
+/// A copy of a path as a source, with the place of its text.
+pub fn boxed(alloc: Global, path: PathRef<'_>, at: Option<u32>) -> Result<Box<Source>, OutOfMemory>
+    ensures path { IfOk result (λ copy. copy.value.path ≡ path.entry.text.now) }
+    ensures at { IfOk result (λ copy. copy.value.at ≡ at) }
+{
+    let path = Path::of(alloc, path)?;
+    Ok(Box::new(alloc, Source { path, at })?)
+}
+
+/// A copy of a path as a source, where there is one, of which the text isn't lent.
+pub fn copy_of(alloc: Global, path: Option<PathRef<'_>>) -> Result<Option<Box<Source>>, OutOfMemory>
+    ensures path { IfOk result (λ copy. option_map (λ s. s.value.path) copy ≡ option_map (λ p. p.text.now) path.entry) }
+    ensures unlent { IfOk result (λ copy. option_and_then (λ s. s.value.at) copy ≡ None) }
 {
     match path {
         None => Ok(None),
-        Some(path) => Ok(Some(Path::of(alloc, path)?)),
+        Some(path) => Ok(Some(boxed(alloc, path, None)?)),
     }
 }
 

@@ -76,7 +76,6 @@ fn put_new(
         entry: Some(entry),
         source: None,
         text_at: None,
-        source_at: None,
     };
     match plant(alloc, nodes, path, node) {
         Ok(()) => Ok(true),

@@ -17,9 +17,9 @@ returns-in-None-clause-ok c = on_ok_weaker c.put.result
     (λ at. placed at
     ∙ (λ i. update bytes_eq (node_at c.args.nodes.now) (c.path-path.ensures i) (Some (record {
       entry = c.entry.ensures i;
-      source = (c.in_ok-source.ensures ∙ c.source-named.ensures) i;
+      source = (c.in_ok-source.ensures.path ∙ c.source-named.ensures) i;
       text_at = Some (c.rec-rec.ensures i).path_start;
-      source_at = (c.source_place.ensures ∙ (λ k. option_map (λ source. (c.rec-rec.ensures k).copy_start) (c.source-named.ensures k))) i;
+      source_at = (c.in_ok-source.ensures.place ∙ (λ k. option_map (λ source. (c.rec-rec.ensures k).copy_start) (c.source-named.ensures k))) i;
     })) at))
     (λ h. source_false (has_entry c.args.node.rec.flags) _ _ h)
     (λ at. c.remove.ensures at
@@ -40,9 +40,9 @@ returns-in_ok-put-in-Some-clause-ok c = on_ok_weaker c.put-in-Some-2.result
     (λ at. c.in_ok-put-in-Some.ensures.ok at
     ∙ (λ i. update bytes_eq (node_at c.args.nodes.now) (c.path-path.ensures i) (Some (record {
       entry = c.entry.ensures i;
-      source = (c.in_ok-source.ensures ∙ c.source-named.ensures) i;
+      source = (c.in_ok-source.ensures.path ∙ c.source-named.ensures) i;
       text_at = Some (c.rec-rec.ensures i).path_start;
-      source_at = (c.source_place.ensures ∙ (λ k. option_map (λ source. (c.rec-rec.ensures k).copy_start) (c.source-named.ensures k))) i;
+      source_at = (c.in_ok-source.ensures.place ∙ (λ k. option_map (λ source. (c.rec-rec.ensures k).copy_start) (c.source-named.ensures k))) i;
     })) at))
     (λ h. source_false (has_entry c.args.node.rec.flags) _ _ h)
     (λ at. timed at
@@ -56,9 +56,9 @@ returns-in_ok-put-in-Some-clause-err c = on_err_weaker c.put-in-Some-2.result
     (λ at. c.in_ok-put-in-Some.ensures.ok at
     ∙ (λ i. update bytes_eq (node_at c.args.nodes.now) (c.path-path.ensures i) (Some (record {
       entry = c.entry.ensures i;
-      source = (c.in_ok-source.ensures ∙ c.source-named.ensures) i;
+      source = (c.in_ok-source.ensures.path ∙ c.source-named.ensures) i;
       text_at = Some (c.rec-rec.ensures i).path_start;
-      source_at = (c.source_place.ensures ∙ (λ k. option_map (λ source. (c.rec-rec.ensures k).copy_start) (c.source-named.ensures k))) i;
+      source_at = (c.in_ok-source.ensures.place ∙ (λ k. option_map (λ source. (c.rec-rec.ensures k).copy_start) (c.source-named.ensures k))) i;
     })) at))
     (λ h. source_false (has_entry c.args.node.rec.flags) _ _ h)
     (ap is_some (sym c.in-Some.ensures))
