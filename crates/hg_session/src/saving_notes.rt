@@ -64,7 +64,7 @@ fn save_held<S: Shelf>(
     shelf: &mut S,
     loaded: &Loaded,
     mixed: &mut Mixed<'_>,
-    notes: &Notes,
+    notes: Notes,
 ) -> Result<(), SaveFault>
     requires held { (S.history shelf.old).ours ≡ true }
     requires few { length loaded.now.docket.items ≤ 512 }
@@ -72,15 +72,15 @@ fn save_held<S: Shelf>(
     requires over { mixed.old.docket ≡ docket_of loaded.now.docket.items }
     requires nodes { mixed.old.bytes ≡ loaded.now.nodes.items }
     requires unchanged { mixed.old.changed ≡ false }
-    requires can { CanApply notes.now (table mixed.old) }
+    requires can { CanApply notes (table mixed.old) }
     // `SavesHeld` in specs/Saving.antt.
-    ensures saves { (start : History) (recorded : Table) → IsOpenedSince start (S.history shelf.old) loaded.now recorded mixed.old → AreNews recorded notes.now
+    ensures saves { (start : History) (recorded : Table) → IsOpenedSince start (S.history shelf.old) loaded.now recorded mixed.old → AreNews recorded notes
         → SavesHeld
         start
         (watched S.history S.faults shelf.old shelf.new)
         (saved_by S.history S.images shelf.old shelf.new)
         recorded
-        notes.now
+        notes
         (save_fault result) }
     ensures unwritten { IfErr result (λ e. (e ≡ a_fault.ShelfFailed) ⊎ IsUnwritten (S.history shelf.old) (S.history shelf.new)) }
     ensures cause { HasCause (S.faults shelf.old) (S.faults shelf.new) result (λ e. e ≡ a_fault.ShelfFailed) }
@@ -120,26 +120,26 @@ pub(crate) fn save_notes<S: Shelf>(
     shelf: &mut S,
     loaded: &Loaded,
     mixed: &mut Mixed<'_>,
-    notes: &Notes,
+    notes: Notes,
 ) -> Result<(), SaveFault>
     requires few { length loaded.now.docket.items ≤ 512 }
     requires whole { docket_refusal loaded.now.docket.items ≡ None }
     requires over { mixed.old.docket ≡ docket_of loaded.now.docket.items }
     requires nodes { mixed.old.bytes ≡ loaded.now.nodes.items }
     requires unchanged { mixed.old.changed ≡ false }
-    requires can { CanApply notes.now (table mixed.old) }
+    requires can { CanApply notes (table mixed.old) }
     // `SavesNotes` in specs/Saving.antt.
-    ensures saves { (start : History) (recorded : Table) → IsOpenedSince start (S.history shelf.old) loaded.now recorded mixed.old → AreNews recorded notes.now
+    ensures saves { (start : History) (recorded : Table) → IsOpenedSince start (S.history shelf.old) loaded.now recorded mixed.old → AreNews recorded notes
         → SavesNotes
         start
         (watched S.history S.faults shelf.old shelf.new)
         (saved_by S.history S.images shelf.old shelf.new)
         (counted S.held shelf.old shelf.new)
         recorded
-        notes.now
+        notes
         (save_fault result) }
-    ensures blank { IsBlank notes.now → shelf.new ≡ shelf.old }
-    ensures blank_ok { IsBlank notes.now → result ≡ Ok tt }
+    ensures blank { IsBlank notes → shelf.new ≡ shelf.old }
+    ensures blank_ok { IsBlank notes → result ≡ Ok tt }
     // Where there is no memory nothing was written.
     ensures unwritten { IfErr result (λ e. (e ≡ a_fault.ShelfFailed) ⊎ IsUnwritten (S.history shelf.old) (S.history shelf.new)) }
     // Behind the lock the docket is asked for once, and nothing else.

@@ -1,9 +1,8 @@
 -- Notes that are written one by one make the record with the notes.
-use Rattle.std.proofs.Common.{ℕ, zero, suc, ◌≡◌, ◌<◌, ◌≤◌, ◌-◌, ◌+◌, Bool, true, false, cond, List, [], ◌∷◌, map, length, drop, get_or, option_map, Option, Some, None, refl, sym, ap, ◌∙◌, subst, true≢false, arith}
-use Rattle.std.specs.Prelude.{slice_get}
+use Rattle.std.proofs.Common.{ℕ, zero, ◌≡◌, Bool, true, false, cond, List, [], ◌∷◌, ◌++◌, Option, Some, None, refl, sym, ap, ◌∙◌, subst, true≢false, arith}
 use Rattle.std.specs.List.{Contains}
-use Rattle.std.proofs.lemmas.Option.{slice_get-get_or, slice_get-map}
-use Rattle.std.proofs.lemmas.List.{drop_all, length-map}
+use Rattle.std.proofs.lemmas.List.{append-nil, append_assoc}
+use Rattle.std.proofs.lemmas.List.Elements.{Contains-append_left, Contains-append_right}
 use Rattle.hg_entry.specs.Entry.{EntryData, StampData}
 use Rattle.hg_entry.specs.Table.{Table}
 use Rattle.hg_mixed.specs.Edits.{ArePlacedAsBefore, IsOfSameImage, IsSame, after_cache}
@@ -12,113 +11,70 @@ use Rattle.hg_tree.specs.Moment.{is_among}
 use Rattle.hg_walk.specs.Applying.{AreKnown, IsBare, LendsNotes, MarksNotes}
 use Rattle.hg_walk.specs.Notes.{CleanNote, DirNote, NotesData, applied, clean_at, seen_at, with_clean, with_hash, with_seen}
 use Rattle.hg_walk.specs.Writing.{AreKnownClean, AreKnownGone, AreKnownSeen, IsEdit, IsHashed, IsWritten, WritesClean, WritesGone, WritesSeen, after_clean, cached, cleaned, forgotten}
-use Rattle.hg_walk.proofs.OneNote.{clean_next, forgotten_as_is, gone_next, later, seen_next}
+use Rattle.hg_walk.proofs.OneNote.{clean_next, forgotten_as_is, gone_next, seen_next}
 use Rattle.hg_walk.proofs.Written.{image_on, image_same, places_on, same_on, table_same, unwritten, written_on}
 
 -- ---- from the last to the first
 
-drop_at : {X : Type 0} (xs : List X) (k : ℕ) (x : X) → slice_get xs k ≡ Some x → drop k xs ≡ x ∷ drop (suc k) xs
-drop_at [] k x is = absurd (cc is)
-drop_at (y ∷ ys) zero x is = let same : y ≡ x = cc is in ap (λ (z : _). z ∷ ys) same
-drop_at (y ∷ ys) (suc k) x is = drop_at ys k x is
+-- so many are left, and those behind them are written
+pub record AreBehindWritten {X : Type 0} (Writes : List X → Held → Held → Type 0) (all left : List X) (a b : Held) : Type 0 where
+  pub behind : List X
+  pub whole : left ++ behind ≡ all
+  pub written : Writes behind a b
+  pub image : IsOfSameImage a b
 
--- those that are done once so many are
-abbrev pub last_of : {X : Type 0} → ℕ → List X → List X
-last_of n xs = drop (length xs - n) xs
+module _ {X : Type 0} (Writes : List X → Held → Held → Type 0) (all : List X) where
+  start : (a : Held) → Writes [] a a → AreBehindWritten Writes all all a a
+  start a none = record { behind = []; whole = append-nil all; written = none; image = image_same a }
 
--- the next one
-abbrev pub next_place : {X : Type 0} → ℕ → List X → ℕ
-next_place n xs = length xs - 1 - n
+  step : (left rest : List X) (x : X) (a b c : Held) → left ≡ rest ++ x ∷ [] → (so_far : AreBehindWritten Writes all left a b) → Writes (x ∷ so_far.behind) a c → IsOfSameImage b c
+      → AreBehindWritten Writes all rest a c
+  step left rest x a b c is so_far written image = record {
+    behind = x ∷ so_far.behind;
+    whole = sym (append_assoc rest (x ∷ []) so_far.behind) ∙ ap (λ (l : List X). l ++ so_far.behind) (sym is) ∙ so_far.whole;
+    written = written;
+    image = image_on a b c so_far.image image;
+  }
 
-last_none : {X : Type 0} (xs : List X) → last_of 0 xs ≡ []
-last_none xs = drop_all (length xs - 0) xs (omega arith)
-
-last_next : {X : Type 0} (xs : List X) (n : ℕ) (x : X) → n < length xs → slice_get xs (next_place n xs) ≡ Some x → last_of (n + 1) xs ≡ x ∷ last_of n xs
-last_next xs n x more is =
-    let before : length xs - (n + 1) ≡ length xs - 1 - n = omega arith in
-    let behind : suc (length xs - 1 - n) ≡ length xs - n = omega (arith, more) in
-    ap (λ (m : ℕ). drop m xs) before ∙ drop_at xs (length xs - 1 - n) x is ∙ ap (λ (m : ℕ). x ∷ drop m xs) behind
-
-last_all : {X : Type 0} (xs : List X) (n : ℕ) → length xs ≤ n → last_of n xs ≡ xs
-last_all xs n enough = let none : length xs - n ≡ 0 = omega (arith, enough) in ap (λ (m : ℕ). drop m xs) none
-
--- the next one as it is read
-pub next_at : {X : Type 0} (xs : List X) (n : ℕ) (x : X) → n < length xs → x ≡ get_or xs (next_place n xs) x → slice_get xs (next_place n xs) ≡ Some x
-next_at xs n x more is = let within : length xs - 1 - n < length xs = omega (arith, more) in slice_get-get_or xs (length xs - 1 - n) x within ∙ ap Some (sym is)
-
-pub next_note : {X Y : Type 0} (view : X → Y) (xs : List X) (n : ℕ) (x : X) → n < length xs → x ≡ get_or xs (next_place n xs) x → slice_get (map view xs) (next_place n (map view xs)) ≡ Some (view x)
-next_note view xs n x more is =
-    ap (λ (m : ℕ). slice_get (map view xs) (m - 1 - n)) (length-map xs view) ∙ slice_get-map view xs (next_place n xs) ∙ ap (option_map view) (next_at xs n x more is)
-
-pub among_by : {X : Type 0} (xs : List X) (k : ℕ) (x : X) → slice_get xs k ≡ Some x → Contains xs x
-among_by [] k x is = absurd (cc is)
-among_by (y ∷ ys) zero x is = let same : y ≡ x = cc is in (zero, omega arith, same)
-among_by (y ∷ ys) (suc k) x is = later y ys x (among_by ys k x is)
+  pub among : (left rest : List X) (x : X) (a b : Held) → left ≡ rest ++ x ∷ [] → AreBehindWritten Writes all left a b → Contains all x
+  among left rest x a b is so_far =
+      subst (λ (l : List X). Contains l x) (ap (λ (l : List X). l ++ so_far.behind) (sym is) ∙ so_far.whole)
+      (Contains-append_left (rest ++ x ∷ []) so_far.behind x (Contains-append_right rest (x ∷ []) x (zero, omega arith, refl)))
 
 -- ---- the loops
 
-abbrev pub CleanSoFar : List CleanNote → ℕ → Held → Held → Type 0
-CleanSoFar notes n a b = WritesClean (last_of n notes) a b × IsOfSameImage a b
+abbrev pub CleanSoFar : List CleanNote → List CleanNote → Held → Held → Type 0
+CleanSoFar notes left a b = AreBehindWritten WritesClean notes left a b
 
-pub clean_start : (notes : List CleanNote) (a : Held) → CleanSoFar notes 0 a a
-clean_start notes a = (
-  subst (λ (l : List CleanNote). WritesClean l a a) (sym (last_none notes))
-      (unwritten (AreKnownClean [] (table a)) (cleaned [] (table a)) a (table_same (table a))),
-  image_same a,
-)
+pub clean_start : (notes : List CleanNote) (a : Held) → CleanSoFar notes notes a a
+clean_start notes a = start WritesClean notes a (unwritten (AreKnownClean [] (table a)) (cleaned [] (table a)) a (table_same (table a)))
 
-pub clean_step : (notes : List CleanNote) (n : ℕ) (note : CleanNote) (a b c : Held) → n < length notes → slice_get notes (next_place n notes) ≡ Some note → CleanSoFar notes n a b
-    → IsEdit note.path (after_clean note (table b)) b c → IsOfSameImage b c → CleanSoFar notes (n + 1) a c
-clean_step notes n note a b c more is sofar edit image = (
-  subst (λ (l : List CleanNote). WritesClean l a c) (sym (last_next notes n note more is))
-      (clean_next note (last_of n notes) a b c sofar.0 edit),
-  image_on a b c sofar.1 image,
-)
+pub clean_step : (notes left rest : List CleanNote) (note : CleanNote) (a b c : Held) → left ≡ rest ++ note ∷ [] → CleanSoFar notes left a b
+    → IsEdit note.path (after_clean note (table b)) b c → IsOfSameImage b c → CleanSoFar notes rest a c
+clean_step notes left rest note a b c is so_far edit image =
+    step WritesClean notes left rest note a b c is so_far (clean_next note so_far.behind a b c so_far.written edit) image
 
-pub clean_end : (notes : List CleanNote) (n : ℕ) (a b : Held) → length notes ≤ n → CleanSoFar notes n a b → WritesClean notes a b
-clean_end notes n a b enough sofar = subst (λ (l : List CleanNote). WritesClean l a b) (last_all notes n enough) sofar.0
+abbrev pub GoneSoFar : List (List ℕ) → List (List ℕ) → Held → Held → Type 0
+GoneSoFar gone left a b = AreBehindWritten WritesGone gone left a b
 
-abbrev pub GoneSoFar : List (List ℕ) → ℕ → Held → Held → Type 0
-GoneSoFar gone n a b = WritesGone (last_of n gone) a b × IsOfSameImage a b
+pub gone_start : (gone : List (List ℕ)) (a : Held) → GoneSoFar gone gone a a
+gone_start gone a = start WritesGone gone a (unwritten (AreKnownGone [] (table a)) (forgotten [] (table a)) a (table_same (table a)))
 
-pub gone_start : (gone : List (List ℕ)) (a : Held) → GoneSoFar gone 0 a a
-gone_start gone a = (
-  subst (λ (l : List (List ℕ)). WritesGone l a a) (sym (last_none gone))
-      (unwritten (AreKnownGone [] (table a)) (forgotten [] (table a)) a (table_same (table a))),
-  image_same a,
-)
+pub gone_step : (gone left rest : List (List ℕ)) (dir : List ℕ) (a b c : Held) → left ≡ rest ++ dir ∷ [] → GoneSoFar gone left a b
+    → IsEdit dir (after_cache dir None (table b)) b c → IsOfSameImage b c → GoneSoFar gone rest a c
+gone_step gone left rest dir a b c is so_far edit image =
+    step WritesGone gone left rest dir a b c is so_far (gone_next dir so_far.behind a b c so_far.written edit) image
 
-pub gone_step : (gone : List (List ℕ)) (n : ℕ) (dir : List ℕ) (a b c : Held) → n < length gone → slice_get gone (next_place n gone) ≡ Some dir → GoneSoFar gone n a b
-    → IsEdit dir (after_cache dir None (table b)) b c → IsOfSameImage b c → GoneSoFar gone (n + 1) a c
-gone_step gone n dir a b c more is sofar edit image = (
-  subst (λ (l : List (List ℕ)). WritesGone l a c) (sym (last_next gone n dir more is))
-      (gone_next dir (last_of n gone) a b c sofar.0 edit),
-  image_on a b c sofar.1 image,
-)
+abbrev pub SeenSoFar : List DirNote → List DirNote → Held → Held → Type 0
+SeenSoFar notes left a b = AreBehindWritten WritesSeen notes left a b
 
-pub gone_end : (gone : List (List ℕ)) (n : ℕ) (a b : Held) → length gone ≤ n → GoneSoFar gone n a b → WritesGone gone a b
-gone_end gone n a b enough sofar = subst (λ (l : List (List ℕ)). WritesGone l a b) (last_all gone n enough) sofar.0
+pub seen_start : (notes : List DirNote) (a : Held) → SeenSoFar notes notes a a
+seen_start notes a = start WritesSeen notes a (unwritten (AreKnownSeen [] (table a)) (cached [] (table a)) a (table_same (table a)))
 
-abbrev pub SeenSoFar : List DirNote → ℕ → Held → Held → Type 0
-SeenSoFar notes n a b = WritesSeen (last_of n notes) a b × IsOfSameImage a b
-
-pub seen_start : (notes : List DirNote) (a : Held) → SeenSoFar notes 0 a a
-seen_start notes a = (
-  subst (λ (l : List DirNote). WritesSeen l a a) (sym (last_none notes))
-      (unwritten (AreKnownSeen [] (table a)) (cached [] (table a)) a (table_same (table a))),
-  image_same a,
-)
-
-pub seen_step : (notes : List DirNote) (n : ℕ) (note : DirNote) (a b c : Held) → n < length notes → slice_get notes (next_place n notes) ≡ Some note → SeenSoFar notes n a b
-    → IsEdit note.dir (after_cache note.dir (Some note.stamp) (table b)) b c → IsOfSameImage b c → SeenSoFar notes (n + 1) a c
-seen_step notes n note a b c more is sofar edit image = (
-  subst (λ (l : List DirNote). WritesSeen l a c) (sym (last_next notes n note more is))
-      (seen_next note (last_of n notes) a b c sofar.0 edit),
-  image_on a b c sofar.1 image,
-)
-
-pub seen_end : (notes : List DirNote) (n : ℕ) (a b : Held) → length notes ≤ n → SeenSoFar notes n a b → WritesSeen notes a b
-seen_end notes n a b enough sofar = subst (λ (l : List DirNote). WritesSeen l a b) (last_all notes n enough) sofar.0
+pub seen_step : (notes left rest : List DirNote) (note : DirNote) (a b c : Held) → left ≡ rest ++ note ∷ [] → SeenSoFar notes left a b
+    → IsEdit note.dir (after_cache note.dir (Some note.stamp) (table b)) b c → IsOfSameImage b c → SeenSoFar notes rest a c
+seen_step notes left rest note a b c is so_far edit image =
+    step WritesSeen notes left rest note a b c is so_far (seen_next note so_far.behind a b c so_far.written edit) image
 
 -- ---- a directory that may be cached stays so
 

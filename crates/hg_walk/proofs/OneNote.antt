@@ -72,7 +72,7 @@ clean_more note rest t mid same = record {
   caches = same.caches;
 }
 
-pub later : {X : Type 0} (x : X) (xs : List X) (y : X) → Contains xs y → Contains (x ∷ xs) y
+later : {X : Type 0} (x : X) (xs : List X) (y : X) → Contains xs y → Contains (x ∷ xs) y
 later x xs y among = (suc among.0, omega (arith, among.1), among.2)
 
 pub first : {X : Type 0} (x : X) (xs : List X) → Contains (x ∷ xs) x

@@ -63,14 +63,14 @@ fn put_clean(mixed: &mut Mixed<'_>, note: &Clean) -> Result<(), OutOfMemory>
     }
 }
 
-// Each clean path, the last first: of two notes of one path the first stands.
-fn put_all_clean(mixed: &mut Mixed<'_>, notes: &[Clean]) -> Result<(), OutOfMemory>
-    requires { AreAllFiles (map clean_note notes.now) }
-    ensures written { OnOk result (WritesClean (map clean_note notes.now) mixed.old mixed.new) }
+// Each clean path, the last first: of two notes of one path the first stands. A note goes once it is written, so that the table has its room.
+fn put_all_clean(mixed: &mut Mixed<'_>, mut notes: Vec<Clean>) -> Result<(), OutOfMemory>
+    requires { AreAllFiles (map clean_note notes.items) }
+    ensures written { OnOk result (WritesClean (map clean_note notes.items) mixed.old mixed.new) }
     ensures image { IsOfSameImage mixed.old mixed.new }
 {
-    for i in 0..notes.len() {
-        put_clean(mixed, &notes[notes.len() - 1 - i])?;
+    while let Some(note) = notes.pop() {
+        put_clean(mixed, &note)?;
     }
     Ok(())
 }
@@ -85,13 +85,13 @@ fn forget(mixed: &mut Mixed<'_>, dir: &Path) -> Result<(), OutOfMemory>
 }
 
 // So are some.
-fn forget_all(mixed: &mut Mixed<'_>, gone: &[Path]) -> Result<(), OutOfMemory>
-    requires { AreAllBare (table mixed.old) gone.now }
-    ensures written { OnOk result (WritesGone gone.now mixed.old mixed.new) }
+fn forget_all(mixed: &mut Mixed<'_>, mut gone: Vec<Path>) -> Result<(), OutOfMemory>
+    requires { AreAllBare (table mixed.old) gone.items }
+    ensures written { OnOk result (WritesGone gone.items mixed.old mixed.new) }
     ensures image { IsOfSameImage mixed.old mixed.new }
 {
-    for i in 0..gone.len() {
-        forget(mixed, &gone[gone.len() - 1 - i])?;
+    while let Some(dir) = gone.pop() {
+        forget(mixed, &dir)?;
     }
     Ok(())
 }
@@ -106,13 +106,13 @@ fn put_seen(mixed: &mut Mixed<'_>, note: &ListedDir) -> Result<(), OutOfMemory>
 }
 
 // So are some, the last first.
-fn put_all_seen(mixed: &mut Mixed<'_>, notes: &[ListedDir]) -> Result<(), OutOfMemory>
-    requires { AreAllCacheable (table mixed.old) (map dir_note notes.now) }
-    ensures written { OnOk result (WritesSeen (map dir_note notes.now) mixed.old mixed.new) }
+fn put_all_seen(mixed: &mut Mixed<'_>, mut notes: Vec<ListedDir>) -> Result<(), OutOfMemory>
+    requires { AreAllCacheable (table mixed.old) (map dir_note notes.items) }
+    ensures written { OnOk result (WritesSeen (map dir_note notes.items) mixed.old mixed.new) }
     ensures image { IsOfSameImage mixed.old mixed.new }
 {
-    for i in 0..notes.len() {
-        put_seen(mixed, &notes[notes.len() - 1 - i])?;
+    while let Some(note) = notes.pop() {
+        put_seen(mixed, &note)?;
     }
     Ok(())
 }
@@ -128,17 +128,18 @@ fn put_hash(mixed: &mut Mixed<'_>, hash: Option<[u8; 20]>)
 }
 
 /// Writes what a walk noted into the table that it walked over. Where memory is wanting, some of it may be written.
-pub fn apply(mixed: &mut Mixed<'_>, notes: &Notes) -> Result<(), OutOfMemory>
-    requires { CanApply notes.now (table mixed.old) }
-    ensures table { OnOk result (IsSame (table mixed.new) (applied notes.now (table mixed.old))) }
-    ensures changed { OnOk result (MarksNotes notes.now mixed.old mixed.new) }
-    ensures lent { OnOk result (LendsNotes notes.now mixed.old mixed.new) }
+pub fn apply(mixed: &mut Mixed<'_>, notes: Notes) -> Result<(), OutOfMemory>
+    requires { CanApply notes (table mixed.old) }
+    ensures table { OnOk result (IsSame (table mixed.new) (applied notes (table mixed.old))) }
+    ensures changed { OnOk result (MarksNotes notes mixed.old mixed.new) }
+    ensures lent { OnOk result (LendsNotes notes mixed.old mixed.new) }
     ensures places { OnOk result (ArePlacedAsBefore mixed.old mixed.new) }
     ensures image { IsOfSameImage mixed.old mixed.new }
 {
-    put_all_clean(mixed, notes.clean())?;
-    forget_all(mixed, notes.gone())?;
-    put_all_seen(mixed, notes.seen())?;
-    put_hash(mixed, notes.hash());
+    let (clean, gone, seen, hash) = notes.into_lists();
+    put_all_clean(mixed, clean)?;
+    forget_all(mixed, gone)?;
+    put_all_seen(mixed, seen)?;
+    put_hash(mixed, hash);
     Ok(())
 }

@@ -86,27 +86,13 @@ impl Notes {
         self.hash = Some(hash);
     }
 
-    pub(crate) fn clean(&self) -> &[Clean]
-        ensures { map clean_note result.now ≡ self.now.clean }
+    /// The clean paths, the directories that aren't cached any more, the listed ones, and the hash.
+    pub(crate) fn into_lists(self) -> (Vec<Clean>, Vec<Path>, Vec<ListedDir>, Option<[u8; 20]>)
+        ensures clean { map clean_note result.0.items ≡ self.clean }
+        ensures gone { result.1.items ≡ self.gone }
+        ensures seen { map dir_note result.2.items ≡ self.seen }
+        ensures hash { result.3 ≡ self.hash }
     {
-        self.clean.as_slice()
-    }
-
-    pub(crate) fn seen(&self) -> &[ListedDir]
-        ensures { map dir_note result.now ≡ self.now.seen }
-    {
-        self.seen.as_slice()
-    }
-
-    pub(crate) fn gone(&self) -> &[Path]
-        ensures { result.now ≡ self.now.gone }
-    {
-        self.gone.as_slice()
-    }
-
-    pub(crate) fn hash(&self) -> Option<[u8; 20]>
-        ensures { result ≡ self.now.hash }
-    {
-        self.hash
+        (self.clean, self.gone, self.seen, self.hash)
     }
 }

@@ -93,7 +93,7 @@ fn walked(
     wanted: Wanted,
 ) -> Result<String, Fail> {
     let found = walk(alloc, mixed, tree, shelf, &mut Builds::new(), wanted)?;
-    apply(mixed, &found.notes)?;
+    apply(mixed, found.notes)?;
     text_of(alloc, &found.rows, &found.warnings)
 }
 

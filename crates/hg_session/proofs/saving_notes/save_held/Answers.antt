@@ -15,14 +15,14 @@ returns-in_err-same-clause-saves g c start recorded since news =
     let b : Course = course (g.S.Shelf.history c.args.shelf.now) (g.S.Shelf.images c.args.shelf.now) in
     let s : Course = course (g.S.Shelf.history c.stands.new.shelf) (g.S.Shelf.images c.stands.new.shelf) in
     rw (p.1, p.2)
-    (held_unwritten start b s s c.requires.held c.stands.ensures.passes c.stands.ensures.kept (goes_same s) c.args.loaded.now c.requires.whole recorded c.args.mixed.now since c.args.notes.now
+    (held_unwritten start b s s c.requires.held c.stands.ensures.passes c.stands.ensures.kept (goes_same s) c.args.loaded.now c.requires.whole recorded c.args.mixed.now since c.args.notes
     (g.S.Shelf.faults c.args.shelf.now) (g.S.Shelf.faults c.stands.new.shelf) (unwritten b.history s.history c.stands.ensures.passes) c.in_err-same.field-0.0)
 
 pub returns-then-not-same-clause-saves : goal.returns-then-not-same-clause-saves
 returns-then-not-same-clause-saves g c start recorded since news =
     let b : Course = course (g.S.Shelf.history c.args.shelf.now) (g.S.Shelf.images c.args.shelf.now) in
     let s : Course = course (g.S.Shelf.history c.stands.new.shelf) (g.S.Shelf.images c.stands.new.shelf) in
-    held_other start b s s c.requires.held c.stands.ensures.passes c.stands.ensures.kept (goes_same s) c.args.loaded.now c.requires.whole recorded c.args.mixed.now since c.args.notes.now
+    held_other start b s s c.requires.held c.stands.ensures.passes c.stands.ensures.kept (goes_same s) c.args.loaded.now c.requires.whole recorded c.args.mixed.now since c.args.notes
     (g.S.Shelf.faults c.args.shelf.now) (g.S.Shelf.faults c.stands.new.shelf)
     (λ told stands. true≢false (sym ((c.in_ok-same.ensures.found told).1 stands) ∙ c.if-not-same.true)) (unwritten b.history s.history c.stands.ensures.passes)
 
@@ -32,7 +32,7 @@ returns-in_err-apply-clause-saves g c start recorded since news =
     let b : Course = course (g.S.Shelf.history c.args.shelf.now) (g.S.Shelf.images c.args.shelf.now) in
     let s : Course = course (g.S.Shelf.history c.stands.new.shelf) (g.S.Shelf.images c.stands.new.shelf) in
     rw (p.1, p.2)
-    (held_unwritten start b s s c.requires.held c.stands.ensures.passes c.stands.ensures.kept (goes_same s) c.args.loaded.now c.requires.whole recorded c.args.mixed.now since c.args.notes.now
+    (held_unwritten start b s s c.requires.held c.stands.ensures.passes c.stands.ensures.kept (goes_same s) c.args.loaded.now c.requires.whole recorded c.args.mixed.now since c.args.notes
     (g.S.Shelf.faults c.args.shelf.now) (g.S.Shelf.faults c.stands.new.shelf) (unwritten b.history s.history c.stands.ensures.passes) a_fault.OutOfMemory)
 
 pub returns-clause-saves : goal.returns-clause-saves
@@ -41,7 +41,7 @@ returns-clause-saves g c start recorded since news =
     let s : Course = course (g.S.Shelf.history c.stands.new.shelf) (g.S.Shelf.images c.stands.new.shelf) in
     let d : Course = course (g.S.Shelf.history c.save.new.shelf) (g.S.Shelf.images c.save.new.shelf) in
     rw c.unless_unfit.ensures
-    (held_saved start b s d c.requires.held c.stands.ensures.passes c.stands.ensures.kept c.save.ensures.kept c.args.loaded.now c.requires.whole recorded c.args.mixed.now since c.args.notes.now
+    (held_saved start b s d c.requires.held c.stands.ensures.passes c.stands.ensures.kept c.save.ensures.kept c.args.loaded.now c.requires.whole recorded c.args.mixed.now since c.args.notes
     (g.S.Shelf.faults c.args.shelf.now) (g.S.Shelf.faults c.save.new.shelf) (λ told. (c.in_ok-same.ensures.found told).0 c.if-not-same.false)
     c.apply.new.mixed c.in_ok-apply.ensures.image c.requires.over c.requires.nodes c.in_ok-apply.ensures.table c.in_ok-apply.ensures.lent news c.save.ensures.lent c.in_ok-apply.ensures.changed.marked
     (λ unset i. course (g.S.Shelf.history (c.save.ensures.still unset i)) (g.S.Shelf.images (c.save.ensures.still unset i)))

@@ -1,8 +1,11 @@
-use Rattle.std.specs.Prelude.{map}
+use Rattle.std.specs.Prelude.{map, vec_len}
 use Rattle.hg_walk.specs.Applying.{clean_note}
 use Rattle.hg_walk.proofs.Applied.{CleanSoFar}
 use Rattle.hg_walk.proofs.applying.put_all_clean.Given as goal
 
--- the last notes are written
-abbrev pub invariant-loop-i : goal.invariant-loop-i
-invariant-loop-i l = CleanSoFar (map clean_note l.notes) l.i l.initial.mixed l.mixed
+-- the notes behind those that are left are written
+abbrev pub invariant-loop-note : goal.invariant-loop-note
+invariant-loop-note l = CleanSoFar (map clean_note l.initial.notes.items) (map clean_note l.notes.items) l.initial.mixed l.mixed
+
+abbrev pub decreases-loop-note : goal.decreases-loop-note
+decreases-loop-note l = vec_len l.notes
