@@ -222,7 +222,7 @@ module _ (a b c : Course) (passes : Passes a.history b.history) (goes : Goes b c
     bytes_is = image.bytes ∙ begun.nodes
 
     lends_made : IsLentRight made → LendsUnchanged made
-    lends_made = lends_by opened made image.docket image.bytes begun.image begun.lent keeps
+    lends_made = lends_by opened made image.docket image.bytes begun.image begun.lent begun.placed keeps
 
     abbrev made_by : (before after : ℕ) → IsMade Does (record { old = a.history; new = c.history; before = before; after = after }) (table made) lines made.changed
     made_by before after = record { loaded = recorded; read = read_first; does = does_from }

@@ -11,7 +11,7 @@ use Rattle.hg_docket.specs.Docket.{Contents, docket_of, docket_refusal}
 use Rattle.hg_entry.specs.Table.{Table}
 use Rattle.hg_image.specs.Reading.{RecordFault, of_data}
 use Rattle.hg_image.specs.declared.fault.NodeFault.{NodeFault}
-use Rattle.hg_mixed.specs.Edits.{IsOfSameImage, IsSame}
+use Rattle.hg_mixed.specs.Edits.{ArePlacedAsBefore, IsOfSameImage, IsSame}
 use Rattle.hg_mixed.specs.Held.{Held, table}
 use Rattle.hg_ops.proofs.Added.{same_table}
 use Rattle.hg_publish.specs.Over.{HasUsed, IsLentRight}
@@ -226,7 +226,7 @@ module _ (start : History) (b s c : Course) (ours : b.history.ours ≡ true) (pa
         (one_load start since.mid (loads.0 ∷ []) loaded (keep_earlier since.mid got start.last mid_got keep) loads.1 sound) b.history.last since.past.later (omega arith) (there calm))
 
     module _ (made : Held) (image : IsOfSameImage opened made) (begun : opened.docket ≡ docket_of bytes) (over : opened.bytes ≡ loaded.nodes.items) (writes : IsSame (table made) (applied notes (table opened)))
-        (lends : LendsNotes notes opened made) (news : AreNews recorded notes) (whole : made.changed ≡ true → IsLentRight made) where
+        (lends : LendsNotes notes opened made) (placed : ArePlacedAsBefore opened made) (news : AreNews recorded notes) (whole : made.changed ≡ true → IsLentRight made) where
       docket_is : made.docket ≡ docket_of bytes
       docket_is = image.docket ∙ begun
 
@@ -235,8 +235,8 @@ module _ (start : History) (b s c : Course) (ours : b.history.ours ≡ true) (pa
 
       lends_made : made.changed ≡ true → LendsUnchanged made
       lends_made set =
-          lends_by opened made image.docket image.bytes since.image since.lent
-          (notes_keep opened made notes (subst (λ (t : Table). AreNews t notes) (sym (one_table (table opened) recorded since.same)) news) writes lends) (whole set)
+          lends_by opened made image.docket image.bytes since.image since.lent since.placed
+          (notes_keep opened made notes (subst (λ (t : Table). AreNews t notes) (sym (one_table (table opened) recorded since.same)) news) writes lends placed) (whole set)
 
       made_is : table made ≡ applied notes recorded
       made_is = one_table (table made) (applied notes (table opened)) writes ∙ ap (applied notes) (one_table (table opened) recorded since.same)

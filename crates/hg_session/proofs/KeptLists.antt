@@ -27,7 +27,7 @@ use Rattle.hg_ops.specs.declared.copy_refusal.CopyRefusal.{CopyRefusal}
 use Rattle.hg_ops.specs.declared.refusal.Refusal.{Refusal}
 use Rattle.hg_ops.specs.declared.refusal.Refusal.TheVariants as a_refusal
 use Rattle.hg_session.specs.Acts.{steps_of}
-use Rattle.hg_session.specs.Kept.{KeepsLent}
+use Rattle.hg_session.specs.Kept.{IsSameBelow, KeepsLent, KeepsTexts}
 use Rattle.hg_session.specs.declared.acting.Changing.{Changing}
 use Rattle.hg_session.specs.declared.acting.Changing.TheVariants as a_change
 use Rattle.hg_tree.specs.History.{History}
@@ -123,12 +123,12 @@ module _ (mark : Bool) (word : List ℕ) (old mid new : Held) (so_far : KeepsSoF
   }
 
 -- where nothing differs below a directory in the end, no mark has moved there
-pub keeps_lent : (mark : Bool) (old new : Held) → KeepsSoFar mark old new → KeepsLent old new
-keeps_lent mark old new so_far dir same = by (so_far.lent dir)
+pub keeps_lent : (mark : Bool) (old new : Held) → KeepsSoFar mark old new → KeepsTexts old new → KeepsLent old new
+keeps_lent mark old new so_far texts = record { lists = λ dir same. by dir same (so_far.lent dir); texts = texts }
   where
-    by : (is_lent new dir ≡ is_lent old dir) ⊎ HasMoved mark dir (table old) (table new) → is_lent new dir ≡ is_lent old dir
-    by (inl kept) = kept
-    by (inr moved) = absurd (never mark (sym moved.3 ∙ ap is_tracked_entry (same.entries moved.0 moved.1) ∙ moved.2))
+    by : (dir : Option (List ℕ)) → IsSameBelow dir (table old) (table new) → (is_lent new dir ≡ is_lent old dir) ⊎ HasMoved mark dir (table old) (table new) → is_lent new dir ≡ is_lent old dir
+    by dir same (inl kept) = kept
+    by dir same (inr moved) = absurd (never mark (sym moved.3 ∙ ap is_tracked_entry (same.entries moved.0 moved.1) ∙ moved.2))
 
 -- ---- `add`
 
@@ -207,11 +207,11 @@ moves_copy source target before after old None new copies =
     moves_after_add target old new (copies_untracked source target before copies.comes.mid old (words_refusal source target old) copies.comes.looked.refusal) copies.table.entries
 
 pub copy_keeps : (source target : List ℕ) (before after : History) (old : Held) (refused : Option CopyRefusal) (new : Held)
-    → Copies source target before after (table old) refused (table new) → Lends target (IsSame (table new) (table old)) old new → KeepsLent old new
-copy_keeps source target before after old refused new copies lends =
-    keeps_lent true old new (keeps_on true target old old new (keeps_none true old) (moves_copy source target before after (table old) refused (table new) copies) lends)
+    → Copies source target before after (table old) refused (table new) → Lends target (IsSame (table new) (table old)) old new → KeepsTexts old new → KeepsLent old new
+copy_keeps source target before after old refused new copies lends texts =
+    keeps_lent true old new (keeps_on true target old old new (keeps_none true old) (moves_copy source target before after (table old) refused (table new) copies) lends) texts
 
 -- ---- new parents
 
-pub parents_keep : (old new : Held) → LendsParents old new → KeepsLent old new
-parents_keep old new lends dir same = lends.kept dir (λ at above. (same.entries at above, same.sources at above))
+pub parents_keep : (old new : Held) → LendsParents old new → KeepsTexts old new → KeepsLent old new
+parents_keep old new lends texts = record { lists = λ dir same. lends.kept dir (λ at above. (same.entries at above, same.sources at above)); texts = texts }

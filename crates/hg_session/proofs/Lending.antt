@@ -1,16 +1,19 @@
 -- Which lists are lent of a table that was opened, and once it was changed.
 use Rattle.std.proofs.Common.{ℕ, ◌≡◌, ◌≤◌, true, List, length, take, Option, sym, ap, ◌∙◌, subst, arith}
+use Rattle.std.specs.Prelude.{option_map}
+use Rattle.std.specs.Option.{option_and_then}
 use Rattle.std.proofs.lemmas.List.{take_all}
 use Rattle.hg_docket.specs.Docket.{Contents, view}
 use Rattle.hg_entry.specs.Table.{Table}
-use Rattle.hg_image.specs.Reading.{table_of}
+use Rattle.hg_image.specs.Reading.{row_at, table_of}
 use Rattle.hg_image.specs.Rows.{Row, list_rows, rows_of}
 use Rattle.hg_image.specs.View.{rows}
 use Rattle.hg_image.specs.Walk.{levels}
 use Rattle.hg_image.specs.declared.opened.Image.{Image}
 use Rattle.hg_mixed.specs.Edits.{IsSame}
 use Rattle.hg_mixed.specs.Held.{Held, has_list, image_table, is_lent, table}
-use Rattle.hg_mixed.specs.Shown.{AreLentWhole}
+use Rattle.hg_mixed.specs.Opened.{source_place}
+use Rattle.hg_mixed.specs.Shown.{AreLentWhole, ArePlacesOf}
 use Rattle.hg_publish.specs.Over.{IsLentRight}
 use Rattle.hg_session.proofs.SameTables.{one_table}
 use Rattle.hg_session.specs.Kept.{IsSameBelow, KeepsLent}
@@ -35,6 +38,9 @@ module _ (image : Image) (opened : Held) (docket : opened.docket ≡ view image.
   pub lists_same : ((dir : Option (List ℕ)) → is_lent opened dir ≡ has_list (rows image) dir) → (dir : Option (List ℕ)) → is_lent opened dir ≡ has_list (rows_of opened.docket opened.bytes) dir
   lists_same lent dir = lent dir ∙ ap (λ (l : List Row). has_list l dir) (sym rows_same)
 
+  pub places_same : ArePlacesOf (rows image) opened → ArePlacesOf (rows_of opened.docket opened.bytes) opened
+  places_same placed = subst (λ (l : List Row). ArePlacesOf l opened) (sym rows_same) placed
+
 -- ---- and one that was changed since
 
 -- what is lent below is as the image has it
@@ -47,7 +53,7 @@ ended_by held whole dir lent = record {
 }
 
 module _ (opened made : Held) (docket : made.docket ≡ opened.docket) (bytes : made.bytes ≡ opened.bytes) (image : IsSame (table opened) (image_table opened))
-    (lent : (dir : Option (List ℕ)) → is_lent opened dir ≡ has_list (rows_of opened.docket opened.bytes) dir) (keeps : KeepsLent opened made) where
+    (lent : (dir : Option (List ℕ)) → is_lent opened dir ≡ has_list (rows_of opened.docket opened.bytes) dir) (placed : ArePlacesOf (rows_of opened.docket opened.bytes) opened) (keeps : KeepsLent opened made) where
   rows_kept : rows_of made.docket made.bytes ≡ rows_of opened.docket opened.bytes
   rows_kept = λ i. rows_of (docket i) (bytes i)
 
@@ -57,7 +63,11 @@ module _ (opened made : Held) (docket : made.docket ≡ opened.docket) (bytes : 
   pub lends_by : IsLentRight made → LendsUnchanged made
   lends_by whole = record {
     kept = λ dir same.
-        keeps dir (subst (λ (t : Table). IsSameBelow dir t (table made)) opened_is same) ∙ lent dir ∙ ap (λ (l : List Row). has_list l dir) (sym rows_kept);
+        keeps.lists dir (subst (λ (t : Table). IsSameBelow dir t (table made)) opened_is same) ∙ lent dir ∙ ap (λ (l : List Row). has_list l dir) (sym rows_kept);
     ended = ended_by made whole.lists;
     places = whole.places;
+    texts = λ at had has.
+        keeps.texts.texts at (sym (ap (λ (t : Table). t.nodes at) opened_is) ∙ had) has ∙ placed.texts at ∙ ap (λ (l : List Row). option_map (λ row. row.rec.path_start) (row_at l at)) (sym rows_kept);
+    sources = λ at source had has.
+        keeps.texts.sources at source (sym (ap (λ (t : Table). t.sources at) opened_is) ∙ had) has ∙ placed.sources at ∙ ap (λ (l : List Row). option_and_then source_place (row_at l at)) (sym rows_kept);
   }

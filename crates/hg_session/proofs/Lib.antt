@@ -16,6 +16,7 @@ pub mod GoodStays
 pub mod GoodTables
 pub mod HeldNotes
 pub mod KeptLists
+pub mod KeptTexts
 pub mod Lending
 pub mod Listings
 pub mod Locked

@@ -9,10 +9,11 @@ use Rattle.hg_base.specs.Within.{is_above}
 use Rattle.hg_entry.specs.Entry.{EntryData}
 use Rattle.hg_entry.specs.Steps.{seen_clean}
 use Rattle.hg_entry.specs.Table.{Table}
-use Rattle.hg_mixed.specs.Edits.{IsSame}
+use Rattle.hg_mixed.specs.Edits.{ArePlacedAsBefore, IsSame}
 use Rattle.hg_mixed.specs.Held.{Held, table}
 use Rattle.hg_mtime.proofs.Tests.{noted_vouch}
 use Rattle.hg_mtime.specs.Vouching.{vouches}
+use Rattle.hg_session.proofs.KeptTexts.{placed_texts}
 use Rattle.hg_session.specs.Kept.{AreNews, IsNews, IsSameBelow, KeepsLent}
 use Rattle.hg_tree.specs.History.{History}
 use Rattle.hg_walk.proofs.Growing.{found}
@@ -75,10 +76,13 @@ module _ (t : Table) (notes : NotesData) (news : AreNews t notes) (dir : Option 
   }
 
 -- so each list below which nothing differs is lent still
-pub notes_keep : (old new : Held) (notes : NotesData) → AreNews (table old) notes → IsSame (table new) (applied notes (table old)) → LendsNotes notes old new → KeepsLent old new
-notes_keep old new notes news made lends dir same = lends.kept dir (known_below (table old) notes news dir (record {
-  nodes = λ at above. sym (made.nodes at) ∙ same.nodes at above;
-  entries = λ at above. sym (made.entries at) ∙ same.entries at above;
-  sources = λ at above. sym (made.sources at) ∙ same.sources at above;
-  caches = λ at above. sym (made.caches at) ∙ same.caches at above;
-}))
+pub notes_keep : (old new : Held) (notes : NotesData) → AreNews (table old) notes → IsSame (table new) (applied notes (table old)) → LendsNotes notes old new → ArePlacedAsBefore old new → KeepsLent old new
+notes_keep old new notes news made lends placed = record {
+  lists = λ dir same. lends.kept dir (known_below (table old) notes news dir (record {
+    nodes = λ at above. sym (made.nodes at) ∙ same.nodes at above;
+    entries = λ at above. sym (made.entries at) ∙ same.entries at above;
+    sources = λ at above. sym (made.sources at) ∙ same.sources at above;
+    caches = λ at above. sym (made.caches at) ∙ same.caches at above;
+  }));
+  texts = placed_texts old new placed;
+}

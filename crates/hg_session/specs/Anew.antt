@@ -10,6 +10,7 @@ use Rattle.hg_entry.specs.Table.{Table}
 use Rattle.hg_mixed.specs.Edits.{IsSame}
 use Rattle.hg_image.specs.Rows.{rows_of}
 use Rattle.hg_mixed.specs.Held.{Held, has_list, image_table, is_lent, table}
+use Rattle.hg_mixed.specs.Shown.{ArePlacesOf}
 use Rattle.hg_publish.specs.Over as over
 use Rattle.hg_publish.specs.Over.{IsPutOver, LeavesLists}
 use Rattle.hg_report.specs.declared.fault.Fault.{Fault}
@@ -38,6 +39,7 @@ pub record IsOpened (loaded : Loaded) (recorded : Table) (opened : Held) : Type 
   pub nodes : opened.bytes ≡ loaded.nodes.items
   pub image : IsSame (table opened) (image_table opened)
   pub lent : (dir : Option (List ℕ)) → is_lent opened dir ≡ has_list (rows_of opened.docket opened.bytes) dir
+  pub placed : ArePlacesOf (rows_of opened.docket opened.bytes) opened
 
 -- ---- what was written
 

@@ -1,11 +1,11 @@
--- Which lists stay lent while a command changes a table in memory: each below which nothing differs.
+-- What stays lent while a command changes a table in memory: each list below which nothing differs, and each text that is recorded still.
 use Rattle.std.specs.Prelude.{ℕ, ◌≡◌, true, List, [], Option, Some}
 use Rattle.std.specs.List.{Contains}
 use Rattle.hg_base.specs.Within.{is_above}
 use Rattle.hg_entry.specs.Entry.{EntryData}
 use Rattle.hg_entry.specs.Steps.{seen_clean}
 use Rattle.hg_entry.specs.Table.{Table}
-use Rattle.hg_mixed.specs.Held.{Held, is_lent, table}
+use Rattle.hg_mixed.specs.Held.{Held, is_lent, source_at, table, text_at}
 use Rattle.hg_walk.specs.Notes.{CleanNote, NotesData}
 
 -- below a directory nothing differs: no node, no entry, no source and no cache
@@ -15,9 +15,15 @@ pub record IsSameBelow (dir : Option (List ℕ)) (old new : Table) : Type 0 wher
   pub sources : (at : List ℕ) → is_above dir at ≡ true → new.sources at ≡ old.sources at
   pub caches : (at : List ℕ) → is_above dir at ≡ true → new.caches at ≡ old.caches at
 
--- each list below which nothing differs is lent as it was
-abbrev pub KeepsLent : Held → Held → Type 0
-KeepsLent old new = (dir : Option (List ℕ)) → IsSameBelow dir (table old) (table new) → is_lent new dir ≡ is_lent old dir
+-- a text that both tables have is lent as it was: that of a node's path, and that of a copy source
+pub record KeepsTexts (old new : Held) : Type 0 where
+  pub texts : (at : List ℕ) → (table old).nodes at ≡ true → (table new).nodes at ≡ true → text_at new at ≡ text_at old at
+  pub sources : (at source : List ℕ) → (table old).sources at ≡ Some source → (table new).sources at ≡ Some source → source_at new at ≡ source_at old at
+
+-- so is each list below which nothing differs
+pub record KeepsLent (old new : Held) : Type 0 where
+  pub lists : (dir : Option (List ℕ)) → IsSameBelow dir (table old) (table new) → is_lent new dir ≡ is_lent old dir
+  pub texts : KeepsTexts old new
 
 -- ---- notes
 

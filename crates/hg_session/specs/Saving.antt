@@ -11,6 +11,7 @@ use Rattle.hg_image.specs.Reading.{data_reading}
 use Rattle.hg_image.specs.Rows.{rows_of}
 use Rattle.hg_mixed.specs.Edits.{IsSame}
 use Rattle.hg_mixed.specs.Held.{Held, has_list, image_table, is_lent, table}
+use Rattle.hg_mixed.specs.Shown.{ArePlacesOf}
 use Rattle.hg_report.specs.declared.fault.Fault.{Fault}
 use Rattle.hg_report.specs.declared.fault.Fault.TheVariants as a_fault
 use Rattle.hg_save.specs.Loads.{IsTry, Loads, Try, files_at, found_by}
@@ -70,6 +71,7 @@ pub record IsOpenedSince (start now : History) (loaded : Loaded) (recorded : Tab
   pub same : IsSame (table opened) recorded
   pub image : IsSame (table opened) (image_table opened)
   pub lent : (dir : Option (List ℕ)) → is_lent opened dir ≡ has_list (rows_of opened.docket opened.bytes) dir
+  pub placed : ArePlacesOf (rows_of opened.docket opened.bytes) opened
 
 -- what a status makes of the record of this table, which it read in a call: the same with what it noted. It was read before the lock was taken, so
 -- others are asked to keep the data that dockets name until then

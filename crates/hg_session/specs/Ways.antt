@@ -1,5 +1,6 @@
 -- How a changed record is written: anew, or behind the data file that stands.
-use Rattle.std.specs.Prelude.{ℕ, ◌≡◌, ◌<◌, true, List, Option, Some}
+use Rattle.std.specs.Prelude.{ℕ, ◌≡◌, ◌<◌, true, List, Option, Some, option_map}
+use Rattle.std.specs.Option.{option_and_then}
 use Rattle.hg_append.specs.declared.encoding.Encoded.{Encoded}
 use Rattle.hg_append.specs.declared.fault.EncodeFault.{EncodeFault}
 use Rattle.hg_append.specs.declared.way.Way.{Way}
@@ -10,8 +11,10 @@ use Rattle.hg_docket.specs.Docket.{Contents, docket_of}
 use Rattle.hg_docket.specs.Number.{next_name}
 use Rattle.hg_entry.specs.Table.{Table}
 use Rattle.hg_mixed.specs.Edits.{IsSame}
+use Rattle.hg_image.specs.Reading.{row_at}
 use Rattle.hg_image.specs.Rows.{rows_of}
-use Rattle.hg_mixed.specs.Held.{Held, has_list, image_table, is_lent, table}
+use Rattle.hg_mixed.specs.Held.{Held, has_list, image_table, is_lent, source_at, table, text_at}
+use Rattle.hg_mixed.specs.Opened.{source_place}
 use Rattle.hg_mixed.specs.Shown.{ArePlacesOfImage, list_place}
 use Rattle.hg_publish.specs.Over.{IsEncoded}
 use Rattle.hg_save.specs.Loads.{Try, files_at}
@@ -38,12 +41,16 @@ stood_in files = record { docket = docket_in files; file = named_file (docket_in
 abbrev pub stood_by : History → Try → Stood
 stood_by h tried = record { docket = docket_in (files_at h tried.docket); file = named_file (docket_in (files_at h tried.docket)) (files_at h tried.file) }
 
--- a table in memory has the list of a directory lent from the image that it was opened over exactly where the image has one and nothing differs below; and a
--- text that is lent lies where the image has that of the same path
+-- a table in memory has the list of a directory lent from the image that it was opened over exactly where the image has one and nothing differs below; and the
+-- text of a path, or of its copy source, exactly where the image has it too, and where the image has that of the same path
 pub record LendsUnchanged (held : Held) : Type 0 where
   pub kept : (dir : Option (List ℕ)) → IsSameBelow dir (image_table held) (table held) → is_lent held dir ≡ has_list (rows_of held.docket held.bytes) dir
   pub ended : (dir : Option (List ℕ)) → is_lent held dir ≡ true → IsSameBelow dir (image_table held) (table held)
   pub places : ArePlacesOfImage held
+  pub texts : (at : List ℕ) → (image_table held).nodes at ≡ true → (table held).nodes at ≡ true
+      → text_at held at ≡ option_map (λ row. row.rec.path_start) (row_at (rows_of held.docket held.bytes) at)
+  pub sources : (at source : List ℕ) → (image_table held).sources at ≡ Some source → (table held).sources at ≡ Some source
+      → source_at held at ≡ option_and_then source_place (row_at (rows_of held.docket held.bytes) at)
 
 -- a table in memory is this one, made of the record of these: over its docket, and over as many bytes of the data file as that uses
 pub record IsMadeOver (stood : Stood) (made : Table) (held : Held) : Type 0 where

@@ -2,12 +2,12 @@
 
 ghost use Rattle.std.specs.Prelude.{◌≡◌, ◌<◌, ◌++◌, ◌⊎◌, Err, IfErr, IfOk, IsTrue, OnOk, false};
 ghost use Rattle.hg_base.specs.Fault.{HasCause};
-ghost use Rattle.hg_mixed.specs.Edits.{IsOfSameImage, IsSame, Lends, Marks};
+ghost use Rattle.hg_mixed.specs.Edits.{IsFormed, IsOfSameImage, IsSame, Lends, Marks};
 ghost use Rattle.hg_mixed.specs.Held.{table};
 ghost use Rattle.hg_ops.specs.Cause.{HasOpCause};
 ghost use Rattle.hg_ops.specs.declared.refusal.OpFault.TheVariants as an_op_fault;
 ghost use Rattle.hg_session.specs.Acts.{ActsOn, IsActed, name, refused_line, steps_of};
-ghost use Rattle.hg_session.specs.Kept.{KeepsLent};
+ghost use Rattle.hg_session.specs.Kept.{KeepsLent, KeepsTexts};
 ghost use Rattle.hg_session.specs.declared.acting.Changing.TheVariants as a_change;
 ghost use Rattle.hg_shelf.specs.Images.{Goes, course};
 ghost use Rattle.hg_tree.specs.History.{Passes};
@@ -51,6 +51,8 @@ fn step<T: Tree>(
     ensures stepped { IfOk result (λ refused. steps_of command (T.history tree.old) (T.history tree.new) word.now (table mixed.old) refused (table mixed.new)) }
     ensures changed { OnOk result (Marks (IsSame (table mixed.new) (table mixed.old)) mixed.old.changed mixed.new.changed) }
     ensures lent { OnOk result (Lends word.now (IsSame (table mixed.new) (table mixed.old)) mixed.old mixed.new) }
+    ensures texts { OnOk result (KeepsTexts mixed.old mixed.new) }
+    ensures formed { IsFormed (table mixed.old) }
     ensures image { IsOfSameImage mixed.old mixed.new }
     ensures passes { Passes (T.history tree.old) (T.history tree.new) }
     ensures asked { IsTrue (T.history tree.old).told → (T.history tree.new).asked ≡ (T.history tree.old).asked }
@@ -58,6 +60,8 @@ fn step<T: Tree>(
     ensures cause { HasOpCause (T.faults tree.old) (T.faults tree.new) result }
     ensures kind { IfErr result (λ e. (e ≡ an_op_fault.OutOfMemory) ⊎ (e ≡ an_op_fault.TreeFailed)) }
 {
+    // (a table tells how it is formed where it is asked)
+    let _ = mixed.parents();
     match command {
         Changing::Add => add(mixed, tree, word),
         Changing::Forget => forget(mixed, word),

@@ -75,6 +75,8 @@ pub(crate) fn remove_words<T: Tree, S: Shelf>(
     let mut lines = Vec::new(alloc);
     let mut parent = Parent::of(mixed.parents().0);
     for i in 0..words.len() {
+        // (a table tells how it is formed where it is asked)
+        let _ = mixed.parents();
         let word = words.at(i).as_str();
         let refused = remove(alloc, mixed, tree, shelf, &mut parent, word, after)?;
         match put_refused(alloc, "remove", word, &refused, &mut lines) {

@@ -6,7 +6,7 @@ ghost use Rattle.hg_manifest.specs.Load.{asks_of};
 ghost use Rattle.hg_manifest.specs.declared.fault.ManifestFault.TheVariants as a_manifest_fault;
 ghost use Rattle.hg_mixed.specs.Edits.{IsOfSameImage, IsSame, Marks};
 ghost use Rattle.hg_mixed.specs.Held.{table};
-ghost use Rattle.hg_ops.specs.Parents.{HasParents, LendsParents};
+ghost use Rattle.hg_ops.specs.Parents.{HasParents, LendsParents, PlacesParents};
 ghost use Rattle.hg_ops.specs.declared.refusal.OpFault.TheVariants as an_op_fault;
 ghost use Rattle.hg_session.specs.Kept.{KeepsLent};
 ghost use Rattle.hg_session.specs.Manifests.{Answers, IsReparented, StopsParents};
@@ -45,6 +45,7 @@ fn set_rows(
     ensures parents { OnOk result (HasParents p1.0 p2.0 m1.now m2.now (table mixed.old) (table mixed.new)) }
     ensures changed { OnOk result (Marks (IsSame (table mixed.new) (table mixed.old)) mixed.old.changed mixed.new.changed) }
     ensures lent { OnOk result (LendsParents mixed.old mixed.new) }
+    ensures places { OnOk result (PlacesParents mixed.old mixed.new) }
     ensures image { IsOfSameImage mixed.old mixed.new }
     ensures memory { IfErr result (λ e. e ≡ an_op_fault.OutOfMemory) }
 {

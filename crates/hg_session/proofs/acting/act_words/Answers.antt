@@ -3,6 +3,7 @@ use Rattle.std.specs.List.{slice_get}
 use Rattle.hg_mixed.specs.Held.{table}
 use Rattle.hg_session.specs.Acts.{name, refused_line, steps_of}
 use Rattle.hg_session.proofs.KeptLists.{keeps_lent, keeps_none, keeps_on, mark_of, moves_step}
+use Rattle.hg_session.proofs.KeptTexts.{goes_step, texts_none, texts_on}
 use Rattle.hg_session.proofs.SoFar.{goes_on, goes_on_at, leaves_same, leaves_trans, none_yet}
 use Rattle.hg_session.proofs.acting.act_words.Goals as goal
 
@@ -12,6 +13,7 @@ loop-i-init g c = record {
   leaves = leaves_same (g.T.Tree.history c.args.tree.now);
   so_far = none_yet (name c.args.command) (steps_of c.args.command) (g.T.Tree.history c.args.tree.now) c.args.mixed.now c.new-lines.result.items (g.T.Tree.faults c.args.tree.now) c.new-lines.ensures.items;
   keeps = keeps_none (mark_of c.args.command) c.args.mixed.now;
+  texts = texts_none (mark_of c.args.command) c.args.mixed.now;
 }
 
 pub loop-i-preserved : goal.loop-i-preserved
@@ -36,7 +38,11 @@ loop-i-preserved g c =
           keeps_on (mark_of c.args.command) c.as_str-word.result.now c.args.mixed.now c.loop-i.mixed c.step.new.mixed c.loop-i.invariant.keeps
           (moves_step c.args.command mid at c.as_str-word.result.now (table c.loop-i.mixed) c.in_ok-refused.refused (table c.step.new.mixed) c.in_ok-refused.ensures.stepped)
           c.in_ok-refused.ensures.lent;
+      texts =
+          texts_on (mark_of c.args.command) c.args.mixed.now c.loop-i.mixed c.step.new.mixed c.loop-i.invariant.texts
+          (goes_step c.args.command mid at c.as_str-word.result.now (table c.loop-i.mixed) c.in_ok-refused.refused (table c.step.new.mixed) c.step.ensures.formed c.in_ok-refused.ensures.stepped)
+          c.in_ok-refused.ensures.texts;
     }
 
 pub returns-clause-lent : goal.returns-clause-lent
-returns-clause-lent g c = keeps_lent (mark_of c.args.command) c.args.mixed.now c.loop-i.mixed c.loop-i.invariant.keeps
+returns-clause-lent g c = keeps_lent (mark_of c.args.command) c.args.mixed.now c.loop-i.mixed c.loop-i.invariant.keeps c.loop-i.invariant.texts.keeps

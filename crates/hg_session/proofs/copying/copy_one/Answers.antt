@@ -4,6 +4,7 @@ use Rattle.hg_mixed.specs.Held.{table}
 use Rattle.hg_session.proofs.CopyLines.{no_line}
 use Rattle.hg_session.proofs.Doing.{puts_of}
 use Rattle.hg_session.proofs.KeptLists.{copy_keeps}
+use Rattle.hg_session.proofs.KeptTexts.{copied_texts}
 use Rattle.hg_session.proofs.SoFar.{unmarked}
 use Rattle.hg_session.proofs.copying.copy_one.Goals as goal
 
@@ -20,6 +21,7 @@ returns-clause-does g c = λ unset. record {
 pub returns-clause-lent : goal.returns-clause-lent
 returns-clause-lent g c =
     copy_keeps c.args.source.now c.args.target.now _ _ c.args.mixed.now c.in_ok-refused.refused c.copy.new.mixed c.in_ok-refused.ensures.stepped c.in_ok-refused.ensures.lent
+    (copied_texts c.args.source.now c.args.target.now c.in_ok-refused.refused c.args.mixed.now c.copy.new.mixed c.in_ok-refused.ensures.stepped.table c.in_ok-refused.ensures.places)
 
 pub returns-in_err-refused-clause-puts : goal.returns-in_err-refused-clause-puts
 returns-in_err-refused-clause-puts g c = puts_of c.args.source.now c.args.target.now (table c.args.mixed.now) c.copy.result _ c.copy.ensures.cause c.copy.ensures.worked

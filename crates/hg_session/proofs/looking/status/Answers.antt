@@ -108,6 +108,7 @@ returns-in_err-save_notes g c =
       same = same_as t;
       image = c.in_ok-mixed.ensures.2.image;
       lent = c.in_ok-mixed.ensures.2.lent;
+      placed = c.in_ok-mixed.ensures.2.placed;
     } in
     let noted = c.in_ok-notes.ensures.shows.noted in
     let news = needed_are_news t _ _ c.in_ok-notes.notes noted.needed noted.noted in
@@ -145,6 +146,7 @@ returns g c =
       same = same_as t;
       image = c.in_ok-mixed.ensures.2.image;
       lent = c.in_ok-mixed.ensures.2.lent;
+      placed = c.in_ok-mixed.ensures.2.placed;
     } in
     let noted = c.in_ok-notes.ensures.shows.noted in
     let news = needed_are_news t _ _ c.in_ok-notes.notes noted.needed noted.noted in

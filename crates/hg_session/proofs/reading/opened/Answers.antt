@@ -3,7 +3,7 @@ use Rattle.std.proofs.lemmas.List.{take_all}
 use Rattle.hg_docket.specs.Docket.{docket_of}
 use Rattle.std.proofs.lemmas.Result.{err_from_is_err_and}
 use Rattle.hg_image.specs.Reading.{table_in}
-use Rattle.hg_session.proofs.Lending.{few_bytes, image_same, lists_same}
+use Rattle.hg_session.proofs.Lending.{few_bytes, image_same, lists_same, places_same}
 use Rattle.hg_session.proofs.reading.opened.Goals as goal
 
 pub returns-in_err-image : goal.returns-in_err-image
@@ -27,6 +27,7 @@ returns c =
         contents = c.in_ok-mixed.ensures.docket ∙ c.in_ok-image.ensures.docket;
         image = image_same c.in_ok-image.image c.in_ok-mixed.mixed c.in_ok-mixed.ensures.docket c.in_ok-mixed.ensures.bytes few c.in_ok-mixed.ensures.table;
         lent = lists_same c.in_ok-image.image c.in_ok-mixed.mixed c.in_ok-mixed.ensures.docket c.in_ok-mixed.ensures.bytes few c.in_ok-mixed.ensures.lent.lists;
+        placed = places_same c.in_ok-image.image c.in_ok-mixed.mixed c.in_ok-mixed.ensures.docket c.in_ok-mixed.ensures.bytes few c.in_ok-mixed.ensures.places;
         nodes = c.in_ok-mixed.ensures.bytes ∙ c.in_ok-image.ensures.bytes ∙ take_all (docket_of c.args.loaded.now.docket.items).used c.args.loaded.now.nodes.items c.requires.most;
       },
     )

@@ -8,6 +8,7 @@ use Rattle.hg_ops.specs.Parent.{AsksStore, KeepsParent, upto}
 use Rattle.hg_ops.specs.declared.refusal.Refusal.{Refusal}
 use Rattle.hg_session.specs.Acts.{IsActed, TakesAway, refused_line, span_of}
 use Rattle.hg_session.proofs.KeptLists.{keeps_lent, keeps_none, keeps_on, moves_remove}
+use Rattle.hg_session.proofs.KeptTexts.{forgotten_texts, goes_forgotten, texts_none, texts_on}
 use Rattle.hg_session.proofs.TakenWords.{asks_kept, asks_needed, front_more, front_none, needed_more, so_far_wide, split_more, split_word, stops_at, stops_behind, store_cause, takes_extends, takes_longer, takes_more, takes_none_yet, tree_cause, tree_failed}
 use Rattle.hg_session.proofs.SoFar.{goes_on, goes_on_at, image_trans, none_yet}
 use Rattle.hg_shelf.proofs.Histories.{extends_same, passes_trans}
@@ -21,6 +22,7 @@ loop-i-init g c = record {
       none_yet (codes "remove") (TakesAway c.args.after (span_of (table c.args.mixed.now) (g.S.Shelf.history c.args.shelf.now) (g.S.Shelf.history c.args.shelf.now)))
       (g.T.Tree.history c.args.tree.now) c.args.mixed.now c.new-lines.result.items (g.T.Tree.faults c.args.tree.now) c.new-lines.ensures.items;
   lends = keeps_none false c.args.mixed.now;
+  texts = texts_none false c.args.mixed.now;
   keeps =
       subst (λ (id : Id20). KeepsParent (record { id = id; old = g.S.Shelf.history c.args.shelf.now; new = g.S.Shelf.history c.args.shelf.now }) c.of-parent.result) (λ i. record { 0 = c.parents.ensures.p1 i })
       (c.of-parent.ensures (g.S.Shelf.history c.args.shelf.now));
@@ -63,6 +65,11 @@ loop-i-preserved g c =
           (moves_remove c.args.after word mid at (upto (span_of t first between) last) (table c.loop-i.mixed) c.in_ok-refused.refused (table c.remove.new.mixed)
           (c.in_ok-refused.ensures.stepped (span_of t first between) c.loop-i.invariant.keeps))
           c.in_ok-refused.ensures.lent;
+      texts =
+          texts_on false c.args.mixed.now c.loop-i.mixed c.remove.new.mixed c.loop-i.invariant.texts
+          (goes_forgotten word (table c.loop-i.mixed) (table c.remove.new.mixed) c.parents-in-loop-i.ensures.formed c.in_ok-refused.refused
+          (c.in_ok-refused.ensures.stepped (span_of t first between) c.loop-i.invariant.keeps).table)
+          (forgotten_texts word c.in_ok-refused.refused c.loop-i.mixed c.remove.new.mixed (c.in_ok-refused.ensures.stepped (span_of t first between) c.loop-i.invariant.keeps).table c.in_ok-refused.ensures.places);
       keeps = c.in_ok-refused.ensures.goes (span_of t first between) c.loop-i.invariant.keeps;
       front =
           front_more c.args.words.now c.loop-i.i word is t (table c.loop-i.mixed) (table c.remove.new.mixed) start mid at c.loop-i.invariant.front (takes_extends _ word mid at c.remove.ensures.takes) c.in_ok-refused.refused
@@ -216,7 +223,7 @@ returns-clause-acts g c = λ unset. record {
 }
 
 pub returns-clause-lent : goal.returns-clause-lent
-returns-clause-lent g c = keeps_lent false c.args.mixed.now c.loop-i.mixed c.loop-i.invariant.lends
+returns-clause-lent g c = keeps_lent false c.args.mixed.now c.loop-i.mixed c.loop-i.invariant.lends c.loop-i.invariant.texts.keeps
 
 pub returns-clause-asked : goal.returns-clause-asked
 returns-clause-asked g c = λ told.

@@ -3,6 +3,7 @@ use Rattle.std.proofs.Common.{refl, ◌∙◌}
 use Rattle.hg_manifest.specs.Load.{asks_of}
 use Rattle.std.proofs.lemmas.Result.{err_from_is_err_and}
 use Rattle.hg_session.proofs.KeptLists.{parents_keep}
+use Rattle.hg_session.proofs.KeptTexts.{parents_texts}
 use Rattle.hg_session.proofs.ParentLoads.{cause_as, front_behind, not_tree, stops_first, stops_second}
 use Rattle.hg_session.proofs.SoFar.{unmarked}
 use Rattle.hg_shelf.proofs.Asks.{front_all, front_longer}
@@ -81,7 +82,9 @@ returns-clause-does g c = λ unset. record {
 }
 
 pub returns-clause-lent : goal.returns-clause-lent
-returns-clause-lent g c = parents_keep c.args.mixed.now c.set_rows.new.mixed c.in_ok-set_rows.ensures.lent
+returns-clause-lent g c =
+    parents_keep c.args.mixed.now c.set_rows.new.mixed c.in_ok-set_rows.ensures.lent
+    (parents_texts c.args.mixed.now c.set_rows.new.mixed c.in_ok-set_rows.ensures.parents.sources c.in_ok-set_rows.ensures.places)
 
 pub returns-clause-asked : goal.returns-clause-asked
 returns-clause-asked g c = λ told. front_behind (asks_of c.args.p1) (asks_of c.args.p2) (g.S.Shelf.history c.args.shelf.now) (g.S.Shelf.history c.rows_of.new.shelf) (g.S.Shelf.history c.rows_of-2.new.shelf) (c.in_ok-m1.ensures.asked told)
