@@ -1,9 +1,9 @@
 -- Each text that the tables before and behind a command have stays lent over its words: nodes and copy sources only come, or only go, so that none comes back.
-use Rattle.std.proofs.Common.{ℕ, ◌≡◌, Bool, true, false, not, ◌&&◌, ◌||◌, cond, List, Option, Some, None, inl, inr, refl, sym, ap, ◌∙◌, eqb, true≢false}
+use Rattle.std.proofs.Common.{ℕ, ◌≡◌, Bool, true, false, not, ◌&&◌, ◌||◌, cond, List, Option, Some, None, inl, inr, refl, sym, ap, ◌∙◌, eqb, eqb-true, eq-eqb, true≢false}
 use Rattle.std.specs.Prelude.{Result, Ok, Err, IfOk, MatchBool, OnOk}
 use Rattle.std.specs.Map.{update}
 use Rattle.std.specs.Str.{bytes_eq}
-use Rattle.std.proofs.lemmas.Bool.{cases_Bool, eqb-eq}
+use Rattle.std.proofs.lemmas.Bool.{cases_Bool}
 use Rattle.std.proofs.lemmas.Map.{update_other, update_same}
 use Rattle.hg_base.proofs.Within.{equal_bytes, same_bytes, within_split}
 use Rattle.hg_base.specs.Within.{is_within}
@@ -34,16 +34,13 @@ stable_place None None h = refl
 stable_place None (Some y) h = absurd (h (λ e. cc e))
 stable_place (Some x) None h = absurd (h (λ e. cc e))
 stable_place (Some x) (Some y) h = elim (cases_Bool (eqb x y)) [
-  | inl same ↦ ap Some (eqb-eq x y same)
-  | inr other ↦ absurd (h (λ e. true≢false (sym (ap (λ (o : Option ℕ). is_at o) e) ∙ here ∙ other)))
+  | inl same ↦ ap Some (eqb-true x y same)
+  | inr other ↦ absurd (h (λ e. true≢false (sym (eq-eqb x x refl) ∙ ap is_at e ∙ other)))
 ]
   where
     is_at : Option ℕ → Bool
     is_at None = false
     is_at (Some z) = eqb x z
-
-    here : is_at (Some y) ≡ eqb x y
-    here = refl
 
 pub placed_texts : (old new : Held) → ArePlacedAsBefore old new → KeepsTexts old new
 placed_texts old new placed = record { texts = λ at had has. placed.texts at; sources = λ at source had has. placed.sources at }
