@@ -192,7 +192,7 @@ module _ (h : tree.History) (count : ℕ) (files : shelf.History) (counted : ℕ
     does = nothing;
     stops = λ unset. tt;
     same = λ unset still. same_table (table held);
-    lent = λ dir same. refl;
+    lent = record { lists = λ dir same. refl; texts = record { texts = λ at had has. refl; sources = λ at source had has. refl } };
     image = record { docket = refl; bytes = refl };
     tree = record { history = refl; count = refl };
     below = shelves.passes_same files;

@@ -12,7 +12,7 @@ use Rattle.hg_entry.specs.Table.{Table}
 use Rattle.hg_mixed.specs.Drop.{IsPruned, PlacesDrop, after_clear}
 use Rattle.hg_mixed.specs.Edits.{ArePlacedAsBefore, IsFormed, IsSame, PlacesCopy}
 use Rattle.hg_mixed.specs.Held.{Held, source_at, table, text_at}
-use Rattle.hg_ops.specs.Copy.{Copies, PlacesCopied, copied, copy_source}
+use Rattle.hg_ops.specs.Copy.{PlacesCopied, copied, copy_source}
 use Rattle.hg_ops.specs.Parents.{PlacesParents}
 use Rattle.hg_ops.specs.Step.{IsForget, IsForgotten, IsUntracked, added, after_add, after_untracked, is_tracked}
 use Rattle.hg_ops.specs.Untracked.{PlacesForgotten, PlacesUntracked}
@@ -121,7 +121,7 @@ on_way t formed word at entry has within = elim (within_split at word within) [
 ]
   where
     there : t.nodes word ≡ true
-    there = elim (cases_Bool (t.nodes word)) [ | inl is ↦ is | inr is ↦ absurd (cc (sym has ∙ formed.entries word is)) ]
+    there = elim (cases_Bool (t.nodes word)) [ inl is ↦ is | inr is ↦ absurd (cc (sym has ∙ formed.entries word is)) ]
 
 -- a copy source that goes takes none along
 fewer : (t : Table) (word at source : List ℕ) → update bytes_eq t.sources word None at ≡ Some source → t.sources at ≡ Some source

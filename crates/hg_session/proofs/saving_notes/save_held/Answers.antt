@@ -1,5 +1,5 @@
 -- Saving under the lock: the docket, the notes written into the table, the publication.
-use Rattle.std.proofs.Common.{◌∙◌, sym, true≢false}
+use Rattle.std.proofs.Common.{refl, ◌∙◌, sym, true≢false}
 use Rattle.std.proofs.lemmas.Result.{err_from_is_err_and}
 use Rattle.hg_save.proofs.Held.{held_passes, held_then}
 use Rattle.hg_session.proofs.HeldNotes.{asked_once, held_cause, held_other, held_saved, held_untouched, held_unwritten, untouched_count}
@@ -51,6 +51,16 @@ pub returns-clause-kept : goal.returns-clause-kept
 returns-clause-kept g c =
     goes_trans (course (g.S.Shelf.history c.args.shelf.now) (g.S.Shelf.images c.args.shelf.now)) (course (g.S.Shelf.history c.stands.new.shelf) (g.S.Shelf.images c.stands.new.shelf))
     (course (g.S.Shelf.history c.save.new.shelf) (g.S.Shelf.images c.save.new.shelf)) c.stands.ensures.kept c.save.ensures.kept
+
+pub returns-then-not-same-clause-asked : goal.returns-then-not-same-clause-asked
+returns-then-not-same-clause-asked g c = λ told.
+    let s = g.S.Shelf.history c.stands.new.shelf in
+    asked_once (g.S.Shelf.history c.args.shelf.now) s s (c.in_ok-same.ensures.asked told) (record { asked = refl; locks = refl })
+
+pub returns-in_err-apply-clause-asked : goal.returns-in_err-apply-clause-asked
+returns-in_err-apply-clause-asked g c = λ told.
+    let s = g.S.Shelf.history c.stands.new.shelf in
+    asked_once (g.S.Shelf.history c.args.shelf.now) s s (c.in_ok-same.ensures.asked told) (record { asked = refl; locks = refl })
 
 pub returns-clause-asked : goal.returns-clause-asked
 returns-clause-asked g c = λ told. asked_once (g.S.Shelf.history c.args.shelf.now) (g.S.Shelf.history c.stands.new.shelf) (g.S.Shelf.history c.save.new.shelf) (c.in_ok-same.ensures.asked told) c.save.ensures.unasked

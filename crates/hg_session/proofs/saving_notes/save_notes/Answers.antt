@@ -58,6 +58,7 @@ returns-in-Ok-true-clause-saves g c start recorded since news =
       same = since.same;
       image = since.image;
       lent = since.lent;
+      placed = since.placed;
     } in
     rw c.first_fault.ensures
     (saves_locked start recorded c.args.notes a b x d c.lock.ensures.waits c.unlock-freed.ensures.waits c.lock.ensures.kept c.save_held-done.ensures.kept c.unlock-freed.ensures.kept noted c.save_held-done.ensures.uncalled taken
