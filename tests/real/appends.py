@@ -184,17 +184,8 @@ def run_torn(tests):
         tests.compare(f"torn: {len(fronts)} ends behind the used bytes", wrong[:2], [])
 
 
-def make_old(root):
-    """Has the docket be one of another second than any that is saved now, for which a save has some calls more."""
-    os.utime(f"{root}/.hg/dirstate", (10**9, 10**9))
-
-
-# A save behind the data file writes it and the docket, makes sure of both and of the folder, and renames.
-LEAST_CALLS = 6
-
-
 def run_stopped(tests):
-    """A save behind the data file that is killed before and after each call from its first write on: both programs read the record before, and then the one after."""
+    """A save behind the data file that is killed before and after each call from its first write on: both programs read the record whose docket stands."""
     if shutil.which("hg") is None or not has_gcc(tests, "so no save behind a data file was stopped beside hg"):
         return
     calls, (head, data) = Calls(tests), written(PATHS)
@@ -202,7 +193,6 @@ def run_stopped(tests):
     with tests.working_copy() as root:
         init(root)
         laid_out(root, head, data)
-        make_old(root)
         names, seen_by = calls.listed(root, ["add", "z"])[1], {"hgtrack": [], "hg": []}
         first, killed = next(i for i, it in enumerate(names, 1) if it.startswith("write ") and "/dirstate." in it), 0
         for number in range(first, len(names) + 1):
@@ -211,17 +201,18 @@ def run_stopped(tests):
                     if name.startswith(("dirstate", "wlock")):
                         os.remove(f"{root}/.hg/{name}")
                 put_record(root, head, data)
-                make_old(root)
                 status = calls.run(root, ["add", "z"], how, number)[0]
                 ours, theirs = tests.run(root, ("status", "-a"))[1], hg(root, "status", "-a").stdout
                 what = f"killed {how} call {number}, {short(names[number - 1])}: read by both"
-                tests.compare(what, (status, ours in texts, theirs), (KILLED, True, ours))
-                killed += 1
+                # (it has some calls more where the docket was changed in the very second, so a call isn't the one that was counted, or there is none)
+                stands = texts[record_of(root)[0] != head]
+                tests.compare(what, (status in (0, KILLED), ours, theirs), (True, stands, stands))
+                killed += status == KILLED
                 for name, text in (("hgtrack", ours), ("hg", theirs)):
                     seen_by[name].append(texts.index(text) if text in texts else None)
-        tests.compare(f"killed {killed} times", killed > 2 * LEAST_CALLS, True)
+        tests.compare(f"killed {killed} times", killed > len(names) - first, True)
         for name, found in seen_by.items():
-            tests.compare(f"{name} reads the record before and then the one after", (set(found), found == sorted(found, key=bool)), ({0, 1}, True))
+            tests.compare(f"{name} reads the record before, or the one after", set(found), {0, 1})
 
 
 # ---- records of others
