@@ -70,6 +70,3 @@ pub use glob::Glob;
 pub use globs::{GlobLine, Globs};
 pub use laws::{is_spelled, one_glob, refused_for_length};
 pub use subject::Subject;
-
-#[cfg(test)]
-mod tests_many;

@@ -109,6 +109,8 @@ fn line_of(alloc: Global, word: &str) -> Result<GlobLine, Fail> {
 const MANY: &str = r"
 : \e a a/b =>
 abc xbc bc : abc xbc bc d/xbc c dbc bcd abc/d => abc xbc bc d/xbc
+xa.c yb.h ^za.c : xa.c d/xa.c yb.h d/yb.h za.c d/za.c a.c => xa.c d/xa.c yb.h d/yb.h za.c
+ab ^ab : ab d/ab a/b b => ab d/ab
 *.o *.c x.o *.o : a.o .c d/x.o o a.h a.o/b => a.o .c d/x.o
 a a a : a b/a b aa => a b/a
 ^a/b c/b ^b : a/b b c/b d/c/b d/a/b d/b => a/b b c/b d/c/b
