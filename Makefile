@@ -1,6 +1,7 @@
 # make          builds the program: proves the crates that it uses, many side by side, a line as each ends, and leaves build/hgtrack
 # make demo     runs `hgtrack status` on a sample working copy, which it lays out in a temporary folder
 # make test     proves every crate from nothing, and tests the program: what .ci/run runs
+# make wrong-bodies CRATES=".."    tries the wrong bodies of these crates that the gate leaves out (wrong-bodies/)
 # make documents    writes docs/DEFINITIONS.md from the comments of the definitions
 # make bench    times the program against C loops (gcc)
 # make install PREFIX=..    puts the program and hgtrack-parents into PREFIX/bin, the hooks that run it into PREFIX/share/hgtrack, and the man page and
@@ -10,7 +11,7 @@
 PREFIX ?= /usr/local
 SOURCES := crates.txt HANDLES $(shell find crates -name out -prune -o -name must-fail -prune -o -type f -print)
 
-.PHONY: all demo test documents bench install clean
+.PHONY: all demo test wrong-bodies documents bench install clean
 
 all: build/hgtrack
 
@@ -23,6 +24,9 @@ demo: build/hgtrack
 
 test:
 	bash .ci/run
+
+wrong-bodies:
+	python3 .ci/wrong_bodies.py $(CRATES)
 
 documents:
 	python3 .ci/documents.py

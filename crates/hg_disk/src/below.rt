@@ -4,6 +4,7 @@
 //! the process goes into it, looks whether it is that folder, and has the files by their names in it.
 
 use crate::failure::Reason;
+use crate::holder::enough;
 use crate::root::{Named, Root, spot_at};
 use std::alloc::{AllocError, Global};
 use std::env;
@@ -19,14 +20,14 @@ pub(crate) fn below_hg<R: Files + Env + AllocGlobal>(
 ) -> Result<String, Reason> {
     set_asked(root);
     let joined = match &root.named {
-        Some(named) if named.locked.get() => {
+        Some(named) if root.locked.get() => {
             stand(rt, named)?;
             joined(rt.alloc(), "", if name.is_empty() { "." } else { "" }, name)
         }
         Some(named) => joined(rt.alloc(), named.name.as_str(), "/.hg/", name),
         None => joined(rt.alloc(), "", ".hg/", name),
     };
-    told(joined)
+    enough(joined)
 }
 
 /// Whether it is known which folder `.hg` is.
@@ -39,8 +40,21 @@ pub(crate) fn was_found(root: &Root) -> bool {
 
 /// Has what follows be done from within `.hg`, or by its name again.
 pub(crate) fn set_locked(root: &Root, locked: bool) {
+    root.locked.set(locked);
+}
+
+/// Whether nothing may be written in `.hg`, as the clock found it in this command.
+pub(crate) fn is_shut(root: &Root) -> bool {
+    match &root.named {
+        Some(named) => named.shut.get(),
+        None => false,
+    }
+}
+
+/// A command begins, of which it isn't known yet whether it may write in `.hg`.
+pub(crate) fn begin(root: &Root) {
     if let Some(named) = &root.named {
-        named.locked.set(locked);
+        named.shut.set(false);
     }
 }
 
@@ -53,7 +67,7 @@ fn set_asked(root: &Root) {
 /// Whether the process stands in `.hg`.
 pub(crate) fn is_within(root: &Root) -> bool {
     match &root.named {
-        Some(named) => named.locked.get() && named.within.get(),
+        Some(named) => root.locked.get() && named.within.get(),
         None => false,
     }
 }
@@ -72,7 +86,7 @@ fn stand<R: Files + Env + AllocGlobal>(rt: &R, named: &Named) -> Result<(), Reas
     if named.within.get() {
         return Ok(());
     }
-    let path = told(joined(rt.alloc(), named.name.as_str(), "/.hg", ""))?;
+    let path = enough(joined(rt.alloc(), named.name.as_str(), "/.hg", ""))?;
     named.moved.set(true);
     env::set_current_dir(rt, path.as_str())?;
     if !is_found(rt, named)? {
@@ -100,11 +114,4 @@ fn joined(alloc: Global, front: &str, middle: &str, name: &str) -> Result<String
     path.push_str(middle)?;
     path.push_str(name)?;
     Ok(path)
-}
-
-fn told(path: Result<String, AllocError>) -> Result<String, Reason> {
-    match path {
-        Ok(path) => Ok(path),
-        Err(_) => Err(Reason::Words("out of memory")),
-    }
 }

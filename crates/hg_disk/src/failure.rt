@@ -75,10 +75,10 @@ fn text_of(alloc: Global, dir: &[u8], name: &[u8], reason: Reason) -> Result<Str
     Ok(text)
 }
 
-// Puts the bytes as they are where they are text, and the others as `\xHH`.
-fn push_bytes(text: &mut String, bytes: &[u8]) -> Result<(), AllocError> {
+/// Puts the bytes as they are where they are text without control characters, and the others as `\xHH`.
+pub(crate) fn push_bytes(text: &mut String, bytes: &[u8]) -> Result<(), AllocError> {
     for chunk in bytes.utf8_chunks() {
-        text.push_str(chunk.valid())?;
+        push_text(text, chunk.valid())?;
         for byte in chunk.invalid() {
             push_byte(text, *byte)?;
         }
@@ -86,14 +86,28 @@ fn push_bytes(text: &mut String, bytes: &[u8]) -> Result<(), AllocError> {
     Ok(())
 }
 
-const DIGITS: [char; 16] = [
-    '0', '1', '2', '3', '4', '5', '6', '7', '8', '9', 'a', 'b', 'c', 'd', 'e', 'f',
-];
+fn push_text(text: &mut String, words: &str) -> Result<(), AllocError> {
+    for letter in words.chars() {
+        if letter.is_ascii_control() {
+            push_byte(text, letter as u8)?;
+        } else {
+            text.push(letter)?;
+        }
+    }
+    Ok(())
+}
 
 fn push_byte(text: &mut String, byte: u8) -> Result<(), AllocError> {
     text.push_str("\\x")?;
-    text.push(DIGITS[(byte >> 4) as usize])?;
-    text.push(DIGITS[(byte & 15) as usize])
+    push_digit(text, byte >> 4)?;
+    push_digit(text, byte & 15)
+}
+
+fn push_digit(text: &mut String, digit: u8) -> Result<(), AllocError> {
+    match char::from_digit(u32::from(digit), 16) {
+        Some(letter) => text.push(letter),
+        None => Ok(()),
+    }
 }
 
 // The system's words for an error, without its number, and in small letters as other lines are.

@@ -3,46 +3,86 @@
 //!
 //! The file tells its holder in the words of Mercurial's lock, from the moment at which it has its name: it is written and locked as
 //! `wlock-new`, and then linked. So Mercurial names a holder that lives, and takes away the file of a dead one without waiting. A file of
-//! ours that stayed behind is taken over where it stands.
+//! ours that stayed behind is taken over where it stands, or taken away where it is another user's. What another host has is never touched: whether the
+//! system's locks reach from one host to the other can't be known. Where the system has no such locks, ours is a symbolic link, too.
 
 use crate::disk::is_absence;
 use crate::failure::Reason;
+use crate::holder::{enough, held_by, is_elsewhere, is_gone};
 use crate::opened::Opened;
 use crate::spot::spot_of;
-use crate::writing::{look, make, open_seen, remove_file};
+use crate::writing::{look, make_below, open_seen, remove_file};
 use std::alloc::Global;
 use std::fs::{self, File, Metadata, TryLockError};
 use std::io::{Error, ErrorKind, Read, Seek, SeekFrom, Write};
-use std::os::unix::fs::MetadataExt;
+use std::os::unix::fs::{MetadataExt, symlink};
 use std::rt::Files;
 
 // How often another file may stand at the name by the time that the lock is there.
 const TRIES: u32 = 100;
 
-// How the lock's file can be used, less what the user's mask takes away: who shares a working copy takes over what another left.
-const MODE: u32 = 0o666;
-
-// How many bytes of a file that stayed behind are covered at most, more than any holder has.
+// How many bytes of a file that stayed behind are read and covered at most, more than any holder has.
 const LONGEST: u64 = 255;
 
-/// The names of the lock, as paths, and what it says of its holder.
+// What the system says where it has no locks of files, and of a file that isn't open for writing where they are another system's.
+const NO_LOCKS: i32 = 37;
+
+const NOT_OPEN: i32 = 9;
+
+/// The names below `.hg` of the lock's file, before it has its name, and of the locks under which Mercurial takes away the lock of a dead process, and that
+/// one.
+pub(crate) const WLOCK: &str = "wlock";
+
+pub(crate) const WLOCK_NEW: &str = "wlock-new";
+
+pub(crate) const WLOCK_BREAK: &str = "wlock.break";
+
+pub(crate) const WLOCK_BREAK_BREAK: &str = "wlock.break.break";
+
+/// These names as paths, with that of `.hg`, and what the lock says of its holder.
 #[derive(Drop)]
 pub(crate) struct Names {
-    /// The lock's file.
+    pub(crate) hg: String,
     pub(crate) lock: String,
-    /// The file before it has that name.
     pub(crate) new: String,
-    /// The lock under which Mercurial takes away the lock of a dead process.
     pub(crate) breaking: String,
-    pub(crate) holder: Vec<u8>,
+    pub(crate) barring: String,
+    pub(crate) holder: String,
+}
+
+/// A lock that one has.
+#[derive(Drop)]
+pub(crate) enum Lock {
+    /// The file that the system has locked.
+    File(File),
+    /// A symbolic link, with what it says of its holder.
+    Link(String),
+}
+
+/// What became of asking for the lock.
+#[derive(Drop)]
+pub(crate) enum Asked {
+    Had(Lock),
+    /// Another has it, and what is to be said of that, where there is something.
+    Held(Option<String>),
 }
 
 // What one try came to.
 enum Tried {
-    Taken(File),
-    Held,
+    Had(Lock),
+    Held(Option<String>),
     // The file went away meanwhile.
     Gone,
+}
+
+// What a try to lock an open file came to.
+enum Locked {
+    Ours(File),
+    Held,
+    // It isn't the one of its name any more.
+    Gone,
+    // The system has no lock for it.
+    Without(File),
 }
 
 /// Takes the lock, where nobody has it. A symbolic link is Mercurial's lock.
@@ -50,15 +90,15 @@ pub(crate) fn take<R: Files<File = File> + AllocGlobal>(
     rt: &R,
     opened: &mut Opened,
     names: &Names,
-) -> Result<Option<File>, Reason> {
+) -> Result<Asked, Reason> {
     for _ in 0..TRIES {
         match try_once(rt, opened, names)? {
-            Tried::Taken(file) => return Ok(Some(file)),
-            Tried::Held => return Ok(None),
+            Tried::Had(lock) => return Ok(Asked::Had(lock)),
+            Tried::Held(said) => return Ok(Asked::Held(said)),
             Tried::Gone => {}
         }
     }
-    Ok(None)
+    Ok(Asked::Held(None))
 }
 
 fn try_once<R: Files<File = File> + AllocGlobal>(
@@ -67,32 +107,42 @@ fn try_once<R: Files<File = File> + AllocGlobal>(
     names: &Names,
 ) -> Result<Tried, Reason> {
     match look(rt, names.lock.as_str())? {
-        Some(seen) if seen.is_symlink() => Ok(Tried::Held),
-        Some(seen) => take_over(rt, names, &seen),
+        Some(seen) if seen.is_symlink() => Ok(Tried::Held(None)),
+        Some(seen) => take_over(rt, opened, names, &seen),
         None => make_new(rt, opened, names),
     }
 }
 
 // Makes the file under its first name, and gives it the lock's where nothing stands there.
-fn make_new<R: Files<File = File>>(
+fn make_new<R: Files<File = File> + AllocGlobal>(
     rt: &R,
     opened: &mut Opened,
     names: &Names,
 ) -> Result<Tried, Reason> {
     let new = names.new.as_str();
-    let mut file = match make_held(rt, new)? {
-        Made::Held(file) => file,
-        Made::Gone => return Ok(Tried::Gone),
-        Made::Behind => return clear(rt, opened, new),
-    };
-    let told = file.write_all(names.holder.as_slice());
-    let linked = match told {
-        Ok(()) => fs::hard_link(rt, new, names.lock.as_str()),
+    match make_held(rt, names, new)? {
+        Made::Held(file) => name_it(rt, names, file),
+        Made::Without => {
+            remove_file(rt, new)?;
+            make_link(rt, names)
+        }
+        Made::Gone => Ok(Tried::Gone),
+        Made::Behind => clear(rt, opened, names),
+    }
+}
+
+// Has the file tell its holder, and then gives it the lock's name. Another may have put a file of its own at the first name meanwhile.
+fn name_it<R: Files<File = File>>(rt: &R, names: &Names, file: File) -> Result<Tried, Reason> {
+    let (new, lock) = (names.new.as_str(), names.lock.as_str());
+    let mut file = file;
+    let linked = match file.write_all(names.holder.as_bytes()) {
+        Ok(()) => fs::hard_link(rt, new, lock),
         Err(error) => Err(error),
     };
     remove_file(rt, new)?;
     match linked {
-        Ok(()) => Ok(Tried::Taken(file)),
+        Ok(()) if stands(rt, lock, &file)? => Ok(Tried::Had(Lock::File(file))),
+        Ok(()) => Ok(Tried::Gone),
         Err(error) if error.kind() == ErrorKind::AlreadyExists || is_absence(&error) => {
             Ok(Tried::Gone)
         }
@@ -104,21 +154,24 @@ fn make_new<R: Files<File = File>>(
 // What became of a file that is made and locked.
 enum Made {
     Held(File),
+    // The system has no lock for it.
+    Without,
     // Another process has it, or took it away.
     Gone,
     // One stood there before.
     Behind,
 }
 
-fn make_held<R: Files<File = File>>(rt: &R, path: &str) -> Result<Made, Reason> {
-    let file = match make(rt, path, MODE) {
+fn make_held<R: Files<File = File>>(rt: &R, names: &Names, path: &str) -> Result<Made, Reason> {
+    let file = match make_below(rt, names.hg.as_str(), path) {
         Ok(file) => file,
         Err(error) if error.kind() == ErrorKind::AlreadyExists => return Ok(Made::Behind),
         Err(error) => return Err(Reason::System(error)),
     };
-    match lock(rt, path, file)? {
-        Tried::Taken(file) => Ok(Made::Held(file)),
-        Tried::Held | Tried::Gone => Ok(Made::Gone),
+    match lock_open(rt, path, file)? {
+        Locked::Ours(file) => Ok(Made::Held(file)),
+        Locked::Without(_) => Ok(Made::Without),
+        Locked::Held | Locked::Gone => Ok(Made::Gone),
     }
 }
 
@@ -132,101 +185,229 @@ fn has_no_links(error: &Error) -> bool {
 
 // Makes the file at the lock's name, where a file can't have two. It tells no holder for a moment.
 fn make_there<R: Files<File = File>>(rt: &R, names: &Names) -> Result<Tried, Reason> {
-    match make_held(rt, names.lock.as_str())? {
+    match make_held(rt, names, names.lock.as_str())? {
         Made::Held(mut file) => {
-            file.write_all(names.holder.as_slice())?;
-            Ok(Tried::Taken(file))
+            file.write_all(names.holder.as_bytes())?;
+            Ok(Tried::Had(Lock::File(file)))
+        }
+        Made::Without => {
+            remove_file(rt, names.lock.as_str())?;
+            Err(Reason::Words("no lock of a file, and no second name"))
         }
         Made::Gone | Made::Behind => Ok(Tried::Gone),
     }
 }
 
+// Has the lock be a symbolic link, as Mercurial's own, where nothing stands at its name.
+fn make_link<R: Files<File = File> + AllocGlobal>(rt: &R, names: &Names) -> Result<Tried, Reason> {
+    if !link_holder(rt, names, names.lock.as_str())? {
+        return Ok(Tried::Gone);
+    }
+    let told = enough(String::from_str(rt.alloc(), told_by_link(names)))?;
+    Ok(Tried::Had(Lock::Link(told)))
+}
+
+// What a link tells: the holder, as Mercurial has it.
+fn told_by_link(names: &Names) -> &str {
+    names.holder.trim_ascii_end()
+}
+
+// Makes a link that leads nowhere and tells the holder, and says whether nothing stood there.
+fn link_holder<R: Files>(rt: &R, names: &Names, path: &str) -> Result<bool, Reason> {
+    if names.holder.is_empty() {
+        return Err(Reason::Words("the host's name can't be read"));
+    }
+    match symlink(rt, told_by_link(names), path) {
+        Ok(()) => Ok(true),
+        Err(error) if error.kind() == ErrorKind::AlreadyExists => Ok(false),
+        Err(error) => Err(Reason::System(error)),
+    }
+}
+
 // Takes away the file of a process that was stopped before it had the lock. One that is locked is of a process that is about to have it.
-fn clear<R: Files<File = File>>(rt: &R, opened: &mut Opened, path: &str) -> Result<Tried, Reason> {
+fn clear<R: Files<File = File> + AllocGlobal>(
+    rt: &R,
+    opened: &mut Opened,
+    names: &Names,
+) -> Result<Tried, Reason> {
+    let path = names.new.as_str();
     let Some(seen) = look(rt, path)? else {
         return Ok(Tried::Gone);
     };
-    let Some(file) = open_seen(rt, path, &seen, false)? else {
-        return Ok(Tried::Gone);
+    let file = match open_either(rt, path, &seen)? {
+        Some(file) => file,
+        None => return Ok(Tried::Gone),
     };
-    match lock(rt, path, file)? {
-        Tried::Taken(file) => {
-            remove_file(rt, path)?;
-            file.unlock()?;
+    match ended(rt, names, path, WLOCK_NEW, &seen, file)? {
+        Maker::Dead(file) => {
+            take_away(rt, path, &file)?;
             opened.keep(file);
             Ok(Tried::Gone)
         }
-        other => Ok(other),
+        Maker::Held(said) => Ok(Tried::Held(said)),
+        Maker::Gone => Ok(Tried::Gone),
     }
 }
 
-// Takes the lock by a file that a process left behind. Until it tells its new holder Mercurial may be about to take it away, which it does under
-// a lock of its own, behind another look at the holder: so where that lock isn't there behind the write, the file stays.
-fn take_over<R: Files<File = File> + AllocGlobal>(
+// Opens the file that was seen, for writing too where it may be: some systems lock no other.
+fn open_either<R: Files<File = File>>(
+    rt: &R,
+    path: &str,
+    seen: &Metadata,
+) -> Result<Option<File>, Reason> {
+    match open_seen(rt, path, seen, true) {
+        Err(Reason::System(error)) if error.kind() == ErrorKind::PermissionDenied => {
+            open_seen(rt, path, seen, false)
+        }
+        there => there,
+    }
+}
+
+// What became of the process that made a file.
+enum Maker {
+    // It has ended, and the file is ours.
+    Dead(File),
+    // It may live, and what is to be said of that, where there is something.
+    Held(Option<String>),
+    // The file isn't the one of its name any more.
+    Gone,
+}
+
+// Whether the process has ended that made a file of ours. It has where the system gives the lock; a process of another host may live all the same, and where
+// the system has no lock for the file it is known of one's own namespace alone.
+fn ended<R: Files<File = File> + AllocGlobal>(
     rt: &R,
     names: &Names,
+    path: &str,
+    name: &str,
     seen: &Metadata,
-) -> Result<Tried, Reason> {
-    let path = names.lock.as_str();
-    let there = match open_seen(rt, path, seen, true) {
-        Err(Reason::System(error)) if error.kind() == ErrorKind::PermissionDenied => {
-            return is_held(rt, path, seen, error);
-        }
-        there => there?,
+    file: File,
+) -> Result<Maker, Reason> {
+    let (mut file, is_sure) = match lock_open(rt, path, file)? {
+        Locked::Ours(file) => (file, true),
+        Locked::Without(file) => (file, false),
+        Locked::Held => return Ok(Maker::Held(None)),
+        Locked::Gone => return Ok(Maker::Gone),
     };
-    let Some(file) = there else {
-        return Ok(Tried::Gone);
+    let Some(told) = told_by(rt.alloc(), &mut file, seen.len())? else {
+        return Ok(Maker::Held(None));
     };
-    let mut file = match lock(rt, path, file)? {
-        Tried::Taken(file) => file,
-        other => return Ok(other),
-    };
-    if is_foreign(rt.alloc(), &mut file, seen.len())? {
-        return Ok(Tried::Held);
+    let own = names.holder.as_str();
+    if is_elsewhere(own, told.as_slice()) {
+        return Ok(Maker::Held(Some(held_by(rt.alloc(), name, told.as_slice())?)));
     }
-    tell(rt.alloc(), &mut file, seen.len(), names.holder.as_slice())?;
-    if look(rt, names.breaking.as_str())?.is_some() || !stands(rt, path, &file)? {
-        return Ok(Tried::Gone);
+    if !is_sure && !is_gone(rt, own, told.as_slice())? {
+        return Ok(Maker::Held(None));
     }
-    // (that process was stopped before it took its file's first name away)
-    if seen.nlink() > 1 {
-        take_away(rt, names.new.as_str(), &file)?;
-    }
-    Ok(Tried::Taken(file))
+    Ok(Maker::Dead(file))
 }
 
-// Whether the file is no lock of ours: where a file system has no symbolic links Mercurial's own lock is a regular file, with a holder and no
-// space behind it. It is Mercurial's to say whether that holder lives.
-fn is_foreign(alloc: Global, file: &mut File, len: u64) -> Result<bool, Error> {
+// What a file of ours says of its holder; none where it is no lock of ours: where a file system has no symbolic links Mercurial's own lock is a regular
+// file, with a holder and no space behind it. It is Mercurial's to say whether that holder lives.
+fn told_by(alloc: Global, file: &mut File, len: u64) -> Result<Option<Vec<u8>>, Error> {
     if len > LONGEST {
-        return Ok(true);
+        return Ok(None);
     }
     let mut text = Vec::new(alloc);
     file.read_to_end(&mut text)?;
     file.seek(SeekFrom::Start(0))?;
-    Ok(text.last().is_some_and(|last| *last != b' '))
+    if text.last().is_some_and(|last| *last != b' ') {
+        return Ok(None);
+    }
+    Ok(Some(text))
 }
 
-// Whether the file of another user, which may not be written, is locked. Where it isn't it can't be taken over.
-fn is_held<R: Files<File = File>>(
+// Takes the lock by a file that a process left behind.
+fn take_over<R: Files<File = File> + AllocGlobal>(
     rt: &R,
-    path: &str,
+    opened: &mut Opened,
+    names: &Names,
     seen: &Metadata,
-    error: Error,
 ) -> Result<Tried, Reason> {
-    let Some(file) = open_seen(rt, path, seen, false)? else {
+    let path = names.lock.as_str();
+    let (there, is_writable) = match open_seen(rt, path, seen, true) {
+        Err(Reason::System(error)) if error.kind() == ErrorKind::PermissionDenied => {
+            (open_seen(rt, path, seen, false)?, false)
+        }
+        there => (there?, true),
+    };
+    let Some(file) = there else {
         return Ok(Tried::Gone);
     };
-    match lock(rt, path, file)? {
-        Tried::Taken(_) => Err(Reason::System(error)),
-        other => Ok(other),
+    // (what has other names too isn't written: it may be anything)
+    let stays = is_writable && seen.nlink() == 1;
+    match ended(rt, names, path, WLOCK, seen, file)? {
+        Maker::Dead(file) if stays => keep(rt, names, seen, file),
+        Maker::Dead(file) => clear_lock(rt, opened, names, file),
+        Maker::Held(said) => Ok(Tried::Held(said)),
+        Maker::Gone => Ok(Tried::Gone),
     }
+}
+
+// Has the file tell its new holder. Until it does Mercurial may be about to take it away, which it does under a lock of its own, behind another look at the
+// holder: so where that lock isn't there behind the write, the file stays.
+fn keep<R: Files<File = File> + AllocGlobal>(
+    rt: &R,
+    names: &Names,
+    seen: &Metadata,
+    file: File,
+) -> Result<Tried, Reason> {
+    let mut file = file;
+    tell(rt.alloc(), &mut file, seen.len(), names.holder.as_str())?;
+    if is_breaking(rt, names)? || !stands(rt, names.lock.as_str(), &file)? {
+        return Ok(Tried::Gone);
+    }
+    Ok(Tried::Had(Lock::File(file)))
+}
+
+// Takes away a dead process's file that may not be written, as another user's, or has other names, under Mercurial's lock for that.
+fn clear_lock<R: Files<File = File> + AllocGlobal>(
+    rt: &R,
+    opened: &mut Opened,
+    names: &Names,
+    file: File,
+) -> Result<Tried, Reason> {
+    if is_breaking(rt, names)? || !link_holder(rt, names, names.breaking.as_str())? {
+        return Ok(Tried::Held(None));
+    }
+    let taken_away = take_away(rt, names.lock.as_str(), &file);
+    let let_go = remove_file(rt, names.breaking.as_str());
+    taken_away?;
+    let_go?;
+    opened.keep(file);
+    Ok(Tried::Gone)
+}
+
+// Whether Mercurial is about to take the lock's file away. What a dead process left of that is taken away first, under one lock more, as Mercurial does.
+fn is_breaking<R: Files<File = File> + AllocGlobal>(rt: &R, names: &Names) -> Result<bool, Reason> {
+    let path = names.breaking.as_str();
+    if look(rt, path)?.is_none() {
+        return Ok(false);
+    }
+    let Ok(told) = fs::read_link(rt, path) else {
+        return Ok(true);
+    };
+    if !is_gone(rt, names.holder.as_str(), told.as_str().as_bytes())?
+        || !link_holder(rt, names, names.barring.as_str())?
+    {
+        return Ok(true);
+    }
+    let is_same = fs::read_link(rt, path).is_ok_and(|now| now.as_str() == told.as_str());
+    let taken_away = if is_same {
+        remove_file(rt, path)
+    } else {
+        Ok(())
+    };
+    let let_go = remove_file(rt, names.barring.as_str());
+    taken_away?;
+    let_go?;
+    Ok(!is_same)
 }
 
 // Has the file tell its holder, in place of so many bytes. That is one write, with spaces up to the end of what was there, which count for nothing
 // behind a process's number: who reads meanwhile reads the one holder or the other.
-fn tell(alloc: Global, file: &mut File, len: u64, holder: &[u8]) -> Result<(), Error> {
-    let mut text = Vec::from_slice(alloc, holder)?;
+fn tell(alloc: Global, file: &mut File, len: u64, holder: &str) -> Result<(), Error> {
+    let mut text = Vec::from_slice(alloc, holder.as_bytes())?;
     for _ in holder.len() as u64..len.min(LONGEST) {
         text.push(b' ')?;
     }
@@ -235,17 +416,24 @@ fn tell(alloc: Global, file: &mut File, len: u64, holder: &[u8]) -> Result<(), E
 }
 
 // Locks the file, and looks whether it is still the one of that name.
-fn lock<R: Files<File = File>>(rt: &R, path: &str, file: File) -> Result<Tried, Reason> {
+fn lock_open<R: Files<File = File>>(rt: &R, path: &str, file: File) -> Result<Locked, Reason> {
     match file.try_lock() {
         Ok(()) => {}
-        Err(TryLockError::WouldBlock) => return Ok(Tried::Held),
+        Err(TryLockError::WouldBlock) => return Ok(Locked::Held),
+        Err(TryLockError::Error(error)) if has_no_lock(&error) => return Ok(Locked::Without(file)),
         Err(TryLockError::Error(error)) => return Err(Reason::System(error)),
     }
     if stands(rt, path, &file)? {
-        Ok(Tried::Taken(file))
+        Ok(Locked::Ours(file))
     } else {
-        Ok(Tried::Gone)
+        Ok(Locked::Gone)
     }
+}
+
+// Whether the system says that it has no lock for a file.
+fn has_no_lock(error: &Error) -> bool {
+    error.kind() == ErrorKind::Unsupported
+        || matches!(error.raw_os_error(), Some(NO_LOCKS | NOT_OPEN))
 }
 
 // Whether the open file is the one at the path.
@@ -256,8 +444,20 @@ fn stands<R: Files<File = File>>(rt: &R, path: &str, file: &File) -> Result<bool
     }
 }
 
-/// Gives the lock back: takes the file away, and then lets go of it. It is let go also where the file can't be taken away.
-pub(crate) fn give_back<R: Files<File = File>>(
+/// Gives the lock back: takes it away, and lets go of its file. That is let go also where it can't be taken away.
+pub(crate) fn give_back<R: Files<File = File> + AllocGlobal>(
+    rt: &R,
+    opened: &mut Opened,
+    path: &str,
+    lock: Lock,
+) -> Result<(), Reason> {
+    match lock {
+        Lock::File(file) => give_file_back(rt, opened, path, file),
+        Lock::Link(told) => give_link_back(rt, path, told.as_str()),
+    }
+}
+
+fn give_file_back<R: Files<File = File>>(
     rt: &R,
     opened: &mut Opened,
     path: &str,
@@ -269,6 +469,13 @@ pub(crate) fn give_back<R: Files<File = File>>(
     taken_away?;
     let_go?;
     opened.keep(file);
+    Ok(())
+}
+
+fn give_link_back<R: Files + AllocGlobal>(rt: &R, path: &str, told: &str) -> Result<(), Reason> {
+    if fs::read_link(rt, path).is_ok_and(|now| now.as_str() == told) {
+        remove_file(rt, path)?;
+    }
     Ok(())
 }
 

@@ -14,15 +14,17 @@ ghost use Rattle.hg_tree.specs.Moment.{IsPlain};
 use crate::contents::read_name;
 use crate::disk::is_absence;
 use crate::failure::{FirstFailure, Reason};
-use crate::look::{NO_TIME, stat_of};
+use crate::look::{NO_TIME, stat_of, time_of};
 use crate::met::Met;
-use crate::probe::{FOLDER, PROBE, lowest, probe_name};
+use crate::probe::{FOLDER, PROBE, Probed, lowest, probe_name};
 use crate::putting::{Made, Wanted, make_step, put_name, unlink_name};
 use crate::root::Named;
 use crate::spot::{Spot, spot_of};
 use crate::way::Way;
-use hg_base::{Failed, Got, Stat, Time};
+use hg_base::{Failed, Got, Kind, Stat, Time};
+use std::fs::Metadata;
 use std::io::ErrorKind;
+use std::os::unix::fs::MetadataExt;
 use std::rt::{Env, Files};
 use std::{env, fs, io};
 
@@ -47,6 +49,7 @@ pub(crate) struct Place<'a, R: Files + Env> {
     seen: Seen,
     met: Met,
     made: Option<Made<R::File>>,
+    clock: Option<u64>,
     pub(crate) failure: FirstFailure,
 }
 
@@ -87,6 +90,20 @@ fn parted(path: &str) -> (&str, &str) {
     }
 }
 
+// The same thing, by the lowest time. (One of no kind has no time of its own.)
+fn timeless(stat: Stat) -> Stat
+    requires { IsPlain stat }
+    ensures { IsPlain result }
+{
+    if stat.kind == Kind::Other {
+        return stat;
+    }
+    Stat {
+        mtime: lowest(),
+        ..stat
+    }
+}
+
 // The first component.
 fn first(path: &str) -> &str {
     match path.split_once('/') {
@@ -108,6 +125,7 @@ impl<'a, R: Files + Env + AllocGlobal> Place<'a, R> {
             },
             met: Met::new(rt.alloc()),
             made: None,
+            clock: None,
             failure: FirstFailure::new(),
         }
     }
@@ -184,14 +202,31 @@ impl<'a, R: Files + Env + AllocGlobal> Place<'a, R> {
         }
     }
 
-    /// The clock of the file system, by a file below `.hg` that is written; the lowest time where it can't be.
+    /// The clock of the file system, by a file below `.hg` that is written; the lowest time where it can't be. The shelf finds out where
+    /// `.hg` may not be written.
     pub(crate) fn now(&mut self) -> Result<Time, Failed> {
+        self.home.shut.set(false);
         match self.go(FOLDER)? {
-            Gone::There => match probe_name(self.rt, PROBE) {
-                Ok(time) => Ok(time),
-                Err(reason) => Err(self.failed(PROBE, reason)),
-            },
-            Gone::Absent | Gone::Shut => Ok(lowest()),
+            Gone::There => {}
+            Gone::Absent | Gone::Shut => return Ok(lowest()),
+        }
+        match probe_name(self.rt, PROBE) {
+            Ok(Probed::Shown(seen)) => self.shown(&seen),
+            Ok(Probed::Shut) => {
+                self.home.shut.set(true);
+                Ok(lowest())
+            }
+            Ok(Probed::Untold) => Ok(lowest()),
+            Err(reason) => Err(self.failed(PROBE, reason)),
+        }
+    }
+
+    // The time that a file shows. It is of the clock of its file system alone, and of no other.
+    fn shown(&mut self, seen: &Metadata) -> Result<Time, Failed> {
+        self.clock = Some(seen.dev());
+        match time_of(seen) {
+            Some(time) => Ok(time),
+            None => Err(self.failed(PROBE, NO_TIME)),
         }
     }
 
@@ -390,6 +425,18 @@ impl<'a, R: Files + Env + AllocGlobal> Place<'a, R> {
         }
     }
 
+    // What stands on another file system than the one whose clock was asked shows the lowest time, by which nothing is recorded and nothing vouched for: its
+    // times may be told by another clock, and more coarsely.
+    fn by_clock(&self, metadata: &Metadata, stat: Stat) -> Stat
+        requires { IsPlain stat }
+        ensures { IsPlain result }
+    {
+        match self.clock {
+            Some(clock) if clock != metadata.dev() => timeless(stat),
+            _ => stat,
+        }
+    }
+
     // What a name in the folder shows, no link followed.
     fn look(&mut self, name: &str) -> Result<Option<Stat>, Failed>
         ensures { IfOk result (λ found. IfSome found IsPlain) }
@@ -400,7 +447,7 @@ impl<'a, R: Files + Env + AllocGlobal> Place<'a, R> {
                     self.seen.keep(name, spot_of(&metadata));
                 }
                 match stat_of(&metadata) {
-                    Some(stat) => Ok(Some(stat)),
+                    Some(stat) => Ok(Some(self.by_clock(&metadata, stat))),
                     None => Err(self.failed(name, NO_TIME)),
                 }
             }

@@ -37,6 +37,8 @@ const BESIDE: [&str; 4] = [
 
 const CHANGED: Reason = Reason::Words("changed again and again");
 
+const TAKEN: Reason = Reason::Words("something was put there meanwhile");
+
 /// The file that was made last, and which one it is.
 #[derive(Drop)]
 pub(crate) struct Made<F: Drop> {
@@ -44,12 +46,13 @@ pub(crate) struct Made<F: Drop> {
     file: F,
 }
 
-/// What is to be put: a file or a link, and whether the file can be run.
+/// What is to be put: a file or a link, and whether the file can be run; and whether nothing was seen there before.
 #[derive(Clone, Copy)]
 pub(crate) struct Wanted {
     pub(crate) kind: Kind,
     pub(crate) exec: bool,
     pub(crate) place: u64,
+    pub(crate) vacant: bool,
 }
 
 /// Takes a file or a link away, and says whether one stood there.
@@ -65,7 +68,7 @@ pub(crate) fn unlink_name<R: Files>(rt: &R, name: &str) -> Result<bool, Reason> 
     }
 }
 
-/// Puts a file or a link, or more bytes behind a file, and says whether it could.
+/// Puts a file or a link, or more bytes behind a file, and says whether it could. Where nothing was seen there before, nothing is replaced.
 pub(crate) fn put_name<R: Files>(
     rt: &R,
     made: &mut Option<Made<R::File>>,
@@ -84,6 +87,9 @@ pub(crate) fn put_name<R: Files>(
         let done = match look(rt, name)? {
             None => make_new(rt, made, name, wanted, bytes)?,
             Some(seen) if is_loose(&seen) => {
+                if wanted.vacant {
+                    return Err(TAKEN);
+                }
                 replace(rt, made, name, wanted, bytes)?;
                 true
             }

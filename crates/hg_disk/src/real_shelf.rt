@@ -4,15 +4,17 @@ ghost use Rattle.std.specs.Prelude.{◌≡◌, ◌≤◌, IfOk, Ok, length};
 ghost use Rattle.hg_base.specs.Fault.{HasCause};
 ghost use Rattle.hg_base.specs.Reads.{IsWithin};
 
-use crate::below::{below_hg, is_within, root_path, set_locked, was_found};
+use crate::below::{begin, below_hg, is_shut, is_within, root_path, set_locked, was_found};
 use crate::disk::{counted, is_absence};
 use crate::failure::{FirstFailure, Reason};
-use crate::holder::{ProcessId, holder};
-use crate::lock_file::{Names, give_back, take};
+use crate::holder::{ProcessId, enough, holder};
+use crate::lock_file::{
+    Asked, Lock, Names, WLOCK, WLOCK_BREAK, WLOCK_BREAK_BREAK, WLOCK_NEW, give_back, take,
+};
 use crate::opened::Opened;
 use crate::root::Root;
 use crate::writing::{
-    folder_of, look, make_folder, remove_file, rename_seen, sync, sync_file, write_file,
+    folder_of, look, make_folder, remove_file, rename_seen, sync_file, sync_names, write_file,
 };
 use hg_base::{Failed, Got, risen};
 use hg_shelf::Shelf;
@@ -25,10 +27,11 @@ use std::rt::{Env, Files};
 ///
 /// It tells nothing of its history but whether it has the lock, and counts each call that the file system failed, and each lock that was
 /// refused. A file is absent where `.hg` or the file is missing, and where the system can't hold its name. What reads follows links;
-/// what is no regular file behind them is a failure. What writes follows none, and makes the folders that are missing. Where it
-/// writes behind the beginning of a file that has other names or may only be read, a copy takes that one's place first. A file that was written is
+/// what is no regular file behind them is a failure. What writes follows none, and makes the folders that are missing. From the beginning on a file is
+/// made anew, and what lay behind the written bytes goes; where it writes behind the beginning of a file that has other names or may only be read, a copy of
+/// what stands before takes that one's place first. A file may be read and written by whom `.hg` may be, or the file whose place it takes; it is
 /// made sure by `sync`, or before the next write. The lock is one of the system's on the file `wlock`, which it gives back at the
-/// end of the process.
+/// end of the process; where the system has none it is a symbolic link, as Mercurial's own.
 ///
 /// Files and folders that are made sure, or read under the lock, stay open until the shelf is dropped, up to 64: of a close that fails
 /// nothing is told.
@@ -36,11 +39,12 @@ use std::rt::{Env, Files};
 pub struct RealShelf<'a, R: Files> {
     rt: &'a R,
     root: &'a Root,
-    lock: Option<File>,
+    lock: Option<Lock>,
     opened: Opened,
     faults: u64,
     held: u64,
     failure: FirstFailure,
+    refusal: Option<String>,
 }
 
 impl<'a, R: Files + Env + AllocGlobal> RealShelf<'a, R> {
@@ -56,6 +60,7 @@ impl<'a, R: Files + Env + AllocGlobal> RealShelf<'a, R> {
             faults: 0,
             held: 0,
             failure: FirstFailure::new(),
+            refusal: None,
         }
     }
 
@@ -63,6 +68,11 @@ impl<'a, R: Files + Env + AllocGlobal> RealShelf<'a, R> {
     /// was no memory for the text.
     pub fn failure(&self) -> Option<&str> {
         self.failure.as_str()
+    }
+
+    /// What is to be said of the lock where it was refused the last time, where there is something: who has it, or why it can't be taken.
+    pub fn refusal(&self) -> Option<&str> {
+        self.refusal.as_deref()
     }
 
     // The answer of a call on a file. A failure is counted, and why it failed is kept.
@@ -104,6 +114,9 @@ impl<'a, R: Files<File = File> + Env + AllocGlobal + ProcessId> Shelf for RealSh
 
     fn read_at(&mut self, name: &str, place: u64, buf: &mut [u8]) -> Result<Got, Failed> {
         let stays = self.lock.is_some();
+        if name == DOCKET && !stays {
+            begin(self.root);
+        }
         let answer = read_file(
             self.rt,
             self.root,
@@ -146,13 +159,14 @@ impl<'a, R: Files<File = File> + Env + AllocGlobal + ProcessId> Shelf for RealSh
             return Ok(true);
         }
         let answer = take_lock(self.rt, self.root, &mut self.opened);
-        set_locked(self.root, matches!(answer, Ok(Some(_))));
+        set_locked(self.root, matches!(answer, Ok(Asked::Had(_))));
         match self.answered(WLOCK, answer)? {
-            Some(file) => {
-                self.lock = Some(file);
+            Asked::Had(lock) => {
+                self.lock = Some(lock);
                 Ok(true)
             }
-            None => {
+            Asked::Held(refusal) => {
+                self.refusal = refusal;
                 self.held = risen(self.held);
                 Ok(false)
             }
@@ -160,10 +174,10 @@ impl<'a, R: Files<File = File> + Env + AllocGlobal + ProcessId> Shelf for RealSh
     }
 
     fn unlock(&mut self) -> Result<(), Failed> {
-        let Some(file) = self.lock.take() else {
+        let Some(lock) = self.lock.take() else {
             return Ok(());
         };
-        let answer = give_lock_back(self.rt, self.root, &mut self.opened, file);
+        let answer = give_lock_back(self.rt, self.root, &mut self.opened, lock);
         set_locked(self.root, false);
         self.answered(WLOCK, answer)
     }
@@ -173,12 +187,8 @@ impl<'a, R: Files<File = File> + Env + AllocGlobal + ProcessId> Shelf for RealSh
     ghost shown_named = { λ s k told below. tt };
 }
 
-// The file of the lock, its name before it has that one, and the lock under which Mercurial takes away the lock of a dead process.
-const WLOCK: &str = "wlock";
-
-const WLOCK_NEW: &str = "wlock-new";
-
-const WLOCK_BREAK: &str = "wlock.break";
+// With a read of the docket, which isn't under the lock, each command begins that doesn't begin with the lock.
+const DOCKET: &str = "dirstate";
 
 // What was written before is made sure first, so that nothing is closed without that.
 fn put<R: Files<File = File> + Env + AllocGlobal>(
@@ -191,8 +201,9 @@ fn put<R: Files<File = File> + Env + AllocGlobal>(
 ) -> Result<(), Reason> {
     opened.sync_written()?;
     make_folders(rt, root, opened, name)?;
+    let hg = below_hg(rt, root, "")?;
     let path = below_hg(rt, root, name)?;
-    write_file(rt, opened, path.as_str(), place, bytes)
+    write_file(rt, opened, hg.as_str(), path.as_str(), place, bytes)
 }
 
 // The file, and that its folder names it.
@@ -223,7 +234,7 @@ fn change_name<R: Files<File = File> + Env + AllocGlobal>(
     let before = look(rt, to.as_str())?;
     // The first docket of a folder `.hg` that an earlier call may have made, and ended before it was sure.
     if before.is_none() {
-        sync(rt, opened, root_path(root))?;
+        sync_names(rt, opened, root_path(root))?;
     }
     rename_seen(rt, opened, from.as_str(), &seen, to.as_str(), before)
 }
@@ -237,28 +248,39 @@ fn take_lock<R: Files<File = File> + Env + AllocGlobal + ProcessId>(
     rt: &R,
     root: &Root,
     opened: &mut Opened,
-) -> Result<Option<File>, Reason> {
+) -> Result<Asked, Reason> {
+    if is_shut(root) {
+        return shut(rt);
+    }
     if !was_found(root) {
         make_hg(rt, root, opened)?;
     }
     set_locked(root, true);
     let names = Names {
+        hg: below_hg(rt, root, "")?,
         lock: below_hg(rt, root, WLOCK)?,
         new: below_hg(rt, root, WLOCK_NEW)?,
         breaking: below_hg(rt, root, WLOCK_BREAK)?,
+        barring: below_hg(rt, root, WLOCK_BREAK_BREAK)?,
         holder: holder(rt)?,
     };
     take(rt, opened, &names)
+}
+
+// Where nothing may be written in `.hg`, a status passes its save over as beside a held lock.
+fn shut<R: AllocGlobal>(rt: &R) -> Result<Asked, Reason> {
+    let said = enough(String::from_str(rt.alloc(), ".hg may not be written"))?;
+    Ok(Asked::Held(Some(said)))
 }
 
 fn give_lock_back<R: Files<File = File> + Env + AllocGlobal>(
     rt: &R,
     root: &Root,
     opened: &mut Opened,
-    file: File,
+    lock: Lock,
 ) -> Result<(), Reason> {
     let path = below_hg(rt, root, WLOCK)?;
-    give_back(rt, opened, path.as_str(), file)
+    give_back(rt, opened, path.as_str(), lock)
 }
 
 // Makes sure which names a folder below `.hg` has; that is `.hg` itself for the empty name.
@@ -269,7 +291,7 @@ fn sync_folder<R: Files<File = File> + Env + AllocGlobal>(
     folder: &str,
 ) -> Result<(), Reason> {
     let path = below_hg(rt, root, folder)?;
-    match sync(rt, opened, path.as_str()) {
+    match sync_names(rt, opened, path.as_str()) {
         Err(error) if !is_absence(&error) => Err(Reason::System(error)),
         _ => Ok(()),
     }
@@ -283,7 +305,7 @@ fn make_hg<R: Files<File = File> + Env + AllocGlobal>(
 ) -> Result<String, Reason> {
     let hg = below_hg(rt, root, "")?;
     if !is_within(root) && make_folder(rt, hg.as_str())? {
-        sync(rt, opened, root_path(root))?;
+        sync_names(rt, opened, root_path(root))?;
     }
     Ok(hg)
 }
@@ -299,7 +321,7 @@ fn make_folders<R: Files<File = File> + Env + AllocGlobal>(
     for (at, _) in name.match_indices('/') {
         let folder = below_hg(rt, root, &name[..at])?;
         if make_folder(rt, folder.as_str())? {
-            sync(rt, opened, above.as_str())?;
+            sync_names(rt, opened, above.as_str())?;
         }
         above = folder;
     }

@@ -7,12 +7,16 @@ ghost use Rattle.hg_base.specs.Fault.{HasCause};
 ghost use Rattle.hg_base.specs.Reads.{IsWithin};
 
 use crate::ancestors::Staying;
+use crate::below::below_hg;
 use crate::disk::counted;
 use crate::entries::{list_from_root, list_there};
+use crate::failure::{FirstFailure, Reason};
 use crate::place::Place;
 use crate::probe::lowest;
 use crate::putting::Wanted;
 use crate::root::Root;
+use crate::vacant::Vacant;
+use crate::writing::look;
 use hg_base::{Failed, Got, Kind, PathRef, Stat, Time, risen};
 use hg_tree::{Name, Tree, TreeFault};
 use std::alloc::Global;
@@ -28,14 +32,20 @@ use std::rt::{Env, Files};
 /// over 255 bytes) is absent, as is what stands behind a link. A name that isn't text fails the listing of its directory.
 ///
 /// What is put or taken away stands in the folder where the process stands by then, so that no link leads elsewhere; from a root without
-/// a name that serves, only what stands right in it is. The bytes aren't made sure on the disk.
+/// a name that serves, only what stands right in it is. The bytes aren't made sure on the disk. Where a look showed nothing, and something was put there
+/// since, putting fails, and this stays.
 ///
-/// Its clock is the file system's: the time of modification of `.hg/probe` once a byte was written to it. It is the lowest time there is where
-/// that can't be written: where no folder `.hg` stands in the root, there is no right or no room to write there, something else than a regular
-/// file stands there, or the root has no name that serves.
+/// Its clock is the file system's: the time of modification of `.hg/probe` once that was made and a byte was written to it. It is the lowest time there is where
+/// that can't be made: where no folder `.hg` stands in the root, there is no right or no room to write there, something else than a regular
+/// file stands there, or the root has no name that serves. What stands on another file system shows the lowest time, too.
+///
+/// While the lock is held, a look at a name with a line feed or a carriage return fails in a repository of Mercurial's, one with `.hg/requires`: its manifests
+/// can't hold such a name.
 #[derive(Drop)]
 pub struct RealTree<'a, R: Files + Env> {
     looks: Looks<'a, R>,
+    root: &'a Root,
+    vacant: Vacant,
     faults: u64,
 }
 
@@ -55,7 +65,12 @@ impl<'a, R: Files + Env + AllocGlobal> RealTree<'a, R> {
             Some(named) => Looks::From(Place::new(rt, named)),
             None => Looks::Staying(Staying::new(rt)),
         };
-        RealTree { looks, faults: 0 }
+        RealTree {
+            looks,
+            root,
+            vacant: Vacant::new(rt.alloc()),
+            faults: 0,
+        }
     }
 
     /// The name and the reason of the first failure, as one text: `NAME: REASON`. The name is a path from the root; bytes of it that aren't
@@ -76,7 +91,8 @@ impl<'a, R: Files + Env + AllocGlobal> Tree for RealTree<'a, R> {
     ghost faults = { λ t. t.faults };
 
     fn stat(&mut self, path: PathRef<'_>) -> Result<Option<Stat>, Failed> {
-        let answer = stat_at(&mut self.looks, path.text);
+        let answer = stat_held(&mut self.looks, self.root, path.text);
+        self.vacant.note(path.text, matches!(answer, Ok(None)));
         counted(&mut self.faults, answer)
     }
 
@@ -112,10 +128,73 @@ impl<'a, R: Files + Env + AllocGlobal> Tree for RealTree<'a, R> {
         place: u64,
         bytes: &[u8],
     ) -> Result<bool, Failed> {
-        let wanted = Wanted { kind, exec, place };
+        let vacant = self.vacant.is(path.text);
+        let wanted = Wanted {
+            kind,
+            exec,
+            place,
+            vacant,
+        };
         let answer = put_at(&mut self.looks, path.text, wanted, bytes);
+        self.vacant.forget();
         counted(&mut self.faults, answer)
     }
+}
+
+// What is wrong with a name that Mercurial can't keep.
+const LINE_BREAK: Reason = Reason::Words(
+    "the manifests of Mercurial can't hold such a name: rename the file",
+);
+
+// What stands at the path; while the lock is held, the path has to be a name that a manifest of Mercurial's can hold, where its repository is one.
+fn stat_held<R: Files + Env + AllocGlobal>(
+    looks: &mut Looks<'_, R>,
+    root: &Root,
+    path: &str,
+) -> Result<Option<Stat>, Failed>
+    ensures { IfOk result (λ found. IfSome found IsPlain) }
+{
+    if root.locked.get() && has_break(path) {
+        refuse_break(looks, root, path)?;
+    }
+    stat_at(looks, path)
+}
+
+fn has_break(path: &str) -> bool {
+    path.as_bytes().contains(&b'\n') || path.as_bytes().contains(&b'\r')
+}
+
+fn refuse_break<R: Files + Env + AllocGlobal>(
+    looks: &mut Looks<'_, R>,
+    root: &Root,
+    path: &str,
+) -> Result<(), Failed> {
+    match looks {
+        Looks::From(from) => refused_break(from.rt, &mut from.failure, root, path),
+        Looks::Staying(staying) => refused_break(staying.rt, &mut staying.failure, root, path),
+    }
+}
+
+// The failure of a name with a line break, where the repository says what it requires.
+fn refused_break<R: Files + Env + AllocGlobal>(
+    rt: &R,
+    failure: &mut FirstFailure,
+    root: &Root,
+    path: &str,
+) -> Result<(), Failed> {
+    let reason = match is_mercurials(rt, root) {
+        Ok(false) => return Ok(()),
+        Ok(true) => LINE_BREAK,
+        Err(reason) => reason,
+    };
+    failure.keep(rt.alloc(), b"", path.as_bytes(), reason);
+    Err(Failed)
+}
+
+// Whether the repository says what it requires, as each of Mercurial's does.
+fn is_mercurials<R: Files + Env + AllocGlobal>(rt: &R, root: &Root) -> Result<bool, Reason> {
+    let path = below_hg(rt, root, "requires")?;
+    Ok(look(rt, path.as_str())?.is_some())
 }
 
 // What stands at the path, no link followed. It has a frame of its own, so that what it reads takes no room in the frames of a caller that

@@ -13,6 +13,8 @@ const LONGEST: usize = 3000;
 #[derive(Drop)]
 pub struct Root {
     pub(crate) named: Option<Named>,
+    /// Whether the shelf has the lock, or is about to have it.
+    pub(crate) locked: Cell<bool>,
 }
 
 /// A folder's absolute name, which folder that is, and where the process stands that looks at it.
@@ -22,27 +24,34 @@ pub(crate) struct Named {
     pub(crate) spot: Spot,
     /// Which folder its `.hg` is, where it has one.
     pub(crate) hg: Cell<Option<Spot>>,
-    /// Whether the shelf has the lock, or is about to have it.
-    pub(crate) locked: Cell<bool>,
     /// Whether the process stands in `.hg`.
     pub(crate) within: Cell<bool>,
     /// Whether the shelf has moved the process since the tree last went anywhere.
     pub(crate) moved: Cell<bool>,
     /// Whether the shelf was asked for a file since the tree last went anywhere.
     pub(crate) asked: Cell<bool>,
+    /// Whether the clock found that nothing may be written in `.hg`, and no command has begun since.
+    pub(crate) shut: Cell<bool>,
 }
 
 impl Root {
     /// The current folder, by no name: what stands in it is looked at from there, as where its name doesn't serve.
     pub fn nameless() -> Root {
-        Root { named: None }
+        Root::named(None)
+    }
+
+    fn named(named: Option<Named>) -> Root {
+        Root {
+            named,
+            locked: Cell::new(false),
+        }
     }
 
     /// The current folder. It is known by its absolute name unless that isn't text, has over 3,000 bytes or is another folder's by now.
     pub fn current<R: Files + Env + AllocGlobal>(rt: &R) -> Root {
         match find_name(rt) {
-            Ok(named) => Root { named },
-            Err(_) => Root { named: None },
+            Ok(named) => Root::named(named),
+            Err(_) => Root::named(None),
         }
     }
 }
@@ -60,10 +69,10 @@ fn find_name<R: Files + Env + AllocGlobal>(rt: &R) -> io::Result<Option<Named>> 
         name,
         spot,
         hg: Cell::new(spot_at(rt, ".hg").ok()),
-        locked: Cell::new(false),
         within: Cell::new(false),
         moved: Cell::new(false),
         asked: Cell::new(false),
+        shut: Cell::new(false),
     }))
 }
 

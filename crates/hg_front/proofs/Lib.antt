@@ -2,4 +2,3 @@ pub mod Found
 pub mod Fronts
 pub mod NoPaths
 pub mod Told
-pub mod Stopping

@@ -1,11 +1,13 @@
 -- What a further line says behind those of a command.
-use Rattle.std.specs.Prelude.{ℕ, List, Option, Some, None, codes}
+use Rattle.std.specs.Prelude.{ℕ, if◌then◌else◌, List, [], ◌∷◌, Option, Some, None, codes, ◌==◌}
 use Rattle.std.specs.List.{find}
 use Rattle.std.specs.Option.{option_and_then}
 use Rattle.hg_docket.specs.declared.fault.DocketFault.TheVariants as a_docket
 use Rattle.hg_report.specs.declared.fault.Fault.{Fault}
 use Rattle.hg_report.specs.declared.fault.Fault.TheVariants as a_fault
 use Rattle.hg_front.specs.Marks.{has}
+use Rattle.hg_front.specs.Placed.{refusable}
+use Rattle.hg_front.specs.declared.carrying.Ran.{Ran}
 use Rattle.hg_front.specs.declared.marks.Mark.{Mark}
 use Rattle.hg_front.specs.declared.marks.Mark.TheVariants as a_mark
 
@@ -29,11 +31,18 @@ advice (a_fault.NoContents id) = Some parents
 advice (a_fault.BadRegexp line) = Some regexps
 advice fault = None
 
--- behind the line of a fault: the name and the reason of a device's first failure, and else what to do
-abbrev pub behind_fault : Fault → Option (List ℕ) → Option (List ℕ) → Option (List ℕ)
-behind_fault a_fault.TreeFailed tree shelf = tree
-behind_fault a_fault.ShelfFailed tree shelf = shelf
-behind_fault fault tree shelf = advice fault
+-- what the devices say of themselves: the name and the reason of the first failure of each, and of the lock that was refused
+pub record Sayings : Type 0 where
+  pub tree : Option (List ℕ)
+  pub shelf : Option (List ℕ)
+  pub lock : Option (List ℕ)
+
+-- behind the line of a fault: what the device says of it, and else what to do
+abbrev pub behind_fault : Fault → Sayings → Option (List ℕ)
+behind_fault a_fault.TreeFailed told = told.tree
+behind_fault a_fault.ShelfFailed told = told.shelf
+behind_fault a_fault.Held told = told.lock
+behind_fault fault told = advice fault
 
 -- by which marks a word is no path, and what is said of that
 abbrev pub path_advice : Mark → Option (List ℕ)
@@ -46,3 +55,17 @@ path_advice a_mark.LineBreak = None
 -- behind the lines of refused words, where one of those that may be refused as no paths has the mark
 abbrev pub behind_words : List (List ℕ) → Mark → Option (List ℕ)
 behind_words refusable mark = option_and_then (λ word. path_advice mark) (find (has mark) refusable)
+
+-- behind the lines of a command: of its fault, or else of the words that it refused, once for each kind of words that are no paths
+abbrev pub behind_status : ℕ → List (List ℕ) → List (Option (List ℕ))
+behind_status status words =
+    if status == 1
+    then behind_words words a_mark.Nothing ∷ behind_words words a_mark.Absolute ∷ behind_words words a_mark.Outside ∷ behind_words words a_mark.Directory ∷ []
+    else []
+
+abbrev pub behind_outcome : ℕ → Option Fault → List (List ℕ) → Sayings → List (Option (List ℕ))
+behind_outcome status (Some fault) words told = behind_fault fault told ∷ []
+behind_outcome status None words told = behind_status status words
+
+abbrev pub behind : Ran → Sayings → List (Option (List ℕ))
+behind ran told = behind_outcome ran.outcome.status ran.outcome.fault (refusable ran.placed) told

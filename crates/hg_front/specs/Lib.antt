@@ -8,4 +8,5 @@ pub mod Printing
 pub mod Reading
 pub mod Refusing
 pub mod Requirement
+pub mod Start
 pub mod Words

@@ -3,6 +3,7 @@
 ghost use Rattle.std.specs.Prelude.{◌≡◌};
 ghost use Rattle.std.specs.Option.{option_map};
 ghost use Rattle.hg_front.specs.Advice as advices;
+ghost use Rattle.hg_front.specs.Further.{SaysEach};
 ghost use Rattle.hg_front.specs.Placed as placed_words;
 
 use crate::carrying::Ran;
@@ -37,13 +38,22 @@ fn advice(fault: &Fault) -> Option<&'static str>
     }
 }
 
-// What is said behind the line of a fault: of a device the name and the reason of its first failure, and else what to do.
-fn behind_fault<'a>(fault: &Fault, tree: Option<&'a str>, shelf: Option<&'a str>) -> Option<&'a str>
-    ensures { option_map (λ text. text.now) result ≡ advices.behind_fault fault.now (option_map (λ text. text.now) tree.entry) (option_map (λ text. text.now) shelf.entry) }
+/// What the devices say of themselves: the name and the reason of the first failure of each, and of the lock that was refused.
+#[derive(Clone, Copy)]
+pub struct Told<'a> {
+    pub tree: Option<&'a str>,
+    pub shelf: Option<&'a str>,
+    pub lock: Option<&'a str>,
+}
+
+// What is said behind the line of a fault: what the device says of it, and else what to do.
+fn behind_fault<'a>(fault: &Fault, told: Told<'a>) -> Option<&'a str>
+    ensures { option_map (λ text. text.now) result ≡ advices.behind_fault fault.now (record { tree = option_map (λ text. text.now) told.entry.tree; shelf = option_map (λ text. text.now) told.entry.shelf; lock = option_map (λ text. text.now) told.entry.lock }) }
 {
     match fault {
-        Fault::TreeFailed => tree,
-        Fault::ShelfFailed => shelf,
+        Fault::TreeFailed => told.tree,
+        Fault::ShelfFailed => told.shelf,
+        Fault::Held => told.lock,
         _ => advice(fault),
     }
 }
@@ -66,21 +76,24 @@ fn behind_words(placed: &Placed, mark: Mark) -> Option<&'static str>
     }
 }
 
-/// Says more behind the lines of a command, where there is more to say: of its fault, or of the words that it refused, once for each kind of
-/// words that are no paths. `tree` and `shelf` are the names and reasons of the first failures of the devices.
-pub fn say_more<E: Sink>(
-    alloc: Global,
-    err: &mut E,
-    ran: &Ran,
-    tree: Option<&str>,
-    shelf: Option<&str>,
-) {
-    if let Some(fault) = &ran.outcome.fault {
-        explain(alloc, err, behind_fault(fault, tree, shelf));
-    } else if ran.outcome.status == 1 {
-        explain(alloc, err, behind_words(&ran.placed, Mark::Nothing));
-        explain(alloc, err, behind_words(&ran.placed, Mark::Absolute));
-        explain(alloc, err, behind_words(&ran.placed, Mark::Outside));
-        explain(alloc, err, behind_words(&ran.placed, Mark::Directory));
+// Says more of the words that a command refused, once for each kind of words that are no paths.
+fn say_of_words<E: Sink>(alloc: Global, err: &mut E, placed: &Placed)
+    ensures { SaysEach (advices.behind_status 1 (placed_words.refusable placed.now)) (E.bytes err.old) (E.bytes err.new) }
+{
+    explain(alloc, err, behind_words(placed, Mark::Nothing));
+    explain(alloc, err, behind_words(placed, Mark::Absolute));
+    explain(alloc, err, behind_words(placed, Mark::Outside));
+    explain(alloc, err, behind_words(placed, Mark::Directory));
+}
+
+/// Says more behind the lines of a command, where there is more to say: of its fault, or of the words that it refused.
+pub fn say_more<E: Sink>(alloc: Global, err: &mut E, ran: &Ran, told: Told<'_>)
+    ensures { SaysEach (advices.behind ran.now (record { tree = option_map (λ text. text.now) told.entry.tree; shelf = option_map (λ text. text.now) told.entry.shelf; lock = option_map (λ text. text.now) told.entry.lock })) (E.bytes err.old) (E.bytes err.new) }
+{
+    match &ran.outcome.fault {
+        Some(fault) => explain(alloc, err, behind_fault(fault, told)),
+        None => if ran.outcome.status == 1 {
+            say_of_words(alloc, err, &ran.placed);
+        },
     }
 }

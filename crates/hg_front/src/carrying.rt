@@ -1,14 +1,14 @@
 //! A command from its words to what it ends with.
 
-ghost use Rattle.std.specs.Prelude.{◌≡◌, false, IfErr, IfNone, IfOk, IfSome, Some};
+ghost use Rattle.std.specs.Prelude.{◌≡◌, false, IfErr, IfOk, Some};
 ghost use Rattle.std.specs.Option.{option_map};
 ghost use Rattle.hg_base.specs.Fault.{Rose};
 ghost use Rattle.hg_cli.specs.Script.{RunsWords, is_script};
-ghost use Rattle.hg_front.specs.Carried.{Begins, IsCarried};
+ghost use Rattle.hg_front.specs.Carried.{IsCarried, IsNotBegun, status_of};
 ghost use Rattle.hg_report.specs.declared.fault.Fault.TheVariants as a_fault;
 
 use crate::placing::{Placed, place, unreached};
-use crate::start::{stopped_inside, stopped_outside};
+use crate::start::{Here, stopped};
 use hg_base::Words;
 use hg_cli::run;
 use hg_ignore::Regexps;
@@ -17,7 +17,7 @@ use hg_session::{Outcome, failed};
 use hg_shelf::Shelf;
 use hg_stream::{Sink, Source};
 use hg_tree::Tree;
-use std::rt::Files;
+use std::alloc::Global;
 
 /// A command that was run: as which words, and what it ended with.
 #[derive(Drop)]
@@ -26,28 +26,12 @@ pub struct Ran {
     pub outcome: Outcome,
 }
 
-// Whether a command may begin, in a repository or outside of each: else the status that it ends with.
-fn stopped<R: Files + AllocGlobal, E: Sink>(
-    rt: &R,
-    inside: bool,
-    placed: &Placed,
-    err: &mut E,
-) -> Option<u8>
-    ensures status { IfSome result (λ status. status ≡ 255) }
-    ensures silent { IfNone result (Begins (E.bytes err.old) (E.bytes err.new)) }
-{
-    if inside {
-        return stopped_inside(rt, placed, err);
-    }
-    stopped_outside(rt.alloc(), placed, err)
-}
-
-/// Carries a command from its words to `run`, started in a folder that is told by its path from the root, where it can be told; `inside` says
-/// whether the root has a folder `.hg`. Where the command isn't begun it is answered the status that it ends with, once that was told.
-pub fn carry<R: Files + AllocGlobal, T: Tree, S: Shelf, G: Regexps, I: Source, O: Sink, E: Sink>(
-    rt: &R,
+/// Carries a command from its words to `run`, started in a folder that is told by its path from the root, where it can be told. Where the command
+/// isn't begun it is answered the status that it ends with, once that was told.
+pub fn carry<T: Tree, S: Shelf, G: Regexps, I: Source, O: Sink, E: Sink>(
+    alloc: Global,
     folder: Option<&str>,
-    inside: bool,
+    here: &Here,
     words: Words,
     tree: &mut T,
     shelf: &mut S,
@@ -56,10 +40,11 @@ pub fn carry<R: Files + AllocGlobal, T: Tree, S: Shelf, G: Regexps, I: Source, O
     out: &mut O,
     err: &mut E,
 ) -> Result<Ran, u8>
-    // Every word reaches `run`, and what it answers of them is answered.
+    // It is run only where nothing refuses it there; every word reaches `run`, and what it answers of them is answered.
     ensures ran { IfOk result (IsCarried
         E.bytes
         (option_map (λ f. f.now) folder.entry)
+        here.now
         words
         (E.bytes err.old)
         (λ given begun code fault. RunsWords
@@ -83,14 +68,15 @@ pub fn carry<R: Files + AllocGlobal, T: Tree, S: Shelf, G: Regexps, I: Source, O
         (tree.new, shelf.new, regexps.new, out.new, err.new)
         code
         fault)) }
-    // Else nothing is looked at, saved or put to `out`.
+    // Else something does, which is told, or its words can't be paths.
+    ensures refused { IfErr result (λ status. IsNotBegun (option_map (λ f. f.now) folder.entry) here.now words (E.bytes err.old) (E.bytes err.new) (E.faults err.old) (E.faults err.new)) }
+    // Then nothing is looked at, saved or put to `out`.
     ensures stopped { IfErr result (λ status. (status ≡ 255) × (tree.new ≡ tree.old) × (shelf.new ≡ shelf.old) × (out.new ≡ out.old) × (input.new ≡ input.old)) }
     // The input is told to have failed only where its count of failures rose.
     ensures failing { IfOk result (λ ran. ran.outcome.fault ≡ Some a_fault.InFailed → Rose (I.faults input.old) (I.faults input.new)) }
     // Nobody looks at the input but a script.
     ensures unread { IfOk result (λ ran. is_script ran.placed.words ≡ false → input.new ≡ input.old) }
 {
-    let alloc = rt.alloc();
     let placed = match place(alloc, folder, words) {
         Ok(placed) => placed,
         Err(Fault::TreeFailed) => {
@@ -98,9 +84,19 @@ pub fn carry<R: Files + AllocGlobal, T: Tree, S: Shelf, G: Regexps, I: Source, O
         }
         Err(fault) => return Err(failed(alloc, fault, err).status),
     };
-    if let Some(status) = stopped(rt, inside, &placed, err) {
+    if let Some(status) = stopped(alloc, here, &placed, err) {
         return Err(status);
     }
     let outcome = run(alloc, &placed.words, tree, shelf, regexps, input, out, err);
     Ok(Ran { placed, outcome })
+}
+
+/// What the program ends with, once a command was carried.
+pub fn status_of_carried(carried: &Result<Ran, u8>) -> u8
+    ensures { result ≡ status_of carried.now }
+{
+    match carried {
+        Ok(ran) => ran.outcome.status,
+        Err(status) => *status,
+    }
 }

@@ -2,9 +2,11 @@
 
 ghost use Rattle.std.specs.Prelude.{◌≡◌, IfOk, string_bytes};
 ghost use Rattle.std.specs.Option.{option_map};
-ghost use Rattle.hg_front.specs.Further.{Says, SaysAny, further_line};
+ghost use Rattle.hg_front.specs.Further.{Says, SaysAny, TellsFault, further_line};
 ghost use Rattle.hg_stream.specs.Stream.{GrownByFront};
 
+use hg_report::Fault;
+use hg_session::failed;
 use hg_stream::{Sink, put_all};
 use std::alloc::{AllocError, Global};
 
@@ -37,6 +39,21 @@ pub(crate) fn say<E: Sink>(alloc: Global, err: &mut E, text: &str)
         Ok(line) => put(err, line.as_bytes()),
         Err(_) => {}
     }
+}
+
+/// Ends a command with a fault that it met before it began, with a further line that says why.
+pub(crate) fn failed_because<E: Sink>(
+    alloc: Global,
+    fault: Fault,
+    err: &mut E,
+    reason: &str,
+) -> u8
+    ensures status { result ≡ 255 }
+    ensures told { TellsFault (E.bytes err.old) (E.bytes err.new) (E.faults err.old) fault reason.now }
+{
+    let outcome = failed(alloc, fault, err);
+    say(alloc, err, reason);
+    outcome.status
 }
 
 /// Prints a further line, where there is a text for it.

@@ -1,8 +1,8 @@
 //! What the program does before and beside `run`: texts of its own, where a command may begin, and further lines behind those of a command.
 //!
-//! `place` reads the words once, and makes the file words of a command paths from the root. `guard` says by the requirements of the repository
-//! (`.hg/requires`) whether a command may begin, and `stopped_inside` and `stopped_outside` end it where it may not, with a line `abort: ...` and one
-//! that says what next. `carry` does this and runs the command. `say_more` prints, behind the line of a fault, why a device failed or what to do.
+//! `place` reads the words once, and makes the file words of a command paths from the root. `begun_at` tells where a command is started, and `guard` says by the
+//! requirements of the repository (`.hg/requires`) whether it may begin. `carry` runs the command, or ends it where it may not begin, with a line `abort: ...`
+//! and one that says what next. `say_more` prints, behind the line of a fault, why a device failed or what to do.
 //!
 //! ```text
 //! own_text(alloc, &words)?;                            // Some("hgtrack 0.1.0\n") of `--version` alone
@@ -24,9 +24,10 @@ mod refusing;
 mod requirement;
 mod start;
 
-pub use advice::say_more;
-pub use carrying::{Ran, carry};
+pub use advice::{Told, say_more};
+pub use carrying::{Ran, carry, status_of_carried};
 pub use guarding::{Refused, Why, guard};
 pub use own::{own_text, print};
 pub use placing::{Placed, place, unreached, unread};
-pub use start::{stopped_inside, stopped_outside};
+pub use reading::{Requires, Unreadable};
+pub use start::{Here, begun_at};

@@ -2,14 +2,14 @@
 
 ghost use Rattle.std.specs.Prelude.{◌≡◌, ◌⊎◌, ◌<◌, Err, IfErr, IfOk, Ok, false, is_some, length};
 ghost use Rattle.std.specs.Option.{option_map};
+ghost use Rattle.hg_front.specs.Further.{TellsFault};
 ghost use Rattle.hg_front.specs.Placed.{HasFiles, IsPlaced};
 ghost use Rattle.hg_report.specs.declared.fault.Fault.TheVariants as a_fault;
 ghost use Rattle.hg_words.specs.Command.{command_of};
 
-use crate::further::say;
+use crate::further::failed_because;
 use hg_base::Words;
 use hg_report::Fault;
-use hg_session::failed;
 use hg_stream::Sink;
 use hg_words::{Command, WordsFault, located, read, spelled};
 use std::alloc::Global;
@@ -79,9 +79,8 @@ fn place_in(
 
 /// The root couldn't be gone to, and maybe not back from, or a path from the root couldn't be told.
 pub fn unreached<E: Sink>(alloc: Global, err: &mut E, reason: &str) -> u8
-    ensures { result ≡ 255 }
+    ensures status { result ≡ 255 }
+    ensures told { TellsFault (E.bytes err.old) (E.bytes err.new) (E.faults err.old) a_fault.TreeFailed reason.now }
 {
-    let outcome = failed(alloc, Fault::TreeFailed, err);
-    say(alloc, err, reason);
-    outcome.status
+    failed_because(alloc, Fault::TreeFailed, err, reason)
 }

@@ -27,14 +27,14 @@ const ABSENT: &str = "no such file or directory";
 
 /// The texts of the requirements: the repository's own, none where it has no such file, and its store's, none where these don't stand apart.
 #[derive(Drop)]
-pub(crate) struct Requires {
-    pub(crate) own: Option<String>,
-    pub(crate) store: Option<String>,
+pub struct Requires {
+    pub own: Option<String>,
+    pub store: Option<String>,
 }
 
 /// Why they can't be read.
 #[derive(Drop)]
-pub(crate) enum Unreadable {
+pub enum Unreadable {
     OutOfMemory,
     /// The name of a file and what is wrong with it, as one text: `NAME: REASON`.
     Named(String),
@@ -47,7 +47,7 @@ impl From<AllocError> for Unreadable {
 }
 
 /// The requirements of the repository whose root is the current folder.
-pub(crate) fn read_requires<R: Files + AllocGlobal>(rt: &R) -> Result<Requires, Unreadable> {
+pub fn read_requires<R: Files + AllocGlobal>(rt: &R) -> Result<Requires, Unreadable> {
     let Some(own) = text_at(rt, OWN)? else {
         return Ok(Requires {
             own: None,

@@ -1,14 +1,10 @@
 //! Whether a command may begin where it is started.
 
-ghost use Rattle.std.specs.Prelude.{◌≡◌, [], Some, None, IfNone, IfSome, MatchBool, codes, string_bytes, if◌then◌else◌};
-ghost use Rattle.std.specs.Option.{option_map};
-ghost use Rattle.hg_front.specs.Further.{Says};
-ghost use Rattle.hg_front.specs.Guard.{refusal};
-ghost use Rattle.hg_front.specs.Placed as placed_words;
-ghost use Rattle.hg_front.specs.Refusing.{Stops, TellsRefusal};
-ghost use Rattle.hg_front.specs.declared.guarding.Why.TheVariants as why;
+ghost use Rattle.std.specs.Prelude.{◌≡◌, IfNone, IfSome, not};
+ghost use Rattle.hg_front.specs.Start as starts;
+ghost use Rattle.hg_front.specs.Start.{BeginsAt, IsStopped};
 
-use crate::further::say;
+use crate::further::{failed_because, say};
 use crate::guarding::{Refused, Why, changes, guard};
 use crate::placing::Placed;
 use crate::reading::{Requires, Unreadable, read_requires};
@@ -19,13 +15,53 @@ use hg_stream::Sink;
 use std::alloc::Global;
 use std::rt::Files;
 
-/// Where no repository is here or above: a command that changes something is refused, and is answered the status that it ends with; of any
-/// other it is said that the current folder is its root.
-pub fn stopped_outside<E: Sink>(alloc: Global, placed: &Placed, err: &mut E) -> Option<u8>
-    ensures answer { result ≡ (if placed_words.changes placed.now then Some 255 else None) }
-    ensures told { MatchBool (placed_words.changes placed.now)
-        (TellsRefusal (E.bytes err.old) (E.bytes err.new) (E.faults err.old) (E.faults err.new) (why.NoRepository, []))
-        (Says (E.bytes err.old) (E.bytes err.new) (codes "no .hg here or above")) }
+/// Where a command is started.
+#[derive(Drop)]
+pub enum Here {
+    /// In no repository: no folder `.hg` is here or above.
+    Outside,
+    /// In a repository, with what it requires of the programs that use it.
+    Inside(Requires),
+    /// In a repository of which that can't be told.
+    Unread(Unreadable),
+}
+
+/// Where a command is started; `inside` says whether the current folder is the root of a repository, whose requirements are read then.
+pub fn begun_at<R: Files + AllocGlobal>(rt: &R, inside: bool) -> Here
+    ensures { starts.is_outside result ≡ not inside }
+{
+    if !inside {
+        return Here::Outside;
+    }
+    match read_requires(rt) {
+        Ok(texts) => Here::Inside(texts),
+        Err(why) => Here::Unread(why),
+    }
+}
+
+/// Whether a command begins where it is started: else it is answered the status that it ends with, once that was told.
+pub(crate) fn stopped<E: Sink>(
+    alloc: Global,
+    here: &Here,
+    placed: &Placed,
+    err: &mut E,
+) -> Option<u8>
+    ensures status { IfSome result (λ status. status ≡ 255) }
+    ensures begins { IfNone result (BeginsAt here.now placed.now (E.bytes err.old) (E.bytes err.new)) }
+    ensures stopped { IfSome result (λ status. IsStopped here.now placed.now (E.bytes err.old) (E.bytes err.new) (E.faults err.old) (E.faults err.new)) }
+{
+    match here {
+        Here::Outside => stopped_outside(alloc, placed, err),
+        Here::Inside(texts) => stopped_inside(alloc, texts, placed, err),
+        Here::Unread(why) => Some(unanswered(alloc, why, err)),
+    }
+}
+
+// Outside of a repository a command that changes something is refused; of any other it is said that the current folder is its root.
+fn stopped_outside<E: Sink>(alloc: Global, placed: &Placed, err: &mut E) -> Option<u8>
+    ensures status { IfSome result (λ status. status ≡ 255) }
+    ensures begins { IfNone result (BeginsAt starts.outside placed.now (E.bytes err.old) (E.bytes err.new)) }
+    ensures stopped { IfSome result (λ status. IsStopped starts.outside placed.now (E.bytes err.old) (E.bytes err.new) (E.faults err.old) (E.faults err.new)) }
 {
     if changes(placed) {
         let refused = Refused {
@@ -38,26 +74,16 @@ pub fn stopped_outside<E: Sink>(alloc: Global, placed: &Placed, err: &mut E) -> 
     None
 }
 
-/// In a repository, whose root is the current folder: a command is refused for what the repository requires, and is answered the status that
-/// it ends with.
-pub fn stopped_inside<R: Files + AllocGlobal, E: Sink>(
-    rt: &R,
+// In a repository it is refused exactly where the guard refuses it.
+fn stopped_inside<E: Sink>(
+    alloc: Global,
+    texts: &Requires,
     placed: &Placed,
     err: &mut E,
 ) -> Option<u8>
     ensures status { IfSome result (λ status. status ≡ 255) }
-    ensures silent { IfNone result (E.bytes err.new ≡ E.bytes err.old) }
-{
-    match read_requires(rt) {
-        Ok(texts) => stopped_by(rt.alloc(), &texts, placed, err),
-        Err(unread) => Some(unanswered(rt.alloc(), &unread, err)),
-    }
-}
-
-// The same by what its files say: exactly where the guard refuses it.
-fn stopped_by<E: Sink>(alloc: Global, texts: &Requires, placed: &Placed, err: &mut E) -> Option<u8>
-    ensures { Stops (refusal (option_map string_bytes texts.now.own) (option_map string_bytes texts.now.store) (placed_words.changes placed.now) (placed_words.files placed.now))
-        result (E.bytes err.old) (E.bytes err.new) (E.faults err.old) (E.faults err.new) }
+    ensures begins { IfNone result (BeginsAt (starts.inside texts.now) placed.now (E.bytes err.old) (E.bytes err.new)) }
+    ensures stopped { IfSome result (λ status. IsStopped (starts.inside texts.now) placed.now (E.bytes err.old) (E.bytes err.new) (E.faults err.old) (E.faults err.new)) }
 {
     let own = texts.own.as_deref();
     let store = texts.store.as_deref();
@@ -68,15 +94,12 @@ fn stopped_by<E: Sink>(alloc: Global, texts: &Requires, placed: &Placed, err: &m
 }
 
 // What the repository requires can't be told.
-fn unanswered<E: Sink>(alloc: Global, unread: &Unreadable, err: &mut E) -> u8
-    ensures { result ≡ 255 }
+fn unanswered<E: Sink>(alloc: Global, why: &Unreadable, err: &mut E) -> u8
+    ensures status { result ≡ 255 }
+    ensures told { starts.TellsUnread why.now (E.bytes err.old) (E.bytes err.new) (E.faults err.old) (E.faults err.new) }
 {
-    match unread {
+    match why {
         Unreadable::OutOfMemory => failed(alloc, Fault::OutOfMemory, err).status,
-        Unreadable::Named(text) => {
-            let outcome = failed(alloc, Fault::ShelfFailed, err);
-            say(alloc, err, text.as_str());
-            outcome.status
-        }
+        Unreadable::Named(text) => failed_because(alloc, Fault::ShelfFailed, err, text.as_str()),
     }
 }

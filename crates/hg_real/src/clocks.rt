@@ -9,7 +9,7 @@ const LAID: &str = "folder real_test; file real_test/file x; ";
 const TELLS: &str = "
 folder .hg; now real_test/file; home; is .hg/probe; told => true true none
 folder .hg; now real_test/file; home; file real_test/later y; now real_test/later; home; text .hg/probe => true true 0
-folder .hg; file .hg/probe long; now .hg/probe; home; text .hg/probe => true 0ong
+folder .hg; file .hg/probe long; now .hg/probe; home; text .hg/probe => true 0
 folder .hg; time real_test/file 4294967296 1; now real_test/file => false
 folder .hg; now real_test/file; stat real_test/file; list real_test; put real_test/new file 0 a; size probe; home; text real_test/new => true File false 1 file Ok(true) Ok(Some(1)) a
 ";

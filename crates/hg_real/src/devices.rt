@@ -100,7 +100,7 @@ write dirstate-new 0 abc; write dirstate-new 5 x; write dirstate-new 1 BCD; sync
 write data 2; sync data; text .hg/data; rights .hg/data 133 => Ok(()) Ok(()) \0\0 0
 write plain/f-1 0 one; sync plain/f-1; text .hg/plain/f-1 => Ok(()) Ok(()) one
 write dirstate-new 0 abcdef; write data 0 a; file .hg/dirstate old; mode .hg/dirstate 600; rename dirstate-new dirstate; rename dirstate-new dirstate; sync_names; sync dirstate-new; remove data; remove data; rights .hg/dirstate 777; text .hg/dirstate; size dirstate-new; size data; size dirstate => Ok(()) Ok(()) Ok(()) Ok(()) Ok(()) Ok(()) Ok(()) Ok(()) 600 abcdef Ok(None) Ok(None) Ok(Some(6))
-write one 0 abc; write one 3 def; sync one; sync one; write one 0 A; write other 0 other; sync one; sync other; text .hg/one => Ok(()) Ok(()) Ok(()) Ok(()) Ok(()) Ok(()) Ok(()) Ok(()) Abcdef
+write one 0 abc; write one 3 def; sync one; sync one; write one 0 A; write other 0 other; sync one; sync other; text .hg/one => Ok(()) Ok(()) Ok(()) Ok(()) Ok(()) Ok(()) Ok(()) Ok(()) A
 write one 0 abc; write new 0 new; rename new one; sync new; sync one; text .hg/one => Ok(()) Ok(()) Ok(()) Ok(()) Ok(()) new
 write other 0 other; write other 5 end; remove other; sync other; write other 1 2; text .hg/other => Ok(()) Ok(()) Ok(()) Ok(()) Ok(()) \02
 folder .hg/folder; link .hg/link ../outside_of_hg; write link 0 a; sync link; write folder 0 a; sync folder; rename link folder; remove folder; is outside_of_hg; failure => Err(Failed) Err(Failed) Err(Failed) Err(Failed) Err(Failed) Err(Failed) false .hg/link: not a regular file

@@ -15,8 +15,8 @@
 #![tactic(auto)]
 
 use hg_base::{Text, Words};
-use hg_disk::{RealShelf, RealTree, Root, Start, enter_root};
-use hg_front::{carry, own_text, print, say_more, unreached, unread};
+use hg_disk::{RealShelf, RealTree, Root, Start, enter_root, open_streams};
+use hg_front::{Told, begun_at, carry, own_text, print, say_more, status_of_carried, unreached, unread};
 use hg_ignore::Builds;
 use hg_report::Fault;
 use hg_session::failed;
@@ -39,6 +39,9 @@ fn read_words(alloc: Global, rt: &HostRuntime) -> Result<Words, Fault> {
 }
 
 fn main(rt: HostRuntime) -> ExitCode {
+    if open_streams(&rt, &rt.stdin(), &rt.stdout(), &rt.stderr()).is_err() {
+        return ExitCode::from(255);
+    }
     let alloc = rt.alloc();
     let mut out = WriterSink::new(rt.stdout());
     let mut err = WriterSink::new(rt.stderr());
@@ -80,9 +83,9 @@ fn command<O: Sink, E: Sink>(
     let mut shelf = RealShelf::new(rt, &root);
     let mut regexps = Builds::new();
     let carried = carry(
-        rt,
+        alloc,
         folder,
-        inside,
+        &begun_at(rt, inside),
         words,
         &mut tree,
         &mut shelf,
@@ -91,14 +94,15 @@ fn command<O: Sink, E: Sink>(
         out,
         err,
     );
-    let status = match carried {
-        Ok(ran) => {
-            say_more(alloc, err, &ran, tree.failure(), shelf.failure());
-            ran.outcome.status
-        }
-        Err(status) => status,
-    };
+    if let Ok(ran) = &carried {
+        let told = Told {
+            tree: tree.failure(),
+            shelf: shelf.failure(),
+            lock: shelf.refusal(),
+        };
+        say_more(alloc, err, ran, told);
+    }
     // The system closes its files at the end of the process: of a close that fails nothing would be told.
     mem::forget(shelf);
-    status
+    status_of_carried(&carried)
 }
