@@ -43,21 +43,6 @@ pub(crate) fn set_locked(root: &Root, locked: bool) {
     root.locked.set(locked);
 }
 
-/// Whether nothing may be written in `.hg`, as the clock found it in this command.
-pub(crate) fn is_shut(root: &Root) -> bool {
-    match &root.named {
-        Some(named) => named.shut.get(),
-        None => false,
-    }
-}
-
-/// A command begins, of which it isn't known yet whether it may write in `.hg`.
-pub(crate) fn begin(root: &Root) {
-    if let Some(named) = &root.named {
-        named.shut.set(false);
-    }
-}
-
 fn set_asked(root: &Root) {
     if let Some(named) = &root.named {
         named.asked.set(true);

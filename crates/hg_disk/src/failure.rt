@@ -88,13 +88,21 @@ pub(crate) fn push_bytes(text: &mut String, bytes: &[u8]) -> Result<(), AllocErr
 
 fn push_text(text: &mut String, words: &str) -> Result<(), AllocError> {
     for letter in words.chars() {
-        if letter.is_ascii_control() {
-            push_byte(text, letter as u8)?;
-        } else {
-            text.push(letter)?;
-        }
+        push_letter(text, letter)?;
     }
     Ok(())
+}
+
+// (of the control characters those from U+0080 on have two bytes)
+fn push_letter(text: &mut String, letter: char) -> Result<(), AllocError> {
+    match u8::try_from(u32::from(letter)) {
+        Ok(byte) if byte < 0x20 || byte == 0x7f => push_byte(text, byte),
+        Ok(byte) if byte >= 0x80 && byte < 0xa0 => {
+            push_byte(text, 0xc2)?;
+            push_byte(text, byte)
+        }
+        _ => text.push(letter),
+    }
 }
 
 fn push_byte(text: &mut String, byte: u8) -> Result<(), AllocError> {

@@ -73,8 +73,8 @@ fn host_in(told: &[u8]) -> &[u8] {
 
 /// Whether a lock's text names another host than one's own. A text that names none doesn't.
 pub(crate) fn is_elsewhere(own: &str, told: &[u8]) -> bool {
-    let told = told.trim_ascii();
-    !told.is_empty() && host_in(told) != host_in(own.as_bytes())
+    let host = host_in(told.trim_ascii());
+    !host.is_empty() && host != host_in(own.as_bytes())
 }
 
 /// What is said of a lock of another host: who has it, and what is to be done where nobody has it any more.

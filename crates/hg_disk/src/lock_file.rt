@@ -234,16 +234,17 @@ fn clear<R: Files<File = File> + AllocGlobal>(
     let Some(seen) = look(rt, path)? else {
         return Ok(Tried::Gone);
     };
-    let file = match open_either(rt, path, &seen)? {
-        Some(file) => file,
-        None => return Ok(Tried::Gone),
+    let Some(file) = open_either(rt, path, &seen)? else {
+        return Ok(Tried::Gone);
     };
     match ended(rt, names, path, WLOCK_NEW, &seen, file)? {
         Maker::Dead(file) => {
             take_away(rt, path, &file)?;
-            opened.keep(file);
+            let_go(opened, file);
             Ok(Tried::Gone)
         }
+        // (a link needs no first name)
+        Maker::Unknown(_) => make_link(rt, names),
         Maker::Held(said) => Ok(Tried::Held(said)),
         Maker::Gone => Ok(Tried::Gone),
     }
@@ -263,18 +264,25 @@ fn open_either<R: Files<File = File>>(
     }
 }
 
+// Lets go of a file that stands nowhere any more.
+fn let_go(opened: &mut Opened, file: File) {
+    let _ = file.unlock();
+    opened.keep(file);
+}
+
 // What became of the process that made a file.
 enum Maker {
-    // It has ended, and the file is ours.
+    // It has ended, and we have the lock of the file.
     Dead(File),
+    // The system has no lock for the file.
+    Unknown(File),
     // It may live, and what is to be said of that, where there is something.
     Held(Option<String>),
     // The file isn't the one of its name any more.
     Gone,
 }
 
-// Whether the process has ended that made a file of ours. It has where the system gives the lock; a process of another host may live all the same, and where
-// the system has no lock for the file it is known of one's own namespace alone.
+// Whether the process has ended that made a file of ours. It has where the system gives the lock; a process of another host may live all the same.
 fn ended<R: Files<File = File> + AllocGlobal>(
     rt: &R,
     names: &Names,
@@ -283,7 +291,7 @@ fn ended<R: Files<File = File> + AllocGlobal>(
     seen: &Metadata,
     file: File,
 ) -> Result<Maker, Reason> {
-    let (mut file, is_sure) = match lock_open(rt, path, file)? {
+    let (mut file, is_ours) = match lock_open(rt, path, file)? {
         Locked::Ours(file) => (file, true),
         Locked::Without(file) => (file, false),
         Locked::Held => return Ok(Maker::Held(None)),
@@ -292,14 +300,15 @@ fn ended<R: Files<File = File> + AllocGlobal>(
     let Some(told) = told_by(rt.alloc(), &mut file, seen.len())? else {
         return Ok(Maker::Held(None));
     };
-    let own = names.holder.as_str();
-    if is_elsewhere(own, told.as_slice()) {
-        return Ok(Maker::Held(Some(held_by(rt.alloc(), name, told.as_slice())?)));
+    if is_elsewhere(names.holder.as_str(), told.as_slice()) {
+        let said = held_by(rt.alloc(), name, told.as_slice())?;
+        return Ok(Maker::Held(Some(said)));
     }
-    if !is_sure && !is_gone(rt, own, told.as_slice())? {
-        return Ok(Maker::Held(None));
+    if is_ours {
+        Ok(Maker::Dead(file))
+    } else {
+        Ok(Maker::Unknown(file))
     }
-    Ok(Maker::Dead(file))
 }
 
 // What a file of ours says of its holder; none where it is no lock of ours: where a file system has no symbolic links Mercurial's own lock is a regular
@@ -339,8 +348,27 @@ fn take_over<R: Files<File = File> + AllocGlobal>(
     match ended(rt, names, path, WLOCK, seen, file)? {
         Maker::Dead(file) if stays => keep(rt, names, seen, file),
         Maker::Dead(file) => clear_lock(rt, opened, names, file),
+        Maker::Unknown(file) => clear_unknown(rt, opened, names, seen, file),
         Maker::Held(said) => Ok(Tried::Held(said)),
         Maker::Gone => Ok(Tried::Gone),
+    }
+}
+
+// Takes away a file for which the system has no lock, where its process is gone by its number.
+fn clear_unknown<R: Files<File = File> + AllocGlobal>(
+    rt: &R,
+    opened: &mut Opened,
+    names: &Names,
+    seen: &Metadata,
+    file: File,
+) -> Result<Tried, Reason> {
+    let mut file = file;
+    let told = told_by(rt.alloc(), &mut file, seen.len())?;
+    match told {
+        Some(told) if is_gone(rt, names.holder.as_str(), told.as_slice())? => {
+            clear_lock(rt, opened, names, file)
+        }
+        _ => Ok(Tried::Held(None)),
     }
 }
 
@@ -371,10 +399,10 @@ fn clear_lock<R: Files<File = File> + AllocGlobal>(
         return Ok(Tried::Held(None));
     }
     let taken_away = take_away(rt, names.lock.as_str(), &file);
-    let let_go = remove_file(rt, names.breaking.as_str());
+    let freed = remove_file(rt, names.breaking.as_str());
     taken_away?;
-    let_go?;
-    opened.keep(file);
+    freed?;
+    let_go(opened, file);
     Ok(Tried::Gone)
 }
 
@@ -398,9 +426,9 @@ fn is_breaking<R: Files<File = File> + AllocGlobal>(rt: &R, names: &Names) -> Re
     } else {
         Ok(())
     };
-    let let_go = remove_file(rt, names.barring.as_str());
+    let freed = remove_file(rt, names.barring.as_str());
     taken_away?;
-    let_go?;
+    freed?;
     Ok(!is_same)
 }
 

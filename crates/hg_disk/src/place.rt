@@ -16,7 +16,7 @@ use crate::disk::is_absence;
 use crate::failure::{FirstFailure, Reason};
 use crate::look::{NO_TIME, stat_of, time_of};
 use crate::met::Met;
-use crate::probe::{FOLDER, PROBE, Probed, lowest, probe_name};
+use crate::probe::{FOLDER, PROBE, lowest, probe_name};
 use crate::putting::{Made, Wanted, make_step, put_name, unlink_name};
 use crate::root::Named;
 use crate::spot::{Spot, spot_of};
@@ -125,7 +125,7 @@ impl<'a, R: Files + Env + AllocGlobal> Place<'a, R> {
             },
             met: Met::new(rt.alloc()),
             made: None,
-            clock: None,
+            clock: home.hg.get().map(|hg| hg.dev),
             failure: FirstFailure::new(),
         }
     }
@@ -202,21 +202,15 @@ impl<'a, R: Files + Env + AllocGlobal> Place<'a, R> {
         }
     }
 
-    /// The clock of the file system, by a file below `.hg` that is written; the lowest time where it can't be. The shelf finds out where
-    /// `.hg` may not be written.
+    /// The clock of the file system, by a file below `.hg` that is written; the lowest time where it can't be.
     pub(crate) fn now(&mut self) -> Result<Time, Failed> {
-        self.home.shut.set(false);
         match self.go(FOLDER)? {
             Gone::There => {}
             Gone::Absent | Gone::Shut => return Ok(lowest()),
         }
         match probe_name(self.rt, PROBE) {
-            Ok(Probed::Shown(seen)) => self.shown(&seen),
-            Ok(Probed::Shut) => {
-                self.home.shut.set(true);
-                Ok(lowest())
-            }
-            Ok(Probed::Untold) => Ok(lowest()),
+            Ok(Some(seen)) => self.shown(&seen),
+            Ok(None) => Ok(lowest()),
             Err(reason) => Err(self.failed(PROBE, reason)),
         }
     }
@@ -425,7 +419,7 @@ impl<'a, R: Files + Env + AllocGlobal> Place<'a, R> {
         }
     }
 
-    // What stands on another file system than the one whose clock was asked shows the lowest time, by which nothing is recorded and nothing vouched for: its
+    // What stands on another file system than the one whose clock is asked shows the lowest time, by which nothing is recorded and nothing vouched for: its
     // times may be told by another clock, and more coarsely.
     fn by_clock(&self, metadata: &Metadata, stat: Stat) -> Stat
         requires { IsPlain stat }

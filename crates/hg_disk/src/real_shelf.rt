@@ -4,10 +4,10 @@ ghost use Rattle.std.specs.Prelude.{◌≡◌, ◌≤◌, IfOk, Ok, length};
 ghost use Rattle.hg_base.specs.Fault.{HasCause};
 ghost use Rattle.hg_base.specs.Reads.{IsWithin};
 
-use crate::below::{begin, below_hg, is_shut, is_within, root_path, set_locked, was_found};
+use crate::below::{below_hg, is_within, root_path, set_locked, was_found};
 use crate::disk::{counted, is_absence};
 use crate::failure::{FirstFailure, Reason};
-use crate::holder::{ProcessId, enough, holder};
+use crate::holder::{ProcessId, holder};
 use crate::lock_file::{
     Asked, Lock, Names, WLOCK, WLOCK_BREAK, WLOCK_BREAK_BREAK, WLOCK_NEW, give_back, take,
 };
@@ -70,7 +70,7 @@ impl<'a, R: Files + Env + AllocGlobal> RealShelf<'a, R> {
         self.failure.as_str()
     }
 
-    /// What is to be said of the lock where it was refused the last time, where there is something: who has it, or why it can't be taken.
+    /// What is to be said of the lock where it was refused the last time, where there is something: which other host has it.
     pub fn refusal(&self) -> Option<&str> {
         self.refusal.as_deref()
     }
@@ -114,9 +114,6 @@ impl<'a, R: Files<File = File> + Env + AllocGlobal + ProcessId> Shelf for RealSh
 
     fn read_at(&mut self, name: &str, place: u64, buf: &mut [u8]) -> Result<Got, Failed> {
         let stays = self.lock.is_some();
-        if name == DOCKET && !stays {
-            begin(self.root);
-        }
         let answer = read_file(
             self.rt,
             self.root,
@@ -187,9 +184,6 @@ impl<'a, R: Files<File = File> + Env + AllocGlobal + ProcessId> Shelf for RealSh
     ghost shown_named = { λ s k told below. tt };
 }
 
-// With a read of the docket, which isn't under the lock, each command begins that doesn't begin with the lock.
-const DOCKET: &str = "dirstate";
-
 // What was written before is made sure first, so that nothing is closed without that.
 fn put<R: Files<File = File> + Env + AllocGlobal>(
     rt: &R,
@@ -249,9 +243,6 @@ fn take_lock<R: Files<File = File> + Env + AllocGlobal + ProcessId>(
     root: &Root,
     opened: &mut Opened,
 ) -> Result<Asked, Reason> {
-    if is_shut(root) {
-        return shut(rt);
-    }
     if !was_found(root) {
         make_hg(rt, root, opened)?;
     }
@@ -265,12 +256,6 @@ fn take_lock<R: Files<File = File> + Env + AllocGlobal + ProcessId>(
         holder: holder(rt)?,
     };
     take(rt, opened, &names)
-}
-
-// Where nothing may be written in `.hg`, a status passes its save over as beside a held lock.
-fn shut<R: AllocGlobal>(rt: &R) -> Result<Asked, Reason> {
-    let said = enough(String::from_str(rt.alloc(), ".hg may not be written"))?;
-    Ok(Asked::Held(Some(said)))
 }
 
 fn give_lock_back<R: Files<File = File> + Env + AllocGlobal>(

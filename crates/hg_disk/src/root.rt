@@ -30,8 +30,6 @@ pub(crate) struct Named {
     pub(crate) moved: Cell<bool>,
     /// Whether the shelf was asked for a file since the tree last went anywhere.
     pub(crate) asked: Cell<bool>,
-    /// Whether the clock found that nothing may be written in `.hg`, and no command has begun since.
-    pub(crate) shut: Cell<bool>,
 }
 
 impl Root {
@@ -72,7 +70,6 @@ fn find_name<R: Files + Env + AllocGlobal>(rt: &R) -> io::Result<Option<Named>> 
         within: Cell::new(false),
         moved: Cell::new(false),
         asked: Cell::new(false),
-        shut: Cell::new(false),
     }))
 }
 

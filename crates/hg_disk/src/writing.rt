@@ -10,7 +10,8 @@ use std::alloc::Global;
 use std::format;
 use std::fs::{self, File, Metadata, OpenFile, Permissions};
 use std::io::{Error, ErrorKind, Read, Seek, SeekFrom, Write};
-use std::os::unix::fs::{MetadataExt, OpenOptionsExt, PermissionsExt};
+use std::os::fd::AsFd;
+use std::os::unix::fs::{MetadataExt, OpenOptionsExt, PermissionsExt, fchown};
 use std::rt::Files;
 use std::time::{Duration, SystemTime, UNIX_EPOCH};
 
@@ -96,7 +97,7 @@ fn open_or_make<R: Files<File = File> + AllocGlobal>(
     place: u64,
 ) -> Result<File, Reason> {
     let Some(seen) = look(rt, path)? else {
-        return Ok(make_below(rt, hg, path)?);
+        return make_own(rt, hg, path);
     };
     if place == 0 {
         return make_anew(rt, hg, path, &seen);
@@ -123,7 +124,21 @@ fn make_anew<R: Files<File = File>>(
         return Err(OTHER);
     }
     remove_file(rt, path)?;
-    Ok(make_below(rt, hg, path)?)
+    make_own(rt, hg, path)
+}
+
+// Makes a file that isn't there yet, and gives it to whom the folder `hg` belongs where the system lets us: what root saved couldn't be read by them else.
+fn make_own<R: Files<File = File>>(rt: &R, hg: &str, path: &str) -> Result<File, Reason> {
+    let file = match make_below(rt, hg, path) {
+        Ok(file) => file,
+        Err(error) if error.kind() == ErrorKind::AlreadyExists => return Err(EXCHANGED),
+        Err(error) => return Err(Reason::System(error)),
+    };
+    let (seen, folder) = (file.metadata()?, fs::metadata(rt, hg)?);
+    if seen.uid() != folder.uid() || seen.gid() != folder.gid() {
+        let _ = fchown(file.as_fd(), Some(folder.uid()), Some(folder.gid()));
+    }
+    Ok(file)
 }
 
 // Has a copy of so many bytes take the place of the regular file that was seen at the path, and opens it for writing. It is made beside it, and what a

@@ -1,5 +1,5 @@
 -- Whether a command begins where it is started.
-use Rattle.std.specs.Prelude.{ℕ, ◌≡◌, Bool, true, false, if◌then◌else◌, List, [], Option, Some, None, Void, codes, option_map, string_bytes}
+use Rattle.std.specs.Prelude.{ℕ, ◌≡◌, Bool, true, false, if◌then◌else◌, List, [], Option, Some, None, codes, option_map, string_bytes}
 use Rattle.hg_report.specs.declared.fault.Fault.TheVariants as a_fault
 use Rattle.hg_session.specs.Put.{TellsLine}
 use Rattle.hg_front.specs.Further.{Says, TellsFault}
@@ -37,7 +37,7 @@ refusal_at (a_here.Unread unreadable) placed = None
 abbrev pub SaysFirst : Here → Option (List ℕ) → Option (List ℕ) → Type 0
 SaysFirst a_here.Outside old new = Says old new (codes "no .hg here or above")
 SaysFirst (a_here.Inside requires) old new = new ≡ old
-SaysFirst (a_here.Unread unreadable) old new = Void
+SaysFirst (a_here.Unread unreadable) old new = ⊥
 
 -- a command begins there: nothing refuses it
 pub record BeginsAt (here : Here) (placed : Placed) (old new : Option (List ℕ)) : Type 0 where
@@ -46,7 +46,7 @@ pub record BeginsAt (here : Here) (placed : Placed) (old new : Option (List ℕ)
 
 -- it was told for which reason a command is refused
 abbrev pub TellsReason : Option Reason → Option (List ℕ) → Option (List ℕ) → ℕ → ℕ → Type 0
-TellsReason None old new before after = Void
+TellsReason None old new before after = ⊥
 TellsReason (Some reason) old new before after = TellsRefusal old new before after reason
 
 -- it was told why it can't be told what the repository requires

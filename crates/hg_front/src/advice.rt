@@ -40,14 +40,14 @@ fn advice(fault: &Fault) -> Option<&'static str>
 
 /// What the devices say of themselves: the name and the reason of the first failure of each, and of the lock that was refused.
 #[derive(Clone, Copy)]
-pub struct Told<'a> {
+pub struct Reasons<'a> {
     pub tree: Option<&'a str>,
     pub shelf: Option<&'a str>,
     pub lock: Option<&'a str>,
 }
 
 // What is said behind the line of a fault: what the device says of it, and else what to do.
-fn behind_fault<'a>(fault: &Fault, told: Told<'a>) -> Option<&'a str>
+fn behind_fault<'a>(fault: &Fault, told: Reasons<'a>) -> Option<&'a str>
     ensures { option_map (λ text. text.now) result ≡ advices.behind_fault fault.now (record { tree = option_map (λ text. text.now) told.entry.tree; shelf = option_map (λ text. text.now) told.entry.shelf; lock = option_map (λ text. text.now) told.entry.lock }) }
 {
     match fault {
@@ -87,7 +87,7 @@ fn say_of_words<E: Sink>(alloc: Global, err: &mut E, placed: &Placed)
 }
 
 /// Says more behind the lines of a command, where there is more to say: of its fault, or of the words that it refused.
-pub fn say_more<E: Sink>(alloc: Global, err: &mut E, ran: &Ran, told: Told<'_>)
+pub fn say_more<E: Sink>(alloc: Global, err: &mut E, ran: &Ran, told: Reasons<'_>)
     ensures { SaysEach (advices.behind ran.now (record { tree = option_map (λ text. text.now) told.entry.tree; shelf = option_map (λ text. text.now) told.entry.shelf; lock = option_map (λ text. text.now) told.entry.lock })) (E.bytes err.old) (E.bytes err.new) }
 {
     match &ran.outcome.fault {

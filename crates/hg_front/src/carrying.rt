@@ -7,13 +7,14 @@ ghost use Rattle.hg_cli.specs.Script.{RunsWords, is_script};
 ghost use Rattle.hg_front.specs.Carried.{IsCarried, IsNotBegun, status_of};
 ghost use Rattle.hg_report.specs.declared.fault.Fault.TheVariants as a_fault;
 
+use crate::further::without_memory;
 use crate::placing::{Placed, place, unreached};
 use crate::start::{Here, stopped};
 use hg_base::Words;
 use hg_cli::run;
 use hg_ignore::Regexps;
 use hg_report::Fault;
-use hg_session::{Outcome, failed};
+use hg_session::Outcome;
 use hg_shelf::Shelf;
 use hg_stream::{Sink, Source};
 use hg_tree::Tree;
@@ -82,7 +83,7 @@ pub fn carry<T: Tree, S: Shelf, G: Regexps, I: Source, O: Sink, E: Sink>(
         Err(Fault::TreeFailed) => {
             return Err(unreached(alloc, err, ".: no path to the current folder"));
         }
-        Err(fault) => return Err(failed(alloc, fault, err).status),
+        Err(_) => return Err(without_memory(alloc, err)),
     };
     if let Some(status) = stopped(alloc, here, &placed, err) {
         return Err(status);

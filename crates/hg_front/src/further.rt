@@ -3,6 +3,8 @@
 ghost use Rattle.std.specs.Prelude.{◌≡◌, IfOk, string_bytes};
 ghost use Rattle.std.specs.Option.{option_map};
 ghost use Rattle.hg_front.specs.Further.{Says, SaysAny, TellsFault, further_line};
+ghost use Rattle.hg_report.specs.declared.fault.Fault.TheVariants as a_fault;
+ghost use Rattle.hg_session.specs.Put.{TellsLine};
 ghost use Rattle.hg_stream.specs.Stream.{GrownByFront};
 
 use hg_report::Fault;
@@ -39,6 +41,15 @@ pub(crate) fn say<E: Sink>(alloc: Global, err: &mut E, text: &str)
         Ok(line) => put(err, line.as_bytes()),
         Err(_) => {}
     }
+}
+
+/// Ends a command for which there was no memory before it began.
+#[tactic(auto, using(crate::proofs::Ending::told_memory))]
+pub(crate) fn without_memory<E: Sink>(alloc: Global, err: &mut E) -> u8
+    ensures status { result ≡ 255 }
+    ensures told { TellsLine (E.bytes err.old) (E.bytes err.new) (E.faults err.old) (E.faults err.new) a_fault.OutOfMemory }
+{
+    failed(alloc, Fault::OutOfMemory, err).status
 }
 
 /// Ends a command with a fault that it met before it began, with a further line that says why.

@@ -24,7 +24,7 @@ mod refusing;
 mod requirement;
 mod start;
 
-pub use advice::{Told, say_more};
+pub use advice::{Reasons, say_more};
 pub use carrying::{Ran, carry, status_of_carried};
 pub use guarding::{Refused, Why, guard};
 pub use own::{own_text, print};

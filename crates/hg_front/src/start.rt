@@ -4,13 +4,12 @@ ghost use Rattle.std.specs.Prelude.{◌≡◌, IfNone, IfSome, not};
 ghost use Rattle.hg_front.specs.Start as starts;
 ghost use Rattle.hg_front.specs.Start.{BeginsAt, IsStopped};
 
-use crate::further::{failed_because, say};
+use crate::further::{failed_because, say, without_memory};
 use crate::guarding::{Refused, Why, changes, guard};
 use crate::placing::Placed;
 use crate::reading::{Requires, Unreadable, read_requires};
 use crate::refusing::refuse;
 use hg_report::Fault;
-use hg_session::failed;
 use hg_stream::Sink;
 use std::alloc::Global;
 use std::rt::Files;
@@ -99,7 +98,7 @@ fn unanswered<E: Sink>(alloc: Global, why: &Unreadable, err: &mut E) -> u8
     ensures told { starts.TellsUnread why.now (E.bytes err.old) (E.bytes err.new) (E.faults err.old) (E.faults err.new) }
 {
     match why {
-        Unreadable::OutOfMemory => failed(alloc, Fault::OutOfMemory, err).status,
+        Unreadable::OutOfMemory => without_memory(alloc, err),
         Unreadable::Named(text) => failed_because(alloc, Fault::ShelfFailed, err, text.as_str()),
     }
 }

@@ -16,7 +16,7 @@
 
 use hg_base::{Text, Words};
 use hg_disk::{RealShelf, RealTree, Root, Start, enter_root, open_streams};
-use hg_front::{Told, begun_at, carry, own_text, print, say_more, status_of_carried, unreached, unread};
+use hg_front::{Reasons, begun_at, carry, own_text, print, say_more, status_of_carried, unreached, unread};
 use hg_ignore::Builds;
 use hg_report::Fault;
 use hg_session::failed;
@@ -95,7 +95,7 @@ fn command<O: Sink, E: Sink>(
         err,
     );
     if let Ok(ran) = &carried {
-        let told = Told {
+        let told = Reasons {
             tree: tree.failure(),
             shelf: shelf.failure(),
             lock: shelf.refusal(),
