@@ -8,33 +8,13 @@ import re
 from contextlib import contextmanager
 
 from calls import Lacking, has_gcc, let_go, watched
-from folder import NOBODY, aborted, as_nobody, because, further, lay_out, put, seen
+from folder import DEAD, NOBODY, as_nobody, further, holder, host, lay_out, ours, put, seen
 from saving import added, read, told
 from shared import give
 from times import many_files, stamps_of
 from turns import LOCKED
 
-# A number that no process has.
-DEAD = 2**22 + 1
 DONE = (0, b"", b"")
-
-
-def host():
-    return read("/proc/sys/kernel/hostname").strip()
-
-
-def namespace():
-    return b"%x" % os.stat("/proc/self/ns/pid").st_ino
-
-
-def holder(process):
-    """A process of this host, as Mercurial's own lock tells it."""
-    return b"%b/%b:%d" % (host(), namespace(), process)
-
-
-def ours(process=DEAD):
-    """The same as a lock of ours tells it."""
-    return holder(process) + b" "
 
 
 def held_by(name):
