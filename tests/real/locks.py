@@ -279,8 +279,9 @@ def run_two_without(tests, watcher, what, env):
             try:
                 other = watcher.held(root, ["add", "a"], number, env)
             except AssertionError:
-                # (the first one holds the lock, or what it needs for it, already)
-                let_go(one)
+                # (the first one has the lock already, or what is needed for it)
+                ran = let_go(one)
+                wrong += [] if ran == DONE else [(first, rows[first - 1], ran)]
                 continue
             ran = let_go(one)
             ended = let_go(other)
