@@ -67,19 +67,19 @@ class Watcher:
     def command(self, told, how, root, words):
         return [self.watcher, str(told), *how, os.path.realpath(root), self.tests.program, *words]
 
-    def listed(self, root, words, env=None, *passed):
+    def listed(self, root, words, env=None, *passed, **given):
         """The status and the calls of a whole run, as calls.c writes them."""
         path = f"{self.tests.room}/watched"
         with open(path, "wb") as told:
             command = self.command(told.fileno(), ["list"], root, words)
-            ran = subprocess.run(command, cwd=root, env={**(env or os.environ), **self.where}, stdin=subprocess.DEVNULL, capture_output=True, timeout=SECONDS, pass_fds=[told.fileno(), *passed])
+            ran = subprocess.run(command, cwd=root, env={**(env or os.environ), **self.where}, stdin=subprocess.DEVNULL, capture_output=True, timeout=SECONDS, pass_fds=[told.fileno(), *passed], **given)
         return ran.returncode, rows_of(path)
 
-    def held(self, root, words, number):
+    def held(self, root, words, number, env=None, **given):
         """Starts the program, and answers when it is stopped before a call of it; at `let_go` it goes on."""
         reader, writer = os.pipe()
-        command, env = self.command(writer, ["hold", str(number)], root, words), {**os.environ, **self.where}
-        at = subprocess.Popen(command, cwd=root, env=env, stdin=subprocess.PIPE, stdout=subprocess.PIPE, stderr=subprocess.PIPE, pass_fds=[writer])
+        command, env = self.command(writer, ["hold", str(number)], root, words), {**(env or os.environ), **self.where}
+        at = subprocess.Popen(command, cwd=root, env=env, stdin=subprocess.PIPE, stdout=subprocess.PIPE, stderr=subprocess.PIPE, pass_fds=[writer], **given)
         os.close(writer)
         with os.fdopen(reader, "rb") as told:
             assert told.readline() == b"held\n", f"no call {number} of {words}"
@@ -101,6 +101,20 @@ def watched(tests, what, where="record"):
         tests.skip(f"the system lets no program be watched: {what}")
         return None
     return watcher
+
+
+class Lacking:
+    """A library that lets a file system lack something (lacking.c), and runs of the program that has it loaded."""
+
+    def __init__(self, tests):
+        self.tests, self.library = tests, compiled(tests, "lacking.c", "-shared", "-fPIC")
+
+    def env(self, what, error):
+        return {**os.environ, "LD_PRELOAD": self.library, "HGTRACK_LACKS": f"{what} {error}"}
+
+    def run(self, root, words, what, error, **given):
+        """Runs the program where that is lacking. Answers its status, its standard output and its error stream."""
+        return self.tests.run(root, words, env=self.env(what, error), **given)
 
 
 ERRORS = {"input/output error": errno.EIO, "no space left on device": errno.ENOSPC}

@@ -70,7 +70,7 @@ def run_folders(tests):
 
 
 def number_of(watcher, root, words, call, name, times=1):
-    """The number of a call that touches a name, as calls.c counts them, in a copy of the folder."""
+    """The number of a call that touches a name, as calls.c counts them, in a copy of the folder; that of the last one for 0 times."""
     with watcher.tests.working_copy() as room:
         copy = f"{room}/copy"
         shutil.copytree(root, copy, symlinks=True)
@@ -142,7 +142,7 @@ def run_before_removal(tests, watcher):
     """A command is held before it gives the lock back; somebody takes its file away, and another one gets the lock: that one keeps it."""
     with tests.working_copy() as root:
         lay_out_added(root)
-        at = watcher.held(root, ["add", "a"], number_of(watcher, root, ["add", "a"], "statx", "wlock", 2))
+        at = watcher.held(root, ["add", "a"], number_of(watcher, root, ["add", "a"], "statx", "wlock", 0))
         os.remove(f"{root}/.hg/wlock")
         other = within_lock(watcher, root, "b")
         ended = let_go(at)

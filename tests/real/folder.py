@@ -16,6 +16,8 @@ SECONDS = 60
 # A time that no clock has reached.
 TO_COME = (2**31 - 2) * 10**9
 NOBODY = 65534
+# A number that no process has.
+DEAD = 2**22 + 1
 
 
 def lay_out(root, things):
@@ -94,6 +96,21 @@ def put_off(root):
 def as_nobody():
     """What has a command run without root's rights, where there is a way to do so."""
     return {"user": NOBODY, "group": NOBODY, "extra_groups": []} if os.geteuid() == 0 else {}
+
+
+def host():
+    with open("/proc/sys/kernel/hostname", "rb") as file:
+        return file.read().strip()
+
+
+def holder(process):
+    """A process of this host, as Mercurial's own lock tells it."""
+    return b"%b/%x:%d" % (host(), os.stat("/proc/self/ns/pid").st_ino, process)
+
+
+def ours(process=DEAD):
+    """The same as a lock of ours tells it."""
+    return holder(process) + b" "
 
 
 def lines(*texts):

@@ -9,7 +9,7 @@ import signal
 import stat
 
 from dirstate import written
-from folder import OUTSIDE, aborted, as_nobody, because, further, lay_out, lines, put, put_record, seen
+from folder import OUTSIDE, aborted, as_nobody, because, further, holder, lay_out, lines, ours, put, put_record, seen
 from saving import told
 
 GOOD, DATA = written([b"a", b"d/b"])
@@ -95,8 +95,8 @@ def run_locked(tests):
     with tests.working_copy() as root:
         lay_some(root)
         with open(f"{root}/.hg/wlock", "wb") as lock:
-            lock.write(b"somewhere/1:1234567 ")
-        os.symlink("somewhere/1:2", f"{root}/.hg/wlock.break")
+            lock.write(ours())
+        os.symlink(holder(os.getpid()), os.fsencode(f"{root}/.hg/wlock.break"))
         tests.compare("Mercurial is about to take away the lock of a dead process", tests.run(root, ("add", "new")), (255, b"", LOCKED))
         os.remove(f"{root}/.hg/wlock.break")
         tests.compare("and then it is free", (tests.run(root, ("add", "new")), os.path.lexists(f"{root}/.hg/wlock")), ((0, b"", b""), False))
@@ -172,13 +172,13 @@ def mode(path):
 
 
 def run_modes(tests):
-    """A first docket is as the user's mask has it, and an old one's rights are kept."""
+    """A first record may be read and written by whom `.hg` may be, whatever the user's mask, and an old docket's rights are kept."""
     for mask in (0o022, 0o077, 0o002, 0o000):
         with tests.working_copy() as root:
             lay_out(root, [".hg/", "a"])
             got = tests.run(root, ("add", "a"), preexec_fn=lambda: os.umask(mask))
             made = [mode(f"{root}/.hg/{name}") for name in ("dirstate", DATA_FILE)]
-            tests.compare(f"the rights of a first record, mask {mask:03o}", (got[0], made), (0, 2 * [0o644 & ~mask]))
+            tests.compare(f"the rights of a first record, mask {mask:03o}", (got[0], made), (0, 2 * [mode(f"{root}/.hg") & 0o666]))
     for kept in (0o600, 0o640, 0o664, 0o444):
         with tests.working_copy() as root:
             lay_some(root)

@@ -2,7 +2,8 @@
 """Black-box tests of the built program over real folders: python3 tests/real/run.py [PROGRAM] [PART ..].
 
 PROGRAM is build/hgtrack where it isn't named. The parts are cases, listings, commits, damage, outside, standing, meanwhile, mercurial, records, parents, hooks, mixed,
-ignoring, refusing, repository, saving, appends, shared, syncs, turns, beside, exchanged, failing, pages, working, stopping, scripts and times; all where none is named. The last line is
+ignoring, refusing, repository, saving, appends, shared, syncs, turns, beside, exchanged, failing, pages, working, stopping, scripts, times, edges,
+locks and closed; all where none is named. The last line is
 'N passed, M failed', and the status 0 exactly where M is 0.
 """
 
@@ -17,13 +18,16 @@ sys.setrecursionlimit(20_000)
 import appends
 import beside
 import cases
+import closed
 import commits
 import damage
+import edges
 import exchanged
 import failing
 import hooks
 import ignoring
 import listings
+import locks
 import meanwhile
 import mercurial
 import mixed
@@ -47,7 +51,7 @@ from folder import Tests, stray
 PARTS = {"cases": cases, "listings": listings, "commits": commits, "damage": damage, "outside": outside, "standing": standing, "meanwhile": meanwhile,
          "mercurial": mercurial, "records": records, "parents": parents, "hooks": hooks, "mixed": mixed, "ignoring": ignoring,
          "refusing": refusing, "repository": repository, "saving": saving, "appends": appends, "shared": shared, "syncs": syncs, "turns": turns, "beside": beside, "exchanged": exchanged, "failing": failing, "pages": pages,
-         "working": working, "stopping": stopping, "scripts": scripts, "times": times}
+         "working": working, "stopping": stopping, "scripts": scripts, "times": times, "edges": edges, "locks": locks, "closed": closed}
 
 
 def main(words):

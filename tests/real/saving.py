@@ -10,7 +10,7 @@ import time
 
 from calls import ERRORS, Calls, has_gcc, watched
 from dirstate import NULL, P1_TRACKED, WDIR_TRACKED, docket, written
-from folder import FILES, aborted, because, lay_out, limited, lines, put, put_record
+from folder import FILES, aborted, because, lay_out, limited, lines, ours, put, put_record
 
 PARENT = b"\x11" * 20
 KILLED = -9
@@ -18,8 +18,10 @@ NEXT = "next"
 NO_WAY = aborted("working copy failed") + because(".", "no way to the root or back")
 # The first data files that a record names.
 DATA = [f"dirstate.{it:016x}" for it in range(4)]
+# The copy of a data file, before it takes that one's place.
+COPY = "copy-new"
 # What no save leaves behind, and the next one takes away where an earlier one was stopped.
-LEFT = {"wlock", "wlock-new", "dirstate-new", f"{DATA[0]}-new"}
+LEFT = {"wlock", "wlock-new", "dirstate-new", COPY}
 
 
 def told(entries, p1=NULL):
@@ -70,7 +72,7 @@ def before_lock(root):
 
 def behind_lock(root):
     """And when it was stopped just behind that."""
-    put(f"{root}/.hg/wlock-new", b"somewhere/1:1 ")
+    put(f"{root}/.hg/wlock-new", ours())
     os.link(f"{root}/.hg/wlock-new", f"{root}/.hg/wlock")
 
 
@@ -91,7 +93,7 @@ def torn(root):
 def two_names(root):
     """The data file has another name too, and what a save may have left when it was stopped while it copied that one."""
     os.link(f"{root}/.hg/{DATA[0]}", f"{root}/.hg/other")
-    put(f"{root}/.hg/{DATA[0]}-new", b"\xff" * 9_000)
+    put(f"{root}/.hg/{COPY}", b"\xff" * 9_000)
 
 
 SOME = added("a", "b.c", "d/b", "d/e/f", "x y")
@@ -125,9 +127,9 @@ LINKED = [("wlock", "wlock-new"), (DATA[0], "other")]
 MEMORY = "/dev/shm"
 
 
-def wait_for_early():
-    """Waits for the first half of a second."""
-    while time.time() % 1 > 0.5:
+def wait_for_early(until=0.5):
+    """Waits for the first part of a second. (The clock by which files get their times goes in steps, and lags behind.)"""
+    while not 0.02 < time.time() % 1 < until:
         time.sleep(0.01)
 
 
@@ -255,14 +257,15 @@ def run_failures(tests, calls, scene, template, names):
 
 
 # What each call of the record's device is to the system, by the names of its files below `.hg`, which is `.` itself: finding it, by `main` and by the devices, what is required,
-# going there, taking the lock,
-# looking at what isn't there, the size, reading, writing, making sure, renaming over a file or not, making names sure, removing, giving the lock back.
+# going there, taking the lock, by a file of the rights that `.hg` has, which is the one that has its name then,
+# looking at what isn't there, the size, reading, writing, making sure, renaming, making names sure, removing, giving the lock back.
 # (An open file is told by the name that it was opened under.)
 FOUND = ["statx .", "statx .", "statx requires"]
 STAND = ["chdir .", "statx ."]
-NEW = ["openat", "flock", "statx", "statx", "write", "link", "unlink"]
-LOCK = STAND + ["statx wlock"] + [f"{it} wlock-new" for it in NEW]
-UNLOCK = ["statx wlock", "statx wlock-new (deleted)", "unlink wlock", "flock wlock-new (deleted)"]
+NEW = ["openat", "statx", "flock", "statx", "statx", "write", "link", "unlink"]
+IS_OURS = ["statx wlock", "statx wlock-new (deleted)"]
+LOCK = STAND + ["statx wlock", "statx ."] + [f"{it} wlock-new" for it in NEW] + IS_OURS
+UNLOCK = IS_OURS + ["unlink wlock", "flock wlock-new (deleted)"]
 SYNC_NAMES = ["openat .", "fsync ."]
 
 
@@ -274,9 +277,9 @@ def read_at(name, reads):
     return [f"{call} {name}" for call in ("statx", "openat", "lseek", *reads * ["read"])]
 
 
-# (of a file that is there already it is looked at whether that one was opened)
+# (of a file that is there already it is looked at whether that one was opened; a new one gets the rights that `.hg` has, unless it has them)
 def write_at(name, is_there=False):
-    return [f"{call} {name}" for call in ("statx", "openat", *is_there * ["statx"], "statx", "lseek", "write")]
+    return size(name) + (not is_there) * size(".") + [f"{call} {name}" for call in ("openat", "statx", "statx", "lseek", "write")]
 
 
 # (of a file that was written, which is still open)
@@ -285,9 +288,9 @@ def sync(name):
 
 
 # Over a file that has changed in this very second the new one gets a time.
-def rename(old, new, is_there=False, is_recent=False):
-    timed = [f"{call} {old}" for call in ("openat", "statx", "utimensat")]
-    return [f"statx {old}", f"statx {new}"] + is_recent * timed + is_there * [f"chmod {old}"] + [f"rename {old}"]
+def rename(old, new, is_recent=False):
+    timed = [f"{call} {old}" for call in ("openat", "statx", "utimensat", "fchmod")]
+    return [f"statx {old}", f"statx {new}"] + is_recent * timed + [f"rename {old}"]
 
 
 def remove(name):
@@ -298,7 +301,7 @@ def saved(old, new, is_recent):
     """The calls of an add to a record."""
     return [
         LOCK, read_at("dirstate", 2), size(old), read_at(old, 1), STAND, write_at(new), sync(new), write_at("dirstate-new"), sync("dirstate-new"),
-        rename("dirstate-new", "dirstate", True, is_recent), SYNC_NAMES, remove(old), UNLOCK,
+        rename("dirstate-new", "dirstate", is_recent), SYNC_NAMES, remove(old), UNLOCK,
     ]
 
 
@@ -306,7 +309,7 @@ def appended(name, is_recent):
     """The calls of an add to a record that is put behind its data file."""
     return [
         LOCK, read_at("dirstate", 2), size(name), read_at(name, 1), STAND, write_at(name, True), sync(name), write_at("dirstate-new"), sync("dirstate-new"),
-        rename("dirstate-new", "dirstate", True, is_recent), SYNC_NAMES, UNLOCK,
+        rename("dirstate-new", "dirstate", is_recent), SYNC_NAMES, UNLOCK,
     ]
 
 
@@ -329,8 +332,9 @@ IN_ORDER = [
 
 def wait_for(docket, is_recent):
     """Waits until a second of the docket's has gone, and has it change then, where it is to have changed in this very second."""
-    while time.time() < os.stat(docket).st_ctime + 1.1 or time.time() % 1 > 0.3:
+    while time.time() < os.stat(docket).st_ctime + 1.1:
         time.sleep(0.01)
+    wait_for_early(0.3)
     if is_recent:
         os.chmod(docket, 0o644)
 

@@ -18,8 +18,8 @@ def roomy():
     resource.setrlimit(resource.RLIMIT_NOFILE, (FILES, FILES))
 
 
-def script(tests, root, text):
-    return tests.run(root, ["debugscript"], stdin=None, input=text, timeout=4 * SECONDS, preexec_fn=roomy)
+def script(tests, root, text, **how):
+    return tests.run(root, ["debugscript"], stdin=None, input=text, timeout=4 * SECONDS, preexec_fn=roomy, **how)
 
 
 def fed(tests, root, text):

@@ -8,10 +8,10 @@ import stat
 from calls import Calls, has_gcc
 from dirstate import written
 from folder import NOBODY, aborted, as_nobody, because, lay_out, put, put_record, seen
-from saving import BEHIND, BESIDE, DATA, KILLED, NEXT, added, read, record_of, short, told, wait_for_early, way_of
+from saving import BEHIND, BESIDE, COPY, DATA, KILLED, NEXT, added, read, record_of, short, told, wait_for_early, way_of
 from times import LONG_PAST, many_files, stamps_of
 
-NAME, COPY = DATA[0], f"{DATA[0]}-new"
+NAME = DATA[0]
 FILES = [*BESIDE, "y", "z", NEXT]
 WITH_Z = {**BESIDE, **added("z")}
 
@@ -154,9 +154,9 @@ def run_left(tests):
 
 
 # What is done at the data file, by the names of the files below `.hg`: it is looked at, opened and is the one that was seen; what is at the copy's name goes, the copy is made, has its
-# rights and bytes, and is made sure before it takes the other's place; that is made sure, and then the copy is written to.
+# rights and bytes, as many as are used, and is made sure before it takes the other's place; that is made sure, and then the copy is written to.
 IN_ORDER = [
-    f"statx {NAME}", f"openat {NAME}", f"statx {NAME}", f"unlink {COPY}", f"openat {COPY}", f"chmod {COPY}", f"read {NAME}", f"read {NAME}", f"write {COPY}", f"fsync {COPY}",
+    f"statx {NAME}", f"openat {NAME}", f"statx {NAME}", f"unlink {COPY}", f"openat {COPY}", f"statx {COPY}", f"read {NAME}", f"write {COPY}", f"fsync {COPY}",
     f"rename {COPY}", "openat .", "fsync .hg", f"statx {NAME}", f"lseek {NAME}", f"write {NAME}", f"statx {NAME}", f"fsync {NAME}",
 ]
 
