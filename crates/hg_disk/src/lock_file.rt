@@ -243,8 +243,15 @@ fn clear<R: Files<File = File> + AllocGlobal>(
             let_go(opened, file);
             Ok(Tried::Gone)
         }
-        // (a link needs no first name)
-        Maker::Unknown(_) => make_link(rt, names),
+        Maker::Unknown(mut file) => {
+            if !is_left(rt, names, &seen, &mut file)? {
+                // (a link needs no first name)
+                return make_link(rt, names);
+            }
+            take_away(rt, path, &file)?;
+            let_go(opened, file);
+            Ok(Tried::Gone)
+        }
         Maker::Held(said) => Ok(Tried::Held(said)),
         Maker::Gone => Ok(Tried::Gone),
     }
@@ -348,27 +355,27 @@ fn take_over<R: Files<File = File> + AllocGlobal>(
     match ended(rt, names, path, WLOCK, seen, file)? {
         Maker::Dead(file) if stays => keep(rt, names, seen, file),
         Maker::Dead(file) => clear_lock(rt, opened, names, file),
-        Maker::Unknown(file) => clear_unknown(rt, opened, names, seen, file),
+        Maker::Unknown(mut file) => {
+            if !is_left(rt, names, seen, &mut file)? {
+                return Ok(Tried::Held(None));
+            }
+            clear_lock(rt, opened, names, file)
+        }
         Maker::Held(said) => Ok(Tried::Held(said)),
         Maker::Gone => Ok(Tried::Gone),
     }
 }
 
-// Takes away a file for which the system has no lock, where its process is gone by its number.
-fn clear_unknown<R: Files<File = File> + AllocGlobal>(
+// Whether the process is gone, by its number, that made a file for which the system has no lock.
+fn is_left<R: Files + AllocGlobal>(
     rt: &R,
-    opened: &mut Opened,
     names: &Names,
     seen: &Metadata,
-    file: File,
-) -> Result<Tried, Reason> {
-    let mut file = file;
-    let told = told_by(rt.alloc(), &mut file, seen.len())?;
-    match told {
-        Some(told) if is_gone(rt, names.holder.as_str(), told.as_slice())? => {
-            clear_lock(rt, opened, names, file)
-        }
-        _ => Ok(Tried::Held(None)),
+    file: &mut File,
+) -> Result<bool, Reason> {
+    match told_by(rt.alloc(), file, seen.len())? {
+        Some(told) => is_gone(rt, names.holder.as_str(), told.as_slice()),
+        None => Ok(false),
     }
 }
 
