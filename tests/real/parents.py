@@ -24,6 +24,22 @@ FLAGS = [
     "-m -a", "-r -d", "-c -m -u", "-A -n", "-A -0", "-C -a -m", "-n -C", "-0 -n", "-c -C -0", "-d -u -i -n", "-a -r -C --print0",
 ]
 
+# An extension whose command commits files of any names, also of those that Mercurial refuses to add, each with its name as its text; and prints the commit.
+COMMIT_NAMES = b"""from mercurial import metadata, registrar
+cmdtable = {}
+@registrar.command(cmdtable)(b"commitnames", [], b"LINES")
+def commitnames(ui, repo, lines):
+    null, names = bytes(20), lines.split(b"\\n")
+    with repo.lock(), repo.transaction(b"commitnames") as changes:
+        rows = [(name, repo.file(name).add(name, {}, changes, len(repo), null, null)) for name in sorted(names)]
+        manifests = repo.manifestlog.getstorage(b"")._revlog
+        manifests.addrevision(b"".join(b"%s\\0%s\\n" % (name, node.hex().encode()) for name, node in rows), changes, len(repo), null, null)
+        commit = repo.changelog.add(manifests.tip(), metadata.ChangingFiles(touched=names), b"names", changes, null, null, b"test", b"0 0")
+        ui.write(commit.hex().encode())
+"""
+# Names that no file of a working copy has; ROOM is a folder beside it, in which a file `mine` stands.
+HOSTILE = ["ROOM/mine", "/", "/a", "../mine", "../../../mine", "..", ".", "./a", "a/.", "a/..", "a/../../mine", "a//b", "a/", ".hg/hgrc", ".hg", ".HG/hgrc", "a/.hg/hgrc", "a/b/.Hg", "a/.hg"]
+
 # What happens, and its steps, after each of which the parents are brought over and the listings compared. In a step `hg ..` runs the command, `+name` makes what
 # folder.lay_out reads, `*name TEXT` puts a text into a file, `#name PLACE` exchanges one byte of it, `!name` and `~name` make it executable and not, and `-name` takes it away.
 TREE = ["+a", "+b.c", "+b/c", "+b/d/e", "+b/d/f", "+src/k0.c", "+src/k1.c", "+src/s 0.c", "+z/\u00e4/\u00f6.txt", "+x", "!x", "+d/y", "!d/y", "+l -> a", "+d/m -> gone", "+empty", "*empty "]
@@ -307,6 +323,56 @@ def run_refused(tests):
         tests.compare("parents: no hg", (told.returncode, told.stderr), (1, lines("hgtrack-parents: hg: No such file or directory")))
 
 
+def commit_names(room, root, *names):
+    """Has the working copy be at a commit of these names, which the null parent precedes; answers whether Mercurial did it."""
+    put(f"{room}/commitnames.py", COMMIT_NAMES)
+    made = hg(root, "--config", f"extensions.commitnames={room}/commitnames.py", "commitnames", "\n".join(names))
+    return made.returncode == 0 and hg(root, "debugsetparents", made.stdout.decode()).returncode == 0
+
+
+def beside_store(room):
+    """What stands below a folder, without what is below a folder `.hg`, where Mercurial writes."""
+    return {path: it for path, it in seen(room).items() if b"/.hg/" not in path and not path.endswith(b"/.hg")}
+
+
+def run_names(tests):
+    """A name that leads elsewhere is told, and then nothing is written and nothing else changes; odd ones that lead nowhere are brought over."""
+    for name in HOSTILE:
+        with tests.working_copy() as room:
+            root, bad = f"{room}/d/root", name.replace("ROOM", room)
+            os.makedirs(root)
+            init(root)
+            for it in (f"{room}/mine", f"{room}/d/mine", f"{root}/mine"):
+                put(it, b"mine\n")
+            # (a name that comes before it and one that comes behind)
+            if not commit_names(room, root, "!", bad, "z"):
+                tests.skip(f"this hg has other insides, so no commit of {name} was made")
+                continue
+            before = beside_store(room)
+            told = export(root)
+            line = lines(f"hgtrack-parents: the name {bad.encode()!r} is none of a file in a working copy: nothing was written")
+            tests.compare(f"parents: the name {name}", (told.returncode, told.stdout, told.stderr), (1, b"", line))
+            tests.compare(f"parents: the name {name}: nothing changed", (beside_store(room), os.path.lexists(f"{root}/.hg/plain")), (before, False))
+    # (Mercurial can't keep the contents of so long a name)
+    fault_of, long = script().fault_of, b"d" * 255 + b"/"
+    for name, is_fine in ((255 * long + 255 * b"x", True), (255 * long + 256 * b"x", False), (2_047 * b"d/" + b"x", True), (2_048 * b"d/" + b"x", False)):
+        wanted = None if is_fine else f"the name {name[:40]!r}.. is over 65535 bytes or 2048 components"
+        tests.compare(f"parents: a name of {len(name)} bytes", fault_of(name), wanted)
+    odd = sorted([*ODD, "a\r", " ", "d/b\r/ c ", ".hgx/a", "a/...", "..a/b", ".../a", "d/.hg.", "%s%p"])
+    for more in ([], [f"more/{number % 9}/{number}" for number in range(200)]):
+        with tests.working_copy() as room:
+            init(room)
+            if not commit_names(room, room, *odd, *more):
+                tests.skip("this hg has other insides, so no commit of odd names was made")
+                continue
+            told, node = export(room), node_of(room)
+            count = len(odd) + len(more)
+            tests.compare(f"parents: {count} names, some odd", (told.returncode, told.stdout, told.stderr), (0, lines(f"{node}: {count} files, {count} contents written"), b""))
+            rows = re.findall("([^\\0]+)\\0([0-9a-f]{40})\n", (content_of(f"{room}/.hg/plain/m-{node}") or b"").decode())
+            tests.compare(f"parents: {count} names, some odd: the texts", [(path, content_of(f"{room}/.hg/plain/f-{it}")) for path, it in rows],
+                          [(path, path.encode()) for path in sorted([*odd, *more], key=str.encode)])
+
+
 def run_trees(tests):
     """A repository that keeps a manifest for each directory."""
     with tests.working_copy() as root:
@@ -334,4 +400,5 @@ def run(tests):
     run_hook(tests)
     run_killed(tests)
     run_refused(tests)
+    run_names(tests)
     run_trees(tests)
