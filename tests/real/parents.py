@@ -265,6 +265,29 @@ def run_hook(tests):
         tests.compare("parents: a hook beside a dirstate of the first version", (told.returncode, told.stdout, told.stderr, os.path.exists(f"{root}/.hg/plain")), (0, b"", b"", False))
 
 
+def run_empty(tests):
+    """A commit without files is brought over once: then a hook asks no `hg`, but where its manifest, or the mark that it is empty by right, is gone."""
+    with tests.working_copy() as root:
+        init(root)
+        for action in ("+a", "hg add a", "hg commit -m one", "hg remove a", "hg commit -m two"):
+            act(tests, root, "no files", action)
+        node = node_of(root)
+        told = export(root, "--hook")
+        tests.compare("parents: no files", (told.returncode, told.stdout, told.stderr, store(root)), (0, b"", b"", [f"e-{node}", f"m-{node}"]))
+        before = seen(f"{root}/.hg/plain")
+        told = export(root, "--hook", env={"HG": "/bin/false"})
+        tests.compare("parents: no files: nothing is missing, and no hg", (told.returncode, told.stdout, told.stderr, seen(f"{root}/.hg/plain") == before), (0, b"", b"", True))
+        tests.compare("parents: no files: by hand", export(root, "--verify").stdout, lines(f"{node}: 0 files compared"))
+        for name in store(root):
+            os.remove(f"{root}/.hg/plain/{name}")
+            told = export(root, "--hook")
+            tests.compare(f"parents: no files: {name[:2]} is gone", (told.returncode, told.stderr, store(root)), (0, b"", [f"e-{node}", f"m-{node}"]))
+        tests.compare("parents: no files: pruned", (export(root, "--prune").stdout, store(root)), (lines("nothing new", "0 files of the store removed"), [f"e-{node}", f"m-{node}"]))
+        hg(root, "update", "0")
+        export(root, "--prune")
+        tests.compare("parents: no files: both go", [it[:2] for it in store(root)], ["f-", "m-"])
+
+
 def run_killed(tests):
     """What a killed run left behind goes with the next one, and one run waits for another."""
     with tests.working_copy() as root:
@@ -398,6 +421,7 @@ def run(tests):
     run_store(tests)
     run_damage(tests)
     run_hook(tests)
+    run_empty(tests)
     run_killed(tests)
     run_refused(tests)
     run_names(tests)
