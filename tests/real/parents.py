@@ -396,6 +396,47 @@ def run_names(tests):
                           [(path, path.encode()) for path in sorted([*odd, *more], key=str.encode)])
 
 
+# Settings by which a working copy has other bytes than the commit, or `hg cat` prints others, or prints them otherwise.
+SETTINGS = b"""[extensions]
+%s
+eol =
+[keyword]
+** =
+[keywordmaps]
+Id = {file|basename}
+[encode]
+*.txt = tr a-z A-Z
+[decode]
+*.txt = tr A-Z a-z
+[alias]
+cat = cat --decode
+[defaults]
+cat = --decode
+[ui]
+archivemeta = yes
+verbose = yes
+tweakdefaults = yes
+"""
+
+
+def run_settings(tests):
+    """The contents are the commit's, whatever is set."""
+    texts = {"a.txt": b"$Id$ ABC\n", "b": b"$Id$\none\ntwo\n", "c": b"one\r\n$Id$\r\n", ".hgeol": b"[patterns]\n** = native\n[repository]\nnative = CRLF\n"}
+    for extension in (b"keyword =", b"hgext.keyword ="):
+        with tests.working_copy() as root:
+            init(root)
+            for name, text in texts.items():
+                put(f"{root}/{name}", text)
+            hg(root, "add")
+            hg(root, "commit", "-m", "one")
+            with open(f"{root}/.hg/hgrc", "ab") as file:
+                file.write(SETTINGS % extension)
+            for words in ([], ["--verify"]):
+                told = export(root, *words)
+                rows = re.findall("([^\\0]+)\\0([0-9a-f]{40})\n", (content_of(f"{root}/.hg/plain/m-{node_of(root)}") or b"").decode())
+                tests.compare(f"parents: settings, {extension}{words}", (told.returncode, told.stderr, {path: content_of(f"{root}/.hg/plain/f-{it}") for path, it in rows}), (0, b"", texts))
+
+
 def run_trees(tests):
     """A repository that keeps a manifest for each directory."""
     with tests.working_copy() as root:
@@ -425,4 +466,5 @@ def run(tests):
     run_killed(tests)
     run_refused(tests)
     run_names(tests)
+    run_settings(tests)
     run_trees(tests)
