@@ -8,9 +8,11 @@ import importlib.util
 import os
 import re
 import shutil
+import signal
 import subprocess
 import sys
 import time
+from contextlib import contextmanager
 
 from folder import lay_out, lines, put, seen
 from mercurial import hg
@@ -131,9 +133,40 @@ def init(root, *words):
         file.write("[storage]\ndirstate-v2.slow-path = allow\n")
 
 
-def export(root, *words, env=None):
+def given(root, *words, env=None, python=sys.executable, script=EXPORT, **how):
+    """How the script is started."""
     env = {**os.environ, "HGRCPATH": "", "PYTHONDONTWRITEBYTECODE": "1", **(env or {})}
-    return subprocess.run([sys.executable, EXPORT, *words], cwd=root, env=env, stdin=subprocess.DEVNULL, capture_output=True, timeout=300)
+    return {"args": [python, script, *words], "cwd": root, "env": env, "stdin": subprocess.DEVNULL, "stdout": subprocess.PIPE, "stderr": subprocess.PIPE, **how}
+
+
+def export(root, *words, timeout=300, **how):
+    return subprocess.run(**given(root, *words, **how), timeout=timeout)
+
+
+# An `hg` that answers the first bytes of what it should, and the rest once a file GO is there.
+HALTING = """#!/bin/sh
+hg "$@" | {{ dd bs=1 count={count} 2>/dev/null; until [ -e '{go}' ]; do sleep 0.02; done; cat; }}
+"""
+
+
+@contextmanager
+def halted(root, room, *words):
+    """A run that stands still behind about the half of the contents, once some of them are in the store; it goes on once `room` has a file `go`."""
+    texts = sum(len(name) + os.path.getsize(f"{root}/{name}") + 10 for name in hg(root, "files", "-r", ".").stdout.decode().split())
+    put(f"{room}/halting", HALTING.format(count=len(hg(root, "debugdata", "-m", "0").stdout) + texts // 2, go=f"{room}/go").encode())
+    os.chmod(f"{room}/halting", 0o755)
+    running = subprocess.Popen(**given(root, *words, env={"HG": f"{room}/halting"}, start_new_session=True))
+    try:
+        end = time.monotonic() + 60
+        while not glob.glob(f"{root}/.hg/plain/f-*") and running.poll() is None and time.monotonic() < end:
+            time.sleep(0.01)
+        yield running
+    finally:
+        try:
+            os.killpg(running.pid, signal.SIGKILL)
+        except ProcessLookupError:
+            pass
+        running.communicate()
 
 
 def store(root):
@@ -288,22 +321,28 @@ def run_empty(tests):
         tests.compare("parents: no files: both go", [it[:2] for it in store(root)], ["f-", "m-"])
 
 
+MANY = 400
+
+
+def lay_out_many(root):
+    init(root)
+    lay_out(root, [f"d{number % 9}/{number}" for number in range(MANY)])
+    hg(root, "add")
+    hg(root, "commit", "-m", "one")
+
+
 def run_killed(tests):
     """What a killed run left behind goes with the next one, and one run waits for another."""
-    with tests.working_copy() as root:
-        init(root)
-        lay_out(root, [f"d{number % 9}/{number}" for number in range(400)])
-        hg(root, "add")
-        hg(root, "commit", "-m", "one")
-        running = subprocess.Popen([sys.executable, EXPORT], cwd=root, env={**os.environ, "HGRCPATH": ""}, stdin=subprocess.DEVNULL, stdout=subprocess.DEVNULL)
-        end = time.monotonic() + 60
-        while not glob.glob(f"{root}/.hg/plain/new-*/files") and running.poll() is None and time.monotonic() < end:
-            time.sleep(0.001)
-        running.kill()
-        running.wait()
+    with tests.working_copy() as room:
+        root = f"{room}/root"
+        os.mkdir(root)
+        lay_out_many(root)
+        with halted(root, room) as running:
+            pass
         tests.compare("parents: killed", (running.returncode, len(glob.glob(f"{root}/.hg/plain/new-*")), glob.glob(f"{root}/.hg/plain/m-*")), (-9, 1, []))
+        lay_out(f"{root}/.hg/plain", ["new-other/files/d/a", "new-other/manifest"])
         told = export(root)
-        tests.compare("parents: after a run that was killed", (told.returncode, told.stderr, len(store(root)), glob.glob(f"{root}/.hg/plain/new-*")), (0, b"", 401, []))
+        tests.compare("parents: after a run that was killed", (told.returncode, told.stderr, len(store(root)), glob.glob(f"{root}/.hg/plain/new-*")), (0, b"", MANY + 1, []))
         with open(f"{root}/.hg/plain/lock", "rb") as file:
             fcntl.flock(file, fcntl.LOCK_EX)
             waiting = subprocess.Popen([sys.executable, EXPORT], cwd=root, env={**os.environ, "HGRCPATH": ""}, stdin=subprocess.DEVNULL, stdout=subprocess.PIPE)

@@ -1,7 +1,7 @@
 #!/usr/bin/env python3
 """Black-box tests of the built program over real folders: python3 tests/real/run.py [PROGRAM] [PART ..].
 
-PROGRAM is build/hgtrack where it isn't named. The parts are cases, listings, commits, damage, outside, standing, meanwhile, mercurial, records, parents, hooks, mixed,
+PROGRAM is build/hgtrack where it isn't named. The parts are cases, listings, commits, damage, outside, standing, meanwhile, mercurial, records, parents, stores, hooks, mixed,
 ignoring, refusing, repository, saving, appends, shared, syncs, turns, beside, exchanged, failing, pages, working, stopping, scripts and times; all where none is named. The last line is
 'N passed, M failed', and the status 0 exactly where M is 0.
 """
@@ -38,6 +38,7 @@ import scripts
 import shared
 import standing
 import stopping
+import stores
 import syncs
 import times
 import turns
@@ -45,7 +46,7 @@ import working
 from folder import Tests, stray
 
 PARTS = {"cases": cases, "listings": listings, "commits": commits, "damage": damage, "outside": outside, "standing": standing, "meanwhile": meanwhile,
-         "mercurial": mercurial, "records": records, "parents": parents, "hooks": hooks, "mixed": mixed, "ignoring": ignoring,
+         "mercurial": mercurial, "records": records, "parents": parents, "stores": stores, "hooks": hooks, "mixed": mixed, "ignoring": ignoring,
          "refusing": refusing, "repository": repository, "saving": saving, "appends": appends, "shared": shared, "syncs": syncs, "turns": turns, "beside": beside, "exchanged": exchanged, "failing": failing, "pages": pages,
          "working": working, "stopping": stopping, "scripts": scripts, "times": times}
 
