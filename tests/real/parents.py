@@ -26,17 +26,18 @@ FLAGS = [
     "-m -a", "-r -d", "-c -m -u", "-A -n", "-A -0", "-C -a -m", "-n -C", "-0 -n", "-c -C -0", "-d -u -i -n", "-a -r -C --print0",
 ]
 
-# An extension whose command commits files of any names, also of those that Mercurial refuses to add, each with its name as its text; and prints the commit.
+# An extension whose command commits files of any names, also of those that Mercurial refuses to add, and prints the commit. A line is a name, which is its text too, or a
+# name, a text and a flag with tabs between.
 COMMIT_NAMES = b"""from mercurial import metadata, registrar
 cmdtable = {}
 @registrar.command(cmdtable)(b"commitnames", [], b"LINES")
 def commitnames(ui, repo, lines):
-    null, names = bytes(20), lines.split(b"\\n")
+    null, files = bytes(20), sorted(line.split(b"\\t") if b"\\t" in line else [line, line, b""] for line in lines.split(b"\\n"))
     with repo.lock(), repo.transaction(b"commitnames") as changes:
-        rows = [(name, repo.file(name).add(name, {}, changes, len(repo), null, null)) for name in sorted(names)]
+        rows = [(name, repo.file(name).add(text, {}, changes, len(repo), null, null), flag) for name, text, flag in files]
         manifests = repo.manifestlog.getstorage(b"")._revlog
-        manifests.addrevision(b"".join(b"%s\\0%s\\n" % (name, node.hex().encode()) for name, node in rows), changes, len(repo), null, null)
-        commit = repo.changelog.add(manifests.tip(), metadata.ChangingFiles(touched=names), b"names", changes, null, null, b"test", b"0 0")
+        manifests.addrevision(b"".join(b"%s\\0%s%s\\n" % (name, node.hex().encode(), flag) for name, node, flag in rows), changes, len(repo), null, null)
+        commit = repo.changelog.add(manifests.tip(), metadata.ChangingFiles(touched=[name for name, _, _ in files]), b"names", changes, null, null, b"test", b"0 0")
         ui.write(commit.hex().encode())
 """
 # Names that no file of a working copy has; ROOM is a folder beside it, in which a file `mine` stands.

@@ -12,7 +12,7 @@ import sys
 
 from folder import NOBODY, lay_out, lines, put, seen
 from mercurial import hg
-from parents import EXPORT, MANY, content_of, export, halted, init, lay_out_many, node_of, script, store
+from parents import EXPORT, MANY, ODD, commit_names, content_of, export, halted, init, lay_out_many, node_of, script, store
 
 SECONDS = 20
 # What a folder beside the working copy has: names as in a store, of a run that was killed, and of what is the user's.
@@ -292,10 +292,35 @@ def run_questions(tests):
     for what, wanted, kinds in (("all", paths, {b"rootfilesin": 101}), ("one folder", [it for it in paths if it.startswith(b"d7/")], {b"path": 20}), ("one", [b"top"], {b"path": 1}),
                                 ("one of each folder", paths[:100], {b"path": 100}), ("half of each folder", paths[:1_000], {b"path": 1_000}), ("most", paths[100:], {b"rootfilesin": 101})):
         asked = list(questions(rows, wanted))
-        patterns = [it for some, _ in asked for it in some]
+        patterns = [it for _, some, _ in asked for it in some]
         found = {kind: sum(it.startswith(kind + b":") for it in patterns) for kind in {it.partition(b":")[0] for it in patterns}}
-        tests.compare(f"stores: how to ask for {what}", (found, [it for _, some in asked for it in some], all(len(some) < 100 or it[0].startswith(b"rootfilesin") for it, some in asked)),
+        tests.compare(f"stores: how to ask for {what}", (found, [it for _, _, some in asked for it in some], all(len(some) < 100 or it[0].startswith(b"rootfilesin") for _, it, some in asked)),
                       (kinds, wanted, True))
+
+
+# Names that an archive has in other places than short ones.
+LONG = ["d" * 150 + "/" + "e" * 150, "ä" * 90, "z/" + "ö" * 40]
+
+
+def run_subrepositories(tests):
+    """A commit that has subrepositories is brought over without them: none is opened, also one that is missing, or of another kind, or in a folder that is none of them."""
+    for what, more in (("few files", []), ("many files", [f"more/{number % 9}/{number}" for number in range(300)])):
+        for sub in ("sub = ../other", "sub = [git]../other", "sub = [svn]../other", "../beside/sub = ../other"):
+            with tests.working_copy() as room:
+                root = f"{room}/root"
+                os.mkdir(root)
+                init(root)
+                # (a text and a flag for each name)
+                given = {name: (name, "") for name in ["a", "d/b", "sub/a", *ODD, *LONG, *more]}
+                given |= {".hgsub": (sub, ""), ".hgsubstate": (f"{'1' * 40} {sub.partition(' ')[0]}", ""), "l": ("d/b", "l"), "run": ("run", "x"), "empty": ("", "")}
+                if not commit_names(room, root, *(f"{name}\t{text}\t{flag}" for name, (text, flag) in given.items())):
+                    tests.skip("this hg has other insides, so no commit with subrepositories was made")
+                    continue
+                told = brought(root)
+                rows = re.findall("([^\0]+)\0([0-9a-f]{40})[lx]?\n", (content_of(f"{root}/.hg/plain/m-{node_of(root)}") or b"").decode())
+                texts = {path: content_of(f"{root}/.hg/plain/f-{it}") for path, it in rows}
+                tests.compare(f"stores: {sub}, {what}", (told[0], told[2], texts), (0, b"", {path: text.encode() for path, (text, _) in given.items()}))
+                tests.compare(f"stores: {sub}, {what}: nothing is made", (os.listdir(root), sorted(os.listdir(room))), ([".hg"], ["commitnames.py", "root"]))
 
 
 def run(tests):
@@ -313,3 +338,4 @@ def run(tests):
     run_broken(tests)
     run_shown(tests)
     run_questions(tests)
+    run_subrepositories(tests)
