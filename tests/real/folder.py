@@ -16,6 +16,8 @@ SECONDS = 60
 # A time that no clock has reached.
 TO_COME = (2**31 - 2) * 10**9
 NOBODY = 65534
+# In memory where there is such a place: what is synced there takes no time, and a process that is killed loses nothing else than on a disk.
+MEMORY = "/dev/shm"
 # A number that no process has.
 DEAD = 2**22 + 1
 

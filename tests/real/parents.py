@@ -8,9 +8,11 @@ import importlib.util
 import os
 import re
 import shutil
+import signal
 import subprocess
 import sys
 import time
+from contextlib import contextmanager
 
 from folder import lay_out, lines, put, seen
 from mercurial import hg
@@ -23,6 +25,23 @@ FLAGS = [
     "--modified", "--added", "--removed", "--deleted", "--clean", "--unknown", "--ignored", "--all", "--no-status", "--print0", "--copies",
     "-m -a", "-r -d", "-c -m -u", "-A -n", "-A -0", "-C -a -m", "-n -C", "-0 -n", "-c -C -0", "-d -u -i -n", "-a -r -C --print0",
 ]
+
+# An extension whose command commits files of any names, also of those that Mercurial refuses to add, and prints the commit. A line is a name, which is its text too, or a
+# name, a text and a flag with tabs between.
+COMMIT_NAMES = b"""from mercurial import metadata, registrar
+cmdtable = {}
+@registrar.command(cmdtable)(b"commitnames", [], b"LINES")
+def commitnames(ui, repo, lines):
+    null, files = bytes(20), sorted(line.split(b"\\t") if b"\\t" in line else [line, line, b""] for line in lines.split(b"\\n"))
+    with repo.lock(), repo.transaction(b"commitnames") as changes:
+        rows = [(name, repo.file(name).add(text, {}, changes, len(repo), null, null), flag) for name, text, flag in files]
+        manifests = repo.manifestlog.getstorage(b"")._revlog
+        manifests.addrevision(b"".join(b"%s\\0%s%s\\n" % (name, node.hex().encode(), flag) for name, node, flag in rows), changes, len(repo), null, null)
+        commit = repo.changelog.add(manifests.tip(), metadata.ChangingFiles(touched=[name for name, _, _ in files]), b"names", changes, null, null, b"test", b"0 0")
+        ui.write(commit.hex().encode())
+"""
+# Names that no file of a working copy has; ROOM is a folder beside it, in which a file `mine` stands.
+HOSTILE = ["ROOM/mine", "/", "/a", "../mine", "../../../mine", "..", ".", "./a", "a/.", "a/..", "a/../../mine", "a//b", "a/", ".hg/hgrc", ".hg", ".HG/hgrc", "a/.hg/hgrc", "a/b/.Hg", "a/.hg"]
 
 # What happens, and its steps, after each of which the parents are brought over and the listings compared. In a step `hg ..` runs the command, `+name` makes what
 # folder.lay_out reads, `*name TEXT` puts a text into a file, `#name PLACE` exchanges one byte of it, `!name` and `~name` make it executable and not, and `-name` takes it away.
@@ -115,9 +134,40 @@ def init(root, *words):
         file.write("[storage]\ndirstate-v2.slow-path = allow\n")
 
 
-def export(root, *words, env=None):
+def given(root, *words, env=None, python=sys.executable, script=EXPORT, **how):
+    """How the script is started."""
     env = {**os.environ, "HGRCPATH": "", "PYTHONDONTWRITEBYTECODE": "1", **(env or {})}
-    return subprocess.run([sys.executable, EXPORT, *words], cwd=root, env=env, stdin=subprocess.DEVNULL, capture_output=True, timeout=300)
+    return {"args": [python, script, *words], "cwd": root, "env": env, "stdin": subprocess.DEVNULL, "stdout": subprocess.PIPE, "stderr": subprocess.PIPE, **how}
+
+
+def export(root, *words, timeout=300, **how):
+    return subprocess.run(**given(root, *words, **how), timeout=timeout)
+
+
+# An `hg` that answers the first bytes of what it should, and the rest once a file GO is there.
+HALTING = """#!/bin/sh
+hg "$@" | {{ dd bs=1 count={count} 2>/dev/null; until [ -e '{go}' ]; do sleep 0.02; done; cat; }}
+"""
+
+
+@contextmanager
+def halted(root, room, *words):
+    """A run that stands still behind about the half of the contents, once some of them are in the store; it goes on once `room` has a file `go`."""
+    texts = sum(len(name) + os.path.getsize(f"{root}/{name}") + 10 for name in hg(root, "files", "-r", ".").stdout.decode().split())
+    put(f"{room}/halting", HALTING.format(count=len(hg(root, "debugdata", "-m", "0").stdout) + texts // 2, go=f"{room}/go").encode())
+    os.chmod(f"{room}/halting", 0o755)
+    running = subprocess.Popen(**given(root, *words, env={"HG": f"{room}/halting"}, start_new_session=True))
+    try:
+        end = time.monotonic() + 60
+        while not glob.glob(f"{root}/.hg/plain/f-*") and running.poll() is None and time.monotonic() < end:
+            time.sleep(0.01)
+        yield running
+    finally:
+        try:
+            os.killpg(running.pid, signal.SIGKILL)
+        except ProcessLookupError:
+            pass
+        running.communicate()
 
 
 def store(root):
@@ -249,22 +299,51 @@ def run_hook(tests):
         tests.compare("parents: a hook beside a dirstate of the first version", (told.returncode, told.stdout, told.stderr, os.path.exists(f"{root}/.hg/plain")), (0, b"", b"", False))
 
 
-def run_killed(tests):
-    """What a killed run left behind goes with the next one, and one run waits for another."""
+def run_empty(tests):
+    """A commit without files is brought over once: then a hook asks no `hg`, but where its manifest, or the mark that it is empty by right, is gone."""
     with tests.working_copy() as root:
         init(root)
-        lay_out(root, [f"d{number % 9}/{number}" for number in range(400)])
-        hg(root, "add")
-        hg(root, "commit", "-m", "one")
-        running = subprocess.Popen([sys.executable, EXPORT], cwd=root, env={**os.environ, "HGRCPATH": ""}, stdin=subprocess.DEVNULL, stdout=subprocess.DEVNULL)
-        end = time.monotonic() + 60
-        while not glob.glob(f"{root}/.hg/plain/new-*/files") and running.poll() is None and time.monotonic() < end:
-            time.sleep(0.001)
-        running.kill()
-        running.wait()
+        for action in ("+a", "hg add a", "hg commit -m one", "hg remove a", "hg commit -m two"):
+            act(tests, root, "no files", action)
+        node = node_of(root)
+        told = export(root, "--hook")
+        tests.compare("parents: no files", (told.returncode, told.stdout, told.stderr, store(root)), (0, b"", b"", [f"e-{node}", f"m-{node}"]))
+        before = seen(f"{root}/.hg/plain")
+        told = export(root, "--hook", env={"HG": "/bin/false"})
+        tests.compare("parents: no files: nothing is missing, and no hg", (told.returncode, told.stdout, told.stderr, seen(f"{root}/.hg/plain") == before), (0, b"", b"", True))
+        tests.compare("parents: no files: by hand", export(root, "--verify").stdout, lines(f"{node}: 0 files compared"))
+        for name in store(root):
+            os.remove(f"{root}/.hg/plain/{name}")
+            told = export(root, "--hook")
+            tests.compare(f"parents: no files: {name[:2]} is gone", (told.returncode, told.stderr, store(root)), (0, b"", [f"e-{node}", f"m-{node}"]))
+        tests.compare("parents: no files: pruned", (export(root, "--prune").stdout, store(root)), (lines("nothing new", "0 files of the store removed"), [f"e-{node}", f"m-{node}"]))
+        hg(root, "update", "0")
+        export(root, "--prune")
+        tests.compare("parents: no files: both go", [it[:2] for it in store(root)], ["f-", "m-"])
+
+
+MANY = 400
+
+
+def lay_out_many(root):
+    init(root)
+    lay_out(root, [f"d{number % 9}/{number}" for number in range(MANY)])
+    hg(root, "add")
+    hg(root, "commit", "-m", "one")
+
+
+def run_killed(tests):
+    """What a killed run left behind goes with the next one, and one run waits for another."""
+    with tests.working_copy() as room:
+        root = f"{room}/root"
+        os.mkdir(root)
+        lay_out_many(root)
+        with halted(root, room) as running:
+            pass
         tests.compare("parents: killed", (running.returncode, len(glob.glob(f"{root}/.hg/plain/new-*")), glob.glob(f"{root}/.hg/plain/m-*")), (-9, 1, []))
+        lay_out(f"{root}/.hg/plain", ["new-other/files/d/a", "new-other/manifest"])
         told = export(root)
-        tests.compare("parents: after a run that was killed", (told.returncode, told.stderr, len(store(root)), glob.glob(f"{root}/.hg/plain/new-*")), (0, b"", 401, []))
+        tests.compare("parents: after a run that was killed", (told.returncode, told.stderr, len(store(root)), glob.glob(f"{root}/.hg/plain/new-*")), (0, b"", MANY + 1, []))
         with open(f"{root}/.hg/plain/lock", "rb") as file:
             fcntl.flock(file, fcntl.LOCK_EX)
             waiting = subprocess.Popen([sys.executable, EXPORT], cwd=root, env={**os.environ, "HGRCPATH": ""}, stdin=subprocess.DEVNULL, stdout=subprocess.PIPE)
@@ -307,6 +386,97 @@ def run_refused(tests):
         tests.compare("parents: no hg", (told.returncode, told.stderr), (1, lines("hgtrack-parents: hg: No such file or directory")))
 
 
+def commit_names(room, root, *names):
+    """Has the working copy be at a commit of these names, which the null parent precedes; answers whether Mercurial did it."""
+    put(f"{room}/commitnames.py", COMMIT_NAMES)
+    made = hg(root, "--config", f"extensions.commitnames={room}/commitnames.py", "commitnames", "\n".join(names))
+    return made.returncode == 0 and hg(root, "debugsetparents", made.stdout.decode()).returncode == 0
+
+
+def beside_store(room):
+    """What stands below a folder, without what is below a folder `.hg`, where Mercurial writes."""
+    return {path: it for path, it in seen(room).items() if b"/.hg/" not in path and not path.endswith(b"/.hg")}
+
+
+def run_names(tests):
+    """A name that leads elsewhere is told, and then nothing is written and nothing else changes; odd ones that lead nowhere are brought over."""
+    for name in HOSTILE:
+        with tests.working_copy() as room:
+            root, bad = f"{room}/d/root", name.replace("ROOM", room)
+            os.makedirs(root)
+            init(root)
+            for it in (f"{room}/mine", f"{room}/d/mine", f"{root}/mine"):
+                put(it, b"mine\n")
+            # (a name that comes before it and one that comes behind)
+            if not commit_names(room, root, "!", bad, "z"):
+                tests.skip(f"this hg has other insides, so no commit of {name} was made")
+                continue
+            before = beside_store(room)
+            told = export(root)
+            line = lines(f"hgtrack-parents: the name {bad.encode()!r} is none of a file in a working copy: nothing was written")
+            tests.compare(f"parents: the name {name}", (told.returncode, told.stdout, told.stderr), (1, b"", line))
+            tests.compare(f"parents: the name {name}: nothing changed", (beside_store(room), os.path.lexists(f"{root}/.hg/plain")), (before, False))
+    # (Mercurial can't keep the contents of so long a name)
+    fault_of, long = script().fault_of, b"d" * 255 + b"/"
+    for name, is_fine in ((255 * long + 255 * b"x", True), (255 * long + 256 * b"x", False), (2_047 * b"d/" + b"x", True), (2_048 * b"d/" + b"x", False)):
+        wanted = None if is_fine else f"the name {name[:40]!r}.. is over 65535 bytes or 2048 components"
+        tests.compare(f"parents: a name of {len(name)} bytes", fault_of(name), wanted)
+    odd = sorted([*ODD, "a\r", " ", "d/b\r/ c ", ".hgx/a", "a/...", "..a/b", ".../a", "d/.hg.", "%s%p"])
+    for more in ([], [f"more/{number % 9}/{number}" for number in range(200)]):
+        with tests.working_copy() as room:
+            init(room)
+            if not commit_names(room, room, *odd, *more):
+                tests.skip("this hg has other insides, so no commit of odd names was made")
+                continue
+            told, node = export(room), node_of(room)
+            count = len(odd) + len(more)
+            tests.compare(f"parents: {count} names, some odd", (told.returncode, told.stdout, told.stderr), (0, lines(f"{node}: {count} files, {count} contents written"), b""))
+            rows = re.findall("([^\\0]+)\\0([0-9a-f]{40})\n", (content_of(f"{room}/.hg/plain/m-{node}") or b"").decode())
+            tests.compare(f"parents: {count} names, some odd: the texts", [(path, content_of(f"{room}/.hg/plain/f-{it}")) for path, it in rows],
+                          [(path, path.encode()) for path in sorted([*odd, *more], key=str.encode)])
+
+
+# Settings by which a working copy has other bytes than the commit, or `hg cat` prints others, or prints them otherwise.
+SETTINGS = b"""[extensions]
+%s
+eol =
+[keyword]
+** =
+[keywordmaps]
+Id = {file|basename}
+[encode]
+*.txt = tr a-z A-Z
+[decode]
+*.txt = tr A-Z a-z
+[alias]
+cat = cat --decode
+[defaults]
+cat = --decode
+[ui]
+archivemeta = yes
+verbose = yes
+tweakdefaults = yes
+"""
+
+
+def run_settings(tests):
+    """The contents are the commit's, whatever is set."""
+    texts = {"a.txt": b"$Id$ ABC\n", "b": b"$Id$\none\ntwo\n", "c": b"one\r\n$Id$\r\n", ".hgeol": b"[patterns]\n** = native\n[repository]\nnative = CRLF\n"}
+    for extension in (b"keyword =", b"hgext.keyword ="):
+        with tests.working_copy() as root:
+            init(root)
+            for name, text in texts.items():
+                put(f"{root}/{name}", text)
+            hg(root, "add")
+            hg(root, "commit", "-m", "one")
+            with open(f"{root}/.hg/hgrc", "ab") as file:
+                file.write(SETTINGS % extension)
+            for words in ([], ["--verify"]):
+                told = export(root, *words)
+                rows = re.findall("([^\\0]+)\\0([0-9a-f]{40})\n", (content_of(f"{root}/.hg/plain/m-{node_of(root)}") or b"").decode())
+                tests.compare(f"parents: settings, {extension}{words}", (told.returncode, told.stderr, {path: content_of(f"{root}/.hg/plain/f-{it}") for path, it in rows}), (0, b"", texts))
+
+
 def run_trees(tests):
     """A repository that keeps a manifest for each directory."""
     with tests.working_copy() as root:
@@ -332,6 +502,9 @@ def run(tests):
     run_store(tests)
     run_damage(tests)
     run_hook(tests)
+    run_empty(tests)
     run_killed(tests)
     run_refused(tests)
+    run_names(tests)
+    run_settings(tests)
     run_trees(tests)

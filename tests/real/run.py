@@ -1,12 +1,12 @@
 #!/usr/bin/env python3
 """Black-box tests of the built program over real folders: python3 tests/real/run.py [PROGRAM] [PART ..].
 
-PROGRAM is build/hgtrack where it isn't named. The parts are cases, listings, commits, damage, outside, standing, meanwhile, mercurial, records, parents, hooks, mixed,
-ignoring, refusing, repository, saving, appends, shared, syncs, turns, beside, exchanged, failing, pages, working, stopping, scripts, times, edges,
-locks and closed; all where none is named. The last line is
+PROGRAM is build/hgtrack where it isn't named. The parts are the modules of PARTS; all where none is named. A part is a module beside this one with a function
+`run` that takes `Tests` (folder.py). The last line but one says how much was left out, for want of `hg`, `rhg`, gcc or root's rights, and the last line is
 'N passed, M failed', and the status 0 exactly where M is 0.
 """
 
+import importlib
 import os
 import sys
 import tempfile
@@ -15,43 +15,12 @@ sys.dont_write_bytecode = True
 # (a path of 2,049 components is laid out by recursion)
 sys.setrecursionlimit(20_000)
 
-import appends
-import beside
-import cases
-import closed
-import commits
-import damage
-import edges
-import exchanged
-import failing
-import hooks
-import ignoring
-import listings
-import locks
-import meanwhile
-import mercurial
-import mixed
-import outside
-import pages
-import parents
-import records
-import refusing
-import repository
-import saving
-import scripts
-import shared
-import standing
-import stopping
-import syncs
-import times
-import turns
-import working
-from folder import Tests, stray
+from folder import MEMORY, Tests, stray
 
-PARTS = {"cases": cases, "listings": listings, "commits": commits, "damage": damage, "outside": outside, "standing": standing, "meanwhile": meanwhile,
-         "mercurial": mercurial, "records": records, "parents": parents, "hooks": hooks, "mixed": mixed, "ignoring": ignoring,
-         "refusing": refusing, "repository": repository, "saving": saving, "appends": appends, "shared": shared, "syncs": syncs, "turns": turns, "beside": beside, "exchanged": exchanged, "failing": failing, "pages": pages,
-         "working": working, "stopping": stopping, "scripts": scripts, "times": times, "edges": edges, "locks": locks, "closed": closed}
+PARTS = """
+cases listings commits damage outside standing meanwhile mercurial records parents stores hooks mixed ignoring refusing repository saving appends shared syncs
+turns beside exchanged failing pages working stopping scripts times edges locks closed
+""".split()
 
 
 def main(words):
@@ -63,13 +32,14 @@ def main(words):
         return 1
     with tempfile.TemporaryDirectory(prefix="hgtrack-real-") as room:
         os.chmod(room, 0o755)
-        for folder in (room, saving.MEMORY):
+        for folder in (room, MEMORY):
             if stray(folder):
                 print(f"{stray(folder)} stands above {folder}, where the tests make their working copies: take it away, or set TMPDIR\n0 passed, 1 failed")
                 return 1
         tests = Tests(program, room)
         for name in [it for it in words if it in PARTS] or PARTS:
-            PARTS[name].run(tests)
+            importlib.import_module(name).run(tests)
+    print(f"{tests.skipped} left out")
     print(f"{tests.passed} passed, {tests.failed} failed")
     return 1 if tests.failed else 0
 

@@ -10,7 +10,7 @@ import time
 
 from calls import ERRORS, Calls, has_gcc, watched
 from dirstate import NULL, P1_TRACKED, WDIR_TRACKED, docket, written
-from folder import FILES, aborted, because, lay_out, limited, lines, ours, put, put_record
+from folder import FILES, MEMORY, aborted, because, lay_out, limited, lines, ours, put, put_record
 
 PARENT = b"\x11" * 20
 KILLED = -9
@@ -122,9 +122,6 @@ SCENES = [
 
 # The files of a scene that may be names of one: a copy has them so too.
 LINKED = [("wlock", "wlock-new"), (DATA[0], "other")]
-
-# In memory where there is such a place: what is synced there takes no time, and a process that is killed loses nothing else than on a disk.
-MEMORY = "/dev/shm"
 
 
 def wait_for_early(until=0.5):

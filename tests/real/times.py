@@ -12,10 +12,10 @@ import time
 from calls import ERRORS, Calls, compiled, has_gcc
 from commits import HEX, P1, PARENT, W, put_commit, put_entries
 from dirstate import written
-from folder import SECONDS, as_nobody, lay_out, lines, put, put_record
+from folder import MEMORY, SECONDS, as_nobody, lay_out, lines, put, put_record
 from mercurial import OPTIONS, hg
 from parents import export, init
-from saving import KILLED, MEMORY, copied, is_line, read, short
+from saving import KILLED, copied, is_line, read, short
 
 TEXTS = [b"one\n", b"two\n", b"six\n", b"three\n", b""]
 NAMES = [f"{folder}{name}" for folder in ("", "d/", "d/e/", "src/") for name in ("a", "b.c", "l", "x")]
