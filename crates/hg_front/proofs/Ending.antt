@@ -1,5 +1,5 @@
 -- What was told of a fault, from what ended with it.
-use Rattle.std.proofs.Common.{◌≡◌, ◌⊎◌, Option, Some, inl, inr, subst}
+use Rattle.std.proofs.Common.{◌⊎◌, Option, inl, inr, subst}
 use Rattle.std.specs.Prelude.{IfSome}
 use Rattle.hg_report.specs.declared.fault.Fault.{Fault}
 use Rattle.hg_report.specs.declared.fault.Fault.TheVariants as a_fault

@@ -53,12 +53,7 @@ pub(crate) fn without_memory<E: Sink>(alloc: Global, err: &mut E) -> u8
 }
 
 /// Ends a command with a fault that it met before it began, with a further line that says why.
-pub(crate) fn failed_because<E: Sink>(
-    alloc: Global,
-    fault: Fault,
-    err: &mut E,
-    reason: &str,
-) -> u8
+pub(crate) fn failed_because<E: Sink>(alloc: Global, fault: Fault, err: &mut E, reason: &str) -> u8
     ensures status { result ≡ 255 }
     ensures told { TellsFault (E.bytes err.old) (E.bytes err.new) (E.faults err.old) fault reason.now }
 {

@@ -16,7 +16,9 @@
 
 use hg_base::{Text, Words};
 use hg_disk::{RealShelf, RealTree, Root, Start, enter_root, open_streams};
-use hg_front::{Reasons, begun_at, carry, own_text, print, say_more, status_of_carried, unreached, unread};
+use hg_front::{
+    Reasons, begun_at, carry, own_text, print, say_more, status_of_carried, unreached, unread,
+};
 use hg_ignore::Builds;
 use hg_report::Fault;
 use hg_session::failed;
