@@ -1,4 +1,6 @@
+pub mod Alike
 pub mod Copying
+pub mod Counting
 pub mod Filing
 pub mod Going
 pub mod Holding

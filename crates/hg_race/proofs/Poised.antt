@@ -96,15 +96,18 @@ pub append_is : (w : WorldData) (who : ℕ) (p : IsPoised w who) → IsSane w �
 append_is w who p s docket now change =
     ap (λ (l : Option Loading). appended_behind who change l w) p.loaded ∙ ap (λ (d : Option Naming). appended_to who change d w) ((load_stands w who s p).0 ∙ now)
 
+-- how many rows an append uses
+pub append_used : (w : WorldData) → IsSane w → (docket : Naming) → w.docket ≡ Some docket → (change : List Row) → length (append_rows w docket change) ≡ docket.used + length change
+append_used w s docket now change =
+    let stands : StandsNow w.files (Some docket) (last_of w).rows = subst (λ (d : Option Naming). StandsNow w.files d (last_of w).rows) now s.stands in
+    let front : take docket.used (rows_in w.files docket.id) ≡ (last_of w).rows = rows_standing docket.used (last_of w).rows (w.files docket.id) stands.0 stands.1 in
+    length-append (take docket.used (rows_in w.files docket.id)) change ∙ ap (λ (n : ℕ). n + length change) (ap (λ (l : List Row). length l) front ∙ stands.0)
+
 pub append_is_published : AppendIsPublished
 append_is_published actors events w r who p docket now change =
     let s = reached_sane actors events w r in
     let is = append_is w who p s docket now change in
-    let stands : StandsNow w.files (Some docket) (last_of w).rows = subst (λ (d : Option Naming). StandsNow w.files d (last_of w).rows) now s.stands in
-    let front : take docket.used (rows_in w.files docket.id) ≡ (last_of w).rows = rows_standing docket.used (last_of w).rows (w.files docket.id) stands.0 stands.1 in
-    let used : length (append_rows w docket change) ≡ docket.used + length change =
-    length-append (take docket.used (rows_in w.files docket.id)) change ∙ ap (λ (n : ℕ). n + length change) (ap (λ (l : List Row). length l) front ∙ stands.0)
-    in
+    let used = append_used w s docket now change in
     record {
       may_write =
           and_from (not (actor_of w who).dead) (holds w.holder who && (takes_more (actor_of w who).load && is_none (actor_of w who).writing)) (not_from_false (actor_of w who).dead p.alive)

@@ -1,6 +1,7 @@
 pub mod Compact
 pub mod Edit
 pub mod Enabled
+pub mod Orders
 pub mod Publishes
 pub mod Rows
 pub mod Running

@@ -1,6 +1,7 @@
 //! What holds over every list of events, whoever makes them.
 
 ghost use Rattle.hg_race.specs.Safe.{IsAlwaysSafe, NoneIsLost, RowsStay, LoadsWhatStood, GoesOn};
+ghost use Rattle.hg_race.specs.Orders.{OneSchedule, OneRefusal};
 ghost use Rattle.hg_race.specs.Publishes.{AppendIsPublished, NewFileIsPublished, DropShowsTheSame};
 
 /// Whatever readers and writers do, and wherever they die: no publication is lost, each is its change on the one before, what the docket names
@@ -18,4 +19,10 @@ pub fn change_is_published()
     ensures appends { AppendIsPublished }
     ensures renews { NewFileIsPublished }
     ensures drops { DropShowsTheSame }
+{}
+
+/// In which order a new file's rows stand decides nothing: one list of events leads to worlds that show the same, or it is refused at one place.
+pub fn one_answer()
+    ensures schedule { OneSchedule }
+    ensures refusal { OneRefusal }
 {}

@@ -52,6 +52,6 @@ mod world;
 
 pub use edits::{Edit, Edits};
 pub use event::Event;
-pub use laws::{change_is_published, machine_is_safe};
+pub use laws::{change_is_published, machine_is_safe, one_answer};
 pub use schedule::{RaceFault, run};
 pub use world::World;
