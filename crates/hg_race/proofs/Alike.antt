@@ -15,12 +15,12 @@ use Rattle.hg_race.specs.Steps.{Happens, Reaches, appended, data_seen, docket_be
 use Rattle.hg_race.specs.World.{WorldData, actor_of, first_publication, front_of, holds, last_of, last_or, nobody, start, with_file}
 use Rattle.hg_race.specs.declared.event.Event.{Event}
 use Rattle.hg_race.specs.declared.event.Event.TheVariants as an_event
-use Rattle.hg_race.specs.declared.parts.Actor.{Actor}
-use Rattle.hg_race.specs.declared.parts.Loading.{Loading}
+use Rattle.hg_race.specs.declared.actor.Actor.{Actor}
+use Rattle.hg_race.specs.declared.actor.Loading.{Loading}
 use Rattle.hg_race.specs.declared.parts.Naming.{Naming}
 use Rattle.hg_race.specs.declared.parts.Publication.{Publication}
-use Rattle.hg_race.specs.declared.parts.Reading.{Reading}
-use Rattle.hg_race.specs.declared.parts.Writing.{Writing}
+use Rattle.hg_race.specs.declared.actor.Reading.{Reading}
+use Rattle.hg_race.specs.declared.actor.Writing.{Writing}
 use Rattle.hg_race.proofs.Copying.{none_is}
 use Rattle.hg_race.proofs.Counting.{as_many}
 use Rattle.hg_race.proofs.Going.{event_sane, reached_sane, start_sane, was_ready}
@@ -86,18 +86,32 @@ enabled_alike w v a event =
     ∙ ap (λ (t : Bool). not (actor_of v (who_of event)).dead && t) (ready_known v.holder (actor_of v (who_of event)) event)
 
 -- one actor is new in both
-pub actors_set : (w v : WorldData) → AreAlike w v → (who : ℕ) (one other : Actor) → known one ≡ known other → map known (set w.actors who one) ≡ map known (set v.actors who other)
+pub actors_set : (w v : WorldData) → AreAlike w v → (who : ℕ) (one other : Actor) → known one ≡ known other
+    → map known (set w.actors who one) ≡ map known (set v.actors who other)
 actors_set w v a who one other same =
-    map-set known w.actors who one ∙ ap (λ (l : List Actor). set l who (known one)) a.actors ∙ ap (λ (k : Actor). set (map known v.actors) who k) same ∙ sym (map-set known v.actors who other)
+    map-set known w.actors who one ∙ ap (λ (l : List Actor). set l who (known one)) a.actors ∙ ap (λ (k : Actor). set (map known v.actors) who k) same
+    ∙ sym (map-set known v.actors who other)
 
 -- reading a docket again looks at no row
-pub renewed_blank : (docket : Option Naming) (mine : Bool) (load : Option Loading) → option_map blank (option_map (renewed docket mine) load) ≡ option_map (renewed docket mine) (option_map blank load)
+pub renewed_blank : (docket : Option Naming) (mine : Bool) (load : Option Loading)
+    → option_map blank (option_map (renewed docket mine) load) ≡ option_map (renewed docket mine) (option_map blank load)
 renewed_blank docket mine None = refl
 renewed_blank docket mine (Some load) = refl
 
-pub with_docket_known : (docket : Option Naming) (count : ℕ) (mine : Bool) (actor : Actor) → known (with_docket docket count mine actor) ≡ with_docket docket count mine (known actor)
+pub with_docket_known : (docket : Option Naming) (count : ℕ) (mine : Bool) (actor : Actor)
+    → known (with_docket docket count mine actor) ≡ with_docket docket count mine (known actor)
 with_docket_known docket count mine actor =
-    ap (λ (l : Option Loading). record actor { reading = Some (record { docket = docket; count = count; locked = mine }); load = l }) (renewed_blank docket mine actor.load)
+    ap (λ (l : Option Loading). record actor { reading = Some (record { docket = docket; count = count; locked = mine }); load = l })
+    (renewed_blank docket mine actor.load)
+
+pub with_docket_alike : (docket other : Option Naming) (count more : ℕ) (mine theirs : Bool) (one two : Actor) → docket ≡ other → count ≡ more → mine ≡ theirs
+    → known one ≡ known two → known (with_docket docket count mine one) ≡ known (with_docket other more theirs two)
+with_docket_alike docket other count more mine theirs one two d n m k =
+    with_docket_known docket count mine one ∙ (λ i. with_docket (d i) (n i) (m i) (k i)) ∙ sym (with_docket_known other more theirs two)
+
+-- as many were published
+pub counts_alike : (w v : WorldData) → AreAlike w v → length w.published ≡ length v.published
+counts_alike w v a = sym (length-map w.published told) ∙ ap (λ (l : List Publication). length l) a.published ∙ length-map v.published told
 
 pub outside_blank : (load : Option Loading) → option_map blank (option_map loaded_outside_lock load) ≡ option_map loaded_outside_lock (option_map blank load)
 outside_blank None = refl
@@ -110,7 +124,8 @@ locked_now_known actor = ap (λ (l : Option Loading). record (locked_now actor) 
 abbrev pub emptied : Option (List Row) → Option (List Row)
 emptied rows = option_map (λ some. []) rows
 
-pub with_data_known : (reading : Reading) (front : Option (List Row)) (actor : Actor) → known (with_data reading front actor) ≡ with_data reading (emptied front) (known actor)
+pub with_data_known : (reading : Reading) (front : Option (List Row)) (actor : Actor)
+    → known (with_data reading front actor) ≡ with_data reading (emptied front) (known actor)
 with_data_known reading None actor = refl
 with_data_known reading (Some rows) actor = refl
 
@@ -124,7 +139,8 @@ pub front_alike : (w v : WorldData) → AreAlike w v → (docket : Option Naming
 front_alike w v a None = refl
 front_alike w v a (Some docket) = emptied_alike docket.used (w.files docket.id) (v.files docket.id) (a.files docket.id)
 
-pub data_seen_alike : (w v : WorldData) → AreAlike w v → (reading : Option Reading) (one other : Actor) → known one ≡ known other → known (data_seen w.files reading one) ≡ known (data_seen v.files reading other)
+pub data_seen_alike : (w v : WorldData) → AreAlike w v → (reading : Option Reading) (one other : Actor) → known one ≡ known other
+    → known (data_seen w.files reading one) ≡ known (data_seen v.files reading other)
 data_seen_alike w v a None one other same = same
 data_seen_alike w v a (Some reading) one other same =
     with_data_known reading (front_of w.files reading.docket) one
@@ -142,10 +158,12 @@ put_alike w v a id rows others same other =
       | inr apart ↦ ap P (cond-false (eqb id other) rows (w.files other) apart) ∙ a.files other ∙ sym (ap P (cond-false (eqb id other) others (v.files other) apart))
     ]
 
-pub written_alike : (w v : WorldData) → AreAlike w v → (who : ℕ) (one other : Writing) → one ≡ other → (rows others : List Row) → AreAlike (written who one rows w) (written who other others v)
+pub written_alike : (w v : WorldData) → AreAlike w v → (who : ℕ) (one other : Writing) → one ≡ other → (rows others : List Row)
+    → AreAlike (written who one rows w) (written who other others v)
 written_alike w v a who one other same rows others = record {
   actors = actors_set w v a who (record (actor_of w who) { writing = Some one }) (record (actor_of v who) { writing = Some other })
-      (ap (λ (k : Actor). record k { writing = Some one }) (actors_alike w v a who) ∙ ap (λ (x : Writing). record (known (actor_of v who)) { writing = Some x }) same);
+      (ap (λ (k : Actor). record k { writing = Some one }) (actors_alike w v a who)
+      ∙ ap (λ (x : Writing). record (known (actor_of v who)) { writing = Some x }) same);
   files = λ id. put_alike w v a one.docket.id (Some rows) (Some others) refl id
       ∙ ap (λ (k : ℕ). is_some (with_file k (Some others) v.files id)) (ap (λ (x : Writing). x.docket.id) same);
   docket = a.docket;
@@ -157,7 +175,8 @@ pub swapped_alike : (w v : WorldData) → AreAlike w v → (who : ℕ) (writing 
 swapped_alike w v a who None = a
 swapped_alike w v a who (Some writing) = record {
   actors = actors_set w v a who (published_now w.docket writing.fresh (actor_of w who)) (published_now v.docket writing.fresh (actor_of v who))
-      (ap (λ (k : Actor). published_now w.docket writing.fresh k) (actors_alike w v a who) ∙ ap (λ (d : Option Naming). published_now d writing.fresh (known (actor_of v who))) a.docket);
+      (ap (λ (k : Actor). published_now w.docket writing.fresh k) (actors_alike w v a who)
+      ∙ ap (λ (d : Option Naming). published_now d writing.fresh (known (actor_of v who))) a.docket);
   files = a.files;
   docket = refl;
   holder = a.holder;
@@ -170,7 +189,8 @@ swapped_alike w v a who (Some writing) = record {
 pub dropped_alike : (w v : WorldData) → AreAlike w v → (who : ℕ) (spare : Option ℕ) → AreAlike (dropped who spare w) (dropped who spare v)
 dropped_alike w v a who None = a
 dropped_alike w v a who (Some id) = record {
-  actors = actors_set w v a who (record (actor_of w who) { spare = None }) (record (actor_of v who) { spare = None }) (ap (λ (k : Actor). record k { spare = None }) (actors_alike w v a who));
+  actors = actors_set w v a who (record (actor_of w who) { spare = None }) (record (actor_of v who) { spare = None })
+      (ap (λ (k : Actor). record k { spare = None }) (actors_alike w v a who));
   files = λ other. put_alike w v a id None None refl other;
   docket = a.docket;
   holder = a.holder;
@@ -179,8 +199,10 @@ dropped_alike w v a who (Some id) = record {
 
 -- the maps that were published are made of the changes alone
 pub maps_from : (before other : Publication) → map_of before.rows ≡ map_of other.rows → (ps qs : List Publication) → map told ps ≡ map told qs
-    → ((number : ℕ) (one next : Publication) → slice_get (before ∷ ps) number ≡ Some one → slice_get (before ∷ ps) (suc number) ≡ Some next → map_of next.rows ≡ edited next.change (map_of one.rows))
-    → ((number : ℕ) (one next : Publication) → slice_get (other ∷ qs) number ≡ Some one → slice_get (other ∷ qs) (suc number) ≡ Some next → map_of next.rows ≡ edited next.change (map_of one.rows))
+    → ((number : ℕ) (one next : Publication) → slice_get (before ∷ ps) number ≡ Some one → slice_get (before ∷ ps) (suc number) ≡ Some next
+    → map_of next.rows ≡ edited next.change (map_of one.rows))
+    → ((number : ℕ) (one next : Publication) → slice_get (other ∷ qs) number ≡ Some one → slice_get (other ∷ qs) (suc number) ≡ Some next
+    → map_of next.rows ≡ edited next.change (map_of one.rows))
     → map shown ps ≡ map shown qs
 maps_from before other same [] [] told_same p_next q_next = refl
 maps_from before other same [] (q ∷ qs) told_same p_next q_next = absurd (cc)
@@ -189,10 +211,12 @@ maps_from before other same (p ∷ ps) (q ∷ qs) told_same p_next q_next =
     let heads : told p ≡ told q = cc in
     let tails : map told ps ≡ map told qs = cc in
     let here : map_of p.rows ≡ map_of q.rows =
-    p_next 0 before p refl refl ∙ ap (λ (x : Publication). edited x.change (map_of before.rows)) heads ∙ ap (λ (m : Entries). edited q.change m) same ∙ sym (q_next 0 other q refl refl)
+    p_next 0 before p refl refl ∙ ap (λ (x : Publication). edited x.change (map_of before.rows)) heads ∙ ap (λ (m : Entries). edited q.change m) same
+    ∙ sym (q_next 0 other q refl refl)
     in
     ap (λ (m : Entries). m ∷ map shown ps) here
-    ∙ ap (λ (l : List Entries). map_of q.rows ∷ l) (maps_from p q here ps qs tails (λ n one next a b. p_next (suc n) one next a b) (λ n one next a b. q_next (suc n) one next a b))
+    ∙ ap (λ (l : List Entries). map_of q.rows ∷ l) (maps_from p q here ps qs tails (λ n one next a b. p_next (suc n) one next a b)
+    (λ n one next a b. q_next (suc n) one next a b))
 
 pub maps_of_chains : (ps qs : List Publication) → IsChain ps → IsChain qs → map told ps ≡ map told qs → map shown ps ≡ map shown qs
 maps_of_chains [] qs a b told_same = absurd (none-some first_publication a.first)
@@ -218,14 +242,17 @@ maps_alike w v s t a = maps_of_chains w.published v.published s.chain t.chain a.
 
 pub last_alike : (w v : WorldData) → IsSane w → IsSane v → AreAlike w v → map_of (last_of w).rows ≡ map_of (last_of v).rows
 last_alike w v s t a =
-    last_shown first_publication w.published ∙ ap (λ (l : List Entries). last_entries empty_map l) (maps_alike w v s t a) ∙ sym (last_shown first_publication v.published)
+    last_shown first_publication w.published ∙ ap (λ (l : List Entries). last_entries empty_map l) (maps_alike w v s t a)
+    ∙ sym (last_shown first_publication v.published)
 
 -- who may write is poised
-pub poised_load : (w : WorldData) (who : ℕ) (event : Event) → who_of event ≡ who → is_enabled w event ≡ true → holds w.holder who ≡ true → (load : Option Loading) → (actor_of w who).load ≡ load
+pub poised_load : (w : WorldData) (who : ℕ) (event : Event) → who_of event ≡ who → is_enabled w event ≡ true → holds w.holder who ≡ true
+    → (load : Option Loading) → (actor_of w who).load ≡ load
     → ((l : Loading) → load ≡ Some l → l.locked ≡ true) → is_some load ≡ true → is_none (actor_of w who).writing ≡ true → IsPoised w who
 poised_load w who event whose enabled mine None has locked some unwritten = absurd (true≢false (sym some))
 poised_load w who event whose enabled mine (Some l) has locked some unwritten = record {
-  alive = subst (λ (k : ℕ). (actor_of w k).dead ≡ false) whose (not-true (actor_of w (who_of event)).dead (and_parts (not (actor_of w (who_of event)).dead) (is_ready w.holder (actor_of w (who_of event)) event) enabled).0);
+  alive = subst (λ (k : ℕ). (actor_of w k).dead ≡ false) whose
+      (not-true (actor_of w (who_of event)).dead (and_parts (not (actor_of w (who_of event)).dead) (is_ready w.holder (actor_of w (who_of event)) event) enabled).0);
   holder = holder_is w.holder who mine;
   load = l;
   loaded = has;
@@ -233,11 +260,13 @@ poised_load w who event whose enabled mine (Some l) has locked some unwritten = 
   unwritten = none_is (actor_of w who).writing unwritten;
 }
 
-pub append_parts : (load : Option Loading) → takes_more load ≡ true → ((l : Loading) → load ≡ Some l → l.locked ≡ true) × (is_some load ≡ true) × ((docket : Naming) × (docket_behind load ≡ Some docket))
+pub append_parts : (load : Option Loading) → takes_more load ≡ true
+    → ((l : Loading) → load ≡ Some l → l.locked ≡ true) × (is_some load ≡ true) × ((docket : Naming) × (docket_behind load ≡ Some docket))
 append_parts None e = absurd (true≢false (sym e))
 append_parts (Some load) e = at load.docket refl
   where
-    at : (docket : Option Naming) → load.docket ≡ docket → ((l : Loading) → Some load ≡ Some l → l.locked ≡ true) × (is_some (Some load) ≡ true) × ((d : Naming) × (load.docket ≡ Some d))
+    at : (docket : Option Naming) → load.docket ≡ docket → ((l : Loading) → Some load ≡ Some l
+        → l.locked ≡ true) × (is_some (Some load) ≡ true) × ((d : Naming) × (load.docket ≡ Some d))
     at None is = absurd (true≢false (sym (and_parts load.locked (is_some load.docket) e).1 ∙ ap (λ (d : Option Naming). is_some d) is))
     at (Some docket) is =
         ((λ l same. subst (λ (x : Loading). x.locked ≡ true) (same_Some load l same) (and_parts load.locked (is_some load.docket) e).0), refl, (docket, is))
@@ -277,7 +306,8 @@ append_told w who change s enabled =
     )
 
 -- the same append to worlds that are alike
-pub append_same : (w v : WorldData) → IsSane w → IsSane v → AreAlike w v → (who : ℕ) (change : List Row) → is_enabled w (an_event.Append who change) ≡ true → is_enabled v (an_event.Append who change) ≡ true
+pub append_same : (w v : WorldData) → IsSane w → IsSane v → AreAlike w v → (who : ℕ) (change : List Row)
+    → is_enabled w (an_event.Append who change) ≡ true → is_enabled v (an_event.Append who change) ≡ true
     → AreAlike (appended who change w) (appended who change v)
 append_same w v s t a who change e f =
     let one = append_told w who change s e in
@@ -291,26 +321,33 @@ append_same w v s t a who change e f =
     (written_alike w v a who (append_of w one.0 change) (append_of v other.0 change) same (append_rows w one.0 change) (append_rows v other.0 change)))
 
 -- a new file that may be made, told by its identifier
-pub file_told : (w : WorldData) (who : ℕ) (change rows : List Row) → IsSane w → is_enabled w (an_event.NewFile who change) ≡ true
-    → (id : ℕ) × (next_id w.docket ≡ Some id) × (made_anew who change rows w ≡ written who (file_of id change rows) rows w) × (loaded_map (actor_of w who).load ≡ map_of (last_of w).rows)
+abbrev pub FileIs : WorldData → ℕ → List Row → List Row → Type 0
+FileIs w who change rows =
+    (id : ℕ) × (next_id w.docket ≡ Some id) × (made_anew who change rows w ≡ written who (file_of id change rows) rows w)
+    × (loaded_map (actor_of w who).load ≡ map_of (last_of w).rows)
+
+pub file_by : (w : WorldData) (who : ℕ) (change rows : List Row) → IsSane w → (poised : IsPoised w who) → (id : ℕ) → next_id poised.load.docket ≡ Some id
+    → FileIs w who change rows
+file_by w who change rows s poised id next =
+    let stands = load_stands w who s poised in
+    let now : next_id w.docket ≡ Some id = ap next_id (sym stands.0) ∙ next in
+    (id, now, file_is w who poised s id now change rows, ap (λ (l : Option Loading). loaded_map l) poised.loaded ∙ ap (λ (r : List Row). map_of r) stands.1)
+
+pub file_told : (w : WorldData) (who : ℕ) (change rows : List Row) → IsSane w → is_enabled w (an_event.NewFile who change) ≡ true → FileIs w who change rows
 file_told w who change rows s enabled =
     let load = (actor_of w who).load in
     let asked = and_parts (holds w.holder who) (is_renewable load && is_none (actor_of w who).writing) (was_ready w (an_event.NewFile who change) enabled) in
     let more = and_parts (is_renewable load) (is_none (actor_of w who).writing) asked.1 in
     let parts = renewable_parts load more.0 in
     let poised = poised_load w who (an_event.NewFile who change) refl enabled asked.0 load refl parts.0 parts.1 more.1 in
-    let stands = load_stands w who s poised in
     let next = renewable_next poised.load (subst (λ (l : Option Loading). is_renewable l ≡ true) poised.loaded more.0) in
-    let now : next_id w.docket ≡ Some next.0 = ap next_id (sym stands.0) ∙ next.1 in (
-      next.0,
-      now,
-      file_is w who poised s next.0 now change rows,
-      ap (λ (l : Option Loading). loaded_map l) poised.loaded ∙ ap (λ (r : List Row). map_of r) stands.1,
-    )
+    file_by w who change rows s poised next.0 next.1
 
 -- the same new file in worlds that are alike, in two orders
-pub file_same : (w v : WorldData) → IsSane w → IsSane v → AreAlike w v → (who : ℕ) (change rows others : List Row) → is_enabled w (an_event.NewFile who change) ≡ true → is_enabled v (an_event.NewFile who change) ≡ true
-    → HoldsEach rows (edited change (loaded_map (actor_of w who).load)) → HoldsEach others (edited change (loaded_map (actor_of v who).load)) → AreAlike (made_anew who change rows w) (made_anew who change others v)
+pub file_same : (w v : WorldData) → IsSane w → IsSane v → AreAlike w v → (who : ℕ) (change rows others : List Row)
+    → is_enabled w (an_event.NewFile who change) ≡ true → is_enabled v (an_event.NewFile who change) ≡ true
+    → HoldsEach rows (edited change (loaded_map (actor_of w who).load)) → HoldsEach others (edited change (loaded_map (actor_of v who).load))
+    → AreAlike (made_anew who change rows w) (made_anew who change others v)
 file_same w v s t a who change rows others e f one_holds other_holds =
     let one = file_told w who change rows s e in
     let other = file_told v who change others t f in
@@ -329,15 +366,11 @@ file_same w v s t a who change rows others e f one_holds other_holds =
 -- worlds that are alike stay so by each event
 pub event_alike : (event : Event) (w w' v v' : WorldData) → IsSane w → IsSane v → AreAlike w v → Happens event w w' → Happens event v v' → AreAlike w' v'
 event_alike (an_event.ReadDocket who) w w' v v' s t a h k =
-    let counts : length w.published ≡ length v.published = sym (length-map w.published told) ∙ ap (λ (l : List Publication). length l) a.published ∙ length-map v.published told in
-    let same =
-    with_docket_known w.docket (length w.published) (holds w.holder who) (actor_of w who)
-    ∙ ap (λ (x : Actor). with_docket w.docket (length w.published) (holds w.holder who) x) (actors_alike w v a who)
-    ∙ (λ i. with_docket (a.docket i) (counts i) (holds (a.holder i) who) (known (actor_of v who)))
-    ∙ sym (with_docket_known v.docket (length v.published) (holds v.holder who) (actor_of v who))
-    in
     joined h.1 k.1 (record {
-      actors = actors_set w v a who (with_docket w.docket (length w.published) (holds w.holder who) (actor_of w who)) (with_docket v.docket (length v.published) (holds v.holder who) (actor_of v who)) same;
+      actors = actors_set w v a who (with_docket w.docket (length w.published) (holds w.holder who) (actor_of w who))
+          (with_docket v.docket (length v.published) (holds v.holder who) (actor_of v who))
+          (with_docket_alike w.docket v.docket (length w.published) (length v.published) (holds w.holder who) (holds v.holder who) (actor_of w who) (actor_of v who)
+          a.docket (counts_alike w v a) (ap (λ (h : Option ℕ). holds h who) a.holder) (actors_alike w v a who));
       files = a.files;
       docket = a.docket;
       holder = a.holder;
@@ -369,10 +402,12 @@ event_alike (an_event.Append who change) w w' v v' s t a h k = joined h.1 k.1 (a
 event_alike (an_event.NewFile who change) w w' v v' s t a h k = joined h.1.2 k.1.2 (file_same w v s t a who change h.1.0 k.1.0 h.0 k.0 h.1.1 k.1.1)
 event_alike (an_event.Swap who) w w' v v' s t a h k =
     joined h.1 k.1
-    (subst (λ (x : Option Writing). AreAlike (docket_swapped who w) (swapped who x v)) (ap (λ (x : Actor). x.writing) (actors_alike w v a who)) (swapped_alike w v a who (actor_of w who).writing))
+    (subst (λ (x : Option Writing). AreAlike (docket_swapped who w) (swapped who x v)) (ap (λ (x : Actor). x.writing) (actors_alike w v a who))
+    (swapped_alike w v a who (actor_of w who).writing))
 event_alike (an_event.Drop who) w w' v v' s t a h k =
     joined h.1 k.1
-    (subst (λ (x : Option ℕ). AreAlike (spare_dropped who w) (dropped who x v)) (ap (λ (x : Actor). x.spare) (actors_alike w v a who)) (dropped_alike w v a who (actor_of w who).spare))
+    (subst (λ (x : Option ℕ). AreAlike (spare_dropped who w) (dropped who x v)) (ap (λ (x : Actor). x.spare) (actors_alike w v a who))
+    (dropped_alike w v a who (actor_of w who).spare))
 event_alike (an_event.Unlock who) w w' v v' s t a h k =
     joined h.1 k.1 (record {
       actors = actors_set w v a who (given_back (actor_of w who)) (given_back (actor_of v who)) (ap (λ (x : Actor). given_back x) (actors_alike w v a who));
@@ -391,7 +426,8 @@ event_alike (an_event.Die who) w w' v v' s t a h k =
       published = a.published;
     })
 
-pub events_alike : (events : List Event) (w w' v v' : WorldData) → IsSane w → IsSane v → AreAlike w v → RunsEach Happens events w w' → RunsEach Happens events v v' → AreAlike w' v'
+pub events_alike : (events : List Event) (w w' v v' : WorldData) → IsSane w → IsSane v → AreAlike w v → RunsEach Happens events w w'
+    → RunsEach Happens events v v' → AreAlike w' v'
 events_alike [] w w' v v' s t a h k = joined h k a
 events_alike (event ∷ events) w w' v v' s t a h k =
     events_alike events h.0 w' k.0 v' (event_sane event w h.0 h.1 s) (event_sane event v k.0 k.1 t) (event_alike event w h.0 v k.0 s t a h.1 k.1) h.2 k.2

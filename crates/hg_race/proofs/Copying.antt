@@ -1,12 +1,12 @@
 -- What rows make of a map, one path at a time, and that a file of one row for each path holds what all rows gave.
-use Rattle.std.proofs.Common.{ℕ, ◌≡◌, inl, inr, Bool, true, false, cond, ◌||◌, List, [], ◌∷◌, ◌++◌, map, Option, Some, None, refl, sym, ap, subst, ◌∙◌}
+use Rattle.std.proofs.Common.{ℕ, ◌≡◌, inl, inr, Bool, true, false, cond, ◌||◌, List, [], ◌∷◌, ◌++◌, length, map, Option, Some, None, refl, sym, ap, subst, ◌∙◌}
 use Rattle.std.specs.List.{list_all, list_any}
-use Rattle.std.specs.Prelude.{is_none, is_some}
+use Rattle.std.specs.Prelude.{if◌then◌else◌, is_none, is_some}
 use Rattle.std.specs.Str.{bytes_eq}
 use Rattle.std.proofs.lemmas.Bool.{and_from, cases_Bool, cond-true, cond-false, or_parts, or_from, or_cases, true≢false}
+use Rattle.std.proofs.lemmas.List.{append-nil, nil_from_length}
 use Rattle.std.proofs.lemmas.Slice.Eq.{bytes_eq-Decides}
 use Rattle.hg_entry.specs.Entry.{EntryData}
-use Rattle.hg_race.specs.Compact.{compact}
 use Rattle.hg_race.specs.Edit.{row_of}
 use Rattle.hg_race.specs.Rows.{AreApart, Entries, HoldsEach, Row, edited, empty_map, map_of, names, with_row}
 use Rattle.hg_race.specs.declared.edits.Edit.{Edit}
@@ -45,6 +45,11 @@ pub names_mapped : (path : List ℕ) (edits : List Edit) → names path (map row
 names_mapped path [] = refl
 names_mapped path (edit ∷ edits) = ap (λ (t : Bool). bytes_eq edit.path path || t) (names_mapped path edits)
 
+-- of each path its last row, where that has an entry
+abbrev pub compact : List Row → List Row
+compact [] = []
+compact (row ∷ rows) = if names row.path rows || is_none row.entry then compact rows else row ∷ compact rows
+
 -- no path comes to be named
 pub compact_unnamed : (rows : List Row) (path : List ℕ) → names path rows ≡ false → names path (compact rows) ≡ false
 compact_unnamed [] path e = refl
@@ -60,7 +65,8 @@ compact_unnamed (row ∷ rows) path e =
     ]
 
 -- a row whose path comes again later gives nothing
-pub later_wins : (row : Row) (rows : List Row) (map : Entries) (path : List ℕ) → names row.path rows ≡ true → edited rows map path ≡ edited rows (with_row row map) path
+pub later_wins : (row : Row) (rows : List Row) (map : Entries) (path : List ℕ) → names row.path rows ≡ true
+    → edited rows map path ≡ edited rows (with_row row map) path
 later_wins row rows map path named =
     elim (cases_Bool (bytes_eq row.path path)) [
       | inl here ↦
@@ -77,7 +83,8 @@ some_from None e = absurd (true≢false e)
 some_from (Some x) e = refl
 
 -- a row without entry gives nothing where nothing was
-pub nothing_there : (row : Row) (rows : List Row) (map : Entries) (path : List ℕ) → is_none row.entry ≡ true → map path ≡ None → edited rows map path ≡ edited rows (with_row row map) path
+pub nothing_there : (row : Row) (rows : List Row) (map : Entries) (path : List ℕ) → is_none row.entry ≡ true → map path ≡ None
+    → edited rows map path ≡ edited rows (with_row row map) path
 nothing_there row rows map path gone none =
     elim (cases_Bool (bytes_eq row.path path)) [
       | inl here ↦
@@ -129,7 +136,8 @@ compact_full (row ∷ rows) =
           subst P (sym (cond-true (names row.path rows || is_none row.entry) (compact rows) (row ∷ compact rows) goes)) (compact_full rows)
       | inr stays ↦
           subst P (sym (cond-false (names row.path rows || is_none row.entry) (compact rows) (row ∷ compact rows) stays))
-          (and_from (is_some row.entry) (list_all (λ row. is_some row.entry) (compact rows)) (some_from row.entry (or_parts (names row.path rows) (is_none row.entry) stays).1) (compact_full rows))
+          (and_from (is_some row.entry) (list_all (λ row. is_some row.entry) (compact rows))
+          (some_from row.entry (or_parts (names row.path rows) (is_none row.entry) stays).1) (compact_full rows))
     ]
 
 -- the kept rows hold each entry once
@@ -139,3 +147,15 @@ compact_holds rows = record { same = λ i path. compact_same rows empty_map path
 -- also where a change stands behind them
 pub compact_behind : (rows change : List Row) → HoldsEach (compact (rows ++ change)) (edited change (map_of rows))
 compact_behind rows change = subst (HoldsEach (compact (rows ++ change))) (edited-append rows change empty_map) (compact_holds (rows ++ change))
+
+-- rows that hold what rows gave with a change behind them
+pub holds_behind : (made rows change : List Row) → HoldsEach made (map_of (rows ++ change)) → HoldsEach made (edited change (map_of rows))
+holds_behind made rows change holds = subst (HoldsEach made) (edited-append rows change empty_map) holds
+
+-- where no edit is left, what was made holds each entry once
+pub holds_made : (made rows : List Row) (left : List Edit) → length left ≡ 0 → made ++ compact (map row_of left) ≡ compact rows → HoldsEach made (map_of rows)
+holds_made made rows left none same =
+    let whole : made ≡ compact rows =
+    sym (append-nil made) ∙ ap (λ (l : List Edit). made ++ compact (map row_of l)) (sym (nil_from_length left none)) ∙ same
+    in
+    subst (λ (l : List Row). HoldsEach l (map_of rows)) (sym whole) (compact_holds rows)

@@ -10,7 +10,8 @@ use Rattle.hg_race.specs.Rows.{AreApart, Entries, HoldsEach, Row, edited, empty_
 use Rattle.hg_race.proofs.Copying.{edited_unnamed}
 
 -- rows that all have an entry give each path one that a row has
-pub named_has : (rows : List Row) (map : Entries) (path : List ℕ) → list_all (λ row. is_some row.entry) rows ≡ true → names path rows ≡ true → is_some (edited rows map path) ≡ true
+pub named_has : (rows : List Row) (map : Entries) (path : List ℕ) → list_all (λ row. is_some row.entry) rows ≡ true → names path rows ≡ true
+    → is_some (edited rows map path) ≡ true
 named_has [] map path full named = absurd (true≢false (sym named))
 named_has (row ∷ rows) map path full named =
     let parts = and_parts (is_some row.entry) (list_all (λ row. is_some row.entry) rows) full in
@@ -19,7 +20,8 @@ named_has (row ∷ rows) map path full named =
       | inr last ↦
           elim (or_cases (bytes_eq row.path path) (names path rows) named) [
             | inl here ↦
-                ap (λ (o : Option EntryData). is_some o) (edited_unnamed rows (with_row row map) path last ∙ cond-true (bytes_eq row.path path) row.entry (map path) here) ∙ parts.0
+                ap (λ (o : Option EntryData). is_some o) (edited_unnamed rows (with_row row map) path last
+                ∙ cond-true (bytes_eq row.path path) row.entry (map path) here) ∙ parts.0
             | inr later ↦ absurd (both_ways (names path rows) last later)
           ]
     ]
@@ -85,7 +87,8 @@ no_more (row ∷ rows) others apart within =
     in
     omega (arith, rest.1)
 
-pub named_too : (rows others : List Row) (map : Entries) → HoldsEach rows map → HoldsEach others map → (path : List ℕ) → names path rows ≡ true → names path others ≡ true
+pub named_too : (rows others : List Row) (map : Entries) → HoldsEach rows map → HoldsEach others map → (path : List ℕ) → names path rows ≡ true
+    → names path others ≡ true
 named_too rows others map a b path named =
     has_named others path (ap (λ (m : Entries). is_some (m path)) (b.same ∙ sym a.same) ∙ named_has rows empty_map path a.full named)
 

@@ -7,7 +7,7 @@ use Rattle.hg_race.specs.Rows.{BeginsWith, Row, edited, map_of}
 use Rattle.hg_race.specs.Steps.{dropped, written}
 use Rattle.hg_race.specs.World.{Files, WorldData, actor_of, holds, last_of, with_file}
 use Rattle.hg_race.specs.declared.parts.Naming.{Naming}
-use Rattle.hg_race.specs.declared.parts.Writing.{Writing}
+use Rattle.hg_race.specs.declared.actor.Writing.{Writing}
 use Rattle.hg_race.proofs.Holding.{all_held, free_held_at}
 use Rattle.hg_race.proofs.Looking.{begins_trans, others_hold_nothing}
 use Rattle.hg_race.proofs.Sane.{ComesNext, IsBelow, IsSane, OldOf, SpareOf, StandsNow, WriteOf}
@@ -20,11 +20,13 @@ pub file_other : (id other : ℕ) (rows : Option (List Row)) (files : Files) →
 file_other id other rows files apart = cond-false (eqb id other) rows (files other) (ne_eqb id other apart)
 
 -- where a file comes next, it isn't below that of the docket
-pub next_above : (docket : Naming) (last : List Row) (id : ℕ) (fresh : Bool) (rows : List Row) → ComesNext (Some docket) last id fresh rows → (older : ℕ) → older < docket.id → older < id
+pub next_above : (docket : Naming) (last : List Row) (id : ℕ) (fresh : Bool) (rows : List Row) → ComesNext (Some docket) last id fresh rows
+    → (older : ℕ) → older < docket.id → older < id
 next_above docket last id fresh rows next older l = elim next [ inl above ↦ omega arith | inr same ↦ omega (arith, same.0) ]
 
 -- what the docket names stands also behind a write
-pub stands_put : (files : Files) (now : Option Naming) (last : List Row) (id : ℕ) (fresh : Bool) (rows : List Row) → ComesNext now last id fresh rows → StandsNow files now last
+pub stands_put : (files : Files) (now : Option Naming) (last : List Row) (id : ℕ) (fresh : Bool) (rows : List Row) → ComesNext now last id fresh rows
+    → StandsNow files now last
     → StandsNow (with_file id (Some rows) files) now last
 stands_put files None last id fresh rows next stands = stands
 stands_put files (Some docket) last id fresh rows next stands =
@@ -56,14 +58,16 @@ old_put files (Some cur) last id fresh rows next (Some docket) theirs old =
                 elim next [
                   | inl above ↦ subst P (sym (file_other id docket.id (Some rows) files (λ e. absurd (omega (arith, mine.0))))) old.file
                   | inr same ↦
-                      subst P (sym (ap (λ (k : ℕ). with_file id (Some rows) files k) (mine.0 ∙ sym same.0) ∙ file_here id (Some rows) files)) (begins_trans rows last theirs same.1 mine.1)
+                      subst P (sym (ap (λ (k : ℕ). with_file id (Some rows) files k) (mine.0 ∙ sym same.0) ∙ file_here id (Some rows) files))
+                      (begins_trans rows last theirs same.1 mine.1)
                 ]
           ];
     }
 
 -- a write of the lock's holder, whose rows hold a change on what was published last
 pub written_sane : (w : WorldData) (who : ℕ) (writing : Writing) (rows : List Row) → IsSane w → holds w.holder who ≡ true → length rows ≡ writing.docket.used
-    → map_of rows ≡ edited writing.change (map_of (last_of w).rows) → ComesNext w.docket (last_of w).rows writing.docket.id writing.fresh rows → IsSane (written who writing rows w)
+    → map_of rows ≡ edited writing.change (map_of (last_of w).rows) → ComesNext w.docket (last_of w).rows writing.docket.id writing.fresh rows
+    → IsSane (written who writing rows w)
 written_sane w who writing rows s mine used map next =
     let files : Files = with_file writing.docket.id (Some rows) w.files in
     let held = s.held who in
@@ -80,12 +84,14 @@ written_sane w who writing rows s mine used map next =
             spare = held.spare;
           })
           (λ other apart.
-          free_held_at w.files files w.docket w.docket (last_of w).rows (last_of w).rows w.published w.published (actor_of w other) (holds w.holder other) (holds w.holder other)
+          free_held_at w.files files w.docket w.docket (last_of w).rows (last_of w).rows w.published w.published (actor_of w other)
+          (holds w.holder other) (holds w.holder other)
           (others_hold_nothing w.holder who other mine apart) (others_hold_nothing w.holder who other mine apart) (λ n p e. e) (s.held other));
     }
 
 -- what the docket names stands also where an older file is removed
-pub stands_dropped : (files : Files) (now : Option Naming) (last : List Row) (id : ℕ) → IsBelow id now → StandsNow files now last → StandsNow (with_file id None files) now last
+pub stands_dropped : (files : Files) (now : Option Naming) (last : List Row) (id : ℕ) → IsBelow id now → StandsNow files now last
+    → StandsNow (with_file id None files) now last
 stands_dropped files None last id below stands = absurd below
 stands_dropped files (Some docket) last id below stands =
     let P : Option (List Row) → Type 0 = λ o. MatchOption o ⊥ (λ file. BeginsWith file last) in
@@ -106,7 +112,8 @@ old_dropped files now last id (Some docket) theirs old =
           ];
     }
 
-pub write_dropped : (files : Files) (now : Option Naming) (last : List Row) (id : ℕ) → IsBelow id now → (mine : Bool) (writing : Option Writing) → WriteOf files now last mine writing
+pub write_dropped : (files : Files) (now : Option Naming) (last : List Row) (id : ℕ) → IsBelow id now → (mine : Bool) (writing : Option Writing)
+    → WriteOf files now last mine writing
     → WriteOf (with_file id None files) now last mine writing
 write_dropped files now last id below mine None w = tt
 write_dropped files None last id below mine (Some writing) w = absurd below
@@ -140,6 +147,7 @@ dropped_sane w who (Some id) due s =
             spare = tt;
           })
           (λ other apart.
-          free_held_at w.files files w.docket w.docket (last_of w).rows (last_of w).rows w.published w.published (actor_of w other) (holds w.holder other) (holds w.holder other)
+          free_held_at w.files files w.docket w.docket (last_of w).rows (last_of w).rows w.published w.published (actor_of w other)
+          (holds w.holder other) (holds w.holder other)
           (others_hold_nothing w.holder who other due.0 apart) (others_hold_nothing w.holder who other due.0 apart) (λ n p e. e) (s.held other));
     }

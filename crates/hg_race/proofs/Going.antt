@@ -13,7 +13,7 @@ use Rattle.hg_race.specs.Steps.{Happens, Reaches, appended_behind, appended_to, 
 use Rattle.hg_race.specs.World.{WorldData, actor_of, first_publication, holds, last_of, rows_in, start}
 use Rattle.hg_race.specs.declared.event.Event.{Event}
 use Rattle.hg_race.specs.declared.event.Event.TheVariants as an_event
-use Rattle.hg_race.specs.declared.parts.Loading.{Loading}
+use Rattle.hg_race.specs.declared.actor.Loading.{Loading}
 use Rattle.hg_race.specs.declared.parts.Naming.{Naming}
 use Rattle.hg_race.proofs.Copying.{edited-append, none_is}
 use Rattle.hg_race.proofs.Filing.{dropped_sane, written_sane}
@@ -24,12 +24,14 @@ use Rattle.hg_race.proofs.Publishing.{swapped_sane}
 use Rattle.hg_race.proofs.Sane.{ComesNext, IsSane, LoadOf, OldOf, StandsNow}
 
 -- the first used rows of the file that the docket names are what was published last
-pub rows_standing : (used : ℕ) (last : List Row) (file : Option (List Row)) → length last ≡ used → MatchOption file ⊥ (λ rows. BeginsWith rows last) → take used (unwrap_or file []) ≡ last
+pub rows_standing : (used : ℕ) (last : List Row) (file : Option (List Row)) → length last ≡ used → MatchOption file ⊥ (λ rows. BeginsWith rows last)
+    → take used (unwrap_or file []) ≡ last
 rows_standing used last None l stands = absurd stands
 rows_standing used last (Some rows) l stands = begins_taken rows last used stands l
 
 -- an append to the file of the docket that stands
-pub appended_to_sane : (w : WorldData) (who : ℕ) (change : List Row) (docket : Option Naming) → docket ≡ w.docket → holds w.holder who ≡ true → IsSane w → IsSane (appended_to who change docket w)
+pub appended_to_sane : (w : WorldData) (who : ℕ) (change : List Row) (docket : Option Naming) → docket ≡ w.docket → holds w.holder who ≡ true
+    → IsSane w → IsSane (appended_to who change docket w)
 appended_to_sane w who change None now mine s = s
 appended_to_sane w who change (Some docket) now mine s =
     let stands : StandsNow w.files (Some docket) (last_of w).rows = subst (λ (d : Option Naming). StandsNow w.files d (last_of w).rows) (sym now) s.stands in
@@ -39,7 +41,8 @@ appended_to_sane w who change (Some docket) now mine s =
     (edited-append (take docket.used (rows_in w.files docket.id)) change (λ path. None) ∙ ap (λ (l : List Row). edited change (map_of l)) front)
     (subst (λ (d : Option Naming). ComesNext d (last_of w).rows docket.id false rows) now (inr (refl, (change, ap (λ (l : List Row). l ++ change) front), refl)))
 
-pub appended_sane : (w : WorldData) (who : ℕ) (change : List Row) (load : Option Loading) → LoadOf w.published w.docket (last_of w).rows (holds w.holder who) load → holds w.holder who ≡ true
+pub appended_sane : (w : WorldData) (who : ℕ) (change : List Row) (load : Option Loading)
+    → LoadOf w.published w.docket (last_of w).rows (holds w.holder who) load → holds w.holder who ≡ true
     → takes_more load ≡ true → IsSane w → IsSane (appended_behind who change load w)
 appended_sane w who change None l mine may s = s
 appended_sane w who change (Some load) l mine may s =
@@ -53,13 +56,16 @@ next_is_above (Some docket) last id rows e =
     inl (omega arith)
 
 -- a new file behind a load of what stands
-pub made_as_sane : (w : WorldData) (who : ℕ) (change rows : List Row) (id : Option ℕ) → next_id w.docket ≡ id → map_of rows ≡ edited change (map_of (last_of w).rows) → holds w.holder who ≡ true
+pub made_as_sane : (w : WorldData) (who : ℕ) (change rows : List Row) (id : Option ℕ) → next_id w.docket ≡ id
+    → map_of rows ≡ edited change (map_of (last_of w).rows) → holds w.holder who ≡ true
     → IsSane w → IsSane (made_as who change rows id w)
 made_as_sane w who change rows None e map mine s = s
 made_as_sane w who change rows (Some id) e map mine s =
-    written_sane w who (record { docket = record { id = id; used = length rows }; change = change; fresh = true }) rows s mine refl map (next_is_above w.docket (last_of w).rows id rows e)
+    written_sane w who (record { docket = record { id = id; used = length rows }; change = change; fresh = true }) rows s mine refl map
+    (next_is_above w.docket (last_of w).rows id rows e)
 
-pub made_sane : (w : WorldData) (who : ℕ) (change rows : List Row) (load : Option Loading) → LoadOf w.published w.docket (last_of w).rows (holds w.holder who) load → holds w.holder who ≡ true
+pub made_sane : (w : WorldData) (who : ℕ) (change rows : List Row) (load : Option Loading)
+    → LoadOf w.published w.docket (last_of w).rows (holds w.holder who) load → holds w.holder who ≡ true
     → is_renewable load ≡ true → map_of rows ≡ edited change (loaded_map load) → IsSane w → IsSane (made who change rows load w)
 made_sane w who change rows None l mine may map s = s
 made_sane w who change rows (Some load) l mine may map s =
@@ -80,7 +86,8 @@ event_sane (an_event.Lock who) old new h s =
 event_sane (an_event.Append who change) old new h s =
     let load = (actor_of old who).load in
     let parts = and_parts (holds old.holder who) (takes_more load && is_none (actor_of old who).writing) (was_ready old (an_event.Append who change) h.0) in
-    subst IsSane (sym h.1) (appended_sane old who change load (s.held who).load parts.0 (and_parts (takes_more load) (is_none (actor_of old who).writing) parts.1).0 s)
+    subst IsSane (sym h.1) (appended_sane old who change load (s.held who).load parts.0
+    (and_parts (takes_more load) (is_none (actor_of old who).writing) parts.1).0 s)
 event_sane (an_event.NewFile who change) old new h s =
     let load = (actor_of old who).load in
     let parts = and_parts (holds old.holder who) (is_renewable load && is_none (actor_of old who).writing) (was_ready old (an_event.NewFile who change) h.0) in
@@ -105,7 +112,8 @@ start_sane actors = record {
   chain = chain_start;
   last = refl;
   stands = refl;
-  kept = All-cons (λ p. OldOf (start actors).files None [] p.docket p.rows) first_publication [] refl (All-nil (λ p. OldOf (start actors).files None [] p.docket p.rows));
+  kept = All-cons (λ p. OldOf (start actors).files None [] p.docket p.rows) first_publication [] refl
+      (All-nil (λ p. OldOf (start actors).files None [] p.docket p.rows));
   held = λ who. idle_held (start actors).files None [] (first_publication ∷ []) actors who false;
 }
 

@@ -6,12 +6,12 @@ use Rattle.std.proofs.lemmas.Option.{get_or_from_slice_get, slice_get_within}
 use Rattle.hg_race.specs.Rows.{Row}
 use Rattle.hg_race.specs.Safe.{IsLoaded}
 use Rattle.hg_race.specs.World.{Files, holds, idle, nobody}
-use Rattle.hg_race.specs.declared.parts.Actor.{Actor}
-use Rattle.hg_race.specs.declared.parts.Loading.{Loading}
+use Rattle.hg_race.specs.declared.actor.Actor.{Actor}
+use Rattle.hg_race.specs.declared.actor.Loading.{Loading}
 use Rattle.hg_race.specs.declared.parts.Naming.{Naming}
 use Rattle.hg_race.specs.declared.parts.Publication.{Publication}
-use Rattle.hg_race.specs.declared.parts.Reading.{Reading}
-use Rattle.hg_race.specs.declared.parts.Writing.{Writing}
+use Rattle.hg_race.specs.declared.actor.Reading.{Reading}
+use Rattle.hg_race.specs.declared.actor.Writing.{Writing}
 use Rattle.hg_race.proofs.Looking.{begins_same, each_actor}
 use Rattle.hg_race.proofs.Sane.{IsHeld, LoadOf, OldOf, ReadOf, SpareOf, StandsNow, WasNamed, WriteOf}
 
@@ -39,14 +39,16 @@ loaded_stays old new load stays w = record {
 }
 
 -- without the lock: a docket that was read
-pub free_read : (old new : List Publication) (now next : Option Naming) → Stays old new → (reading : Option Reading) → ReadOf old now false reading → ReadOf new next false reading
+pub free_read : (old new : List Publication) (now next : Option Naming) → Stays old new → (reading : Option Reading) → ReadOf old now false reading
+    → ReadOf new next false reading
 free_read old new now next stays None r = tt
 free_read old new now next stays (Some reading) r = record {
   named = named_stays old new reading.count reading.docket stays r.named;
   fresh = λ mine. absurd (true≢false (sym mine));
 }
 
-pub free_load : (old new : List Publication) (now next : Option Naming) (last rows : List Row) → Stays old new → (load : Option Loading) → LoadOf old now last false load → LoadOf new next rows false load
+pub free_load : (old new : List Publication) (now next : Option Naming) (last rows : List Row) → Stays old new → (load : Option Loading)
+    → LoadOf old now last false load → LoadOf new next rows false load
 free_load old new now next last rows stays None l = tt
 free_load old new now next last rows stays (Some load) l = record {
   loaded = loaded_stays old new load stays l.loaded;
@@ -54,7 +56,8 @@ free_load old new now next last rows stays (Some load) l = record {
   held = λ mine. absurd (true≢false (sym mine));
 }
 
-pub free_write : (files more : Files) (now next : Option Naming) (last rows : List Row) → (writing : Option Writing) → WriteOf files now last false writing → WriteOf more next rows false writing
+pub free_write : (files more : Files) (now next : Option Naming) (last rows : List Row) → (writing : Option Writing)
+    → WriteOf files now last false writing → WriteOf more next rows false writing
 free_write files more now next last rows None w = tt
 free_write files more now next last rows (Some writing) w = absurd (true≢false (sym w.holder))
 
@@ -73,10 +76,12 @@ free_held files more now next last rows old new actor stays h = record {
 }
 
 -- the same of an actor of which it is known that it holds the lock neither before nor behind
-pub free_held_at : (files more : Files) (now next : Option Naming) (last rows : List Row) (old new : List Publication) (actor : Actor) (was is : Bool) → was ≡ false → is ≡ false → Stays old new
+pub free_held_at : (files more : Files) (now next : Option Naming) (last rows : List Row) (old new : List Publication) (actor : Actor) (was is : Bool)
+    → was ≡ false → is ≡ false → Stays old new
     → IsHeld files now last old was actor → IsHeld more next rows new is actor
 free_held_at files more now next last rows old new actor was is w i stays h =
-    subst (λ (b : Bool). IsHeld more next rows new b actor) (sym i) (free_held files more now next last rows old new actor stays (subst (λ (b : Bool). IsHeld files now last old b actor) w h))
+    subst (λ (b : Bool). IsHeld more next rows new b actor) (sym i)
+    (free_held files more now next last rows old new actor stays (subst (λ (b : Bool). IsHeld files now last old b actor) w h))
 
 -- who has read, loaded and written nothing keeps all
 pub nobody_held : (files : Files) (now : Option Naming) (last : List Row) (published : List Publication) (mine : Bool) → IsHeld files now last published mine nobody

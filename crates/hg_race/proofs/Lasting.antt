@@ -8,7 +8,6 @@ use Rattle.std.proofs.lemmas.List.{append-nil, append_assoc, get_or-set_same, ge
 use Rattle.std.proofs.lemmas.List.Elements.{All-weaker}
 use Rattle.std.proofs.lemmas.Option.{same_Some}
 use Rattle.hg_base.specs.Runs.{RunsEach}
-use Rattle.hg_race.specs.Compact.{compact}
 use Rattle.hg_race.specs.Enabled.{is_enabled, is_ready, next_id, who_of}
 use Rattle.hg_race.specs.Rows.{BeginsWith, Row}
 use Rattle.hg_race.specs.Safe.{GoesOn, IsKept, IsLoaded, IsSafe, LoadsWhatStood, NoneIsLost, RowsStay, Stands, StandsInFront, is_read}
@@ -16,13 +15,13 @@ use Rattle.hg_race.specs.Steps.{Happens, Makes, Reaches, appended, appended_behi
 use Rattle.hg_race.specs.World.{Files, WorldData, actor_of, first_publication, front_of, holds, last_of, nobody, rows_in}
 use Rattle.hg_race.specs.declared.event.Event.{Event}
 use Rattle.hg_race.specs.declared.event.Event.TheVariants as an_event
-use Rattle.hg_race.specs.declared.parts.Actor.{Actor}
-use Rattle.hg_race.specs.declared.parts.Loading.{Loading}
+use Rattle.hg_race.specs.declared.actor.Actor.{Actor}
+use Rattle.hg_race.specs.declared.actor.Loading.{Loading}
 use Rattle.hg_race.specs.declared.parts.Naming.{Naming}
 use Rattle.hg_race.specs.declared.parts.Publication.{Publication}
-use Rattle.hg_race.specs.declared.parts.Reading.{Reading}
-use Rattle.hg_race.specs.declared.parts.Writing.{Writing}
-use Rattle.hg_race.proofs.Copying.{compact_behind}
+use Rattle.hg_race.specs.declared.actor.Reading.{Reading}
+use Rattle.hg_race.specs.declared.actor.Writing.{Writing}
+use Rattle.hg_race.proofs.Copying.{compact, compact_behind}
 use Rattle.hg_race.proofs.Going.{event_sane, events_sane, reached_sane, was_ready}
 use Rattle.hg_race.proofs.Holding.{old_at}
 use Rattle.hg_race.proofs.Looking.{begins_taken, begins_within, each_actor, last_number, slice_get-append}
@@ -35,20 +34,24 @@ in_front file rows used begins l = record { within = begins_within file rows use
 pub stands_there : (files : Files) (docket : Option Naming) (rows : List Row) → StandsNow files docket rows → Stands files docket rows
 stands_there files None rows stands = stands
 stands_there files (Some docket) rows stands =
-    (elim (files docket.id) as (λ (o : Option (List Row)). MatchOption o ⊥ (λ file. BeginsWith file rows) → MatchOption o ⊥ (λ file. StandsInFront file docket.used rows)) [
+    (elim (files docket.id) as (λ (o : Option (List Row)). MatchOption o ⊥ (λ file. BeginsWith file rows)
+    → MatchOption o ⊥ (λ file. StandsInFront file docket.used rows)) [
       | None ↦ λ none. none
       | Some file ↦ λ begins. in_front file rows docket.used begins stands.0
     ]) stands.1
 
-pub kept_there : (files : Files) (now : Option Naming) (last : List Row) (docket : Option Naming) (rows : List Row) → OldOf files now last docket rows → IsKept files docket rows
+pub kept_there : (files : Files) (now : Option Naming) (last : List Row) (docket : Option Naming) (rows : List Row) → OldOf files now last docket rows
+    → IsKept files docket rows
 kept_there files now last None rows old = old
 kept_there files now last (Some docket) rows old =
-    (elim (files docket.id) as (λ (o : Option (List Row)). MatchOption o ⊤ (λ file. BeginsWith file rows) → MatchOption o ⊤ (λ file. StandsInFront file docket.used rows)) [
+    (elim (files docket.id) as (λ (o : Option (List Row)). MatchOption o ⊤ (λ file. BeginsWith file rows)
+    → MatchOption o ⊤ (λ file. StandsInFront file docket.used rows)) [
       | None ↦ λ none. none
       | Some file ↦ λ begins. in_front file rows docket.used begins old.used
     ]) old.file
 
-pub load_there : (published : List Publication) (now : Option Naming) (last : List Row) (mine : Bool) (load : Option Loading) → LoadOf published now last mine load → IfSome load (IsLoaded published)
+pub load_there : (published : List Publication) (now : Option Naming) (last : List Row) (mine : Bool) (load : Option Loading)
+    → LoadOf published now last mine load → IfSome load (IsLoaded published)
 load_there published now last mine None l = tt
 load_there published now last mine (Some load) l = l.loaded
 
@@ -128,8 +131,12 @@ none_is_lost actors events later w v r runs = events_grow later w v runs
 -- the last publication of a world stands at its number in a later one
 pub last_stays : (w v : WorldData) → IsSane w → Grows w.published v.published → (n : ℕ) × (length w.published ≡ suc n) × (slice_get v.published n ≡ Some (last_of w))
 last_stays w v s grows =
-    let place = last_number first_publication first_publication w.published s.chain.first in
-    (place.0, place.1, subst (λ (l : List Publication). slice_get l place.0 ≡ Some (last_of w)) (sym grows.1) (slice_get-append w.published grows.0 place.0 (last_of w) place.2))
+    let place = last_number first_publication first_publication w.published s.chain.first in (
+      place.0,
+      place.1,
+      subst (λ (l : List Publication). slice_get l place.0 ≡ Some (last_of w)) (sym grows.1)
+          (slice_get-append w.published grows.0 place.0 (last_of w) place.2),
+    )
 
 pub rows_stay : RowsStay
 rows_stay actors events later w v r runs =
@@ -148,7 +155,8 @@ has_place actors who alive =
     ]
 
 pub is_alive : (w : WorldData) (event : Event) → is_enabled w event ≡ true → (actor_of w (who_of event)).dead ≡ false
-is_alive w event e = not-true (actor_of w (who_of event)).dead (and_parts (not (actor_of w (who_of event)).dead) (is_ready w.holder (actor_of w (who_of event)) event) e).0
+is_alive w event e = not-true (actor_of w (who_of event)).dead
+    (and_parts (not (actor_of w (who_of event)).dead) (is_ready w.holder (actor_of w (who_of event)) event) e).0
 
 -- an actor with a new state has it
 pub actor_now : (w : WorldData) (who : ℕ) (actor : Actor) → (actor_of w who).dead ≡ false → get_or (set w.actors who actor) who nobody ≡ actor
@@ -159,7 +167,8 @@ abbrev pub Remembers : Option Naming → ℕ → Option Reading → Type 0
 Remembers docket count None = ⊤
 Remembers docket count (Some reading) = (reading.docket ≡ docket) × (reading.count ≡ count)
 
-pub outside_remembers : (docket : Option Naming) (count : ℕ) (reading : Option Reading) → Remembers docket count reading → Remembers docket count (option_map outside_lock reading)
+pub outside_remembers : (docket : Option Naming) (count : ℕ) (reading : Option Reading) → Remembers docket count reading
+    → Remembers docket count (option_map outside_lock reading)
 outside_remembers docket count None r = tt
 outside_remembers docket count (Some reading) r = r
 
@@ -179,7 +188,8 @@ module _ (docket : Option Naming) (count who : ℕ) where
       knows_set old.actors one actor
       (λ e. subst (Remembers docket count) (sym same) (subst (λ (k : ℕ). Remembers docket count (get_or old.actors k nobody).reading) (sym e) knows)) knows
 
-  pub knows_appended : (one : ℕ) (change : List Row) (load : Option Loading) (old : WorldData) → Knows old.actors → Knows (appended_behind one change load old).actors
+  pub knows_appended : (one : ℕ) (change : List Row) (load : Option Loading) (old : WorldData) → Knows old.actors
+      → Knows (appended_behind one change load old).actors
   knows_appended one change None old knows = knows
   knows_appended one change (Some load) old knows = at load.docket
     where
@@ -187,7 +197,10 @@ module _ (docket : Option Naming) (count who : ℕ) where
       at None = knows
       at (Some d) =
           let rows = take d.used (rows_in old.files d.id) ++ change in
-          knows_same old one (record (actor_of old one) { writing = Some (record { docket = record { id = d.id; used = length rows }; change = change; fresh = false }) }) refl knows
+          knows_same old one (record (actor_of old one) {
+            writing = Some
+                (record { docket = record { id = d.id; used = length rows }; change = change; fresh = false });
+          }) refl knows
 
   pub knows_made : (one : ℕ) (change rows : List Row) (load : Option Loading) (old : WorldData) → Knows old.actors → Knows (made one change rows load old).actors
   knows_made one change rows None old knows = knows
@@ -195,7 +208,10 @@ module _ (docket : Option Naming) (count who : ℕ) where
     where
       at : (id : Option ℕ) → Knows (made_as one change rows id old).actors
       at None = knows
-      at (Some id) = knows_same old one (record (actor_of old one) { writing = Some (record { docket = record { id = id; used = length rows }; change = change; fresh = true }) }) refl knows
+      at (Some id) = knows_same old one (record (actor_of old one) {
+        writing = Some
+            (record { docket = record { id = id; used = length rows }; change = change; fresh = true });
+      }) refl knows
 
   pub knows_swapped : (one : ℕ) (writing : Option Writing) (old : WorldData) → Knows old.actors → Knows (swapped one writing old).actors
   knows_swapped one None old knows = knows
@@ -218,7 +234,8 @@ module _ (docket : Option Naming) (count who : ℕ) where
   knows_event (an_event.Lock one) old new other m knows =
       subst Knows (sym (ap (λ (w : WorldData). w.actors) m))
       (knows_set old.actors one (locked_now (actor_of old one))
-      (λ e. outside_remembers docket count (actor_of old one).reading (subst (λ (k : ℕ). Remembers docket count (get_or old.actors k nobody).reading) (sym e) knows)) knows)
+      (λ e. outside_remembers docket count (actor_of old one).reading
+      (subst (λ (k : ℕ). Remembers docket count (get_or old.actors k nobody).reading) (sym e) knows)) knows)
   knows_event (an_event.Append one change) old new other m knows =
       subst Knows (sym (ap (λ (w : WorldData). w.actors) m)) (knows_appended one change (actor_of old one).load old knows)
   knows_event (an_event.NewFile one change) old new other m knows =
@@ -232,14 +249,16 @@ module _ (docket : Option Naming) (count who : ℕ) where
   knows_event (an_event.Die one) old new other m knows =
       subst Knows (sym (ap (λ (w : WorldData). w.actors) m)) (knows_same old one (record (given_back (actor_of old one)) { dead = true }) refl knows)
 
-  pub knows_events : (events : List Event) (old new : WorldData) → list_all (λ event. not (is_read who event)) events ≡ true → RunsEach Happens events old new → Knows old.actors → Knows new.actors
+  pub knows_events : (events : List Event) (old new : WorldData) → list_all (λ event. not (is_read who event)) events ≡ true
+      → RunsEach Happens events old new → Knows old.actors → Knows new.actors
   knows_events [] old new other runs knows = subst (λ (w : WorldData). Knows w.actors) (sym runs) knows
   knows_events (event ∷ events) old new other runs knows =
       let parts = and_parts (not (is_read who event)) (list_all (λ event. not (is_read who event)) events) other in
       knows_events events runs.0 new parts.1 runs.2 (knows_event event old runs.0 parts.0 runs.1.1 knows)
 
 -- a reading of data that found the file is a load of the docket that was remembered
-pub loads_remembered : (files : Files) (docket : Option Naming) (count : ℕ) (actor : Actor) (reading : Option Reading) → Remembers docket count reading → is_some reading ≡ true
+pub loads_remembered : (files : Files) (docket : Option Naming) (count : ℕ) (actor : Actor) (reading : Option Reading)
+    → Remembers docket count reading → is_some reading ≡ true
     → (data_seen files reading actor).missed ≡ false
     → (load : Loading) × ((data_seen files reading actor).load ≡ Some load) × (load.docket ≡ docket) × (load.count ≡ count)
 loads_remembered files docket count actor None r some found = absurd (true≢false (sym some))
@@ -259,7 +278,8 @@ loads_what_stood actors events w r who v read between other u x runs loads found
     let alive = is_alive w (an_event.ReadDocket who) read.0 in
     let knows : Remembers w.docket (length w.published) (actor_of v who).reading =
     subst (λ (a : Actor). Remembers w.docket (length w.published) a.reading)
-    (sym (ap (λ (z : WorldData). actor_of z who) read.1 ∙ actor_now w who (with_docket w.docket (length w.published) (holds w.holder who) (actor_of w who)) alive)) (refl, refl)
+    (sym (ap (λ (z : WorldData). actor_of z who) read.1 ∙ actor_now w who
+    (with_docket w.docket (length w.published) (holds w.holder who) (actor_of w who)) alive)) (refl, refl)
     in
     let later = knows_events w.docket (length w.published) who between v u other runs knows in
     let now : actor_of x who ≡ data_seen u.files (actor_of u who).reading (actor_of u who) =

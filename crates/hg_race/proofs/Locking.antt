@@ -8,12 +8,12 @@ use Rattle.hg_race.specs.Rows.{BeginsWith, Row}
 use Rattle.hg_race.specs.Safe.{IsLoaded}
 use Rattle.hg_race.specs.Steps.{data_read, data_seen, died, docket_read, given_back, lock_given, lock_taken, loaded_outside_lock, locked_now, outside_lock, renewed, with_actor, with_data, with_docket}
 use Rattle.hg_race.specs.World.{Files, WorldData, actor_of, first_publication, front_of, holds, is_same, last_of}
-use Rattle.hg_race.specs.declared.parts.Actor.{Actor}
-use Rattle.hg_race.specs.declared.parts.Loading.{Loading}
+use Rattle.hg_race.specs.declared.actor.Actor.{Actor}
+use Rattle.hg_race.specs.declared.actor.Loading.{Loading}
 use Rattle.hg_race.specs.declared.parts.Naming.{Naming}
 use Rattle.hg_race.specs.declared.parts.Publication.{Publication}
-use Rattle.hg_race.specs.declared.parts.Reading.{Reading}
-use Rattle.hg_race.specs.declared.parts.Writing.{Writing}
+use Rattle.hg_race.specs.declared.actor.Reading.{Reading}
+use Rattle.hg_race.specs.declared.actor.Writing.{Writing}
 use Rattle.hg_race.proofs.Holding.{all_held, free_held_at, old_at, old_same}
 use Rattle.hg_race.proofs.Looking.{begins_taken, last_number, others_hold_nothing, same_docket}
 use Rattle.hg_race.proofs.Sane.{IsHeld, IsRead, IsSane, LoadOf, OldOf, ReadOf, SpareOf, WasNamed, WriteOf}
@@ -85,13 +85,15 @@ pub front_is : (files : Files) (now : Option Naming) (last : List Row) (docket :
     → front_of files docket ≡ Some front → rows ≡ front
 front_is files now last None rows front old e = old ∙ same_Some [] front e
 front_is files now last (Some docket) rows front old e =
-    (elim (files docket.id) as (λ (o : Option (List Row)). MatchOption o ⊤ (λ file. BeginsWith file rows) → option_map (take docket.used) o ≡ Some front → rows ≡ front) [
+    (elim (files docket.id) as (λ (o : Option (List Row)). MatchOption o ⊤ (λ file. BeginsWith file rows)
+    → option_map (take docket.used) o ≡ Some front → rows ≡ front) [
       | None ↦ λ m none. absurd (none-some front none)
       | Some file ↦ λ m some. sym (begins_taken file rows docket.used m old.used) ∙ same_Some (take docket.used file) front some
     ]) old.file e
 
 -- an actor that looked for the file of its docket
-pub with_data_held : (w : WorldData) → IsSane w → (mine : Bool) (actor : Actor) (reading : Reading) (front : Option (List Row)) → front_of w.files reading.docket ≡ front
+pub with_data_held : (w : WorldData) → IsSane w → (mine : Bool) (actor : Actor) (reading : Reading) (front : Option (List Row))
+    → front_of w.files reading.docket ≡ front
     → IsRead w.published w.docket mine reading
     → IsHeld w.files w.docket (last_of w).rows w.published mine actor → IsHeld w.files w.docket (last_of w).rows w.published mine (with_data reading front actor)
 with_data_held w s mine actor reading None e r h = record { read = h.read; load = h.load; write = h.write; spare = h.spare }
@@ -151,7 +153,8 @@ locked_load published now last mine (Some load) l = record {
   held = λ m locked. absurd (true≢false (sym locked));
 }
 
-pub locked_write : (files : Files) (now : Option Naming) (last : List Row) (mine : Bool) (writing : Option Writing) → WriteOf files now last false writing → WriteOf files now last mine writing
+pub locked_write : (files : Files) (now : Option Naming) (last : List Row) (mine : Bool) (writing : Option Writing)
+    → WriteOf files now last false writing → WriteOf files now last mine writing
 locked_write files now last mine None w = tt
 locked_write files now last mine (Some writing) w = absurd (true≢false (sym w.holder))
 
@@ -176,7 +179,8 @@ lock_sane w who free s =
             spare = locked_spare w.docket (holds (Some who) who) (actor_of w who).spare held.spare;
           })
           (λ other apart.
-          free_held_at w.files w.files w.docket w.docket (last_of w).rows (last_of w).rows w.published w.published (actor_of w other) (holds w.holder other) (holds (Some who) other)
+          free_held_at w.files w.files w.docket w.docket (last_of w).rows (last_of w).rows w.published w.published (actor_of w other)
+          (holds w.holder other) (holds (Some who) other)
           (before other) (ne_eqb who other (λ e. apart (sym e))) (λ n p e. e) (s.held other));
     }
 
@@ -219,9 +223,11 @@ die_sane w who s = record {
   last = s.last;
   stands = s.stands;
   kept = s.kept;
-  held = all_held w.files w.docket (last_of w).rows w.published (cond (holds w.holder who) None w.holder) w.actors who (record (given_back (actor_of w who)) { dead = true })
+  held = all_held w.files w.docket (last_of w).rows w.published (cond (holds w.holder who) None w.holder) w.actors who
+      (record (given_back (actor_of w who)) { dead = true })
       (record {
-        read = freed_read w.published w.docket (holds w.holder who) (actor_of w who).reading (s.held who).read (holds (cond (holds w.holder who) None w.holder) who) (freed w.holder who);
+        read = freed_read w.published w.docket (holds w.holder who) (actor_of w who).reading (s.held who).read
+            (holds (cond (holds w.holder who) None w.holder) who) (freed w.holder who);
         load = tt;
         write = tt;
         spare = tt;
@@ -229,9 +235,12 @@ die_sane w who s = record {
       (λ other apart.
       elim (cases_Bool (holds w.holder who)) [
         | inl mine ↦
-            free_held_at w.files w.files w.docket w.docket (last_of w).rows (last_of w).rows w.published w.published (actor_of w other) (holds w.holder other) (holds (cond (holds w.holder who) None w.holder) other)
-            (others_hold_nothing w.holder who other mine apart) (ap (λ (h : Option ℕ). holds h other) (cond-true (holds w.holder who) None w.holder mine)) (λ n p e. e) (s.held other)
+            free_held_at w.files w.files w.docket w.docket (last_of w).rows (last_of w).rows w.published w.published (actor_of w other)
+            (holds w.holder other) (holds (cond (holds w.holder who) None w.holder) other)
+            (others_hold_nothing w.holder who other mine apart)
+            (ap (λ (h : Option ℕ). holds h other) (cond-true (holds w.holder who) None w.holder mine)) (λ n p e. e) (s.held other)
         | inr free ↦
-            subst (λ (h : Option ℕ). IsHeld w.files w.docket (last_of w).rows w.published (holds h other) (actor_of w other)) (sym (cond-false (holds w.holder who) None w.holder free)) (s.held other)
+            subst (λ (h : Option ℕ). IsHeld w.files w.docket (last_of w).rows w.published (holds h other) (actor_of w other))
+            (sym (cond-false (holds w.holder who) None w.holder free)) (s.held other)
       ]);
 }

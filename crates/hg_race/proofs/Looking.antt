@@ -95,16 +95,19 @@ begins_within a b n p l =
     omega arith
 
 -- what holds of one actor that is new, and of the others as they were, holds of each
-pub each_actor : {A : Type 0} (P : ℕ → A → Type 0) (actors : List A) (who : ℕ) (actor none : A) → P who actor → ((other : ℕ) → other ≢ who → P other (get_or actors other none))
+pub each_actor : {A : Type 0} (P : ℕ → A → Type 0) (actors : List A) (who : ℕ) (actor none : A) → P who actor
+    → ((other : ℕ) → other ≢ who → P other (get_or actors other none))
     → ((other : ℕ) → P other none) → (other : ℕ) → P other (get_or (set actors who actor) other none)
 each_actor P actors who actor none mine others empty other =
     elim (cases_eq other who) [
       | inl e ↦
           elim (cases_lt who (length actors)) [
             | inl l ↦
-                subst (P other) (ap (λ (k : ℕ). get_or (set actors who actor) k none) (sym e)) (subst (λ k. P k (get_or (set actors who actor) who none)) (sym e) (subst (P who) (sym (get_or-set_same actors who actor none l)) mine))
+                subst (P other) (ap (λ (k : ℕ). get_or (set actors who actor) k none) (sym e))
+                (subst (λ k. P k (get_or (set actors who actor) who none)) (sym e) (subst (P who) (sym (get_or-set_same actors who actor none l)) mine))
             | inr l ↦
-                subst (P other) (sym (ap (λ (l : List _). get_or l other none) (set_past actors who actor l) ∙ get_or_past actors other none (omega arith))) (empty other)
+                subst (P other) (sym (ap (λ (l : List _). get_or l other none) (set_past actors who actor l)
+                ∙ get_or_past actors other none (omega arith))) (empty other)
           ]
       | inr apart ↦ subst (P other) (sym (get_or-set_other actors who other actor none apart)) (others other apart)
     ]

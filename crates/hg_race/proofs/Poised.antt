@@ -10,11 +10,11 @@ use Rattle.hg_race.specs.Rows.{Row, edited, map_of}
 use Rattle.hg_race.specs.Steps.{appended_behind, appended_to, dropped, made, made_as, published_now, swapped, written}
 use Rattle.hg_race.specs.World.{WorldData, actor_of, first_publication, holds, last_of, rows_in}
 use Rattle.hg_race.specs.declared.event.Event.TheVariants as an_event
-use Rattle.hg_race.specs.declared.parts.Actor.{Actor}
-use Rattle.hg_race.specs.declared.parts.Loading.{Loading}
+use Rattle.hg_race.specs.declared.actor.Actor.{Actor}
+use Rattle.hg_race.specs.declared.actor.Loading.{Loading}
 use Rattle.hg_race.specs.declared.parts.Naming.{Naming}
 use Rattle.hg_race.specs.declared.parts.Publication.{Publication}
-use Rattle.hg_race.specs.declared.parts.Writing.{Writing}
+use Rattle.hg_race.specs.declared.actor.Writing.{Writing}
 use Rattle.hg_race.proofs.Going.{event_sane, reached_sane, rows_standing}
 use Rattle.hg_race.proofs.Lasting.{actor_now, dropped_published}
 use Rattle.hg_race.proofs.Looking.{last_or-push}
@@ -34,7 +34,8 @@ load_stands w who s p =
     (l.docket (holder_holds w who p) p.locked, l.held (holder_holds w who p) p.locked)
 
 -- who lives and has written may publish it
-pub may_swap : (w : WorldData) (who : ℕ) (writing : Writing) (rows : List Row) → (actor_of w who).dead ≡ false → is_enabled (written who writing rows w) (an_event.Swap who) ≡ true
+pub may_swap : (w : WorldData) (who : ℕ) (writing : Writing) (rows : List Row) → (actor_of w who).dead ≡ false
+    → is_enabled (written who writing rows w) (an_event.Swap who) ≡ true
 may_swap w who writing rows alive =
     subst (λ (a : Actor). (not a.dead && is_some a.writing) ≡ true) (sym (actor_now w who (record (actor_of w who) { writing = Some writing }) alive))
     (and_from (not (actor_of w who).dead) true (not_from_false (actor_of w who).dead alive) refl)
@@ -49,7 +50,12 @@ pub record ShowsWritten (w : WorldData) (who : ℕ) (writing : Writing) (u : Wor
 pub swapped_shows : (v : WorldData) (who : ℕ) (writing : Writing) → IsWritten v.files v.docket (last_of v).rows (holds v.holder who) writing
     → (swapped who (Some writing) v).docket ≡ Some writing.docket × (map_of (last_of (swapped who (Some writing) v)).rows ≡ edited writing.change (map_of (last_of v).rows))
 swapped_shows v who writing wrote =
-    let one : Publication = record { docket = Some writing.docket; change = writing.change; rows = take writing.docket.used (rows_in v.files writing.docket.id) } in (
+    let one : Publication = record {
+      docket = Some writing.docket;
+      change = writing.change;
+      rows = take writing.docket.used
+          (rows_in v.files writing.docket.id);
+    } in (
       refl,
       ap (λ (p : Publication). map_of p.rows) (last_or-push first_publication v.published one)
           ∙ ap (λ (l : List Row). map_of l) (rows_there v.files writing.docket.id writing.docket.used wrote.rows wrote.file wrote.used)
@@ -97,7 +103,8 @@ append_is w who p s docket now change =
     ap (λ (l : Option Loading). appended_behind who change l w) p.loaded ∙ ap (λ (d : Option Naming). appended_to who change d w) ((load_stands w who s p).0 ∙ now)
 
 -- how many rows an append uses
-pub append_used : (w : WorldData) → IsSane w → (docket : Naming) → w.docket ≡ Some docket → (change : List Row) → length (append_rows w docket change) ≡ docket.used + length change
+pub append_used : (w : WorldData) → IsSane w → (docket : Naming) → w.docket ≡ Some docket → (change : List Row)
+    → length (append_rows w docket change) ≡ docket.used + length change
 append_used w s docket now change =
     let stands : StandsNow w.files (Some docket) (last_of w).rows = subst (λ (d : Option Naming). StandsNow w.files d (last_of w).rows) now s.stands in
     let front : take docket.used (rows_in w.files docket.id) ≡ (last_of w).rows = rows_standing docket.used (last_of w).rows (w.files docket.id) stands.0 stands.1 in
@@ -110,15 +117,19 @@ append_is_published actors events w r who p docket now change =
     let used = append_used w s docket now change in
     record {
       may_write =
-          and_from (not (actor_of w who).dead) (holds w.holder who && (takes_more (actor_of w who).load && is_none (actor_of w who).writing)) (not_from_false (actor_of w who).dead p.alive)
+          and_from (not (actor_of w who).dead) (holds w.holder who && (takes_more (actor_of w who).load && is_none (actor_of w who).writing))
+          (not_from_false (actor_of w who).dead p.alive)
           (and_from (holds w.holder who) (takes_more (actor_of w who).load && is_none (actor_of w who).writing) (holder_holds w who p)
           (and_from (takes_more (actor_of w who).load) (is_none (actor_of w who).writing)
-          (ap takes_more p.loaded ∙ and_from p.load.locked (is_some p.load.docket) p.locked (ap (λ (d : Option Naming). is_some d) ((load_stands w who s p).0 ∙ now)))
+          (ap takes_more p.loaded ∙ and_from p.load.locked (is_some p.load.docket) p.locked
+          (ap (λ (d : Option Naming). is_some d) ((load_stands w who s p).0 ∙ now)))
           (ap (λ (x : Option Writing). is_none x) p.unwritten)));
       may_swap = λ v wrote.
-          subst (λ (z : WorldData). is_enabled z (an_event.Swap who) ≡ true) (sym (wrote.1 ∙ is)) (may_swap w who (append_of w docket change) (append_rows w docket change) p.alive);
+          subst (λ (z : WorldData). is_enabled z (an_event.Swap who) ≡ true) (sym (wrote.1 ∙ is))
+          (may_swap w who (append_of w docket change) (append_rows w docket change) p.alive);
       shown = λ v u wrote swap.
-          let shows = written_shows w v u who (append_of w docket change) (append_rows w docket change) p.alive (event_sane (an_event.Append who change) w v wrote s) (wrote.1 ∙ is) swap.1 in
+          let shows = written_shows w v u who (append_of w docket change) (append_rows w docket change) p.alive
+          (event_sane (an_event.Append who change) w v wrote s) (wrote.1 ∙ is) swap.1 in
           record {
             docket = shows.docket ∙ ap (λ (n : ℕ). Some (record { id = docket.id; used = n })) used;
             map = shows.map;
@@ -136,9 +147,11 @@ file_is w who p s id next change rows =
     ∙ ap (λ (i : Option ℕ). made_as who change rows i w) (ap next_id (load_stands w who s p).0 ∙ next)
 
 -- the file before a new one may go where there was one
-pub may_drop : (w u : WorldData) (who : ℕ) (actor : Actor) → actor.dead ≡ false → actor_of u who ≡ published_now w.docket true actor → is_enabled u (an_event.Drop who) ≡ is_some w.docket
+pub may_drop : (w u : WorldData) (who : ℕ) (actor : Actor) → actor.dead ≡ false → actor_of u who ≡ published_now w.docket true actor
+    → is_enabled u (an_event.Drop who) ≡ is_some w.docket
 may_drop w u who actor alive e =
-    ap (λ (a : Actor). not a.dead && is_some a.spare) e ∙ ap (λ (b : Bool). b && is_some (option_map (λ (d : Naming). d.id) w.docket)) (not_from_false actor.dead alive) ∙ at w.docket
+    ap (λ (a : Actor). not a.dead && is_some a.spare) e ∙ ap (λ (b : Bool). b && is_some (option_map (λ (d : Naming). d.id) w.docket))
+    (not_from_false actor.dead alive) ∙ at w.docket
   where
     at : (docket : Option Naming) → is_some (option_map (λ (d : Naming). d.id) docket) ≡ is_some docket
     at None = refl
@@ -149,7 +162,8 @@ new_file_is_published actors events w r who p id next change =
     let s = reached_sane actors events w r in
     record {
       may_write =
-          and_from (not (actor_of w who).dead) (holds w.holder who && (is_renewable (actor_of w who).load && is_none (actor_of w who).writing)) (not_from_false (actor_of w who).dead p.alive)
+          and_from (not (actor_of w who).dead) (holds w.holder who && (is_renewable (actor_of w who).load && is_none (actor_of w who).writing))
+          (not_from_false (actor_of w who).dead p.alive)
           (and_from (holds w.holder who) (is_renewable (actor_of w who).load && is_none (actor_of w who).writing) (holder_holds w who p)
           (and_from (is_renewable (actor_of w who).load) (is_none (actor_of w who).writing)
           (ap is_renewable p.loaded

@@ -12,14 +12,15 @@ use Rattle.hg_race.specs.Steps.{published_now, swapped}
 use Rattle.hg_race.specs.World.{Files, WorldData, actor_of, first_publication, holds, last_of, last_or, rows_in}
 use Rattle.hg_race.specs.declared.parts.Naming.{Naming}
 use Rattle.hg_race.specs.declared.parts.Publication.{Publication}
-use Rattle.hg_race.specs.declared.parts.Writing.{Writing}
+use Rattle.hg_race.specs.declared.actor.Writing.{Writing}
 use Rattle.hg_race.proofs.Filing.{next_above}
 use Rattle.hg_race.proofs.Holding.{all_held, free_held_at}
 use Rattle.hg_race.proofs.Looking.{begins_itself, begins_trans, last_or-at, last_or-push, others_hold_nothing, slice_get-append, slice_get-push_cases}
 use Rattle.hg_race.proofs.Sane.{ComesNext, IsSane, IsWritten, OldOf, SpareOf, StandsNow, WriteOf}
 
 -- one more publication, which is a change on the last one
-pub chain_push : (published : List Publication) (one : Publication) → IsChain published → map_of one.rows ≡ edited one.change (map_of (last_or first_publication published).rows)
+pub chain_push : (published : List Publication) (one : Publication) → IsChain published
+    → map_of one.rows ≡ edited one.change (map_of (last_or first_publication published).rows)
     → IsChain (published ++ one ∷ [])
 chain_push published one chain map = record {
   first = slice_get-append published (one ∷ []) 0 first_publication chain.first;
@@ -66,7 +67,8 @@ old_published files (Some cur) last rows next fresh comes (Some docket) theirs o
 }
 
 -- what is due for removal behind a publication
-pub spare_kept : (now : Option Naming) (last rows : List Row) (next : Naming) (fresh : Bool) → ComesNext now last next.id fresh rows → (mine : Bool) (spare : Option ℕ) → SpareOf now mine spare
+pub spare_kept : (now : Option Naming) (last rows : List Row) (next : Naming) (fresh : Bool) → ComesNext now last next.id fresh rows
+    → (mine : Bool) (spare : Option ℕ) → SpareOf now mine spare
     → SpareOf (Some next) mine spare
 spare_kept now last rows next fresh comes mine None s = tt
 spare_kept None last rows next fresh comes mine (Some id) s = absurd s.1
@@ -77,7 +79,8 @@ pub spare_new : (now : Option Naming) (last rows : List Row) (next : Naming) →
 spare_new None last rows next comes mine m = tt
 spare_new (Some cur) last rows next comes mine m = (m, elim comes [ inl above ↦ above | inr same ↦ absurd (true≢false same.2) ])
 
-pub spare_published : (now : Option Naming) (last rows : List Row) (next : Naming) (fresh : Bool) → ComesNext now last next.id fresh rows → (mine : Bool) → mine ≡ true → (spare : Option ℕ)
+pub spare_published : (now : Option Naming) (last rows : List Row) (next : Naming) (fresh : Bool) → ComesNext now last next.id fresh rows
+    → (mine : Bool) → mine ≡ true → (spare : Option ℕ)
     → SpareOf now mine spare → SpareOf (Some next) mine (cond fresh (option_map (λ docket. docket.id) now) spare)
 spare_published now last rows next true comes mine m spare s = spare_new now last rows next comes mine m
 spare_published now last rows next false comes mine m spare s = spare_kept now last rows next false comes mine spare s
@@ -112,14 +115,18 @@ published_sane w who writing s wrote =
             read = tt;
             load = tt;
             write = tt;
-            spare = spare_published w.docket (last_of w).rows wrote.rows writing.docket writing.fresh wrote.next (holds w.holder who) wrote.holder (actor_of w who).spare held.spare;
+            spare = spare_published w.docket (last_of w).rows wrote.rows writing.docket writing.fresh wrote.next (holds w.holder who) wrote.holder
+                (actor_of w who).spare held.spare;
           })
           (λ other apart.
-          free_held_at w.files w.files w.docket (Some writing.docket) (last_of w).rows (last_or first_publication (w.published ++ one ∷ [])).rows w.published (w.published ++ one ∷ []) (actor_of w other)
-          (holds w.holder other) (holds w.holder other) (others_hold_nothing w.holder who other wrote.holder apart) (others_hold_nothing w.holder who other wrote.holder apart)
+          free_held_at w.files w.files w.docket (Some writing.docket) (last_of w).rows
+          (last_or first_publication (w.published ++ one ∷ [])).rows w.published (w.published ++ one ∷ []) (actor_of w other)
+          (holds w.holder other) (holds w.holder other) (others_hold_nothing w.holder who other wrote.holder apart)
+          (others_hold_nothing w.holder who other wrote.holder apart)
           (λ n p e. slice_get-append w.published (one ∷ []) n p e) (s.held other));
     }
 
-pub swapped_sane : (w : WorldData) (who : ℕ) (writing : Option Writing) → WriteOf w.files w.docket (last_of w).rows (holds w.holder who) writing → IsSane w → IsSane (swapped who writing w)
+pub swapped_sane : (w : WorldData) (who : ℕ) (writing : Option Writing) → WriteOf w.files w.docket (last_of w).rows (holds w.holder who) writing
+    → IsSane w → IsSane (swapped who writing w)
 swapped_sane w who None wrote s = s
 swapped_sane w who (Some writing) wrote s = published_sane w who writing s wrote

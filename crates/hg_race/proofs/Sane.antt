@@ -4,12 +4,12 @@ use Rattle.std.specs.Prelude.{slice_get, MatchOption, All, ⊤}
 use Rattle.hg_race.specs.Rows.{BeginsWith, Row, edited, map_of}
 use Rattle.hg_race.specs.Safe.{IsChain, IsLoaded}
 use Rattle.hg_race.specs.World.{Files, WorldData, actor_of, holds, last_of}
-use Rattle.hg_race.specs.declared.parts.Actor.{Actor}
-use Rattle.hg_race.specs.declared.parts.Loading.{Loading}
+use Rattle.hg_race.specs.declared.actor.Actor.{Actor}
+use Rattle.hg_race.specs.declared.actor.Loading.{Loading}
 use Rattle.hg_race.specs.declared.parts.Naming.{Naming}
 use Rattle.hg_race.specs.declared.parts.Publication.{Publication}
-use Rattle.hg_race.specs.declared.parts.Reading.{Reading}
-use Rattle.hg_race.specs.declared.parts.Writing.{Writing}
+use Rattle.hg_race.specs.declared.actor.Reading.{Reading}
+use Rattle.hg_race.specs.declared.actor.Writing.{Writing}
 
 -- the last of the first so many publications had that docket
 pub record WasNamed (published : List Publication) (count : ℕ) (docket : Option Naming) : Type 0 where

@@ -3,8 +3,8 @@ use Rattle.std.specs.Prelude.{ℕ, ◌+◌, ◌^◌, Bool, true, false, not, ◌
 use Rattle.hg_race.specs.World.{WorldData, actor_of, holds}
 use Rattle.hg_race.specs.declared.event.Event.{Event}
 use Rattle.hg_race.specs.declared.event.Event.TheVariants as an_event
-use Rattle.hg_race.specs.declared.parts.Actor.{Actor}
-use Rattle.hg_race.specs.declared.parts.Loading.{Loading}
+use Rattle.hg_race.specs.declared.actor.Actor.{Actor}
+use Rattle.hg_race.specs.declared.actor.Loading.{Loading}
 use Rattle.hg_race.specs.declared.parts.Naming.{Naming}
 
 -- whose event it is

@@ -1,4 +1,3 @@
-pub mod Compact
 pub mod Edit
 pub mod Enabled
 pub mod Orders

@@ -7,7 +7,7 @@ use Rattle.hg_race.specs.Steps.{Happens, Reaches}
 use Rattle.hg_race.specs.World.{WorldData, actor_of, last_of}
 use Rattle.hg_race.specs.declared.event.Event.{Event}
 use Rattle.hg_race.specs.declared.event.Event.TheVariants as an_event
-use Rattle.hg_race.specs.declared.parts.Loading.{Loading}
+use Rattle.hg_race.specs.declared.actor.Loading.{Loading}
 use Rattle.hg_race.specs.declared.parts.Naming.{Naming}
 
 -- an actor may publish: it is alive, holds the lock, has a load that was made under it, and has written nothing that isn't published

@@ -8,7 +8,7 @@ use Rattle.hg_race.specs.Steps.{Happens, Makes, Reaches}
 use Rattle.hg_race.specs.World.{Files, WorldData, actor_of, first_publication, last_of}
 use Rattle.hg_race.specs.declared.event.Event.{Event}
 use Rattle.hg_race.specs.declared.event.Event.TheVariants as an_event
-use Rattle.hg_race.specs.declared.parts.Loading.{Loading}
+use Rattle.hg_race.specs.declared.actor.Loading.{Loading}
 use Rattle.hg_race.specs.declared.parts.Naming.{Naming}
 use Rattle.hg_race.specs.declared.parts.Publication.{Publication}
 

@@ -7,12 +7,12 @@ use Rattle.hg_race.specs.Rows.{Entries, HoldsEach, Row, edited, map_of}
 use Rattle.hg_race.specs.World.{Files, WorldData, actor_of, front_of, holds, is_same, rows_in, start, with_file}
 use Rattle.hg_race.specs.declared.event.Event.{Event}
 use Rattle.hg_race.specs.declared.event.Event.TheVariants as an_event
-use Rattle.hg_race.specs.declared.parts.Actor.{Actor}
-use Rattle.hg_race.specs.declared.parts.Loading.{Loading}
+use Rattle.hg_race.specs.declared.actor.Actor.{Actor}
+use Rattle.hg_race.specs.declared.actor.Loading.{Loading}
 use Rattle.hg_race.specs.declared.parts.Naming.{Naming}
 use Rattle.hg_race.specs.declared.parts.Publication.{Publication}
-use Rattle.hg_race.specs.declared.parts.Reading.{Reading}
-use Rattle.hg_race.specs.declared.parts.Writing.{Writing}
+use Rattle.hg_race.specs.declared.actor.Reading.{Reading}
+use Rattle.hg_race.specs.declared.actor.Writing.{Writing}
 
 -- a load whose docket was read again: where that came under the lock and it was found the same, the load is under the lock too
 abbrev pub renewed : Option Naming → Bool → Loading → Loading
@@ -68,7 +68,10 @@ with_actor who actor w = record w { actors = slice_set w.actors who actor }
 
 -- the world after an actor wrote a file: what a docket will say of it, and its rows
 abbrev pub written : ℕ → Writing → List Row → WorldData → WorldData
-written who writing rows w = record (with_actor who (record (actor_of w who) { writing = Some writing }) w) { files = with_file writing.docket.id (Some rows) w.files }
+written who writing rows w = record (with_actor who (record (actor_of w who) { writing = Some writing }) w) {
+  files = with_file writing.docket.id
+      (Some rows) w.files;
+}
 
 -- the change stands behind the first used rows of a file, and nothing behind it
 abbrev pub appended_to : ℕ → List Row → Option Naming → WorldData → WorldData

@@ -3,7 +3,7 @@ use Rattle.std.specs.Prelude.{ℕ, ◌==◌, ◌&&◌, Bool, true, false, if◌t
 use Rattle.std.specs.List.{slice_index_or}
 use Rattle.std.specs.Option.{option_map}
 use Rattle.hg_race.specs.Rows.{Row}
-use Rattle.hg_race.specs.declared.parts.Actor.{Actor}
+use Rattle.hg_race.specs.declared.actor.Actor.{Actor}
 use Rattle.hg_race.specs.declared.parts.Naming.{Naming}
 use Rattle.hg_race.specs.declared.parts.Publication.{Publication}
 

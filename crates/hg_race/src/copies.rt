@@ -3,9 +3,8 @@
 ghost use Rattle.std.specs.Prelude.{◌≡◌, ◌||◌, ◌++◌, map, take, is_none, IfOk};
 ghost use Rattle.std.specs.List.{list_any};
 ghost use Rattle.std.specs.Str.{bytes_eq};
-ghost use Rattle.hg_race.specs.Compact.{compact};
 ghost use Rattle.hg_race.specs.Edit.{row_of};
-ghost use Rattle.hg_race.specs.Rows.{names};
+ghost use Rattle.hg_race.specs.Rows.{HoldsEach, map_of, names};
 
 use crate::edits::{Edit, Edits};
 use hg_base::{OutOfMemory, Path};
@@ -46,9 +45,10 @@ fn gives_nothing(row: &Edit, later: &[Edit]) -> bool
     is_named(&row.path, later) | row.entry.is_none()
 }
 
-/// Of each path its last row, where that has an entry. (Quadratic in the rows, of which a machine that is stepped by hand has few.)
+/// One row for each path that has an entry behind all rows: of each path the last one. (Each looks at those behind it: a machine that is stepped
+/// in proofs and tests has few rows.)
 pub fn compact(alloc: Global, rows: &Edits) -> Result<Edits, OutOfMemory>
-    ensures { IfOk result (λ made. made ≡ compact rows.now) }
+    ensures { IfOk result (λ made. HoldsEach made (map_of rows.now)) }
 {
     let mut made = Edits::new(alloc);
     let mut left = rows.as_slice();

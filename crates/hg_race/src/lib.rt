@@ -40,10 +40,10 @@
 //! a file is written anew the order of its rows is free.
 #![tactic(auto)]
 
+mod actor;
 mod copies;
 mod edits;
 mod event;
-mod hands;
 mod laws;
 mod parts;
 mod schedule;

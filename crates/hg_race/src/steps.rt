@@ -7,10 +7,11 @@ ghost use Rattle.hg_race.specs.Seen.{world_of};
 ghost use Rattle.hg_race.specs.Steps.{Makes, MakesAnew, appended, data_read, died, docket_behind, docket_read, docket_swapped, loaded_map, lock_given, lock_taken, next_behind, publication_of, rows_behind, spare_dropped, written};
 ghost use Rattle.hg_race.specs.World.{actor_of, front_of, rows_in};
 
+use crate::actor::Writing;
 use crate::copies::{compact, copied, front};
 use crate::edits::Edits;
 use crate::event::Event;
-use crate::parts::{Naming, Publication, Writing};
+use crate::parts::{Naming, Publication};
 use crate::world::{World, holds, next_id};
 use hg_base::OutOfMemory;
 use std::alloc::Global;
@@ -142,7 +143,7 @@ impl World {
     }
 
     // One row for each path of what the actor loaded, after the change.
-    #[tactic(auto, using(crate::proofs::Copying::compact_behind))]
+    #[tactic(auto, using(crate::proofs::Copying::holds_behind))]
     fn renewed_rows(&self, alloc: Global, who: u32, change: &Edits) -> Result<Edits, OutOfMemory>
         requires { who < length (world_of self.now).actors }
         ensures { IfOk result (λ rows. HoldsEach rows (edited change.now (loaded_map (actor_of (world_of self.now) who).load))) }

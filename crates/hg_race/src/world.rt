@@ -5,9 +5,10 @@ ghost use Rattle.hg_race.specs.Enabled.{is_enabled, is_ready, is_renewable, next
 ghost use Rattle.hg_race.specs.Seen.{world_of};
 ghost use Rattle.hg_race.specs.World.{actor_of, holds, idle, start};
 
+use crate::actor::{Actor, Loading};
 use crate::edits::Edits;
 use crate::event::Event;
-use crate::parts::{Actor, Loading, Naming, Publication};
+use crate::parts::{Naming, Publication};
 use hg_base::OutOfMemory;
 use std::alloc::Global;
 use std::collections::BTreeMap;

@@ -1,6 +1,6 @@
 use Rattle.std.proofs.Common.{◌≡◌, ◌++◌, length, map}
-use Rattle.hg_race.specs.Compact.{compact}
 use Rattle.hg_race.specs.Edit.{row_of}
+use Rattle.hg_race.proofs.Copying.{compact}
 use Rattle.hg_race.proofs.copies.compact.Given as goal
 
 abbrev pub invariant-loop-row : goal.invariant-loop-row

@@ -1,11 +1,54 @@
-//! What each event makes of its actor.
+//! An actor: what one process has read, loaded and written and has still to do, and what each of its events makes of that.
 
 ghost use Rattle.std.specs.Prelude.{◌≡◌, Some, None, true, false};
 ghost use Rattle.hg_race.specs.Steps.{with_docket, with_data, locked_now, given_back, published_now};
 ghost use Rattle.hg_race.specs.World.{idle, is_same};
 
 use crate::edits::Edits;
-use crate::parts::{Actor, Loading, Naming, Reading, Writing};
+use crate::parts::Naming;
+
+/// A docket that was read and not loaded yet.
+#[derive(Clone, Copy, Debug)]
+pub struct Reading {
+    pub docket: Option<Naming>,
+    /// How many publications there were then.
+    pub count: usize,
+    /// It was read since the actor's present lock.
+    pub locked: bool,
+}
+
+/// A load: the rows that the docket's file had in front, as many as were used.
+#[derive(Debug, Drop)]
+pub struct Loading {
+    pub docket: Option<Naming>,
+    pub rows: Edits,
+    /// How many publications there were when its docket was read.
+    pub count: usize,
+    /// Its docket was read, or read again and found the same, since the actor's present lock.
+    pub locked: bool,
+}
+
+/// A file that was written and that no docket names yet: the docket that will.
+#[derive(Debug, Drop)]
+pub struct Writing {
+    pub docket: Naming,
+    pub change: Edits,
+    /// The file was made anew, so the one before it is to go.
+    pub fresh: bool,
+}
+
+/// One process, as far as the files below `.hg` know of it.
+#[derive(Debug, Drop)]
+pub struct Actor {
+    pub reading: Option<Reading>,
+    pub load: Option<Loading>,
+    pub writing: Option<Writing>,
+    /// The file that its last new one took the place of, until it is dropped.
+    pub spare: Option<u64>,
+    /// Its last reading of data found the file gone.
+    pub missed: bool,
+    pub dead: bool,
+}
 
 // Whether two dockets are the same: both name no file, or one file with as many rows used.
 fn is_same(one: Option<Naming>, other: Option<Naming>) -> bool
