@@ -1,12 +1,16 @@
 -- What an actor publishes that holds the lock and has loaded under it.
-use Rattle.std.proofs.Common.{ℕ, ◌≡◌, ◌+◌, Bool, true, false, not, ◌&&◌, List, ◌++◌, length, take, Option, Some, None, refl, sym, ap, subst, ◌∙◌, eq-eqb}
+use Rattle.std.proofs.Common.{ℕ, ◌≡◌, ◌+◌, inl, inr, Bool, true, false, not, ◌&&◌, List, [], ◌∷◌, ◌++◌, length, take, Option, Some, None, refl, sym, ap, subst, ◌∙◌, eq-eqb}
 use Rattle.std.specs.Option.{option_map}
 use Rattle.std.specs.Prelude.{is_none, is_some}
-use Rattle.std.proofs.lemmas.Bool.{and_from, not_from_false}
+use Rattle.std.proofs.lemmas.Bool.{and_from, both_ways, cases_Bool, cond-true, not_from_false, or_cases, true≢false}
 use Rattle.std.proofs.lemmas.List.{length-append}
+use Rattle.std.specs.List.{AllByRecursion as ByRecursion}
+use Rattle.std.specs.Str.{bytes_eq}
+use Rattle.std.proofs.lemmas.List.Elements.{recursion_from_All}
+use Rattle.std.proofs.lemmas.Slice.Eq.{bytes_eq-Decides}
 use Rattle.hg_race.specs.Enabled.{is_enabled, is_renewable, next_id, takes_more}
-use Rattle.hg_race.specs.Publishes.{AppendIsPublished, DropShowsTheSame, IsPoised, NewFileIsPublished}
-use Rattle.hg_race.specs.Rows.{Row, edited, map_of}
+use Rattle.hg_race.specs.Publishes.{AppendIsPublished, DifferenceMakesTheNew, DropShowsTheSame, IsPoised, NewFileIsPublished}
+use Rattle.hg_race.specs.Rows.{Entries, Row, edited, map_of, names, with_row}
 use Rattle.hg_race.specs.Steps.{appended_behind, appended_to, dropped, made, made_as, published_now, swapped, written}
 use Rattle.hg_race.specs.World.{WorldData, actor_of, first_publication, holds, last_of, rows_in}
 use Rattle.hg_race.specs.declared.event.Event.TheVariants as an_event
@@ -15,6 +19,7 @@ use Rattle.hg_race.specs.declared.actor.Loading.{Loading}
 use Rattle.hg_race.specs.declared.parts.Naming.{Naming}
 use Rattle.hg_race.specs.declared.parts.Publication.{Publication}
 use Rattle.hg_race.specs.declared.actor.Writing.{Writing}
+use Rattle.hg_race.proofs.Copying.{edited_unnamed}
 use Rattle.hg_race.proofs.Going.{event_sane, reached_sane, rows_standing}
 use Rattle.hg_race.proofs.Lasting.{actor_now, dropped_published}
 use Rattle.hg_race.proofs.Looking.{last_or-push}
@@ -191,3 +196,30 @@ drop_shows_the_same who w v h =
     at : (spare : Option ℕ) → (dropped who spare w).docket ≡ w.docket
     at None = refl
     at (Some id) = refl
+
+-- rows that have the entries of a map give a path that they have the one that it has there
+pub named_new : (rows : List Row) (map new : Entries) (path : List ℕ) → ByRecursion (λ row. row.entry ≡ new row.path) rows → names path rows ≡ true → edited rows map path ≡ new path
+named_new [] map new path same named = absurd (true≢false (sym named))
+named_new (row ∷ rows) map new path same named =
+    elim (cases_Bool (names path rows)) [
+      | inl later ↦ named_new rows (with_row row map) new path same.1 later
+      | inr last ↦
+          elim (or_cases (bytes_eq row.path path) (names path rows) named) [
+            | inl here ↦
+                edited_unnamed rows (with_row row map) path last
+                ∙ cond-true (bytes_eq row.path path) row.entry (map path) here
+                ∙ same.0
+                ∙ ap new ((bytes_eq-Decides row.path path).0 here)
+            | inr later ↦ absurd (both_ways (names path rows) last later)
+          ]
+    ]
+
+pub difference_makes_the_new : DifferenceMakesTheNew
+difference_makes_the_new change old new differs =
+    let at : (path : List ℕ) → edited change old path ≡ new path = λ path.
+    elim (cases_Bool (names path change)) [
+      | inl named ↦ named_new change old new path (recursion_from_All (λ row. row.entry ≡ new row.path) change differs.entries) named
+      | inr other ↦ edited_unnamed change old path other ∙ differs.others path other
+    ]
+    in
+    λ i path. at path i

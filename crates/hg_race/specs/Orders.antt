@@ -27,5 +27,6 @@ pub record IsRefusedThere (actors : ℕ) (events : List Event) (at : ℕ) : Type
   pub nowhere : (w : WorldData) → Reaches actors events w → ⊥
   pub only : (other : ℕ) → IsFirstRefused actors events other → other ≡ at
 
+-- where an event of a list is refused, that is so whatever the order of rows was
 abbrev pub OneRefusal : Type 0
 OneRefusal = (actors : ℕ) (events : List Event) (at : ℕ) → IsFirstRefused actors events at → IsRefusedThere actors events at

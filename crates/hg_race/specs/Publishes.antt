@@ -1,8 +1,11 @@
 -- What an actor publishes that holds the lock and has loaded under it.
-use Rattle.std.specs.Prelude.{ℕ, ◌≡◌, ◌+◌, true, false, List, length, None, Some, is_some}
+use Rattle.std.specs.Prelude.{ℕ, ◌≡◌, ◌≢◌, ◌+◌, true, false, List, length, map, None, Some, is_some, All}
+use Rattle.std.specs.Cmp.Lexicographic.{slice_cmp}
+use Rattle.std.specs.List.Sorted.{IsStrictlySortedBy}
 use Rattle.std.specs.Option.{option_map}
+use Rattle.std.specs.Ordering.{nat_cmp}
 use Rattle.hg_race.specs.Enabled.{is_enabled, next_id}
-use Rattle.hg_race.specs.Rows.{Row, edited, map_of}
+use Rattle.hg_race.specs.Rows.{Entries, Row, edited, map_of, names}
 use Rattle.hg_race.specs.Steps.{Happens, Reaches}
 use Rattle.hg_race.specs.World.{WorldData, actor_of, last_of}
 use Rattle.hg_race.specs.declared.event.Event.{Event}
@@ -51,3 +54,14 @@ NewFileIsPublished = (actors : ℕ) (events : List Event) (w : WorldData) → Re
 -- that a file is removed changes neither the docket nor what was published
 abbrev pub DropShowsTheSame : Type 0
 DropShowsTheSame = (who : ℕ) (w v : WorldData) → Happens (an_event.Drop who) w v → (v.docket ≡ w.docket) × (v.published ≡ w.published)
+
+-- a change has exactly the paths whose entries differ, ascending by bytes, each with its new entry
+pub record IsDifference (change : List Row) (old new : Entries) : Type 0 where
+  pub ascending : IsStrictlySortedBy (slice_cmp nat_cmp) (map (λ row. row.path) change)
+  pub entries : All (λ row. row.entry ≡ new row.path) change
+  pub differ : All (λ row. old row.path ≢ row.entry) change
+  pub others : (path : List ℕ) → names path change ≡ false → old path ≡ new path
+
+-- what differs between two maps makes the one of the other
+abbrev pub DifferenceMakesTheNew : Type 0
+DifferenceMakesTheNew = (change : List Row) (old new : Entries) → IsDifference change old new → edited change old ≡ new

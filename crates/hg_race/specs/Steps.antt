@@ -39,9 +39,11 @@ abbrev pub data_seen : Files → Option Reading → Actor → Actor
 data_seen files None actor = actor
 data_seen files (Some reading) actor = with_data reading (front_of files reading.docket) actor
 
+-- a docket that was read, but not under the present lock
 abbrev pub outside_lock : Reading → Reading
 outside_lock reading = record reading { locked = false }
 
+-- a load that wasn't made under the present lock
 abbrev pub loaded_outside_lock : Loading → Loading
 loaded_outside_lock load = record load { locked = false }
 

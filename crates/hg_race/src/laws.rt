@@ -2,7 +2,7 @@
 
 ghost use Rattle.hg_race.specs.Safe.{IsAlwaysSafe, NoneIsLost, RowsStay, LoadsWhatStood, GoesOn};
 ghost use Rattle.hg_race.specs.Orders.{OneSchedule, OneRefusal};
-ghost use Rattle.hg_race.specs.Publishes.{AppendIsPublished, NewFileIsPublished, DropShowsTheSame};
+ghost use Rattle.hg_race.specs.Publishes.{AppendIsPublished, NewFileIsPublished, DropShowsTheSame, DifferenceMakesTheNew};
 
 /// Whatever readers and writers do, and wherever they die: no publication is lost, each is its change on the one before, what the docket names
 /// is there whole, and who loads gets what stood when it read the docket.
@@ -19,6 +19,7 @@ pub fn change_is_published()
     ensures appends { AppendIsPublished }
     ensures renews { NewFileIsPublished }
     ensures drops { DropShowsTheSame }
+    ensures differs { DifferenceMakesTheNew }
 {}
 
 /// In which order a new file's rows stand decides nothing: one list of events leads to worlds that show the same, or it is refused at one place.
