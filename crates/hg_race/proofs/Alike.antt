@@ -265,8 +265,8 @@ pub append_parts : (load : Option Loading) → takes_more load ≡ true
 append_parts None e = absurd (true≢false (sym e))
 append_parts (Some load) e = at load.docket refl
   where
-    at : (docket : Option Naming) → load.docket ≡ docket → ((l : Loading) → Some load ≡ Some l
-        → l.locked ≡ true) × (is_some (Some load) ≡ true) × ((d : Naming) × (load.docket ≡ Some d))
+    at : (docket : Option Naming) → load.docket ≡ docket
+        → ((l : Loading) → Some load ≡ Some l → l.locked ≡ true) × (is_some (Some load) ≡ true) × ((d : Naming) × (load.docket ≡ Some d))
     at None is = absurd (true≢false (sym (and_parts load.locked (is_some load.docket) e).1 ∙ ap (λ (d : Option Naming). is_some d) is))
     at (Some docket) is =
         ((λ l same. subst (λ (x : Loading). x.locked ≡ true) (same_Some load l same) (and_parts load.locked (is_some load.docket) e).0), refl, (docket, is))

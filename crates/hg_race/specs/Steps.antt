@@ -71,8 +71,7 @@ with_actor who actor w = record w { actors = slice_set w.actors who actor }
 -- the world after an actor wrote a file: what a docket will say of it, and its rows
 abbrev pub written : ℕ → Writing → List Row → WorldData → WorldData
 written who writing rows w = record (with_actor who (record (actor_of w who) { writing = Some writing }) w) {
-  files = with_file writing.docket.id
-      (Some rows) w.files;
+  files = with_file writing.docket.id (Some rows) w.files;
 }
 
 -- the change stands behind the first used rows of a file, and nothing behind it
