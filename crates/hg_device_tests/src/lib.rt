@@ -1,5 +1,5 @@
-//! Tests of the lower crates by their public calls: paths and words, a working copy and files below `.hg` in memory, streams, and the records of a
-//! dirstate.
+//! Tests of the lower crates by their public calls: paths and words, a working copy and files below `.hg` in memory, streams, the records of a
+//! dirstate, and readers and writers of one in several processes.
 //!
 //! This crate has tests alone: each of those crates is proved once where its tests stand here. What is tested is what no clause says: that memory is
 //! found, and that the clauses say what was meant, on cases that were worked by hand.
@@ -17,6 +17,8 @@ mod folders;
 mod paths;
 #[cfg(test)]
 mod puts;
+#[cfg(test)]
+mod races;
 #[cfg(test)]
 mod shelves;
 #[cfg(test)]

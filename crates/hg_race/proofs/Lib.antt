@@ -1,0 +1,13 @@
+pub mod Alike
+pub mod Copying
+pub mod Counting
+pub mod Filing
+pub mod Going
+pub mod Holding
+pub mod Lasting
+pub mod Locking
+pub mod Looking
+pub mod Poised
+pub mod Publishing
+pub mod Refusing
+pub mod Sane

@@ -1,0 +1,10 @@
+pub mod Edit
+pub mod Enabled
+pub mod Orders
+pub mod Publishes
+pub mod Rows
+pub mod Running
+pub mod Safe
+pub mod Seen
+pub mod Steps
+pub mod World
