@@ -20,6 +20,7 @@ mod disk;
 mod entries;
 mod failure;
 mod holder;
+mod left_lock;
 mod lock_file;
 mod look;
 mod met;
