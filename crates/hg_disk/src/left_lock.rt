@@ -66,8 +66,10 @@ fn open_either<R: Files<File = File>>(
 
 // Lets go of a file that stands nowhere any more.
 fn let_go(opened: &mut Opened, file: File) {
-    let _ = file.unlock();
-    opened.keep(file);
+    // (one that isn't kept is closed, which lets go of it too)
+    if file.unlock().is_ok() {
+        opened.keep(file);
+    }
 }
 
 // What became of the process that made a file.

@@ -51,17 +51,23 @@ pub(crate) fn make<R: Files>(rt: &R, path: &str, mode: u32) -> Result<R::File, E
 /// Makes a regular file below the folder `hg` that isn't there yet, for writing. It may be read and written by whom that folder may be, whatever the
 /// user's mask, as Mercurial has it (its `createmode`).
 pub(crate) fn make_below<R: Files>(rt: &R, hg: &str, path: &str) -> Result<R::File, Error> {
-    let mode = fs::metadata(rt, hg)?.mode() & READ_WRITE | OWN;
-    make_with(rt, path, mode)
+    let mode = mode_below(&fs::metadata(rt, hg)?);
+    let (file, _) = make_with(rt, path, mode)?;
+    Ok(file)
 }
 
-// The same with rights that are told. They are set on the open file; where the system keeps none, it has those that it has.
-fn make_with<R: Files>(rt: &R, path: &str, mode: u32) -> Result<R::File, Error> {
+fn mode_below(folder: &Metadata) -> u32 {
+    folder.mode() & READ_WRITE | OWN
+}
+
+// The same with rights that are told, and what the file shows. They are set on the open file; where the system keeps none, it has those that it has.
+fn make_with<R: Files>(rt: &R, path: &str, mode: u32) -> Result<(R::File, Metadata), Error> {
     let file = make(rt, path, mode)?;
-    if file.metadata()?.mode() & ALL != mode {
+    let seen = file.metadata()?;
+    if seen.mode() & ALL != mode {
         let _ = file.set_permissions(Permissions::from_mode(mode));
     }
-    Ok(file)
+    Ok((file, seen))
 }
 
 /// Opens the regular file that was seen at the path, to be read, and to be written where that is asked for; there is none where it went away, or
@@ -129,12 +135,12 @@ fn make_anew<R: Files<File = File>>(
 
 // Makes a file that isn't there yet, and gives it to whom the folder `hg` belongs where the system lets us: what root saved couldn't be read by them else.
 fn make_own<R: Files<File = File>>(rt: &R, hg: &str, path: &str) -> Result<File, Reason> {
-    let file = match make_below(rt, hg, path) {
-        Ok(file) => file,
+    let folder = fs::metadata(rt, hg)?;
+    let (file, seen) = match make_with(rt, path, mode_below(&folder)) {
+        Ok(made) => made,
         Err(error) if error.kind() == ErrorKind::AlreadyExists => return Err(EXCHANGED),
         Err(error) => return Err(Reason::System(error)),
     };
-    let (seen, folder) = (file.metadata()?, fs::metadata(rt, hg)?);
     if seen.uid() != folder.uid() || seen.gid() != folder.gid() {
         let _ = fchown(file.as_fd(), Some(folder.uid()), Some(folder.gid()));
     }
@@ -155,7 +161,7 @@ fn put_copy<R: Files<File = File> + AllocGlobal>(
     };
     let beside = beside(rt.alloc(), path)?;
     remove_file(rt, beside.as_str())?;
-    let mut to = make_with(rt, beside.as_str(), seen.mode() & READ_WRITE)?;
+    let (mut to, _) = make_with(rt, beside.as_str(), seen.mode() & READ_WRITE)?;
     if let Err(error) = replace(rt, &mut from, length, &mut to, beside.as_str(), path) {
         let _ = fs::remove_file(rt, beside.as_str());
         return Err(Reason::System(error));
