@@ -1,6 +1,6 @@
 -- A table that was put whole is written, or too large.
 use Rattle.std.proofs.Common.{◌≡◌, ℕ, ◌+◌, ◌*◌, ◌<◌, ◌≤◌, ◌^◌, List, [], ◌++◌, length, Some, None, Result, Ok, Err, inl, inr, true, true≢false, refl, sym, ap, subst, ◌∙◌, arith, append-nil}
-use Rattle.std.specs.Prelude.{IfErr, IfOk, is_some}
+use Rattle.std.specs.Prelude.{IfErr, IfOk, is_some, take}
 use Rattle.hg_docket.specs.Docket.{Contents}
 use Rattle.hg_docket.specs.Number.{next_name}
 use Rattle.hg_docket.specs.Written as docket
@@ -13,7 +13,8 @@ use Rattle.hg_append.specs.Keeps.{keeps_nothing}
 use Rattle.hg_append.specs.Tree.{IsTreeOf, Nothing, Node, Tree, count_in, has_entry, has_source, heads}
 use Rattle.hg_append.specs.Layout.{front_size, list_start, put_of, size_of}
 use Rattle.hg_append.specs.Put.{IsPut, kept}
-use Rattle.hg_append.specs.Encoded.{HasCause, IsFit, IsSoundly, Yields, contents_of, contents_with}
+use Rattle.hg_append.specs.Either.{file_of}
+use Rattle.hg_append.specs.Encoded.{HasCause, IsFit, IsSoundly, IsWritten, Yields, contents_of, contents_with}
 use Rattle.hg_append.proofs.OneTree.{one_tree}
 use Rattle.hg_append.proofs.Sizes.{counted_few, size_is}
 
@@ -109,3 +110,7 @@ told_large held (Err (a_fault.TooLarge size)) ok err tree is large next =
     let same : err.tree ≡ tree = one_tree held None err.tree tree err.is is in
     inl (ap a_fault.TooLarge (err.size ∙ ap (λ (t : Tree). kept (size_of t)) same))
 told_large held (Err a_fault.IdsSpent) ok err tree is large next = absurd (true≢false (sym next ∙ ap is_some err))
+
+-- of a table that was written anew the data file has what was encoded alone
+pub file_anew : (held : Held) (e : Encoded) → IsWritten held e → file_of held e ≡ e.bytes.items
+file_anew held e written = ap (λ (place : ℕ). take place held.bytes ++ e.bytes.items) written.place

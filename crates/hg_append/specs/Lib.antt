@@ -4,3 +4,7 @@ pub mod Layout
 pub mod Put
 pub mod Encoded
 pub mod Lost
+pub mod Appended
+pub mod Loss
+pub mod Appending
+pub mod Either

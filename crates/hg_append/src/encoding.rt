@@ -1,27 +1,27 @@
-//! A table, written as a docket and a data file.
+//! A table, encoded by either way.
 
-ghost use Rattle.std.specs.Prelude.{◌≡◌, ◌<◌, ◌≤◌, ◌^◌, [], IfOk, IfErr, IfSome, None, is_some, true};
-ghost use Rattle.hg_docket.specs.Number.{next_name, number_of};
+ghost use Rattle.std.specs.Prelude.{◌≡◌, ◌+◌, ◌≤◌, ◌^◌, ℕ, List, Option, None, IfErr, IfOk, is_some, true};
 ghost use Rattle.hg_docket.specs.Docket.{docket_of};
-ghost use Rattle.hg_docket.specs.Written as written;
+ghost use Rattle.hg_docket.specs.Number.{next_name};
 ghost use Rattle.hg_image.specs.Counts.{is_counted};
 ghost use Rattle.hg_image.specs.Reading.{reading_of};
 ghost use Rattle.hg_image.specs.Rows.{rows_of};
-ghost use Rattle.hg_mixed.specs.Edits.{IsFormed};
-ghost use Rattle.hg_mixed.specs.Held.{table};
-ghost use Rattle.hg_append.specs.Encoded.{HasCause, IsFit, IsSoundly, IsWritten, ReadsAs, Yields, contents_with, end_in};
+ghost use Rattle.hg_mixed.specs.Held.{is_lent, table};
+ghost use Rattle.hg_append.specs.Encoded.{IsWritten, ReadsAs, Yields};
 ghost use Rattle.hg_append.specs.Layout.{size_of};
+ghost use Rattle.hg_append.specs.Lost.{waste};
 ghost use Rattle.hg_append.specs.Put.{kept};
 ghost use Rattle.hg_append.specs.Tree.{IsTreeOf, Tree};
-ghost use Rattle.hg_append.specs.Lost.{waste};
-ghost use Rattle.hg_append.specs.declared.way.Way.TheVariants as a_way;
 ghost use Rattle.hg_append.specs.declared.fault.EncodeFault.TheVariants.{IdsSpent, TooLarge};
+ghost use Rattle.hg_append.specs.declared.way.Way.TheVariants as a_way;
+ghost use Rattle.hg_append.specs.Appended.{IsAppended, IsExact, IsNewTree, StaysAt, end_with};
+ghost use Rattle.hg_append.specs.Either.{CanEncode, HasCauseBy, file_of};
 
+use crate::appending::append;
 use crate::fault::EncodeFault;
-use crate::lists::{LAST, Put, put_list};
+use crate::rewriting::rewrite;
 use crate::way::Way;
-use hg_base::{OutOfMemory, PathRef};
-use hg_docket::{Docket, Ident};
+use hg_docket::Ident;
 use hg_mixed::Mixed;
 use std::alloc::Global;
 
@@ -38,143 +38,39 @@ pub struct Encoded {
     pub id: Ident,
 }
 
-/// How a table is best written: anew, until tables keep what they were opened from.
-pub fn plan(mixed: &Mixed<'_>) -> Way
-    ensures { result ≡ a_way.Rewrite }
-{
-    let _ = mixed.changed();
-    Way::Rewrite
-}
-
-/// Where a data file ends that has so many used bytes, and more behind them. Past the last place that 32 bits can name, the refusal
-/// is that sum, or the greatest number of 64 bits where the sum is greater.
-pub fn end_of(used: u32, more: u64) -> Result<u32, u64>
-    ensures { result ≡ end_in used more }
-{
-    let end = (used as u64).saturating_add(more);
-    if end > LAST {
-        return Err(end);
-    }
-    Ok(end as u32)
-}
-
-// The identifier that follows.
-fn next_id(id: &[u8]) -> Option<Ident>
-    ensures next { result ≡ next_name id.now }
-    ensures number { IfSome result (λ next. is_some (number_of next) ≡ true) }
-{
-    match Ident::read(id) {
-        None => Ident::none().next(),
-        Some(id) => id.next(),
-    }
-}
-
-// The bytes of the docket that goes with what was put.
-fn docket_bytes(
-    alloc: Global,
-    mixed: &Mixed<'_>,
-    id: &Ident,
-    put: Put,
-    used: u32,
-) -> Result<Vec<u8>, OutOfMemory>
-    requires fit { IsFit put }
-    requires named { is_some (number_of id.now) ≡ true }
-    ensures bytes { IfOk result (λ v. v.items ≡ written.bytes_of (contents_with mixed.now id.now put used)) }
-    ensures back { IfOk result (λ v. written.ReadsAs v.items (contents_with mixed.now id.now put used)) }
-{
-    let (p1, p2) = mixed.parents();
-    let docket = Docket {
-        p1,
-        p2,
-        root_start: put.start as u32,
-        root_count: put.sums.count as u32,
-        entries: put.sums.entries as u32,
-        copies: put.sums.copies as u32,
-        unreachable: 0,
-        hash: mixed.hash(),
-        used,
-        id: id.as_bytes(),
-    };
-    let mut out = Vec::new(alloc);
-    docket.write(&mut out)?;
-    Ok(out)
-}
-
-// The used size of a data file that ends there.
-fn used_to(end: u64) -> Result<u32, EncodeFault>
-    ensures ok { IfOk result (λ used. (used ≡ end) × (end < 2 ^ 32)) }
-    ensures err { IfErr result (λ e. (e ≡ TooLarge end) × (2 ^ 32 ≤ end)) }
-{
-    match end_of(0, end) {
-        Ok(used) => Ok(used),
-        Err(size) => Err(EncodeFault::TooLarge { size }),
-    }
-}
-
-// Room for as many bytes as the image has, and for an eighth more.
-fn room(alloc: Global, mixed: &Mixed<'_>) -> Result<Vec<u8>, OutOfMemory>
-    ensures { IfOk result (λ v. v.items ≡ []) }
-{
-    let used = mixed.image().docket.used as usize;
-    let bytes = Vec::with_capacity(alloc, used + used / 8)?;
-    Ok(bytes)
-}
-
-// Writes a table anew.
-fn write(alloc: Global, mixed: &Mixed<'_>) -> Result<Encoded, EncodeFault>
-    ensures written { IfOk result (λ e. IsSoundly mixed.now e) }
-    ensures cause { IfErr result (λ e. HasCause mixed.now e) }
-{
-    let Some(id) = next_id(mixed.image().docket.id) else {
-        return Err(EncodeFault::IdsSpent);
-    };
-    let mut bytes = room(alloc, mixed)?;
-    let mut records = Vec::new(alloc);
-    let put = put_list(
-        mixed,
-        Way::Rewrite,
-        None,
-        mixed.walk(None),
-        0,
-        &mut bytes,
-        &mut records,
-    )?;
-    let used = used_to(put.sums.end)?;
-    let docket = docket_bytes(alloc, mixed, &id, put, used)?;
-    Ok(Encoded {
-        place: 0,
-        bytes,
-        docket,
-        id,
-    })
-}
-
-// (a table tells what it keeps where it is asked)
-fn formed(mixed: &Mixed<'_>)
-    ensures { IsFormed (table mixed.now) }
-{
-    let _ = mixed.get(PathRef { text: "a" });
-}
-
-/// Encodes a table as a docket and a data file: the next identifier, and all bytes anew.
+/// Encodes a table as a docket and as what is to be written to the data file: behind its used bytes, under the identifier that it has, where `plan` answers
+/// that; or anew, under the next identifier, from place 0 on.
 ///
 /// What fails leaves the table as it is; nothing is written to a disk.
 pub fn encode(alloc: Global, mixed: &Mixed<'_>, way: Way) -> Result<Encoded, EncodeFault>
-    requires { way ≡ a_way.Rewrite }
-    // The bytes are those of the tree of all nodes, laid out as `specs/Layout.antt` says, and the docket is that of the tree.
-    ensures written { IfOk result (λ e. IsWritten mixed.now e) }
-    // Read again, they are the table.
-    ensures reads { IfOk result (λ e. ReadsAs (table mixed.now) (reading_of e.docket.items e.bytes.items)) }
+    requires { CanEncode mixed.now way }
+    ensures written { way ≡ a_way.Rewrite → IfOk result (IsWritten mixed.now) }
+    // Behind the data file come the nodes that aren't in lists that are lent, laid out as they are written anew, and the docket counts all.
+    ensures appended { way ≡ a_way.Append → IfOk result (IsAppended mixed.now) }
+    // Read again from the data file, once it is written there, it is the table.
+    ensures reads { IfOk result (λ e. ReadsAs (table mixed.now) (reading_of e.docket.items (file_of mixed.now e))) }
     // Each count is the one from scratch.
-    ensures counted { IfOk result (λ e. is_counted (docket_of e.docket.items) (rows_of (docket_of e.docket.items) e.bytes.items) ≡ true) }
-    // Something leads to each byte.
-    ensures waste { IfOk result (λ e. waste (docket_of e.docket.items) (rows_of (docket_of e.docket.items) e.bytes.items) ≡ 0) }
-    // Each fault comes for its cause alone. Where no identifier is left, that is told first, and else a size that is too great.
-    ensures cause { IfErr result (λ e. HasCause mixed.now e) }
-    ensures ids_spent { next_name mixed.now.docket.id ≡ None → Yields IdsSpent result }
-    ensures too_large { (tree : Tree) → IsTreeOf mixed.now None tree → 2 ^ 32 ≤ size_of tree → is_some (next_name mixed.now.docket.id) ≡ true → Yields (TooLarge (kept (size_of tree))) result }
+    ensures counted { IfOk result (λ e. is_counted (docket_of e.docket.items) (rows_of (docket_of e.docket.items) (file_of mixed.now e)) ≡ true) }
+    // Anew, something leads to each byte. Behind, the unreachable number is the waste where it was so, and no two texts or records shared bytes.
+    ensures waste { way ≡ a_way.Rewrite → IfOk result (λ e. waste (docket_of e.docket.items) (rows_of (docket_of e.docket.items) (file_of mixed.now e)) ≡ 0) }
+    ensures told { way ≡ a_way.Append
+        → IsExact mixed.now
+        → IfOk
+        result
+        (λ e. (docket_of e.docket.items).unreachable ≡ waste (docket_of e.docket.items) (rows_of (docket_of e.docket.items) (file_of mixed.now e))) }
+    // Each list that is lent stands where it stood, that of the root among them.
+    ensures stays { way ≡ a_way.Append
+        → IfOk result (λ e. (dir : Option (List ℕ)) → is_lent mixed.now dir ≡ true → StaysAt mixed.now e dir) }
+    ensures cause { IfErr result (HasCauseBy mixed.now way) }
+    // Where no identifier is left for a new file, that is told first; a file that would be too large is always told, unless there is no memory.
+    ensures ids_spent { way ≡ a_way.Rewrite → next_name mixed.now.docket.id ≡ None → Yields IdsSpent result }
+    ensures too_large_anew { way ≡ a_way.Rewrite
+        → (tree : Tree) → IsTreeOf mixed.now None tree → 2 ^ 32 ≤ size_of tree → is_some (next_name mixed.now.docket.id) ≡ true → Yields (TooLarge (kept (size_of tree))) result }
+    ensures too_large { way ≡ a_way.Append
+        → (tree : Tree) → IsNewTree mixed.now tree → 2 ^ 32 ≤ end_with mixed.now tree → Yields (TooLarge (kept (end_with mixed.now tree))) result }
 {
-    let _ = way;
-    formed(mixed);
-    write(alloc, mixed)
+    match way {
+        Way::Rewrite => rewrite(alloc, mixed),
+        Way::Append => append(alloc, mixed),
+    }
 }

@@ -13,6 +13,7 @@ ghost use Rattle.hg_append.specs.Layout as layout;
 ghost use Rattle.hg_append.specs.Put as puts;
 ghost use Rattle.hg_append.specs.Put.{AreFew, AreFields, HasPut, IsFew, IsPut, IsPutUnder, IsWritable, Puts, base_by, rec_with};
 
+use crate::ends::LAST;
 use crate::kept::{Kept, kept_list};
 use crate::sums::{Sums, ended, none, with_node};
 use crate::way::Way;
@@ -20,9 +21,6 @@ use hg_base::{OutOfMemory, PathRef};
 use hg_entry::Fields;
 use hg_mixed::{Below, Child, Mixed, Walk};
 use hg_node::Rec;
-
-/// The last place that 32 bits can name.
-pub const LAST: u64 = 4_294_967_295;
 
 /// A list that was put: where its records begin, and its sums.
 #[derive(Clone, Copy)]

@@ -119,8 +119,8 @@ timeless dirs t is path entry there =
     ap stamp_in (sym there) ∙ ap (λ (p : List ℕ). stamp_in (t.entries p)) at.2 ∙ ap stamp_in (is.entries.entry at.0 at.1)
     ∙ unstamped (is_tracked at.0 || is_in_parent at.0) (is_tracked at.0) (is_in_parent at.0)
 
-pub stamp_not : (s : Option StampData) (stamp : StampData) → s ≡ None → s ≡ Some stamp → ⊥
-stamp_not s stamp none some = let both : None ≡ Some stamp = sym none ∙ some in absurd (cc both)
+pub is_not : {A : Type 0} (found : Option A) (value : A) → found ≡ None → found ≡ Some value → ⊥
+is_not found value none some = let both : None ≡ Some value = sym none ∙ some in absurd (cc both)
 
 pub fresh_between : (dirs : ℕ) (files : shelf.Files) (h : tree.History) → IsStored dirs files → IsBetween dirs files h
 fresh_between dirs files h stored = record {
@@ -129,8 +129,8 @@ fresh_between dirs files h stored = record {
   marked = table_marked dirs stored.table stored.is;
   uncached = stored.is.entries.caches;
   trusted = record {
-    entries = λ path entry stamp there could. absurd (stamp_not entry.stamp stamp (timeless dirs stored.table stored.is path entry there) could.stamp_is);
-    caches = λ dir stamp there. absurd (stamp_not (stored.table.caches dir) stamp (stored.is.entries.caches dir) there);
+    entries = λ path entry stamp there could. absurd (is_not entry.stamp stamp (timeless dirs stored.table stored.is path entry there) could.stamp_is);
+    caches = λ dir cache there. absurd (is_not (stored.table.caches dir) cache (stored.is.entries.caches dir) there);
   };
   parent = stored_parent dirs files stored;
 }

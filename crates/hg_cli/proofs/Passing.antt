@@ -3,11 +3,11 @@ use Rattle.std.proofs.Common.{ℕ, ◌≡◌, ◌*◌, ◌%◌, ◌<◌, ◌≤�
 use Rattle.std.specs.Prelude.{IfSome, IsTrue, codes, option_map}
 use Rattle.hg_append.specs.declared.way.Way.{Way}
 use Rattle.hg_append.specs.declared.way.Way.TheVariants as a_way
-use Rattle.hg_appended.specs.Loss.{plan_of}
+use Rattle.hg_append.specs.Loss.{plan_of}
 use Rattle.hg_base.specs.Fault.{Rose}
 use Rattle.hg_compare.specs.Tracked.{ParentRow}
 use Rattle.hg_docket.specs.Docket.{Contents}
-use Rattle.hg_entry.specs.Entry.{StampData}
+use Rattle.hg_entry.specs.Entry.{CacheData}
 use Rattle.hg_entry.specs.Table.{Table, flat_of}
 use Rattle.hg_flat.specs.Patterns.{ignored_at}
 use Rattle.hg_gen.specs.Copy.{AreFiles}
@@ -41,7 +41,7 @@ use Rattle.hg_cli.specs.Lines.{lines_with}
 use Rattle.hg_cli.specs.Load.{all_letters}
 use Rattle.hg_cli.proofs.Letters.{letter_of}
 use Rattle.hg_cli.proofs.Numbering.{numbered}
-use Rattle.hg_cli.proofs.Owning.{IsBetween, asked_still, none_late, not_plain, one_reading, parent_kept, plain_unwritten, read_there, stamp_not}
+use Rattle.hg_cli.proofs.Owning.{IsBetween, asked_still, none_late, not_plain, one_reading, parent_kept, plain_unwritten, read_there, is_not}
 use Rattle.hg_cli.proofs.Standing.{IsMarked, noted_marked, stands}
 use Rattle.hg_cli.proofs.Tallying.{tally}
 
@@ -64,7 +64,7 @@ text_in text (Some other) = other
 us_not_readers : shelf.us ≡ shelf.readers → ⊥
 us_not_readers same = cc same
 
-none_seen : (seen : Option DirNote) (gone : Bool) (cache : Option StampData) → seen ≡ None → cache ≡ None → with_seen seen gone cache ≡ None
+none_seen : (seen : Option DirNote) (gone : Bool) (cache : Option CacheData) → seen ≡ None → cache ≡ None → with_seen seen gone cache ≡ None
 none_seen None true cache is none = refl
 none_seen None false cache is none = none
 none_seen (Some note) gone cache is none = absurd (cc (is))
@@ -182,7 +182,7 @@ module _ (dirs : ℕ) (looked : Looked) (before after : ℕ → Images) (locks :
           right_by_start looked t past plain
           (record {
             clean = vouched_is_clean (rows_in t there) t looked.tree.old looked.tree.new passes.past honest trusted;
-            listed = λ k dir stamp stat state from upto cached shown kind fits texts hash name component stood. absurd (stamp_not (t.caches dir) stamp (uncached dir) cached);
+            listed = λ k dir cache stat state from upto cached shown kind fits texts hash name component stood. absurd (is_not (t.caches dir) cache (uncached dir) cached);
           })
 
       marked : IsMarked dirs t

@@ -2,7 +2,7 @@
 use crate::edits::{Edit, File, Plain, apply, is_same, rewritten};
 use crate::encodings::{LONG, PATHS, drawn, some_edit};
 use hg_append::{Encoded, Way};
-use hg_appended::{encode, plan};
+use hg_append::{encode, plan};
 use hg_docket::Docket;
 use hg_image::{Image, List};
 use hg_mixed::Mixed;

@@ -1,5 +1,5 @@
 -- Entries: what is recorded of a file that is tracked, or is in a parent (Mercurial help, internals.dirstate-v2, "The data file format").
-use Rattle.std.specs.Prelude.{ℕ, ◌/◌, ◌%◌, ◌^◌, Bool, not, ◌&&◌, ◌||◌, if◌then◌else◌, Option, Some, None, nat_lt}
+use Rattle.std.specs.Prelude.{ℕ, ◌/◌, ◌%◌, ◌^◌, Bool, false, not, ◌&&◌, ◌||◌, if◌then◌else◌, Option, Some, None, nat_lt}
 use Rattle.std.specs.Option.{option_map}
 use Rattle.hg_base.specs.declared.time.Stamp.{Stamp}
 use Rattle.hg_entry.specs.declared.entry.Entry.{Entry}
@@ -15,6 +15,12 @@ pub record StampData : Type 0 where
   pub nanos : ℕ
   pub ambiguous : Bool
 
+-- what is recorded of a cached directory: the time at which all its children were seen, and whether those that are ignored were among
+-- them (which nothing records yet)
+pub record CacheData : Type 0 where
+  pub stamp : StampData
+  pub full : Bool
+
 -- an entry, without the proofs that its parts agree
 pub record EntryData : Type 0 where
   pub w : Bool
@@ -29,6 +35,10 @@ pub record EntryData : Type 0 where
 
 abbrev pub stamp_view : Stamp → StampData
 stamp_view s = record { seconds = s.seconds; nanos = s.nanos; ambiguous = s.ambiguous }
+
+-- the cache of a directory that has this time
+abbrev pub cache_view : Stamp → CacheData
+cache_view s = record { stamp = stamp_view s; full = false }
 
 abbrev pub view : Entry → EntryData
 view e =
@@ -75,11 +85,11 @@ entry_of f =
     )
     else None
 
--- the time at which all children of a directory were seen, where the node of the directory has no entry and records one
-abbrev pub cache_of : Fields → Option StampData
+-- the cache of a directory, where its node has no entry and records the time of one
+abbrev pub cache_of : Fields → Option CacheData
 cache_of f =
     if not (has_entry f.flags) && has f.flags bits.has_mtime && has f.flags bits.directory && has f.flags bits.all_unknown_recorded
-    then Some (time_of f)
+    then Some (record { stamp = time_of f; full = false })
     else None
 
 -- what an entry says of its file: removed, a merge, added, or neither

@@ -1,7 +1,7 @@
 -- What a dirstate says as a whole: the table of all that is recorded, and the flat map of what the states of files depend on.
 use Rattle.std.specs.Prelude.{ℕ, Bool, List, Option}
 use Rattle.std.specs.Option.{option_map}
-use Rattle.hg_entry.specs.Entry.{EntryData, StampData}
+use Rattle.hg_entry.specs.Entry.{CacheData, EntryData}
 
 -- whether a file is tracked, in the first parent, and marked for the second
 pub record Marks : Type 0 where
@@ -10,7 +10,7 @@ pub record Marks : Type 0 where
   pub p2 : Bool
 
 -- all that is recorded: the parents, the hash of the ignore patterns, entries and copy sources by path, where a node stands, and
--- the times of cached directories by path
+-- what is recorded of cached directories by path
 pub record Table : Type 0 where
   pub p1 : List ℕ
   pub p2 : List ℕ
@@ -18,7 +18,7 @@ pub record Table : Type 0 where
   pub entries : List ℕ → Option EntryData
   pub sources : List ℕ → Option (List ℕ)
   pub nodes : List ℕ → Bool
-  pub caches : List ℕ → Option StampData
+  pub caches : List ℕ → Option CacheData
 
 -- the parents, the marks by path and the copy sources by path
 pub record Flat : Type 0 where

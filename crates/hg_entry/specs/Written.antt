@@ -1,7 +1,8 @@
 -- How entries and cached directories are written: the flags as one number, and zeros for what is absent.
 use Rattle.std.specs.Prelude.{ℕ, ◌+◌, ◌*◌, ◌^◌, Bool, false, Option, Some, None, is_some}
 use Rattle.hg_entry.specs.declared.entry.Fields.{Fields}
-use Rattle.hg_entry.specs.Entry.{EntryData, StampData}
+use Rattle.std.specs.Option.{option_map}
+use Rattle.hg_entry.specs.Entry.{CacheData, EntryData, StampData}
 use Rattle.hg_entry.specs.Flags as bits
 use Rattle.hg_entry.specs.Flags.{flag}
 
@@ -40,12 +41,22 @@ flags_of e =
 abbrev pub fields_of : EntryData → Fields
 fields_of e = record { flags = flags_of e; size = or_zero e.size; seconds = seconds_of e.stamp; nanos = nanos_of e.stamp }
 
+-- the time of a cache, where there is one
+abbrev pub stamp_in : Option CacheData → Option StampData
+stamp_in = option_map (λ cache. cache.stamp)
+
 -- the flags of a directory that was seen whole
-abbrev pub cache_flags : Option StampData → ℕ
+abbrev pub cache_flags : Option CacheData → ℕ
 cache_flags None = 0
-cache_flags (Some s) =
-    2 ^ bits.has_mtime + flag s.ambiguous bits.mtime_second_ambiguous + 2 ^ bits.directory + 2 ^ bits.all_unknown_recorded
+cache_flags (Some cache) =
+    2 ^ bits.has_mtime + flag cache.stamp.ambiguous bits.mtime_second_ambiguous + 2 ^ bits.directory + 2 ^ bits.all_unknown_recorded
 
 -- the fields of a node without entry, with or without a cache
-abbrev pub cache_fields : Option StampData → Fields
-cache_fields s = record { flags = cache_flags s; size = 0; seconds = seconds_of s; nanos = nanos_of s }
+abbrev pub cache_fields : Option CacheData → Fields
+cache_fields cache =
+    record {
+      flags = cache_flags cache;
+      size = 0;
+      seconds = seconds_of (stamp_in cache);
+      nanos = nanos_of (stamp_in cache);
+    }

@@ -2,7 +2,7 @@
 
 ghost use Rattle.std.specs.Prelude.{◌≡◌, not, ◌&&◌, ◌||◌, if◌then◌else◌, IsTrue, ◌/◌, ◌%◌, ◌^◌};
 ghost use Rattle.std.specs.Option.{option_map};
-ghost use Rattle.hg_entry.specs.Entry.{view, stamp_view, is_timely, time_of, entry_of, cache_of};
+ghost use Rattle.hg_entry.specs.Entry.{cache_of, cache_view, entry_of, is_timely, stamp_view, time_of, view};
 ghost use Rattle.hg_entry.specs.Flags.{has, has_mtime};
 
 use crate::bits as bit;
@@ -38,7 +38,7 @@ impl Entry {
 /// The time at which all children of a directory were seen, `None` where none is recorded or the node has an entry.
 pub fn dir_stamp(f: Fields) -> Option<Stamp>
     requires { IsTrue (is_timely f) }
-    ensures { option_map stamp_view result ≡ cache_of f }
+    ensures { option_map cache_view result ≡ cache_of f }
 {
     if has_entry(f.flags) {
         return None;

@@ -3,7 +3,7 @@
 ghost use Rattle.std.specs.Prelude.{◌≡◌, ◌≤◌, ◌<◌, ◌^◌, Some};
 ghost use Rattle.std.specs.Option.{option_map};
 ghost use Rattle.hg_entry.specs.Flags.{flag};
-ghost use Rattle.hg_entry.specs.Entry.{view, stamp_view, entry_of, cache_of};
+ghost use Rattle.hg_entry.specs.Entry.{cache_of, cache_view, entry_of, stamp_view, view};
 ghost use Rattle.hg_entry.specs.Written.{or_zero, seconds_of, nanos_of, is_ambiguous, flags_of, fields_of, cache_flags, cache_fields};
 
 use crate::bits as bit;
@@ -49,9 +49,9 @@ impl Entry {
 
 /// The fields of a node without entry, with or without the time of a cached directory.
 pub fn dir_fields(s: Option<Stamp>) -> Fields
-    ensures fields { result ≡ cache_fields (option_map stamp_view s) }
+    ensures fields { result ≡ cache_fields (option_map cache_view s) }
     // Read again, they are the same time.
-    ensures back { cache_of result ≡ option_map stamp_view s }
+    ensures back { cache_of result ≡ option_map cache_view s }
 {
     Fields {
         flags: dir_flags(s),
@@ -62,7 +62,7 @@ pub fn dir_fields(s: Option<Stamp>) -> Fields
 }
 
 fn dir_flags(s: Option<Stamp>) -> u16
-    ensures { result ≡ cache_flags (option_map stamp_view s) }
+    ensures { result ≡ cache_flags (option_map cache_view s) }
 {
     match s {
         None => 0,

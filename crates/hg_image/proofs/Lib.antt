@@ -1,5 +1,6 @@
 pub mod Apart
 pub mod Counted
+pub mod Found
 pub mod Levels
 pub mod Names
 pub mod Parted

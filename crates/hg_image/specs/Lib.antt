@@ -1,4 +1,5 @@
 pub mod Counts
+pub mod Found
 pub mod Node
 pub mod Reading
 pub mod Rows

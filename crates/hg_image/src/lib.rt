@@ -34,6 +34,7 @@
 mod below;
 mod counts;
 mod fault;
+mod finding;
 mod image;
 mod list;
 mod list_check;
@@ -43,4 +44,5 @@ mod opened;
 mod parts;
 
 pub use fault::NodeFault;
+pub use finding::node_in;
 pub use opened::{Image, List, NodeRef};

@@ -1,7 +1,7 @@
 //! One node, read where it lies.
 
 ghost use Rattle.std.specs.Prelude.{◌≡◌, Some, option_map};
-ghost use Rattle.hg_entry.specs.Entry.{view, stamp_view, entry_of, cache_of};
+ghost use Rattle.hg_entry.specs.Entry.{cache_of, cache_view, entry_of, view};
 ghost use Rattle.hg_image.specs.Node.{name_of, fields_of};
 ghost use Rattle.hg_image.specs.View.{row, rows_in, rows_below};
 
@@ -55,7 +55,7 @@ impl<'a> NodeRef<'a> {
 
     /// The time at which all children of the directory were seen, where it is cached.
     pub fn cache(self) -> Option<Stamp>
-        ensures { option_map stamp_view result ≡ cache_of (fields_of self.entry.rec) }
+        ensures { option_map cache_view result ≡ cache_of (fields_of self.entry.rec) }
     {
         dir_stamp(fields(self.rec))
     }

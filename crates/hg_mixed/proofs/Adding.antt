@@ -5,7 +5,7 @@ use Rattle.std.specs.Str.{bytes_eq}
 use Rattle.std.proofs.lemmas.Bool.{cases_Bool, cases_order, cond-true, cond-false, both_ways}
 use Rattle.hg_base.specs.PathText.{is_below, is_path, parent_of}
 use Rattle.hg_base.proofs.Within.{above_is, above_none, same_bytes, within_split}
-use Rattle.hg_entry.specs.Entry.{EntryData, StampData, cache_of, entry_of, has_entry}
+use Rattle.hg_entry.specs.Entry.{CacheData, EntryData, cache_of, entry_of, has_entry}
 use Rattle.hg_image.specs.Node.{fields_of, path_of}
 use Rattle.hg_image.specs.Reading.{row_at}
 use Rattle.hg_image.specs.Rows.{Row}
@@ -19,7 +19,7 @@ use Rattle.hg_mixed.specs.Opened.{IsThere, node_of}
 use Rattle.hg_mixed.specs.Taken.{AddsNodes, AddsOwn, AddsSome, HasRow, IsAsBefore, IsElsewhere, IsNotOf, path_at}
 use Rattle.hg_mixed.specs.Times.{IsTimed, time_at}
 use Rattle.hg_mixed.proofs.Edited.{update_other, update_same}
-use Rattle.hg_mixed.proofs.ImageRows.{dir_member, row_member}
+use Rattle.hg_image.proofs.Found.{dir_member, row_member}
 
 -- ---- what is formed
 
@@ -32,7 +32,7 @@ module _ (row : Row) (sourced : has_entry row.rec.flags ≡ false → row.source
   no_source none = source_only (has_entry row.rec.flags) _ row.source none sourced
 
 -- no cache where an entry is
-pub apart : (b x y z : Bool) (time : StampData) (entry : EntryData) → is_some (cond (not b && x && y && z) (Some time) None) ≡ true → cond b (Some entry) None ≡ None
+pub apart : (b x y z : Bool) (time : CacheData) (entry : EntryData) → is_some (cond (not b && x && y && z) (Some time) None) ≡ true → cond b (Some entry) None ≡ None
 apart true x y z time entry h = absurd (true≢false (sym h))
 apart false x y z time entry h = refl
 
@@ -45,7 +45,7 @@ source_false true c source h = absurd (true≢false h)
 source_false false c source h = refl
 
 -- the same nodes, and no time that wasn't there
-pub formed_less : (rows : List (List ℕ × NodeData)) (times : List (List ℕ × StampData)) (new : List (List ℕ × NodeData)) (after : List (List ℕ × StampData)) → IsFormed (bare rows times) → AreSame rows new
+pub formed_less : (rows : List (List ℕ × NodeData)) (times : List (List ℕ × CacheData)) (new : List (List ℕ × NodeData)) (after : List (List ℕ × CacheData)) → IsFormed (bare rows times) → AreSame rows new
     → ((at : List ℕ) → is_some (time_at after at) ≡ true → is_some (time_at times at) ≡ true) → IsFormed (bare new after)
 formed_less rows times new after formed same less = record {
   paths = λ at h. formed.paths at (sym (ap is_some (same at)) ∙ h);
@@ -55,7 +55,7 @@ formed_less rows times new after formed same less = record {
   caches = λ at h. let had = formed.caches at (less at h) in (ap is_some (same at) ∙ had.0, ap entry_in (same at) ∙ had.1);
 }
 
-module _ (row : Row) (rows : List (List ℕ × NodeData)) (times : List (List ℕ × StampData)) (new : List (List ℕ × NodeData)) (after : List (List ℕ × StampData)) (good : is_path row.path ≡ true)
+module _ (row : Row) (rows : List (List ℕ × NodeData)) (times : List (List ℕ × CacheData)) (new : List (List ℕ × NodeData)) (after : List (List ℕ × CacheData)) (good : is_path row.path ≡ true)
     (formed : IsFormed (bare rows times)) (there : IsThere rows (parent_of row.path)) (put : IsPut row.path (Some (node_of row)) rows new)
     (sourced : has_entry row.rec.flags ≡ false → row.source ≡ None) where
   at_path : (at : List ℕ) → bytes_eq row.path at ≡ true → node_at new at ≡ Some (node_of row)
@@ -78,7 +78,7 @@ module _ (row : Row) (rows : List (List ℕ × NodeData)) (times : List (List �
   ]
 
   -- with any time that no entry stands beside
-  own_formed : (time : Option StampData) → IsTimed row.path time times after → (is_some time ≡ true → entry_of (fields_of row.rec) ≡ None) → IsFormed (bare new after)
+  own_formed : (time : Option CacheData) → IsTimed row.path time times after → (is_some time ≡ true → entry_of (fields_of row.rec) ≡ None) → IsFormed (bare new after)
   own_formed time timed fit = record {
     paths = λ at h. elim (cases_Bool (bytes_eq row.path at)) [
       | inl here ↦ ap is_path (sym (same_bytes row.path at here)) ∙ good
@@ -118,12 +118,12 @@ module _ (row : Row) (rows : List (List ℕ × NodeData)) (times : List (List �
     formed = own_formed (time_at times row.path) (λ at. same at ∙ sym (update_same (time_at times) row.path (time_at times row.path) refl at)) (λ _. no_entry row cached);
   }
 
-less_time : (b : Bool) (was : Option StampData) → is_some (cond b None was) ≡ true → is_some was ≡ true
+less_time : (b : Bool) (was : Option CacheData) → is_some (cond b None was) ≡ true → is_some was ≡ true
 less_time true was h = absurd (true≢false (sym h))
 less_time false was h = h
 
 -- the time of a path is gone, and no node was taken
-pub untimed : (path : List ℕ) (rows : List (List ℕ × NodeData)) (times : List (List ℕ × StampData)) (new : List (List ℕ × NodeData)) (after : List (List ℕ × StampData)) → IsFormed (bare rows times) → AreSame rows new
+pub untimed : (path : List ℕ) (rows : List (List ℕ × NodeData)) (times : List (List ℕ × CacheData)) (new : List (List ℕ × NodeData)) (after : List (List ℕ × CacheData)) → IsFormed (bare rows times) → AreSame rows new
     → IsTimed path None times after → IsElsewhere path rows times new after
 untimed path rows times new after formed same timed = record {
   others = λ at other. record { node = same at; time = timed at ∙ update_other (time_at times) path None at other };
@@ -132,7 +132,7 @@ untimed path rows times new after formed same timed = record {
 
 -- ---- one after the other
 
-pub before_trans : (at : List ℕ) (a : List (List ℕ × NodeData)) (s : List (List ℕ × StampData)) (b : List (List ℕ × NodeData)) (t : List (List ℕ × StampData)) (c : List (List ℕ × NodeData)) (u : List (List ℕ × StampData))
+pub before_trans : (at : List ℕ) (a : List (List ℕ × NodeData)) (s : List (List ℕ × CacheData)) (b : List (List ℕ × NodeData)) (t : List (List ℕ × CacheData)) (c : List (List ℕ × NodeData)) (u : List (List ℕ × CacheData))
     → IsAsBefore at a s b t → IsAsBefore at b t c u → IsAsBefore at a s c u
 before_trans at a s b t c u p q = record { node = q.node ∙ p.node; time = q.time ∙ p.time }
 
@@ -140,10 +140,10 @@ module _ (list : NodeList) (i : ℕ) (node : NodeRef) (member : IsMember list no
   pub member_path : path_at list i ≡ (row node).path
   member_path = (λ k. path_at list (sym place k)) ∙ (λ k. path_of (sym member.bytes k) (sym member.rec k))
 
-module _ (list : NodeList) (i : ℕ) (node : NodeRef) (member : IsMember list node) (place : member.place ≡ i) (a : List (List ℕ × NodeData)) (s : List (List ℕ × StampData)) (b : List (List ℕ × NodeData)) (t : List (List ℕ × StampData))
+module _ (list : NodeList) (i : ℕ) (node : NodeRef) (member : IsMember list node) (place : member.place ≡ i) (a : List (List ℕ × NodeData)) (s : List (List ℕ × CacheData)) (b : List (List ℕ × NodeData)) (t : List (List ℕ × CacheData))
     (adds : AddsNodes list i a s b t) where
   -- one node more
-  pub adds_step : (c : List (List ℕ × NodeData)) (u : List (List ℕ × StampData)) → AddsOwn (row node) b t c u → AddsNodes list (i + 1) a s c u
+  pub adds_step : (c : List (List ℕ × NodeData)) (u : List (List ℕ × CacheData)) → AddsOwn (row node) b t c u → AddsNodes list (i + 1) a s c u
   adds_step c u own = record {
     each = λ at. elim (cases_Bool (bytes_eq (row node).path at)) [
       | inl here ↦ inr (record {
@@ -182,7 +182,7 @@ module _ (list : NodeList) (i : ℕ) (node : NodeRef) (member : IsMember list no
       })
 
   -- memory was wanting
-  pub adds_some : (c : List (List ℕ × NodeData)) (u : List (List ℕ × StampData)) → IsElsewhere (row node).path b t c u → AddsSome list a s c u
+  pub adds_some : (c : List (List ℕ × NodeData)) (u : List (List ℕ × CacheData)) → IsElsewhere (row node).path b t c u → AddsSome list a s c u
   adds_some c u own = record {
     each = λ at. elim (cases_Bool (bytes_eq (row node).path at)) [
       | inl here ↦ inr (

@@ -11,7 +11,7 @@ use Rattle.hg_base.specs.PathText.{is_path, parent_of}
 use Rattle.hg_base.specs.declared.path.PathRef.{PathRef}
 use Rattle.hg_base.proofs.Children.{below_parent}
 use Rattle.hg_base.proofs.Paths.{path_above, path_some}
-use Rattle.hg_entry.specs.Entry.{StampData}
+use Rattle.hg_entry.specs.Entry.{CacheData}
 use Rattle.hg_mixed.specs.ChildOf.{children_of}
 use Rattle.hg_mixed.specs.Children.{AreNodesIn, IsNodeIn}
 use Rattle.hg_mixed.specs.Edits.{IsFormed}
@@ -36,11 +36,11 @@ same_dirs (Some a) (Some b) p q h = ap Some h
 parent_some : (path : List ℕ) → is_path path ≡ true → (d : List ℕ) → parent_of path ≡ Some d → 0 < length d
 parent_some path good d h = path_some d (path_above d path (below_parent d path h) good)
 
-paths_of : (rows : List (List ℕ × NodeData)) (times : List (List ℕ × StampData)) (kids : List (List ℕ × NodeData)) → map (λ child. child.path) (children_of rows times kids) ≡ keys_of kids
+paths_of : (rows : List (List ℕ × NodeData)) (times : List (List ℕ × CacheData)) (kids : List (List ℕ × NodeData)) → map (λ child. child.path) (children_of rows times kids) ≡ keys_of kids
 paths_of rows times [] = refl
 paths_of rows times (kid ∷ kids) = ap (λ (l : List (List ℕ)). kid.0 ∷ l) (paths_of rows times kids)
 
-any_of : (rows : List (List ℕ × NodeData)) (times : List (List ℕ × StampData)) (at : List ℕ) (kids : List (List ℕ × NodeData))
+any_of : (rows : List (List ℕ × NodeData)) (times : List (List ℕ × CacheData)) (at : List ℕ) (kids : List (List ℕ × NodeData))
     → list_any (λ child. bytes_eq at child.path) (children_of rows times kids) ≡ list_any (λ kid. bytes_eq at kid.0) kids
 any_of rows times at [] = refl
 any_of rows times at (kid ∷ kids) = ap (λ (b : Bool). bytes_eq at kid.0 || b) (any_of rows times at kids)

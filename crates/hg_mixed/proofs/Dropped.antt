@@ -3,7 +3,7 @@ use Rattle.std.proofs.Common.{ℕ, ◌≡◌, Bool, true, false, not, cond, ◌&
 use Rattle.std.specs.Prelude.{is_some}
 use Rattle.std.specs.Str.{bytes_eq}
 use Rattle.hg_base.proofs.Within.{same_bytes}
-use Rattle.hg_entry.specs.Entry.{EntryData, StampData}
+use Rattle.hg_entry.specs.Entry.{CacheData, EntryData}
 use Rattle.hg_entry.specs.Table.{Table}
 use Rattle.hg_mixed.specs.Drop.{IsPrunedAt, IsPruned, after_clear, bare}
 use Rattle.hg_mixed.specs.Edits.{IsFormed, IsSame}
@@ -98,7 +98,7 @@ module _ (path : List ℕ) (was old : InMemory) (same : was ≡ old) (mid : List
         let had = formed.caches at is in (clear_alike.nodes at ∙ had.0, clear_alike.entries at ∙ none_or (bytes_eq path at) ((memory_table was).entries at) had.1);
   }
 
-  pub clear_pruned : (left : List (List ℕ × NodeData)) (times : List (List ℕ × StampData)) → IsPruned path (bare mid was.times) (bare left times)
+  pub clear_pruned : (left : List (List ℕ × NodeData)) (times : List (List ℕ × CacheData)) → IsPruned path (bare mid was.times) (bare left times)
       → IsPruned path (after_clear path (memory_table old)) (table_of was.p1 was.p2 was.hash left times)
   clear_pruned left times p = subst (λ (h : InMemory). IsPruned path (after_clear path (memory_table h)) (table_of was.p1 was.p2 was.hash left times)) same
       (alike_pruned path (bare mid was.times) (after_clear path (memory_table was)) (bare left times) (table_of was.p1 was.p2 was.hash left times) clear_alike

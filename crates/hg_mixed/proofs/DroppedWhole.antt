@@ -8,7 +8,7 @@ use Rattle.hg_base.specs.Within.{is_within}
 use Rattle.hg_base.proofs.Children.{below_by_parent, below_has_parent, below_parent, parent_length}
 use Rattle.hg_base.proofs.Within.{within_below, within_itself, within_split, within_trans}
 use Rattle.hg_docket.specs.Docket.{Contents}
-use Rattle.hg_entry.specs.Entry.{StampData}
+use Rattle.hg_entry.specs.Entry.{CacheData}
 use Rattle.hg_entry.specs.Table.{Table}
 use Rattle.hg_image.specs.Reading as reading
 use Rattle.hg_image.specs.Rows.{Row}
@@ -41,7 +41,7 @@ cleared_formed path t formed = record {
   caches = λ at is. let had = formed.caches at is in (had.0, none_or (bytes_eq path at) (t.entries at) had.1);
 }
 
-some_cache : (b : Bool) (o : Option StampData) → is_some (cond b None o) ≡ true → (b ≡ false) × (is_some o ≡ true)
+some_cache : (b : Bool) (o : Option CacheData) → is_some (cond b None o) ≡ true → (b ≡ false) × (is_some o ≡ true)
 some_cache true o h = absurd (true≢false (sym h))
 some_cache false o h = (refl, h)
 

@@ -7,7 +7,7 @@ use Rattle.std.proofs.lemmas.Bool.{cases_Bool, cond-true, cond-false, or_left, o
 use Rattle.hg_base.specs.PathText.{is_below, is_path}
 use Rattle.hg_base.specs.Within.{is_within}
 use Rattle.hg_base.proofs.Within.{equal_bytes, same_bytes, within_below, within_path, within_split, within_trans}
-use Rattle.hg_entry.specs.Entry.{EntryData, StampData}
+use Rattle.hg_entry.specs.Entry.{CacheData, EntryData}
 use Rattle.hg_entry.specs.Table.{Table}
 use Rattle.hg_mixed.specs.Edits.{IsFormed, IsSame, Marks, after_cache, after_copy, after_set}
 use Rattle.hg_mixed.specs.Held.{table_of}
@@ -62,7 +62,7 @@ same_trans a b c p q = record {
 
 -- ---- caches
 
-module _ (dir : List ℕ) (time : Option StampData) (old new : Table) (same : IsSame new (after_cache dir time old)) where
+module _ (dir : List ℕ) (time : Option CacheData) (old new : Table) (same : IsSame new (after_cache dir time old)) where
   pub cache_stays : old.caches dir ≡ time → IsSame new old
   cache_stays is = same_trans new (after_cache dir time old) old same (record {
     p1 = refl;
@@ -141,7 +141,7 @@ module _ (path : List ℕ) (entry : EntryData) (old new : Table) (good : is_path
   no_cache : old.entries path ≡ Some entry → old.caches path ≡ None
   no_cache is = none (old.caches path) refl
     where
-      none : (o : Option StampData) → old.caches path ≡ o → o ≡ None
+      none : (o : Option CacheData) → old.caches path ≡ o → o ≡ None
       none None h = refl
       none (Some time) h = let never : Some entry ≡ None = sym is ∙ (formed.caches path (ap is_some h)).1 in absurd (cc)
 
@@ -200,7 +200,7 @@ some_step false true entry first o = sym (or_right (is_some o) true refl)
 some_step false false entry first None = refl
 some_step false false entry first (Some node) = refl
 
-module _ (path : List ℕ) (entry : EntryData) (old was : InMemory) (same : was ≡ old) (rows : List (List ℕ × NodeData)) (times : List (List ℕ × StampData))
+module _ (path : List ℕ) (entry : EntryData) (old was : InMemory) (same : was ≡ old) (rows : List (List ℕ × NodeData)) (times : List (List ℕ × CacheData))
     (as_planted : (at : List ℕ) → node_at rows at ≡ planted path (with_entry entry (node_at was.rows path)) (node_at was.rows) at) (timed : IsTimed path None was.times times) where
   here : IsSame (table_of was.p1 was.p2 was.hash rows times) (after_set path entry (memory_table was))
   here = record {
@@ -242,7 +242,7 @@ module _ (path : List ℕ) (entry : EntryData) (old was : InMemory) (same : was 
 
 -- ---- the table with another cache
 
-module _ (dir : List ℕ) (time : Option StampData) (old was : InMemory) (same : was ≡ old) (times : List (List ℕ × StampData)) (timed : IsTimed dir time was.times times) where
+module _ (dir : List ℕ) (time : Option CacheData) (old was : InMemory) (same : was ≡ old) (times : List (List ℕ × CacheData)) (timed : IsTimed dir time was.times times) where
   cached : IsSame (table_of was.p1 was.p2 was.hash was.rows times) (after_cache dir time (memory_table was))
   cached = record { p1 = refl; p2 = refl; hash = refl; entries = λ at. refl; sources = λ at. refl; nodes = λ at. refl; caches = timed }
 
@@ -260,7 +260,7 @@ module _ (dir : List ℕ) (time : Option StampData) (old was : InMemory) (same :
 
 -- ---- no caches
 
-module _ (old was : InMemory) (same : was ≡ old) (times : List (List ℕ × StampData)) (none : (at : List ℕ) → time_at times at ≡ None) where
+module _ (old was : InMemory) (same : was ≡ old) (times : List (List ℕ × CacheData)) (none : (at : List ℕ) → time_at times at ≡ None) where
   all_none : (b : Bool) → AreNone b was.times → MatchBool (not b) (IsSame (table_of was.p1 was.p2 was.hash was.rows times) (memory_table was) → ⊥) (IsSame (table_of was.p1 was.p2 was.hash was.rows times) (memory_table was))
   all_none true were = record {
     p1 = refl;

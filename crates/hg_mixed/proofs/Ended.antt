@@ -9,7 +9,7 @@ use Rattle.hg_base.specs.PathText.{is_below, is_path, parent_of}
 use Rattle.hg_base.specs.Within.{is_above, is_within}
 use Rattle.hg_base.specs.declared.time.Stamp.{Stamp}
 use Rattle.hg_base.proofs.Within.{above_is, above_none, equal_bytes, same_bytes, within_below, within_itself, within_split}
-use Rattle.hg_entry.specs.Entry.{StampData, stamp_view}
+use Rattle.hg_entry.specs.Entry.{CacheData, cache_view}
 use Rattle.hg_image.specs.Rows.{Row}
 use Rattle.hg_mixed.specs.Edits.{IsFormed}
 use Rattle.hg_mixed.specs.Held.{table_of}
@@ -55,7 +55,7 @@ ended_dir path dir old mid new good is gone more (b ∷ d) =
 
 -- ---- above cached directories
 
-pub ended_next : (time : List ℕ × StampData) (rest times : List (List ℕ × StampData)) (old was now : List (List ℕ × List Row)) → AreEnded time.0 was now
+pub ended_next : (time : List ℕ × CacheData) (rest times : List (List ℕ × CacheData)) (old was now : List (List ℕ × List Row)) → AreEnded time.0 was now
     → ((dir : List ℕ) → cond (list_any (λ t. is_above (as_dir dir) t.0) (time ∷ rest)) None (lent_at was dir) ≡ cond (list_any (λ t. is_above (as_dir dir) t.0) times) None (lent_at old dir))
     → (dir : List ℕ) → cond (list_any (λ t. is_above (as_dir dir) t.0) rest) None (lent_at now dir) ≡ cond (list_any (λ t. is_above (as_dir dir) t.0) times) None (lent_at old dir)
 ended_next time rest times old was now ended so_far dir =
@@ -65,19 +65,19 @@ ended_next time rest times old was now ended so_far dir =
 
 module _ {Y : Type 0} where
   -- one more cached directory
-  pub ended_step : (e : String Y × Stamp) (rest : List (String Y × Stamp)) (iterator : List (String Y × Stamp)) → iterator ≡ e ∷ rest → (times : List (List ℕ × StampData)) (path : List ℕ) → path ≡ string_bytes e.0
+  pub ended_step : (e : String Y × Stamp) (rest : List (String Y × Stamp)) (iterator : List (String Y × Stamp)) → iterator ≡ e ∷ rest → (times : List (List ℕ × CacheData)) (path : List ℕ) → path ≡ string_bytes e.0
       → (old was now : List (List ℕ × List Row)) → AreEnded path was now
       → ((dir : List ℕ) → cond (list_any (λ t. is_above (as_dir dir) t.0) (times_of iterator)) None (lent_at was dir) ≡ cond (list_any (λ t. is_above (as_dir dir) t.0) times) None (lent_at old dir))
       → (dir : List ℕ) → cond (list_any (λ t. is_above (as_dir dir) t.0) (times_of rest)) None (lent_at now dir) ≡ cond (list_any (λ t. is_above (as_dir dir) t.0) times) None (lent_at old dir)
   ended_step e rest iterator steps times path is old was now ended so_far =
-      ended_next (string_bytes e.0, stamp_view e.1) (times_of rest) times old was now (subst (λ (p : List ℕ). AreEnded p was now) is ended)
+      ended_next (string_bytes e.0, cache_view e.1) (times_of rest) times old was now (subst (λ (p : List ℕ). AreEnded p was now) is ended)
       (subst (λ (i : List (String Y × Stamp)). (dir : List ℕ) → cond (list_any (λ t. is_above (as_dir dir) t.0) (times_of i)) None (lent_at was dir) ≡ cond (list_any (λ t. is_above (as_dir dir) t.0) times) None (lent_at old dir))
       steps so_far)
 
   pub paths_step : (e : String Y × Stamp) (rest iterator : List (String Y × Stamp)) → iterator ≡ e ∷ rest → AreTimedPaths (times_of iterator) → (is_path (string_bytes e.0) ≡ true) × AreTimedPaths (times_of rest)
   paths_step e rest iterator steps paths = subst (λ (i : List (String Y × Stamp)). AreTimedPaths (times_of i)) steps paths
 
-  pub ended_all : (iterator : List (String Y × Stamp)) → iterator ≡ [] → (times : List (List ℕ × StampData)) (old now : List (List ℕ × List Row))
+  pub ended_all : (iterator : List (String Y × Stamp)) → iterator ≡ [] → (times : List (List ℕ × CacheData)) (old now : List (List ℕ × List Row))
       → ((dir : List ℕ) → cond (list_any (λ t. is_above (as_dir dir) t.0) (times_of iterator)) None (lent_at now dir) ≡ cond (list_any (λ t. is_above (as_dir dir) t.0) times) None (lent_at old dir))
       → AreEndedOver times old now
   ended_all iterator none times old now so_far =
@@ -89,14 +89,14 @@ some_more : {X : Type 0} (b : Bool) (x : X) (o : Option X) → is_some o ≡ tru
 some_more true x o h = refl
 some_more false x o h = h
 
-timed_by : (times : List (List ℕ × StampData)) → ((at : List ℕ) → is_some (time_at times at) ≡ true → is_path at ≡ true) → AreTimedPaths times
+timed_by : (times : List (List ℕ × CacheData)) → ((at : List ℕ) → is_some (time_at times at) ≡ true → is_path at ≡ true) → AreTimedPaths times
 timed_by [] paths = tt
 timed_by (time ∷ times) paths = (
   paths time.0 (ap is_some (cond-true (bytes_eq time.0 time.0) (Some time.1) (time_at times time.0) (equal_bytes time.0))),
   timed_by times (λ at some. paths at (some_more (bytes_eq at time.0) time.1 (time_at times at) some)),
 )
 
-pub timed_paths : (p1 p2 hash : List ℕ) (rows : List (List ℕ × NodeData)) (times : List (List ℕ × StampData)) → IsFormed (table_of p1 p2 hash rows times) → AreTimedPaths times
+pub timed_paths : (p1 p2 hash : List ℕ) (rows : List (List ℕ × NodeData)) (times : List (List ℕ × CacheData)) → IsFormed (table_of p1 p2 hash rows times) → AreTimedPaths times
 timed_paths p1 p2 hash rows times formed = timed_by times (λ at some. formed.paths at (formed.caches at some).0)
 
 -- ---- where something differs

@@ -25,7 +25,7 @@ use Rattle.hg_mixed.specs.Opened.{IsThere, node_of}
 use Rattle.hg_mixed.specs.Parted.{IsFree, IsMoved, IsParted, image_rows, whole}
 use Rattle.hg_mixed.specs.Taken.{AddsNodes, AddsSome, AreBared, AreOthersKept, AreServed, CoversLess, IsBare, IsBared, IsKid, IsOpen, IsOut, IsServed, IsServedKid, LendsKid, LendsKids, path_at}
 use Rattle.hg_mixed.proofs.Adding.{member_path}
-use Rattle.hg_mixed.proofs.ImageRows.{below_member, dir_member, row_above, row_is_path, row_rooted}
+use Rattle.hg_image.proofs.Found.{below_member, dir_member, row_above, row_is_path, row_rooted}
 use Rattle.hg_mixed.proofs.Edited.{update_here}
 use Rattle.hg_mixed.proofs.Kept.{lent_same}
 use Rattle.hg_mixed.proofs.Moving.{AgreeNodes, Agrees, as_dir_is, as_own, as_path, bare_in, between, dir_there, formed_same, lends_less, lends_same, lent_still, merged_same, moved_all, moved_kept, moved_lends, moved_some, moved_trans, none_is, one_node, others_kept, placed_at, removed_here, removed_less, right_above, same_as_none, some_never}

@@ -1,12 +1,12 @@
 -- What a walk over all nodes gathers, directory by directory.
-use Rattle.std.proofs.Common.{ℕ, ◌≡◌, ◌<◌, ◌≤◌, Bool, true, false, not, ◌&&◌, ◌||◌, cond, ◌⊎◌, inl, inr, List, [], ◌∷◌, ◌++◌, map, length, Option, Some, None, option_map, refl, sym, ap, ◌∙◌, subst, true≢false, nat_cmp, arith}
-use Rattle.std.specs.Prelude.{is_some, MatchBool}
+use Rattle.std.proofs.Common.{ℕ, ◌≡◌, ◌<◌, ◌≤◌, Bool, true, false, not, ◌&&◌, ◌||◌, ◌⊎◌, inl, inr, List, [], ◌∷◌, ◌++◌, map, length, Option, Some, None, refl, sym, ap, ◌∙◌, subst, true≢false, nat_cmp, arith}
+use Rattle.std.specs.Prelude.{MatchBool}
 use Rattle.std.specs.List.{AllByRecursion, IsDistinct, list_any}
 use Rattle.std.specs.List.Sorted.{IsPermutation}
 use Rattle.std.specs.Str.{bytes_eq}
 use Rattle.std.specs.Cmp.Lexicographic.{slice_cmp}
 use Rattle.std.specs.declared.cmp.Ordering.TheVariants.{Less}
-use Rattle.std.proofs.lemmas.Bool.{cases_Bool, and_parts, and_from, or_left, or_right, not-true, false_from_ne_true, both_ways}
+use Rattle.std.proofs.lemmas.Bool.{and_parts, and_from, or_left, or_right, not-true, false_from_ne_true, both_ways}
 use Rattle.std.proofs.lemmas.Cmp.{nat_list_cmp_total, tied_itself}
 use Rattle.std.proofs.lemmas.List.{append_assoc, append-nil}
 use Rattle.std.proofs.lemmas.List.Elements.{All-from_recursion, recursion_from_All}
@@ -20,7 +20,6 @@ use Rattle.hg_base.proofs.Children.{below_parent, below_through, parent_length, 
 use Rattle.hg_base.proofs.Components.{parent_joined}
 use Rattle.hg_base.proofs.Paths.{path_parts, path_some}
 use Rattle.hg_base.proofs.Within.{above_is, above_none, equal_bytes, same_bytes, within_below, within_itself, within_split}
-use Rattle.hg_entry.specs.Entry.{stamp_view, view}
 use Rattle.hg_mixed.specs.Child.{shown_child}
 use Rattle.hg_mixed.specs.Children.{AreChildren, ChildData, IsChild}
 use Rattle.hg_mixed.specs.Edits.{IsFormed}
@@ -28,7 +27,7 @@ use Rattle.hg_mixed.specs.Held.{Held, table}
 use Rattle.hg_mixed.specs.Lists.{or_root}
 use Rattle.hg_mixed.specs.declared.child.Child.{Child}
 use Rattle.hg_mixed.specs.declared.line.Line.{Line}
-use Rattle.hg_mixed.specs.Gathered.{AreGathered, AreLeft, Gathers, Shows, has_line, is_done, is_left, is_recorded, line_of, path_of, paths_of}
+use Rattle.hg_mixed.specs.Gathered.{AreGathered, AreLeft, Gathers, Shows, is_done, is_left, line_of, path_of, paths_of}
 use Rattle.hg_mixed.proofs.Ordered.{distinct_moved}
 
 -- ---- lists
@@ -62,13 +61,13 @@ or_cases true b h = inl refl
 or_cases false b h = inr h
 
 module _ (held : Held) where
-  abbrev Recorded : List ℕ → Type 0
-  Recorded p = is_recorded (table held) p ≡ true
+  abbrev IsNode : List ℕ → Type 0
+  IsNode p = (table held).nodes p ≡ true
 
   abbrev Sound : (List ℕ → Bool) → Line → Type 0
-  Sound test row = (test (path_of row) ≡ true) × (is_recorded (table held) (path_of row) ≡ true) × Shows held row
+  Sound test row = (test (path_of row) ≡ true) × ((table held).nodes (path_of row) ≡ true) × Shows held row
 
-  weaker : (s t : List ℕ → Bool) → ((p : List ℕ) → Recorded p → s p ≡ true → t p ≡ true) → (rows : List Line) → AllByRecursion (Sound s) rows → AllByRecursion (Sound t) rows
+  weaker : (s t : List ℕ → Bool) → ((p : List ℕ) → IsNode p → s p ≡ true → t p ≡ true) → (rows : List Line) → AllByRecursion (Sound s) rows → AllByRecursion (Sound t) rows
   weaker s t goes [] all = tt
   weaker s t goes (row ∷ rows) all = ((goes (path_of row) all.0.1 all.0.0, all.0.1, all.0.2), weaker s t goes rows all.1)
 
@@ -80,16 +79,16 @@ module _ (held : Held) where
     | inr later ↦ passes s rows all.1 p later
   ]
 
-  pub gathered_none : (s : List ℕ → Bool) → ((p : List ℕ) → s p ≡ true → Recorded p → ⊥) → AreGathered held s []
+  pub gathered_none : (s : List ℕ → Bool) → ((p : List ℕ) → s p ≡ true → IsNode p → ⊥) → AreGathered held s []
   unfolding IsDistinct
   gathered_none s none = record { own = tt; each = tt; all = λ p is there. absurd (none p is there) }
 
   -- rows of a path each, and others, where no path passes both tests
   pub gathered_both : (s t u : List ℕ → Bool) (a b : List Line) → AreGathered held s a → AreGathered held t b
       → ((p : List ℕ) → s p ≡ true → t p ≡ true → ⊥)
-      → ((p : List ℕ) → Recorded p → s p ≡ true → u p ≡ true)
-      → ((p : List ℕ) → Recorded p → t p ≡ true → u p ≡ true)
-      → ((p : List ℕ) → Recorded p → u p ≡ true → (s p ≡ true) ⊎ (t p ≡ true))
+      → ((p : List ℕ) → IsNode p → s p ≡ true → u p ≡ true)
+      → ((p : List ℕ) → IsNode p → t p ≡ true → u p ≡ true)
+      → ((p : List ℕ) → IsNode p → u p ≡ true → (s p ≡ true) ⊎ (t p ≡ true))
       → AreGathered held u (a ++ b)
   gathered_both s t u a b first second apart s_u t_u u_st = record {
     own =
@@ -104,42 +103,26 @@ module _ (held : Held) where
         ];
   }
 
-  pub gathered_same : (s t : List ℕ → Bool) (rows : List Line) → ((p : List ℕ) → Recorded p → s p ≡ true → t p ≡ true) → ((p : List ℕ) → Recorded p → t p ≡ true → s p ≡ true)
+  pub gathered_same : (s t : List ℕ → Bool) (rows : List Line) → ((p : List ℕ) → IsNode p → s p ≡ true → t p ≡ true) → ((p : List ℕ) → IsNode p → t p ≡ true → s p ≡ true)
       → AreGathered held s rows → AreGathered held t rows
   gathered_same s t rows there back are = record {
     own = are.own;
     each = weaker s t there rows are.each;
-    all = λ p is recorded. are.all p (back p recorded is) recorded;
+    all = λ p is node. are.all p (back p node is) node;
   }
 
   -- ---- one child
 
-  some_map : {X Y : Type 0} (f : X → Y) (o : Option X) → is_some (option_map f o) ≡ is_some o
-  some_map f None = refl
-  some_map f (Some x) = refl
-
-  line_is : (child : Line) → Shows held child → has_line child ≡ is_recorded (table held) (path_of child)
-  line_is child shows =
-      ap (λ (b : Bool). b || is_some child.cache) (sym (some_map view child.entry) ∙ ap is_some shows.entry)
-      ∙ ap (λ (b : Bool). is_some ((table held).entries (path_of child)) || b) (sym (some_map stamp_view child.cache) ∙ ap is_some shows.cache)
-
   abbrev own_test : Line → List ℕ → Bool
   own_test child p = bytes_eq p (path_of child)
 
-  own_by : (child : Line) → Shows held child → (b : Bool) → is_recorded (table held) (path_of child) ≡ b → AreGathered held (own_test child) (cond b (child ∷ []) [])
+  pub gathered_own : (child : Line) → Shows held child → IsNode (path_of child) → AreGathered held (own_test child) (child ∷ [])
   unfolding IsDistinct
-  own_by child shows true is = record {
+  gathered_own child shows node = record {
     own = (tt, tt);
-    each = ((equal_bytes (path_of child), is, shows), tt);
+    each = ((equal_bytes (path_of child), node, shows), tt);
     all = λ p here there. or_left (bytes_eq p (path_of child)) false here;
   }
-  own_by child shows false is =
-      gathered_none (own_test child) (λ p here there. both_ways (is_recorded (table held) (path_of child)) is (sym (ap (is_recorded (table held)) (same_bytes p (path_of child) here)) ∙ there))
-
-  pub gathered_own : (child : Line) → Shows held child → AreGathered held (own_test child) (cond (has_line child) (child ∷ []) [])
-  gathered_own child shows =
-      subst (λ (b : Bool). AreGathered held (own_test child) (cond b (child ∷ []) [])) (sym (line_is child shows))
-      (own_by child shows (is_recorded (table held) (path_of child)) refl)
 
   pub shows_child : (dir : Option (List ℕ)) (child : Child) → IsChild held dir (shown_child child) → Shows held (line_of child)
   shows_child dir child is = record { entry = is.entry; source = is.source; cache = is.cache }
@@ -147,16 +130,6 @@ module _ (held : Held) where
   -- ---- what stands below
 
   module _ (formed : IsFormed (table held)) where
-    -- what is recorded of a path stands at a node
-    recorded_node : (p : List ℕ) → Recorded p → (table held).nodes p ≡ true
-    recorded_node p there = elim (or_cases (is_some ((table held).entries p)) (is_some ((table held).caches p)) there) [
-      | inl entry ↦ elim (cases_Bool ((table held).nodes p)) [
-        | inl node ↦ node
-        | inr none ↦ absurd (true≢false (sym entry ∙ ap is_some (formed.entries p none)))
-      ]
-      | inr cache ↦ (formed.caches p cache).0
-    ]
-
     -- what stands below a directory is at a node right in it, or below one
     at_kid : (dir : Option (List ℕ)) (p : List ℕ) → is_above dir p ≡ true → (table held).nodes p ≡ true
         → (kid : List ℕ) × (parent_of kid ≡ dir) × ((table held).nodes kid ≡ true) × (is_within kid p ≡ true)
@@ -176,10 +149,10 @@ module _ (held : Held) where
           elim through.2 [ inl e ↦ ap (is_within kid) e ∙ within_itself kid | inr below ↦ within_below kid p below ],
         )
 
-    -- nothing is recorded below a path without children
+    -- no node stands below a path without children
     pub below_none : (child : Child) → IsChild held (parent_of child.path.text.now) (shown_child child) → child.has_kids ≡ false → AreGathered held (is_below child.path.text.now) []
     below_none child is none = gathered_none (is_below child.path.text.now) (λ p below there.
-        let kid = at_kid (Some child.path.text.now) p below (recorded_node p there) in
+        let kid = at_kid (Some child.path.text.now) p below there in
         let never : (k : List ℕ) → parent_of k ≡ Some child.path.text.now → (table held).nodes k ≡ false =
         subst (λ (b : Bool). MatchBool b ((k : List ℕ) × ((table held).nodes k ≡ true) × (parent_of k ≡ Some child.path.text.now)) ((k : List ℕ) → parent_of k ≡ Some child.path.text.now → (table held).nodes k ≡ false)) none is.kids in
         both_ways ((table held).nodes kid.0) (never kid.0 kid.1) kid.2)
@@ -260,7 +233,7 @@ module _ (held : Held) where
           sym (append-nil rows),
           gathered_none (is_done dir children) (λ p done there.
               let parts = and_parts (is_above dir p) (not (is_left children p)) done in
-              let kid = at_kid dir p parts.0 (recorded_node p there) in
+              let kid = at_kid dir p parts.0 there in
               both_ways (is_left children p) (not-true (is_left children p) parts.1) (any_left kid.0 p children kid.3 (are.all kid.0 kid.2 kid.1))),
         );
       }
@@ -295,14 +268,14 @@ module _ (held : Held) where
             longer (Some d) e = parent_length d child.path.text.now e
 
         -- one child more
-        pub left_more : (own new : List Line) → own ≡ now ++ cond (has_line (line_of child)) (line_of child ∷ []) [] → Gathers held (is_below child.path.text.now) own new → AreLeft held dir rest old new
+        pub left_more : (own new : List Line) → own ≡ now ++ line_of child ∷ [] → Gathers held (is_below child.path.text.now) own new → AreLeft held dir rest old new
         left_more own new is below =
             let c : ChildData = shown_child child in
             let g = here.gathered in
-            let mine : List Line = cond (has_line (line_of child)) (line_of child ∷ []) [] in
+            let mine : List Line = line_of child ∷ [] in
             let up : AllByRecursion (λ y. slice_cmp nat_cmp c.path y ≡ Less) (map (λ x. x.path) rest) = sorted_head (slice_cmp nat_cmp) c.path (map (λ x. x.path) rest) here.sorted in
             let within : AreGathered held (is_within c.path) (mine ++ below.0) =
-            gathered_both (own_test (line_of child)) (is_below c.path) (is_within c.path) mine below.0 (gathered_own (line_of child) (shows_child dir child here.each.0)) below.2
+            gathered_both (own_test (line_of child)) (is_below c.path) (is_within c.path) mine below.0 (gathered_own (line_of child) (shows_child dir child here.each.0) here.each.0.node) below.2
             (λ p at under. let same = same_bytes p c.path at in both_ways (is_below c.path c.path) (below_itself_not c.path) (sym (ap (is_below c.path) same) ∙ under))
             (λ p there at. or_left (bytes_eq p c.path) (is_below c.path p) at)
             (λ p there under. or_right (bytes_eq p c.path) (is_below c.path p) under)
@@ -345,7 +318,7 @@ module _ (held : Held) where
   pub gathered_moved : (test : List ℕ → Bool) (a b : List Line) → IsPermutation a b → AreGathered held test a → AreGathered held test b
   gathered_moved test a b moved are =
       let paths : IsPermutation (paths_of a) (paths_of b) = IsPermutation-map path_of a b moved in
-      let Sound : Line → Type 0 = λ row. (test (path_of row) ≡ true) × (is_recorded (table held) (path_of row) ≡ true) × Shows held row in
+      let Sound : Line → Type 0 = λ row. (test (path_of row) ≡ true) × ((table held).nodes (path_of row) ≡ true) × Shows held row in
       record {
         own = distinct_moved (paths_of a) (paths_of b) paths are.own;
         each = recursion_from_All Sound b (All-permutation Sound a b moved (All-from_recursion Sound a are.each));

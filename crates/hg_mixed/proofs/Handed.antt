@@ -18,7 +18,7 @@ use Rattle.hg_mixed.specs.Parted.{IsLentIn, IsParted, image_of}
 use Rattle.hg_mixed.specs.Walk.{IsLentAt, ListIsOf, ListsAreOf}
 use Rattle.hg_mixed.specs.declared.child.Child.{Child}
 use Rattle.hg_mixed.specs.declared.walk.Walk.{Walk}
-use Rattle.hg_mixed.proofs.ImageRows.{below_member, got_member, row_above, row_member}
+use Rattle.hg_image.proofs.Found.{below_member, got_member, row_above, row_member}
 use Rattle.hg_mixed.proofs.LentChildren.{above_further}
 use Rattle.hg_mixed.proofs.Lents.{covered_by}
 use Rattle.hg_mixed.proofs.Nearest.{list_dir, path_as_dir}

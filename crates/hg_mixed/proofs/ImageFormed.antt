@@ -28,7 +28,7 @@ use Rattle.hg_mixed.specs.Node.{node_at, source_in, source_text_in, text_in}
 use Rattle.hg_mixed.specs.Opened.{node_of, source_place}
 use Rattle.hg_mixed.specs.Parted.{ArePlaced, IsParted, image_rows, whole}
 use Rattle.hg_mixed.proofs.Adding.{apart}
-use Rattle.hg_mixed.proofs.ImageRows.{row_each, row_is_path, row_rooted}
+use Rattle.hg_image.proofs.Found.{row_each, row_is_path, row_rooted}
 use Rattle.hg_mixed.proofs.Lents.{covered_by}
 use Rattle.hg_mixed.proofs.WholeOf.{image_cache, image_entry, image_node, image_source}
 

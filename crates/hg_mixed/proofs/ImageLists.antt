@@ -17,7 +17,8 @@ use Rattle.hg_image.specs.declared.opened.Image.{Image}
 use Rattle.hg_image.specs.declared.opened.List.{List as NodeList}
 use Rattle.hg_image.specs.declared.opened.NodeRef.{NodeRef}
 use Rattle.hg_mixed.specs.Held.{Held, has_list, image_table, is_left_in, is_lent, is_lent_in, node_here, table}
-use Rattle.hg_mixed.specs.Lent.{HasBelow, covers, lent_at}
+use Rattle.hg_mixed.specs.Lent.{covers, lent_at}
+use Rattle.hg_image.specs.Found.{HasBelow}
 use Rattle.hg_mixed.specs.Lists.{or_root}
 use Rattle.hg_mixed.specs.Memory.{InMemory}
 use Rattle.hg_mixed.specs.Node.{NodeData, entry_in, node_at, source_in, source_text_in, text_in}
@@ -25,7 +26,7 @@ use Rattle.hg_mixed.specs.Opened.{node_of, source_place}
 use Rattle.hg_mixed.specs.Parted.{AreWhole, image_rows}
 use Rattle.hg_mixed.specs.Shown.{AnswersLent, AnswersList, AreLentWhole, IsAsImage, IsListAt}
 use Rattle.hg_mixed.proofs.ImageFormed.{used_rows}
-use Rattle.hg_mixed.proofs.ImageRows.{row_is_path, row_missing, row_path}
+use Rattle.hg_image.proofs.Found.{row_is_path, row_missing, row_path}
 use Rattle.hg_mixed.proofs.Kept.{has_by, listed_by, root_covered}
 use Rattle.hg_mixed.proofs.LentWhole.{held_of}
 use Rattle.hg_mixed.proofs.Moving.{first_row, none_is, right_above}

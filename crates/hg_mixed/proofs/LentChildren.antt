@@ -29,14 +29,15 @@ use Rattle.hg_image.proofs.Sound.{list_at}
 use Rattle.hg_mixed.specs.ChildOf.{has_below, row_child}
 use Rattle.hg_mixed.specs.Children.{AreChildren, ChildData, IsChild}
 use Rattle.hg_mixed.specs.Held.{Held, image_table, table, table_of}
-use Rattle.hg_mixed.specs.Lent.{IsInImage, as_dir, covers, lent_at, level, own_rows}
+use Rattle.hg_mixed.specs.Lent.{IsInImage, as_dir, covers, lent_at}
+use Rattle.hg_image.specs.Found.{level, own_rows}
 use Rattle.hg_mixed.specs.Lists.{or_root}
 use Rattle.hg_mixed.specs.Node.{source_text_in, text_in}
 use Rattle.hg_mixed.specs.Opened.{node_of}
 use Rattle.hg_mixed.specs.Parted.{IsLentIn, IsParted, image_of}
 use Rattle.hg_mixed.specs.Rest.{children_from, children_in}
 use Rattle.hg_mixed.specs.Walk.{Fills}
-use Rattle.hg_mixed.proofs.ImageRows.{at_below, at_node, level_end, level_got, level_row, none_is, own_end, own_next, parent_below, rec_in, row_above, row_path, whole}
+use Rattle.hg_image.proofs.Found.{at_below, at_node, level_end, level_got, level_row, none_is, own_end, own_next, parent_below, rec_in, row_above, row_path, whole}
 use Rattle.hg_mixed.proofs.Lents.{covered_by}
 use Rattle.hg_mixed.proofs.Nearest.{dir_again, list_dir, path_as_dir}
 use Rattle.hg_mixed.proofs.WholeOf.{image_cache, image_entry, image_node, image_source, node_image}

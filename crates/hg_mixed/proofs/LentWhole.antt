@@ -11,7 +11,7 @@ use Rattle.hg_base.proofs.Below.{below_trans}
 use Rattle.hg_base.proofs.Children.{below_parent}
 use Rattle.hg_base.proofs.Within.{equal_bytes, same_bytes, within_below, within_itself, within_split, within_trans}
 use Rattle.hg_docket.specs.Docket.{Contents}
-use Rattle.hg_entry.specs.Entry.{EntryData, StampData}
+use Rattle.hg_entry.specs.Entry.{CacheData, EntryData}
 use Rattle.hg_image.specs.Reading.{row_at}
 use Rattle.hg_image.specs.Reading as reading
 use Rattle.hg_image.specs.Rows.{Row, rows_of}
@@ -165,7 +165,7 @@ module _ (docket : Contents) (rows : List Row) (first left : List (List ℕ × L
           ])
           (λ at apart. (elim written [ inl stays ↦ stays.1 at | inr put ↦ put.1 at ∙ update_other (node_at own.rows) path _ at (not_path at apart) ], table.caches at))
 
-      pub cache_whole : (time : Option StampData) → AreSame own.rows new.rows → IsSame (memory_table new) (after_cache path time (memory_table own)) → AreWhole docket rows left new
+      pub cache_whole : (time : Option CacheData) → AreSame own.rows new.rows → IsSame (memory_table new) (after_cache path time (memory_table own)) → AreWhole docket rows left new
       cache_whole time nodes table = by_ends (λ same. nodes) (λ at apart. (nodes at, table.caches at ∙ update_other (time_at own.times) path time at (not_path at apart)))
 
       -- which lists are lent still
@@ -222,7 +222,7 @@ module _ (docket : Contents) (rows : List Row) (first left : List (List ℕ × L
 
 -- ---- all caches go
 
-any_timed : (dir : Option (List ℕ)) (times : List (List ℕ × StampData)) → list_any (λ t. is_above dir t.0) times ≡ true → (at : List ℕ) × (is_some (time_at times at) ≡ true) × (is_above dir at ≡ true)
+any_timed : (dir : Option (List ℕ)) (times : List (List ℕ × CacheData)) → list_any (λ t. is_above dir t.0) times ≡ true → (at : List ℕ) × (is_some (time_at times at) ≡ true) × (is_above dir at ≡ true)
 any_timed dir [] h = absurd (true≢false (sym h))
 any_timed dir (t ∷ times) h = elim (cases_Bool (is_above dir t.0)) [
   | inl here ↦ (t.0, ap is_some (cond-true (bytes_eq t.0 t.0) (Some t.1) (time_at times t.0) (equal_bytes t.0)), here)
@@ -231,7 +231,7 @@ any_timed dir (t ∷ times) h = elim (cases_Bool (is_above dir t.0)) [
       (more.0, some_more (bytes_eq more.0 t.0) t.1 (time_at times more.0) more.1, more.2)
 ]
 
-timed_any : (dir : Option (List ℕ)) (times : List (List ℕ × StampData)) (at : List ℕ) → is_some (time_at times at) ≡ true → is_above dir at ≡ true → list_any (λ t. is_above dir t.0) times ≡ true
+timed_any : (dir : Option (List ℕ)) (times : List (List ℕ × CacheData)) (at : List ℕ) → is_some (time_at times at) ≡ true → is_above dir at ≡ true → list_any (λ t. is_above dir t.0) times ≡ true
 timed_any dir [] at some above = absurd (true≢false (sym some))
 timed_any dir (t ∷ times) at some above = elim (cases_Bool (bytes_eq at t.0)) [
   | inl here ↦ or_left (is_above dir t.0) (list_any (λ t. is_above dir t.0) times) (ap (is_above dir) (sym (same_bytes at t.0 here)) ∙ above)

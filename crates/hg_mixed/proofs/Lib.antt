@@ -13,7 +13,6 @@ pub mod Gathering
 pub mod Handed
 pub mod ImageFormed
 pub mod ImageLists
-pub mod ImageRows
 pub mod Kept
 pub mod KidsOf
 pub mod LeftBefore
@@ -21,7 +20,6 @@ pub mod LentChildren
 pub mod LentWhole
 pub mod Lents
 pub mod Lifted
-pub mod ListBytes
 pub mod Listed
 pub mod Moving
 pub mod Nearest
@@ -30,6 +28,7 @@ pub mod Placed
 pub mod Planted
 pub mod Pruned
 pub mod Rows
+pub mod SameCaches
 pub mod Searched
 pub mod Sought
 pub mod Timed

@@ -9,7 +9,7 @@ use Rattle.hg_base.specs.Within.{is_within}
 use Rattle.hg_base.proofs.Children.{below_parent}
 use Rattle.hg_base.proofs.Within.{same_bytes, within_below, within_itself, within_trans}
 use Rattle.hg_docket.specs.Docket.{Contents}
-use Rattle.hg_entry.specs.Entry.{EntryData, StampData}
+use Rattle.hg_entry.specs.Entry.{CacheData, EntryData}
 use Rattle.hg_entry.specs.Table.{Table}
 use Rattle.hg_image.specs.Reading as reading
 use Rattle.hg_image.specs.Rows.{Row}
@@ -71,7 +71,7 @@ module _ (a b : Table) (same : IsSame a b) where
     caches = same.caches;
   }
 
-  pub cache_on : (dir : List ℕ) (time : Option StampData) → IsSame (after_cache dir time a) (after_cache dir time b)
+  pub cache_on : (dir : List ℕ) (time : Option CacheData) → IsSame (after_cache dir time a) (after_cache dir time b)
   cache_on dir time = record {
     p1 = same.p1;
     p2 = same.p2;
@@ -87,7 +87,7 @@ module _ (a b : Table) (same : IsSame a b) where
 
 -- ---- formed tables stay so
 
-pub formed_cache : (dir : List ℕ) (time : Option StampData) (old new : Table) → IsFormed old → old.nodes dir ≡ true → old.entries dir ≡ None → IsSame new (after_cache dir time old) → IsFormed new
+pub formed_cache : (dir : List ℕ) (time : Option CacheData) (old new : Table) → IsFormed old → old.nodes dir ≡ true → old.entries dir ≡ None → IsSame new (after_cache dir time old) → IsFormed new
 formed_cache dir time old new formed node none same = formed_same new (after_cache dir time old) same (record {
   paths = formed.paths;
   rooted = formed.rooted;
@@ -303,7 +303,7 @@ module _ (left : List ℕ → Bool) (image old new : Table) where
       caches = λ at h. same.caches at;
     }
 
-    pub cache_merged : (time : Option StampData) → IsSame new (after_cache path time old) → IsSame (merged left image new) (after_cache path time (merged left image old))
+    pub cache_merged : (time : Option CacheData) → IsSame new (after_cache path time old) → IsSame (merged left image new) (after_cache path time (merged left image old))
     cache_merged time same = record {
       p1 = same.p1;
       p2 = same.p2;
@@ -314,7 +314,7 @@ module _ (left : List ℕ → Bool) (image old new : Table) where
       caches = λ at. ap (cond (left at) (image.caches at)) (same.caches at) ∙ update_merged image.caches old.caches time at;
     }
 
-    pub cache_left : (time : Option StampData) → IsSame new (after_cache path time old) → AreLeft left new old
+    pub cache_left : (time : Option CacheData) → IsSame new (after_cache path time old) → AreLeft left new old
     cache_left time same = record {
       entries = λ at h. same.entries at;
       sources = λ at h. same.sources at;
@@ -459,7 +459,7 @@ module _ (docket : Contents) (rows : List Row) (first left : List (List ℕ × L
           (formed_copy path source (whole docket rows left (memory_table own)) (whole docket rows left (memory_table new)) moved.parted.formed (ap is_some (moved.same.entries path) ∙ some) copy_here)
 
     -- a cache that is noted or forgotten
-    module _ (time : Option StampData) (same : IsSame (memory_table new) (after_cache path time (memory_table own))) where
+    module _ (time : Option CacheData) (same : IsSame (memory_table new) (after_cache path time (memory_table own))) where
       cache_here : IsSame (whole docket rows left (memory_table new)) (after_cache path time (whole docket rows left (memory_table own)))
       cache_here = cache_merged (covers left) (reading.table_of docket rows) (memory_table own) (memory_table new) path (way_free left path free) time same
 

@@ -35,7 +35,7 @@ use Rattle.hg_mixed.specs.Parted.{IsMoved, IsParted, whole}
 use Rattle.hg_mixed.specs.Taken.{AddsNodes, AddsSome, AreOthersKept, AreServed, CoversLess, IsAsBefore, IsBare, IsNotOf, IsOpen, LendsKids, path_at}
 use Rattle.hg_mixed.specs.Times.{time_at}
 use Rattle.hg_mixed.proofs.Edited.{same_trans, update_here, update_other}
-use Rattle.hg_mixed.proofs.ImageRows.{found_row, row_above, row_is_path, row_rooted}
+use Rattle.hg_image.proofs.Found.{found_row, row_above, row_is_path, row_rooted}
 use Rattle.hg_mixed.proofs.Kept.{lent_same}
 use Rattle.hg_mixed.proofs.Lents.{covered_by, covers_some, same_bools}
 

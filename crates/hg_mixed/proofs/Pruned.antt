@@ -9,7 +9,7 @@ use Rattle.hg_base.proofs.Below.{below_itself, below_not_back}
 use Rattle.hg_base.proofs.Children.{below_through}
 use Rattle.hg_base.proofs.Components.{parent_joined}
 use Rattle.hg_base.proofs.Within.{above_is, above_none, equal_bytes, same_bytes, within_below, within_itself, within_split, within_trans}
-use Rattle.hg_entry.specs.Entry.{EntryData, StampData}
+use Rattle.hg_entry.specs.Entry.{CacheData, EntryData}
 use Rattle.hg_entry.specs.Table.{Table}
 use Rattle.hg_mixed.specs.Drop.{IsPrunedAt, IsPruned, bare}
 use Rattle.hg_mixed.specs.Edits.{IsFormed}
@@ -46,7 +46,7 @@ some_not_none : {X : Type 0} (o : Option X) → is_some o ≡ true → o ≡ Non
 some_not_none o some none = true≢false (sym some ∙ ap is_some none)
 
 -- where a node has an entry or a child, nothing goes
-pub pruned_not : (path : List ℕ) (rows : List (List ℕ × NodeData)) (times : List (List ℕ × StampData)) → is_path path ≡ true
+pub pruned_not : (path : List ℕ) (rows : List (List ℕ × NodeData)) (times : List (List ℕ × CacheData)) → is_path path ≡ true
     → (is_some (entry_in (node_at rows path)) || has_rows_in rows path) ≡ true → IsPruned path (bare rows times) (bare rows times)
 pruned_not path rows times good stays = nothing_goes path (bare rows times) (λ at goes. elim (cases_Bool (is_some (entry_in (node_at rows path)))) [
   | inl entry ↦ some_not_none (entry_in (node_at rows path)) entry (goes.alone path goes.on_way (entry_node (node_at rows path) entry)).1
@@ -60,7 +60,7 @@ pruned_not path rows times good stays = nothing_goes path (bare rows times) (λ 
 ])
 
 -- what stands below a path has a node right in it above
-module _ (path : List ℕ) (rows : List (List ℕ × NodeData)) (times : List (List ℕ × StampData)) (formed : IsFormed (bare rows times))
+module _ (path : List ℕ) (rows : List (List ℕ × NodeData)) (times : List (List ℕ × CacheData)) (formed : IsFormed (bare rows times))
     (stays : (is_some (entry_in (node_at rows path)) || has_rows_in rows path) ≡ false) where
   parts : (is_some (entry_in (node_at rows path)) ≡ false) × (has_rows_in rows path ≡ false)
   parts = let both = or_parts (is_some (entry_in (node_at rows path))) (has_rows_in rows path) stays in (both.0, both.1)
@@ -121,7 +121,7 @@ module _ (path : List ℕ) (test : List ℕ → Bool) (good : is_path path ≡ t
   still : (at : List ℕ) → was.nodes at ≡ true → bytes_eq path at ≡ false → mid.nodes at ≡ true
   still at is other = removed.nodes at ∙ and_from (was.nodes at) (not (bytes_eq path at)) is (not_from_false (bytes_eq path at) other)
 
-  some_cache : (b : Bool) (o : Option StampData) → is_some (cond b None o) ≡ true → (b ≡ false) × (is_some o ≡ true)
+  some_cache : (b : Bool) (o : Option CacheData) → is_some (cond b None o) ≡ true → (b ≡ false) × (is_some o ≡ true)
   some_cache true o h = absurd (true≢false (sym h))
   some_cache false o h = (refl, h)
 
@@ -255,10 +255,10 @@ node_gone : (b : Bool) (o : Option NodeData) → is_some (cond b None o) ≡ (is
 node_gone true o = sym (and_right (is_some o) false refl)
 node_gone false o = and_true (is_some o)
 
-module _ (path : List ℕ) (rows : List (List ℕ × NodeData)) (times : List (List ℕ × StampData)) (good : is_path path ≡ true) (formed : IsFormed (bare rows times))
-    (stays : (is_some (entry_in (node_at rows path)) || has_rows_in rows path) ≡ false) (left : List (List ℕ × NodeData)) (timed : List (List ℕ × StampData))
+module _ (path : List ℕ) (rows : List (List ℕ × NodeData)) (times : List (List ℕ × CacheData)) (good : is_path path ≡ true) (formed : IsFormed (bare rows times))
+    (stays : (is_some (entry_in (node_at rows path)) || has_rows_in rows path) ≡ false) (left : List (List ℕ × NodeData)) (timed : List (List ℕ × CacheData))
     (taken : IsPut path None rows left) (once : IsTimed path None times timed) where
-  removed_of : (test : List ℕ → Bool) (mid : List (List ℕ × StampData)) → ((at : List ℕ) → (bare left mid).caches at ≡ cond (bytes_eq path at || test at) None ((bare rows times).caches at))
+  removed_of : (test : List ℕ → Bool) (mid : List (List ℕ × CacheData)) → ((at : List ℕ) → (bare left mid).caches at ≡ cond (bytes_eq path at || test at) None ((bare rows times).caches at))
       → IsRemoved path test (bare rows times) (bare left mid)
   removed_of test mid cached = record {
     p1 = refl;
@@ -275,7 +275,7 @@ module _ (path : List ℕ) (rows : List (List ℕ × NodeData)) (times : List (L
     caches = cached;
   }
 
-  or_none : (b : Bool) (o : Option StampData) → cond b None o ≡ cond (b || false) None o
+  or_none : (b : Bool) (o : Option CacheData) → cond b None o ≡ cond (b || false) None o
   or_none true o = refl
   or_none false o = refl
 
@@ -294,7 +294,7 @@ module _ (path : List ℕ) (rows : List (List ℕ × NodeData)) (times : List (L
   twice true false o = refl
   twice false b o = refl
 
-  module _ (dir : List ℕ) (parent : parent_of path ≡ Some dir) (mid : List (List ℕ × StampData)) (again : IsTimed dir None timed mid) where
+  module _ (dir : List ℕ) (parent : parent_of path ≡ Some dir) (mid : List (List ℕ × CacheData)) (again : IsTimed dir None timed mid) where
     in_dir : IsRemoved path (bytes_eq dir) (bare rows times) (bare left mid)
     in_dir = removed_of (bytes_eq dir) mid (λ at.
         again at ∙ ap (cond (bytes_eq dir at) None) (once at) ∙ twice (bytes_eq path at) (bytes_eq dir at) ((bare rows times).caches at))

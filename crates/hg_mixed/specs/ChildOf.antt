@@ -2,7 +2,7 @@
 use Rattle.std.specs.Prelude.{ℕ, ◌≡◌, true, not, ◌||◌, ◌==◌, List, Option, None, Some, Bool, false, map}
 use Rattle.std.specs.List.{AllByRecursion, list_any}
 use Rattle.hg_base.specs.PathText.{is_below, is_path}
-use Rattle.hg_entry.specs.Entry.{StampData, cache_of, entry_of}
+use Rattle.hg_entry.specs.Entry.{CacheData, cache_of, entry_of}
 use Rattle.hg_image.specs.Node.{fields_of}
 use Rattle.hg_image.specs.Rows.{Row}
 use Rattle.hg_mixed.specs.Children.{ChildData}
@@ -12,7 +12,7 @@ use Rattle.hg_mixed.specs.Node.{NodeData}
 use Rattle.hg_mixed.specs.Opened.{source_place}
 use Rattle.hg_mixed.specs.Times.{time_at}
 
-abbrev pub child_of : List (List ℕ × NodeData) → List (List ℕ × StampData) → List ℕ × NodeData → ChildData
+abbrev pub child_of : List (List ℕ × NodeData) → List (List ℕ × CacheData) → List ℕ × NodeData → ChildData
 child_of rows times kid =
     record {
       path = kid.0;
@@ -24,7 +24,7 @@ child_of rows times kid =
       source_at = kid.1.source_at;
     }
 
-abbrev pub children_of : List (List ℕ × NodeData) → List (List ℕ × StampData) → List (List ℕ × NodeData) → List ChildData
+abbrev pub children_of : List (List ℕ × NodeData) → List (List ℕ × CacheData) → List (List ℕ × NodeData) → List ChildData
 children_of rows times kids = map (child_of rows times) kids
 
 -- each stands at a path

@@ -6,7 +6,7 @@ use Rattle.std.specs.Ordering.{nat_cmp}
 use Rattle.std.specs.Cmp.Lexicographic.{slice_cmp}
 use Rattle.std.specs.Str.{bytes_eq}
 use Rattle.hg_base.specs.PathText.{parent_of}
-use Rattle.hg_entry.specs.Entry.{EntryData, StampData}
+use Rattle.hg_entry.specs.Entry.{CacheData, EntryData}
 use Rattle.hg_entry.specs.Table.{Table}
 use Rattle.hg_mixed.specs.Held.{Held, source_at, table, text_at}
 use Rattle.hg_mixed.specs.Node.{NodeData, node_at, source_text_in, text_in}
@@ -17,7 +17,7 @@ pub record ChildData : Type 0 where
   pub path : List ℕ
   pub entry : Option EntryData
   pub source : Option (List ℕ)
-  pub cache : Option StampData
+  pub cache : Option CacheData
   pub has_kids : Bool
   pub text_at : Option ℕ
   pub source_at : Option ℕ

@@ -5,7 +5,7 @@ use Rattle.std.specs.Str.{bytes_eq}
 use Rattle.hg_base.specs.PathText.{parent_of}
 use Rattle.hg_base.specs.Within.{is_within}
 use Rattle.hg_entry.specs.Table.{Table}
-use Rattle.hg_entry.specs.Entry.{StampData}
+use Rattle.hg_entry.specs.Entry.{CacheData}
 use Rattle.hg_mixed.specs.Held.{Held, source_at, table, table_of, text_at}
 use Rattle.hg_mixed.specs.Node.{NodeData}
 
@@ -41,5 +41,5 @@ pub record PlacesDrop (path : List ℕ) (old new : Held) : Type 0 where
   pub sources : (at : List ℕ) → source_at new at ≡ update bytes_eq (source_at old) path None at
 
 -- the table of nodes and times alone
-abbrev pub bare : List (List ℕ × NodeData) → List (List ℕ × StampData) → Table
+abbrev pub bare : List (List ℕ × NodeData) → List (List ℕ × CacheData) → Table
 bare rows times = table_of [] [] [] rows times

@@ -4,7 +4,7 @@ use Rattle.std.specs.Map.{update}
 use Rattle.std.specs.Str.{bytes_eq}
 use Rattle.hg_base.specs.PathText.{is_below, is_path}
 use Rattle.hg_base.specs.Within.{is_within, is_above}
-use Rattle.hg_entry.specs.Entry.{EntryData, StampData}
+use Rattle.hg_entry.specs.Entry.{CacheData, EntryData}
 use Rattle.hg_entry.specs.Table.{Table}
 use Rattle.hg_mixed.specs.Held.{Held, is_lent, source_at, table, text_at}
 
@@ -41,7 +41,7 @@ abbrev pub after_copy : List ℕ → Option (List ℕ) → Table → Table
 after_copy path source t = record t { sources = update bytes_eq t.sources path source }
 
 -- a directory has a cache, or none
-abbrev pub after_cache : List ℕ → Option StampData → Table → Table
+abbrev pub after_cache : List ℕ → Option CacheData → Table → Table
 after_cache dir time t = record t { caches = update bytes_eq t.caches dir time }
 
 -- no directory has a cache

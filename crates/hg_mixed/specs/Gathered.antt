@@ -1,5 +1,5 @@
--- What a walk over all nodes gathers: of each path with an entry or a cache what is held of it.
-use Rattle.std.specs.Prelude.{ℕ, ◌≡◌, Bool, true, not, ◌&&◌, ◌||◌, List, ◌++◌, map, Option, is_some}
+-- What a walk over all nodes gathers: of each what is held of its path.
+use Rattle.std.specs.Prelude.{ℕ, ◌≡◌, Bool, true, not, ◌&&◌, List, ◌++◌, map, Option}
 use Rattle.std.specs.Option.{option_map}
 use Rattle.std.specs.List.{AllByRecursion, IsDistinct, list_any}
 use Rattle.std.specs.List.Sorted.{IsStrictlySortedBy}
@@ -7,18 +7,13 @@ use Rattle.std.specs.Ordering.{nat_cmp}
 use Rattle.std.specs.Cmp.Lexicographic.{slice_cmp}
 use Rattle.std.specs.Str.{bytes_eq}
 use Rattle.hg_base.specs.Within.{is_above, is_within}
-use Rattle.hg_entry.specs.Entry.{stamp_view, view}
-use Rattle.hg_entry.specs.Table.{Table}
+use Rattle.hg_entry.specs.Entry.{cache_view, view}
 use Rattle.hg_mixed.specs.Children.{ChildData, IsChild}
 use Rattle.hg_mixed.specs.Held.{Held, table}
 use Rattle.hg_mixed.specs.declared.child.Child.{Child}
 use Rattle.hg_mixed.specs.declared.line.Line.{Line}
 
--- a path has an entry, or is a cached directory
-abbrev pub is_recorded : Table → List ℕ → Bool
-is_recorded table path = is_some (table.entries path) || is_some (table.caches path)
-
--- what is recorded of a child
+-- a child as a line
 abbrev pub line_of : Child → Line
 line_of child = record { path = child.path; entry = child.entry; source = child.source; cache = child.cache }
 
@@ -32,17 +27,13 @@ paths_of rows = map path_of rows
 pub record Shows (held : Held) (line : Line) : Type 0 where
   pub entry : option_map view line.entry ≡ (table held).entries (path_of line)
   pub source : option_map (λ s. s.text.now) line.source ≡ (table held).sources (path_of line)
-  pub cache : option_map stamp_view line.cache ≡ (table held).caches (path_of line)
+  pub cache : option_map cache_view line.cache ≡ (table held).caches (path_of line)
 
--- there is an entry or a cache
-abbrev pub has_line : Line → Bool
-has_line line = is_some line.entry || is_some line.cache
-
--- one row for each path that passes a test and has an entry or a cache
+-- one row for each node whose path passes a test
 pub record AreGathered (held : Held) (test : List ℕ → Bool) (rows : List Line) : Type 0 where
   pub own : IsDistinct bytes_eq (paths_of rows)
-  pub each : AllByRecursion (λ row. (test (path_of row) ≡ true) × (is_recorded (table held) (path_of row) ≡ true) × Shows held row) rows
-  pub all : (path : List ℕ) → test path ≡ true → is_recorded (table held) path ≡ true → list_any (bytes_eq path) (paths_of rows) ≡ true
+  pub each : AllByRecursion (λ row. (test (path_of row) ≡ true) × ((table held).nodes (path_of row) ≡ true) × Shows held row) rows
+  pub all : (path : List ℕ) → test path ≡ true → (table held).nodes path ≡ true → list_any (bytes_eq path) (paths_of rows) ≡ true
 
 -- such rows were put behind others
 abbrev pub Gathers : Held → (List ℕ → Bool) → List Line → List Line → Type 0

@@ -4,7 +4,7 @@ use Rattle.std.specs.Option.{option_and_then, option_map}
 use Rattle.std.specs.List.{list_any}
 use Rattle.hg_base.specs.PathText.{is_same_dir, parent_of}
 use Rattle.hg_docket.specs.Docket.{Contents}
-use Rattle.hg_entry.specs.Entry.{StampData}
+use Rattle.hg_entry.specs.Entry.{CacheData}
 use Rattle.hg_entry.specs.Table.{Table}
 use Rattle.hg_image.specs.Reading as reading
 use Rattle.hg_image.specs.Reading.{row_at}
@@ -26,12 +26,12 @@ pub record Held : Type 0 where
   pub hash : List ℕ
   pub changed : Bool
   pub rows : List (List ℕ × NodeData)
-  pub times : List (List ℕ × StampData)
+  pub times : List (List ℕ × CacheData)
   pub left : List (List ℕ × List Row)
   pub kept : List (List ℕ × List Row)
 
 -- the table of these parts
-abbrev pub table_of : List ℕ → List ℕ → List ℕ → List (List ℕ × NodeData) → List (List ℕ × StampData) → Table
+abbrev pub table_of : List ℕ → List ℕ → List ℕ → List (List ℕ × NodeData) → List (List ℕ × CacheData) → Table
 table_of p1 p2 hash rows times =
     record {
       p1 = p1;

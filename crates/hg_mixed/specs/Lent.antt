@@ -1,15 +1,14 @@
 -- The lists that are lent from an image, each by its directory.
-use Rattle.std.specs.Prelude.{ℕ, zero, suc, ◌≡◌, ◌+◌, ◌-◌, ◌*◌, Bool, true, false, if◌then◌else◌, List, [], ◌∷◌, map, Option, Some, None, String, option_map, IfSome}
+use Rattle.std.specs.Prelude.{ℕ, ◌≡◌, Bool, true, false, if◌then◌else◌, List, [], ◌∷◌, map, Option, Some, None, String, option_map, IfSome}
 use Rattle.std.specs.List.{AllByRecursion, list_any}
 use Rattle.std.specs.Map.{lookup, update}
 use Rattle.std.specs.Str.{bytes_eq}
 use Rattle.std.specs.String.{string_bytes}
-use Rattle.hg_base.specs.PathText.{is_below}
 use Rattle.hg_base.specs.Within.{is_above}
-use Rattle.hg_image.specs.Node.{record_at}
+use Rattle.hg_image.specs.Found.{HasBelowIn}
 use Rattle.hg_image.specs.Reading.{row_at}
-use Rattle.hg_image.specs.Rows.{Row, row_of}
-use Rattle.hg_image.specs.View.{dir_of, row, rows_below, rows_in}
+use Rattle.hg_image.specs.Rows.{Row}
+use Rattle.hg_image.specs.View.{dir_of, row, rows_in}
 use Rattle.hg_image.specs.declared.opened.List.{List as NodeList}
 use Rattle.hg_image.specs.declared.opened.NodeRef.{NodeRef}
 use Rattle.hg_mixed.specs.Lists.{or_root}
@@ -48,13 +47,6 @@ AreEnded path old new = (dir : List ℕ) → lent_at new dir ≡ (if is_above (a
 abbrev pub CoversNone : List (List ℕ × List Row) → Type 0
 CoversNone lent = (at : List ℕ) → covers lent at ≡ false
 
--- what stands below a node is in some rows, those of a list, what it is below the node
-abbrev pub HasBelowIn : List Row → NodeRef → Type 0
-HasBelowIn rows node = (at : List ℕ) → is_below (row node).path at ≡ true → row_at (rows_below node) at ≡ row_at rows at
-
-abbrev pub HasBelow : NodeList → NodeRef → Type 0
-HasBelow list node = HasBelowIn (rows_in list) node
-
 -- a path is to be looked for in the image: in the list of a directory above it, where the node is that stands there
 pub record IsInImage (lent : List (List ℕ × List Row)) (path : List ℕ) (node : Option NodeRef) : Type 0 where
   pub dir : List ℕ
@@ -74,15 +66,6 @@ IsPlace lent path (a_place.Image node) = IsInImage lent path node
 abbrev pub IsOver : List (List ℕ × List Row) → List ℕ → Option NodeList → Type 0
 IsOver lent path None = covers lent path ≡ false
 IsOver lent path (Some list) = (lent_at lent (or_root (dir_of list)) ≡ Some (rows_in list)) × (is_above (dir_of list) path ≡ true)
-
--- the rows of so many nodes, one after the other, without those below them
-unfoldable pub own_rows : List ℕ → ℕ → ℕ → List Row
-own_rows bytes at zero = []
-own_rows bytes at (suc count) = row_of bytes (record_at bytes at) ∷ own_rows bytes (at + 44) count
-
--- those of a list from one of its nodes on
-abbrev pub level : NodeList → ℕ → List Row
-level list i = own_rows list.bytes.now (list.start + 44 * i) (list.count - i)
 
 -- each list with its directory and its rows
 abbrev pub lists_of : {Y : Type 0} → List (String Y × NodeList) → List (List ℕ × List Row)

@@ -2,7 +2,7 @@
 use Rattle.std.specs.Prelude.{ℕ, ◌≡◌, ◌⊎◌, Bool, true, List, Option, Some, is_some}
 use Rattle.std.specs.Map.{update}
 use Rattle.std.specs.Str.{bytes_eq}
-use Rattle.hg_entry.specs.Entry.{StampData}
+use Rattle.hg_entry.specs.Entry.{CacheData}
 use Rattle.hg_entry.specs.Table.{Table}
 use Rattle.hg_mixed.specs.Held.{table_of}
 use Rattle.hg_image.specs.Rows.{Row}
@@ -18,7 +18,7 @@ pub record InMemory : Type 0 where
   pub hash : List ℕ
   pub changed : Bool
   pub rows : List (List ℕ × NodeData)
-  pub times : List (List ℕ × StampData)
+  pub times : List (List ℕ × CacheData)
   pub kept : List (List ℕ × List Row)
 
 -- the table that these are

@@ -1,5 +1,5 @@
 -- What is taken from the rows of an image.
-use Rattle.std.specs.Prelude.{ℕ, ◌≡◌, true, List, Option, Some, None, is_some}
+use Rattle.std.specs.Prelude.{ℕ, ◌≡◌, true, List, Option, Some, is_some}
 use Rattle.std.specs.Option.{option_map}
 use Rattle.hg_entry.specs.Entry.{entry_of}
 use Rattle.hg_image.specs.Node.{fields_of}
@@ -19,11 +19,6 @@ node_of row =
       text_at = Some row.rec.path_start;
       source_at = source_place row;
     }
-
--- the first, where it is there, else the second
-abbrev pub or_else : Option Row → Option Row → Option Row
-or_else None second = second
-or_else (Some first) second = Some first
 
 -- a node stands at a directory, where it isn't the root
 abbrev pub IsThere : List (List ℕ × NodeData) → Option (List ℕ) → Type 0

@@ -4,7 +4,7 @@ use Rattle.hg_image.specs.Rows.{Row}
 use Rattle.hg_image.specs.declared.opened.List.{List as NodeList}
 use Rattle.hg_mixed.specs.ChildOf.{row_child, with_lent}
 use Rattle.hg_mixed.specs.Children.{ChildData}
-use Rattle.hg_mixed.specs.Lent.{level}
+use Rattle.hg_image.specs.Found.{level}
 
 -- those of a list of the image from a place on, where there is one
 abbrev pub children_from : Option NodeList → ℕ → List ChildData

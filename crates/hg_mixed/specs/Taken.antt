@@ -2,7 +2,7 @@
 use Rattle.std.specs.Prelude.{ℕ, ◌≡◌, ◌+◌, ◌*◌, ◌<◌, ◌⊎◌, true, false, List, [], Option, Some, None, is_some}
 use Rattle.std.specs.Str.{bytes_eq}
 use Rattle.hg_base.specs.PathText.{is_below, is_path, parent_of}
-use Rattle.hg_entry.specs.Entry.{StampData, cache_of}
+use Rattle.hg_entry.specs.Entry.{CacheData, cache_of}
 use Rattle.hg_image.specs.Node.{fields_of, path_of, record_at}
 use Rattle.hg_image.specs.Reading.{row_at}
 use Rattle.hg_image.specs.Rows.{Row}
@@ -22,23 +22,23 @@ abbrev pub path_at : NodeList → ℕ → List ℕ
 path_at list i = path_of list.bytes.now (record_at list.bytes.now (list.start + 44 * i))
 
 -- a path has in memory what it had
-pub record IsAsBefore (at : List ℕ) (old : List (List ℕ × NodeData)) (before : List (List ℕ × StampData)) (new : List (List ℕ × NodeData)) (after : List (List ℕ × StampData)) : Type 0 where
+pub record IsAsBefore (at : List ℕ) (old : List (List ℕ × NodeData)) (before : List (List ℕ × CacheData)) (new : List (List ℕ × NodeData)) (after : List (List ℕ × CacheData)) : Type 0 where
   pub node : node_at new at ≡ node_at old at
   pub time : time_at after at ≡ time_at before at
 
 -- all paths but one have what they had
-pub record IsElsewhere (path : List ℕ) (old : List (List ℕ × NodeData)) (before : List (List ℕ × StampData)) (new : List (List ℕ × NodeData)) (after : List (List ℕ × StampData)) : Type 0 where
+pub record IsElsewhere (path : List ℕ) (old : List (List ℕ × NodeData)) (before : List (List ℕ × CacheData)) (new : List (List ℕ × NodeData)) (after : List (List ℕ × CacheData)) : Type 0 where
   pub others : (at : List ℕ) → bytes_eq path at ≡ false → IsAsBefore at old before new after
   pub formed : IsFormed (bare new after)
 
 -- a node was taken, with its time
-pub record AddsOwn (own : Row) (old : List (List ℕ × NodeData)) (before : List (List ℕ × StampData)) (new : List (List ℕ × NodeData)) (after : List (List ℕ × StampData)) : Type 0 where
+pub record AddsOwn (own : Row) (old : List (List ℕ × NodeData)) (before : List (List ℕ × CacheData)) (new : List (List ℕ × NodeData)) (after : List (List ℕ × CacheData)) : Type 0 where
   pub put : IsPut own.path (Some (node_of own)) old new
   pub timed : IsTimed own.path (cache_of (fields_of own.rec)) before after
   pub formed : IsFormed (bare new after)
 
 -- a path right in a list's directory has what its row says
-pub record HasRow (list : NodeList) (at : List ℕ) (new : List (List ℕ × NodeData)) (after : List (List ℕ × StampData)) : Type 0 where
+pub record HasRow (list : NodeList) (at : List ℕ) (new : List (List ℕ × NodeData)) (after : List (List ℕ × CacheData)) : Type 0 where
   pub row : Row
   pub there : row_at (rows_in list) at ≡ Some row
   pub dir : parent_of at ≡ dir_of list
@@ -46,17 +46,17 @@ pub record HasRow (list : NodeList) (at : List ℕ) (new : List (List ℕ × Nod
   pub time : time_at after at ≡ cache_of (fields_of row.rec)
 
 -- a path has what it had, and none of so many nodes of a list stands at it
-pub record IsNotOf (list : NodeList) (count : ℕ) (at : List ℕ) (old : List (List ℕ × NodeData)) (before : List (List ℕ × StampData)) (new : List (List ℕ × NodeData)) (after : List (List ℕ × StampData)) : Type 0 where
+pub record IsNotOf (list : NodeList) (count : ℕ) (at : List ℕ) (old : List (List ℕ × NodeData)) (before : List (List ℕ × CacheData)) (new : List (List ℕ × NodeData)) (after : List (List ℕ × CacheData)) : Type 0 where
   pub stays : IsAsBefore at old before new after
   pub none : (i : ℕ) → i < count → bytes_eq (path_at list i) at ≡ false
 
 -- so many nodes of a list were taken, without what stands below them
-pub record AddsNodes (list : NodeList) (count : ℕ) (old : List (List ℕ × NodeData)) (before : List (List ℕ × StampData)) (new : List (List ℕ × NodeData)) (after : List (List ℕ × StampData)) : Type 0 where
+pub record AddsNodes (list : NodeList) (count : ℕ) (old : List (List ℕ × NodeData)) (before : List (List ℕ × CacheData)) (new : List (List ℕ × NodeData)) (after : List (List ℕ × CacheData)) : Type 0 where
   pub each : (at : List ℕ) → (IsNotOf list count at old before new after) ⊎ (HasRow list at new after)
   pub formed : IsFormed (bare new after)
 
 -- nothing was taken but at paths of a list's nodes
-pub record AddsSome (list : NodeList) (old : List (List ℕ × NodeData)) (before : List (List ℕ × StampData)) (new : List (List ℕ × NodeData)) (after : List (List ℕ × StampData)) : Type 0 where
+pub record AddsSome (list : NodeList) (old : List (List ℕ × NodeData)) (before : List (List ℕ × CacheData)) (new : List (List ℕ × NodeData)) (after : List (List ℕ × CacheData)) : Type 0 where
   pub each : (at : List ℕ) → (IsAsBefore at old before new after) ⊎ ((parent_of at ≡ dir_of list) × (is_some (row_at (rows_in list) at) ≡ true))
   pub formed : IsFormed (bare new after)
 

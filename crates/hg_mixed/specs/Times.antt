@@ -7,30 +7,30 @@ use Rattle.std.specs.String.{string_bytes}
 use Rattle.hg_base.specs.PathText.{is_path}
 use Rattle.hg_base.specs.Within.{is_above}
 use Rattle.hg_base.specs.declared.time.Stamp.{Stamp}
-use Rattle.hg_entry.specs.Entry.{StampData, stamp_view}
+use Rattle.hg_entry.specs.Entry.{CacheData, cache_view}
 use Rattle.hg_image.specs.Rows.{Row}
 use Rattle.hg_mixed.specs.Lent.{as_dir, lent_at}
 
 -- the time of a directory, where it is cached
-abbrev pub time_at : List (List ℕ × StampData) → List ℕ → Option StampData
+abbrev pub time_at : List (List ℕ × CacheData) → List ℕ → Option CacheData
 time_at times dir = lookup (bytes_eq dir) times
 
 -- one directory has another time, or none, and all others have what they had
-abbrev pub IsTimed : List ℕ → Option StampData → List (List ℕ × StampData) → List (List ℕ × StampData) → Type 0
+abbrev pub IsTimed : List ℕ → Option CacheData → List (List ℕ × CacheData) → List (List ℕ × CacheData) → Type 0
 IsTimed dir time old new = (at : List ℕ) → time_at new at ≡ update bytes_eq (time_at old) dir time at
 
 -- no directory is cached, or one is
-abbrev pub AreNone : Bool → List (List ℕ × StampData) → Type 0
+abbrev pub AreNone : Bool → List (List ℕ × CacheData) → Type 0
 AreNone none times = MatchBool none ((at : List ℕ) → time_at times at ≡ None) ((at : List ℕ) × (is_some (time_at times at) ≡ true))
 
 -- each cached directory is a path
-abbrev pub AreTimedPaths : List (List ℕ × StampData) → Type 0
+abbrev pub AreTimedPaths : List (List ℕ × CacheData) → Type 0
 AreTimedPaths times = AllByRecursion (λ time. is_path time.0 ≡ true) times
 
 -- no list of a directory above a cached one is lent any more, and all others have the lists that they had
-abbrev pub AreEndedOver : List (List ℕ × StampData) → List (List ℕ × List Row) → List (List ℕ × List Row) → Type 0
+abbrev pub AreEndedOver : List (List ℕ × CacheData) → List (List ℕ × List Row) → List (List ℕ × List Row) → Type 0
 AreEndedOver times old new = (dir : List ℕ) → lent_at new dir ≡ (if list_any (λ time. is_above (as_dir dir) time.0) times then None else lent_at old dir)
 
 -- each time at its directory
-abbrev pub times_of : {Y : Type 0} → List (String Y × Stamp) → List (List ℕ × StampData)
-times_of times = map (λ e. (string_bytes e.0, stamp_view e.1)) times
+abbrev pub times_of : {Y : Type 0} → List (String Y × Stamp) → List (List ℕ × CacheData)
+times_of times = map (λ e. (string_bytes e.0, cache_view e.1)) times

@@ -1,18 +1,18 @@
 -- What is written for a node, by the numbers that are read back as it.
 use Rattle.std.specs.Prelude.{◌≡◌, ◌==◌, ◌^◌, Bool, true, not, ◌&&◌, if◌then◌else◌, Option, Some, None, nat_lt}
 use Rattle.hg_entry.specs.declared.entry.Fields.{Fields}
-use Rattle.hg_entry.specs.Entry.{EntryData, StampData, cache_of, entry_of, has_entry, is_timely}
+use Rattle.hg_entry.specs.Entry.{CacheData, EntryData, cache_of, entry_of, has_entry, is_timely}
 use Rattle.hg_entry.specs.Flags as bits
 use Rattle.hg_entry.specs.Flags.{has}
 use Rattle.hg_entry.specs.Written.{cache_fields, fields_of}
 
 -- the numbers that are written for an entry, or for a node without one
-abbrev pub fields_for : Option EntryData → Option StampData → Fields
+abbrev pub fields_for : Option EntryData → Option CacheData → Fields
 fields_for None cache = cache_fields cache
 fields_for (Some entry) cache = fields_of entry
 
 -- numbers that are read back as what they were written for
-pub record AreWritten (entry : Option EntryData) (cache : Option StampData) (f : Fields) : Type 0 where
+pub record AreWritten (entry : Option EntryData) (cache : Option CacheData) (f : Fields) : Type 0 where
   pub is : f ≡ fields_for entry cache
   pub back : entry_of f ≡ entry
   pub none : entry ≡ None → cache_of f ≡ cache

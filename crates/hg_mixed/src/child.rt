@@ -1,7 +1,7 @@
 //! One child of a directory.
 
 ghost use Rattle.std.specs.Prelude.{option_map};
-ghost use Rattle.hg_entry.specs.Entry.{stamp_view, view};
+ghost use Rattle.hg_entry.specs.Entry.{cache_view, view};
 ghost use Rattle.hg_mixed.specs.Written.{AreWritten};
 
 use hg_base::{PathRef, Stamp};
@@ -28,5 +28,5 @@ pub struct Child<'t> {
     pub(crate) list: Option<List<'t>>,
     // (the numbers that are written for it)
     pub(crate) fields: Fields,
-    ghost is_written: { AreWritten (option_map view entry) (option_map stamp_view cache) fields },
+    ghost is_written: { AreWritten (option_map view entry) (option_map cache_view cache) fields },
 }

@@ -1,7 +1,7 @@
 //! The edits of a table.
 
 ghost use Rattle.std.specs.Prelude.{◌≡◌, true, Some, None, IfOk, OnOk, OnErr, is_some, option_map};
-ghost use Rattle.hg_entry.specs.Entry.{stamp_view, view};
+ghost use Rattle.hg_entry.specs.Entry.{cache_view, view};
 ghost use Rattle.hg_mixed.specs.Clash.{IsLeast, Sets, clashes};
 ghost use Rattle.hg_mixed.specs.Drop.{IsPruned, PlacesDrop, after_clear};
 ghost use Rattle.hg_mixed.specs.Edits.{AreLentAsBefore, ArePlacedAsBefore, EndsAbove, IsOfSameImage, IsSame, IsUnchanged, Lends, LendsUncached, Marks, PlacesCopy, after_cache, after_copy, after_hash, after_ids, after_no_caches, after_set};
@@ -44,7 +44,7 @@ impl Mixed<'_> {
     pub fn note_dir(&mut self, dir: PathRef<'_>, time: Stamp) -> Result<(), OutOfMemory>
         requires node { (table self.old).nodes dir.text.now ≡ true }
         requires no_entry { (table self.old).entries dir.text.now ≡ None }
-        ensures table { OnOk result (IsSame (table self.new) (after_cache dir.entry.text.now (Some (stamp_view time)) (table self.old))) }
+        ensures table { OnOk result (IsSame (table self.new) (after_cache dir.entry.text.now (Some (cache_view time)) (table self.old))) }
         ensures changed { OnOk result (Marks (IsSame (table self.new) (table self.old)) self.old.changed self.new.changed) }
         ensures lent { OnOk result (Lends dir.entry.text.now (IsSame (table self.new) (table self.old)) self.old self.new) }
         ensures places { OnOk result (ArePlacedAsBefore self.old self.new) }

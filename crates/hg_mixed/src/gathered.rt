@@ -1,6 +1,6 @@
-//! All nodes of a table that have an entry or are cached directories.
+//! All nodes of a table.
 
-ghost use Rattle.std.specs.Prelude.{◌≡◌, ◌++◌, ◌∷◌, [], if◌then◌else◌, None, OnOk, IfOk, option_map};
+ghost use Rattle.std.specs.Prelude.{◌≡◌, ◌++◌, ◌∷◌, [], None, OnOk, IfOk, option_map};
 ghost use Rattle.std.specs.List.Sorted.{IsStrictlySortedBy};
 ghost use Rattle.std.specs.Ordering.{nat_cmp};
 ghost use Rattle.std.specs.Cmp.Lexicographic.{slice_cmp};
@@ -9,7 +9,7 @@ ghost use Rattle.hg_base.specs.Within.{is_above};
 ghost use Rattle.hg_mixed.specs.Child.{shown_child};
 ghost use Rattle.hg_mixed.specs.Children.{AreChildren, IsChild};
 ghost use Rattle.hg_mixed.specs.Edits.{IsFormed};
-ghost use Rattle.hg_mixed.specs.Gathered.{AreGathered, Gathers, has_line, line_of, path_of, paths_of};
+ghost use Rattle.hg_mixed.specs.Gathered.{AreGathered, Gathers, line_of, path_of, paths_of};
 ghost use Rattle.hg_mixed.specs.Held.{table};
 ghost use Rattle.hg_mixed.specs.Walk.{IsBelow, ListIsOf, ListsAreOf, walked};
 
@@ -21,21 +21,11 @@ use crate::walk::Walk;
 use hg_base::{OutOfMemory, PathRef};
 use std::alloc::Global;
 
-fn is_recorded(child: &Child<'_>) -> bool
-    ensures { result ≡ has_line (line_of child.now) }
-{
-    child.entry.is_some() || child.cache.is_some()
-}
-
-// Takes a child that has a line of its own.
+// Takes a child.
 fn add_own<'t>(rows: &mut Vec<Line<'t>>, child: &Child<'t>) -> Result<(), OutOfMemory>
-    ensures { OnOk
-        result
-        (rows.new.items ≡ rows.old.items ++ (if has_line (line_of child.now) then line_of child.now ∷ [] else [])) }
+    ensures { OnOk result (rows.new.items ≡ rows.old.items ++ line_of child.now ∷ []) }
 {
-    if is_recorded(child) {
-        rows.push(Line::of(child))?;
-    }
+    rows.push(Line::of(child))?;
     Ok(())
 }
 
@@ -94,16 +84,17 @@ fn add_children<'t>(
     Ok(())
 }
 
-// Room for as many lines as the docket counts entries, but for no more than the image has records.
+// Room for as many lines as the docket counts entries, and for an eighth more, since directories have one too; but for no more than the image has records.
 fn room<'t>(alloc: Global, mixed: &Mixed<'_>) -> Result<Vec<Line<'t>>, OutOfMemory>
     ensures { IfOk result (λ rows. rows.items ≡ []) }
 {
     let docket = mixed.image().docket;
-    let rows = Vec::with_capacity(alloc, docket.entries.min(docket.used / 44) as usize)?;
+    let lines = docket.entries as u64 + docket.entries as u64 / 8;
+    let rows = Vec::with_capacity(alloc, lines.min(docket.used as u64 / 44) as usize)?;
     Ok(rows)
 }
 
-/// All nodes that have an entry or a cache, ascending by the bytes of their paths.
+/// All nodes, ascending by the bytes of their paths, each with its entry, its copy source and its cache, where it has them.
 pub fn gather<'t>(alloc: Global, mixed: &'t Mixed<'_>) -> Result<Vec<Line<'t>>, OutOfMemory>
     requires { IsFormed (table mixed.now) }
     ensures gathered { IfOk result (λ rows. AreGathered mixed.now (is_above None) rows.items) }

@@ -5,9 +5,8 @@ ghost use Rattle.hg_docket.specs.Docket as docket;
 ghost use Rattle.hg_mixed.specs.Parted.{image_rows};
 ghost use Rattle.hg_mixed.specs.Shown.{AnswersList, FindsList};
 
-use crate::lent::node_in;
 use hg_base::PathRef;
-use hg_image::{Image, List};
+use hg_image::{Image, List, node_in};
 
 // The list of a directory, also one without nodes; none where the image has no node at the directory.
 fn list_at<'a>(image: Image<'a>, dir: Option<PathRef<'_>>) -> Option<List<'a>>

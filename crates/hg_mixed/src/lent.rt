@@ -1,15 +1,12 @@
 //! The lists of nodes that are the image's still.
 
 ghost use Rattle.std.specs.Prelude.{◌≡◌, true, Some, None, is_some, option_map, IfSome, MatchBool, OnOk, OnErr};
-ghost use Rattle.hg_base.specs.PathText.{is_same_dir, parent_of};
-ghost use Rattle.hg_base.specs.Within.{is_above};
-ghost use Rattle.hg_image.specs.Reading.{row_at};
-ghost use Rattle.hg_image.specs.View.{dir_of, row, rows_in};
-ghost use Rattle.hg_mixed.specs.Lent.{AreEnded, AreLentStill, CoversNone, HasBelow, IsLentPut, IsNoneLent, IsOver, IsPlace, covers, lent_at};
+ghost use Rattle.hg_image.specs.View.{dir_of, rows_in};
+ghost use Rattle.hg_mixed.specs.Lent.{AreEnded, AreLentStill, CoversNone, IsLentPut, IsNoneLent, IsOver, IsPlace, covers, lent_at};
 ghost use Rattle.hg_mixed.specs.Lists.{or_root};
 
 use hg_base::{OutOfMemory, PathRef};
-use hg_image::{List, NodeRef};
+use hg_image::{List, NodeRef, node_in};
 use std::alloc::Global;
 use std::collections::BTreeMap;
 use std::marker::Model;
@@ -40,39 +37,6 @@ impl<'a> Model for Lent<'a> {
     ghost view = { λ l. lists_of l.lists.entries };
 
     ghost invariant = { λ l. AreByDir l.lists.entries };
-}
-
-// Whether a path stands right in the directory of a list.
-fn is_in(list: List<'_>, path: PathRef<'_>) -> bool
-    ensures { result ≡ is_same_dir (dir_of list.entry) (parent_of path.entry.text.now) }
-{
-    match list.dir {
-        None => path.parent().is_none(),
-        Some(dir) => match path.parent() {
-            None => false,
-            Some(parent) => dir.text == parent.text,
-        },
-    }
-}
-
-/// The node at a path below a list's directory, where one stands there.
-pub fn node_in<'a>(list: List<'a>, path: PathRef<'_>) -> Option<NodeRef<'a>>
-    requires { is_above (dir_of list) path.text.now ≡ true }
-    ensures node { option_map row result ≡ row_at (rows_in list.entry) path.entry.text.now }
-    // What stands below it in the list is what is below the node.
-    ensures below { IfSome result (HasBelow list.entry) }
-    ensures bytes { IfSome result (λ node. node.bytes.now ≡ list.entry.bytes.now) }
-{
-    if is_in(list, path) {
-        return list.find(path.base());
-    }
-    let Some(dir) = path.parent() else {
-        return None;
-    };
-    match node_in(list, dir) {
-        None => None,
-        Some(node) => node.children().find(path.base()),
-    }
 }
 
 impl<'a> Lent<'a> {

@@ -16,7 +16,7 @@
 //! Of two tracked paths none stands below the other (Mercurial tracks files, and no file is a directory): `set` refuses an entry that would make
 //! an untracked path tracked beside one above or below it, and names the least such path. Each refused edit leaves all as it was.
 //!
-//! `gather` lists all nodes that have an entry or a cache, ascending by the bytes of their paths (a walk meets `a/b` before `a.c`).
+//! `gather` lists all nodes, ascending by the bytes of their paths (a walk meets `a/b` before `a.c`).
 //!
 //! What a table still lends from its image is told by `is_lent`, `lent` and the places of a `Child`: the lists of children at and below which no edit
 //! has changed anything, and the texts that have stayed. A text is lent as long as its node, or its copy source, is the one that the image had. An edit

@@ -1,4 +1,4 @@
-//! What is recorded of one path.
+//! What is recorded of one node.
 
 ghost use Rattle.std.specs.Prelude.{◌≡◌};
 ghost use Rattle.hg_mixed.specs.Gathered.{line_of};
@@ -7,11 +7,12 @@ use crate::child::Child;
 use hg_base::{PathRef, Stamp};
 use hg_entry::Entry;
 
-/// A node that has an entry or is a cached directory.
+/// A node: a recorded file, or a directory.
 #[derive(Clone, Copy, Debug)]
 pub struct Line<'t> {
     /// The full path.
     pub path: PathRef<'t>,
+    /// What is recorded of the file; none of a directory that was no file.
     pub entry: Option<Entry>,
     /// The copy source, where there is an entry and it has one.
     pub source: Option<PathRef<'t>>,

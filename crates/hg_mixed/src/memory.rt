@@ -1,7 +1,7 @@
 //! What is in memory of a table.
 
 ghost use Rattle.std.specs.Prelude.{◌≡◌, ℕ, List, None, false, option_map};
-ghost use Rattle.hg_entry.specs.Entry.{stamp_view, view};
+ghost use Rattle.hg_entry.specs.Entry.{cache_view, view};
 ghost use Rattle.hg_mixed.specs.Edits.{IsFormed};
 ghost use Rattle.hg_mixed.specs.Lists.{data_of, has_rows_in};
 ghost use Rattle.hg_mixed.specs.Memory.{memory_table};
@@ -109,7 +109,7 @@ impl<'a> Memory<'a> {
 
     /// The time of a cached directory.
     pub fn cache(&self, dir: PathRef<'_>) -> Option<Stamp>
-        ensures { option_map stamp_view result ≡ (memory_table self.now).caches dir.entry.text.now }
+        ensures { option_map cache_view result ≡ (memory_table self.now).caches dir.entry.text.now }
     {
         self.times.get(dir.text)
     }

@@ -1,7 +1,7 @@
 //! The edits of what is in memory.
 
 ghost use Rattle.std.specs.Prelude.{◌≡◌, ℕ, true, List, Some, None, IfOk, OnOk, OnErr, is_some, option_map};
-ghost use Rattle.hg_entry.specs.Entry.{stamp_view, view};
+ghost use Rattle.hg_entry.specs.Entry.{cache_view, view};
 ghost use Rattle.hg_mixed.specs.Clash.{IsLeast, Sets, clashes};
 ghost use Rattle.hg_mixed.specs.Drop.{IsPruned, after_clear};
 ghost use Rattle.hg_mixed.specs.Edits.{IsSame, Marks, after_cache, after_copy, after_hash, after_ids, after_no_caches, after_set};
@@ -15,7 +15,7 @@ use crate::fault::SetFault;
 use crate::memory::Memory;
 use crate::planting::clear;
 use crate::pruning::prune;
-use crate::same::{same_hash, same_ids, same_time};
+use crate::same::{same_cache, same_hash, same_ids};
 use crate::setting::{put_entry, put_source};
 use hg_base::{Id20, OutOfMemory, Path, PathRef, Stamp};
 use hg_entry::Entry;
@@ -66,13 +66,13 @@ impl Memory<'_> {
     pub fn note_dir(&mut self, dir: PathRef<'_>, time: Stamp) -> Result<(), OutOfMemory>
         requires node { (memory_table self.old).nodes dir.text.now ≡ true }
         requires no_entry { (memory_table self.old).entries dir.text.now ≡ None }
-        ensures table { OnOk result (IsSame (memory_table self.new) (after_cache dir.entry.text.now (Some (stamp_view time)) (memory_table self.old))) }
+        ensures table { OnOk result (IsSame (memory_table self.new) (after_cache dir.entry.text.now (Some (cache_view time)) (memory_table self.old))) }
         ensures changed { OnOk result (Marks (IsSame (memory_table self.new) (memory_table self.old)) self.old.changed self.new.changed) }
         ensures nodes { OnOk result (AreSame self.old.rows self.new.rows) }
         ensures kept { OnOk result (Ends dir.entry.text.now (IsSame (memory_table self.new) (memory_table self.old)) self.old.kept self.new.kept) }
         ensures err { OnErr result (IsKept self.old self.new) }
     {
-        let same = same_time(self.times.get(dir.text), Some(time));
+        let same = same_cache(self.times.get(dir.text), Some(time));
         match self.times.put(self.alloc, dir.text, time) {
             Err(fault) => Err(fault),
             Ok(()) => {
@@ -93,7 +93,7 @@ impl Memory<'_> {
         ensures kept { OnOk result (Ends dir.entry.text.now (IsSame (memory_table self.new) (memory_table self.old)) self.old.kept self.new.kept) }
         ensures err { OnErr result (IsKept self.old self.new) }
     {
-        let same = same_time(self.times.get(dir.text), None);
+        let same = same_cache(self.times.get(dir.text), None);
         self.times.remove(dir.text);
         self.changed |= !same;
         self.kept.end_where(!same, dir);

@@ -2,7 +2,7 @@
 
 ghost use Rattle.std.specs.Prelude.{◌≡◌, ◌||◌, IfOk, Some, false, is_some, option_map};
 ghost use Rattle.hg_docket.specs.Docket as docket;
-ghost use Rattle.hg_entry.specs.Entry.{entry_of, stamp_view};
+ghost use Rattle.hg_entry.specs.Entry.{entry_of, cache_view};
 ghost use Rattle.hg_image.specs.Node.{fields_of};
 ghost use Rattle.hg_image.specs.Reading as reading;
 ghost use Rattle.hg_image.specs.View.{row, rows};
@@ -164,7 +164,7 @@ impl<'a> Mixed<'a> {
 
     /// The time of a cached directory.
     pub fn cache(&self, dir: PathRef<'_>) -> Option<Stamp>
-        ensures { option_map stamp_view result ≡ (table self.now).caches dir.entry.text.now }
+        ensures { option_map cache_view result ≡ (table self.now).caches dir.entry.text.now }
     {
         match self.left.find(dir) {
             Place::Memory => self.memory.cache(dir),

@@ -2,7 +2,7 @@
 
 ghost use Rattle.std.specs.Prelude.{◌≡◌, None, option_map, IfOk, MatchBool};
 ghost use Rattle.std.specs.Option.{option_and_then};
-ghost use Rattle.hg_entry.specs.Entry.{stamp_view, view};
+ghost use Rattle.hg_entry.specs.Entry.{cache_view, stamp_view, view};
 ghost use Rattle.hg_mixed.specs.Node.{node_at, source_in};
 
 use crate::node::Source;
@@ -19,6 +19,13 @@ pub fn same_time(a: Option<Stamp>, b: Option<Stamp>) -> bool
         (Some(a), Some(b)) => same_stamp(a, b),
         _ => false,
     }
+}
+
+/// The same of the caches that have these times.
+pub fn same_cache(a: Option<Stamp>, b: Option<Stamp>) -> bool
+    ensures { MatchBool result (option_map cache_view a ≡ option_map cache_view b) (option_map cache_view a ≡ option_map cache_view b → ⊥) }
+{
+    same_time(a, b)
 }
 
 fn same_stamp(a: Stamp, b: Stamp) -> bool

@@ -1,7 +1,7 @@
 //! The times of cached directories.
 
 ghost use Rattle.std.specs.Prelude.{◌≡◌, ℕ, List, Some, None, OnOk, OnErr, option_map};
-ghost use Rattle.hg_entry.specs.Entry.{stamp_view};
+ghost use Rattle.hg_entry.specs.Entry.{cache_view};
 ghost use Rattle.hg_mixed.specs.Times.{AreEndedOver, AreNone, AreTimedPaths, IsTimed, time_at, times_of};
 
 use crate::lent::Lent;
@@ -18,10 +18,10 @@ pub struct Times {
 
 impl Model for Times {
     ghost use Rattle.std.specs.Prelude.{List, ℕ};
-    ghost use Rattle.hg_entry.specs.Entry.{StampData};
+    ghost use Rattle.hg_entry.specs.Entry.{CacheData};
     ghost use Rattle.hg_mixed.specs.Times.{times_of};
 
-    ghost Value = { List (List ℕ × StampData) };
+    ghost Value = { List (List ℕ × CacheData) };
 
     ghost view = { λ t. times_of t.times.entries };
 }
@@ -47,14 +47,14 @@ impl Times {
     }
 
     pub fn get(&self, dir: &str) -> Option<Stamp>
-        ensures { option_map stamp_view result ≡ time_at self.now dir.now }
+        ensures { option_map cache_view result ≡ time_at self.now dir.now }
     {
         self.times.get(dir).copied()
     }
 
     /// Puts the time of a directory, or leaves all as it was.
     pub fn put(&mut self, alloc: Global, dir: &str, time: Stamp) -> Result<(), OutOfMemory>
-        ensures ok { OnOk result (IsTimed dir.now (Some (stamp_view time)) self.old self.new) }
+        ensures ok { OnOk result (IsTimed dir.now (Some (cache_view time)) self.old self.new) }
         ensures err { OnErr result ((at : List ℕ) → time_at self.new at ≡ time_at self.old at) }
     {
         let dir = String::from_str(alloc, dir)?;

@@ -1,7 +1,7 @@
 //! The numbers that are written for a node, without an encoding where those that it has are the same.
 
 ghost use Rattle.std.specs.Prelude.{◌≡◌, true, option_map};
-ghost use Rattle.hg_entry.specs.Entry.{cache_of, entry_of, is_timely, stamp_view, view};
+ghost use Rattle.hg_entry.specs.Entry.{cache_of, entry_of, is_timely, cache_view, view};
 ghost use Rattle.hg_mixed.specs.Child.{shown_child};
 ghost use Rattle.hg_mixed.specs.Written as written;
 ghost use Rattle.hg_mixed.specs.Written.{AreTheirs, AreWritten, fields_for, is_as_written};
@@ -54,7 +54,7 @@ fn is_as_written(f: Fields) -> bool
 /// The numbers that are written for an entry, or for a node without one.
 #[inline(never)]
 pub fn written_for(entry: Option<Entry>, cache: Option<Stamp>) -> Fields
-    ensures { AreWritten (option_map view entry) (option_map stamp_view cache) result }
+    ensures { AreWritten (option_map view entry) (option_map cache_view cache) result }
 {
     match entry {
         None => dir_fields(cache),

@@ -7,7 +7,7 @@ use Rattle.std.proofs.lemmas.Bool.{cases_Bool, and_parts, and_from, both_ways, n
 use Rattle.std.proofs.lemmas.List.{take_all}
 use Rattle.hg_base.proofs.Within.{equal_bytes, same_bytes, within_itself, within_trans}
 use Rattle.hg_base.specs.Within.{is_above, is_within}
-use Rattle.hg_entry.specs.Entry.{EntryData, StampData}
+use Rattle.hg_entry.specs.Entry.{CacheData, EntryData}
 use Rattle.hg_entry.specs.Table.{Table}
 use Rattle.hg_mixed.specs.Drop.{IsPruned, after_clear}
 use Rattle.hg_mixed.specs.Held.{Held, is_lent, source_at, table, text_at}
@@ -223,7 +223,7 @@ module _ (want : Wanted) (old now new : Held) (done : List ℕ → Bool) (are : 
       node_twice true false now = refl
       node_twice false before now = refl
 
-      cache_twice : (a b c d : Bool) (x : Option StampData) → cond (c || d) None (cond (a || b) None x) ≡ cond ((a || c) || (b || d)) None x
+      cache_twice : (a b c d : Bool) (x : Option CacheData) → cond (c || d) None (cond (a || b) None x) ≡ cond ((a || c) || (b || d)) None x
       cache_twice true b true d x = refl
       cache_twice true b false true x = refl
       cache_twice true b false false x = refl

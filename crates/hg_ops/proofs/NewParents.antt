@@ -6,7 +6,7 @@ use Rattle.std.specs.Str.{bytes_eq}
 use Rattle.std.proofs.lemmas.Bool.{cases_Bool, and_parts, both_ways, false_from_ne_true, or_left, or_right}
 use Rattle.hg_base.proofs.Within.{within_split, within_trans}
 use Rattle.hg_base.specs.Within.{is_above, is_within}
-use Rattle.hg_entry.specs.Entry.{EntryData, StampData}
+use Rattle.hg_entry.specs.Entry.{CacheData, EntryData}
 use Rattle.hg_entry.specs.Table.{Table}
 use Rattle.hg_manifest.specs.Plain.{is_null}
 use Rattle.hg_manifest.specs.Rows.{Rows}
@@ -172,7 +172,7 @@ module _ (merged : Bool) (m1 m2 : Rows) where
       none_cache : (t : Table) → IsFormed t → (at : List ℕ) → is_some (t.entries at) ≡ true → t.caches at ≡ None
       none_cache t formed at some = by_cache (t.caches at) refl
         where
-          by_cache : (o : Option StampData) → t.caches at ≡ o → t.caches at ≡ None
+          by_cache : (o : Option CacheData) → t.caches at ≡ o → t.caches at ≡ None
           by_cache None is = is
           by_cache (Some time) is = absurd (true≢false (sym some ∙ ap is_some (formed.caches at (ap is_some is)).1))
 
@@ -185,10 +185,10 @@ module _ (merged : Bool) (m1 m2 : Rows) where
             ∙ ap (λ (b : Bool). cond b None ((table old).caches at)) (sym (none_more (drops.gone at) (drops.stale at) (is_some ((table new).entries at)) none))
       ]
         where
-          ends : (a b c : Bool) (x : Option StampData) → c ≡ true → cond (a || b || c) None x ≡ None
+          ends : (a b c : Bool) (x : Option CacheData) → c ≡ true → cond (a || b || c) None x ≡ None
           ends a b c x is = ap (λ (v : Bool). cond (a || b || v) None x) is ∙ by_both a b x
             where
-              by_both : (a b : Bool) (x : Option StampData) → cond (a || b || true) None x ≡ None
+              by_both : (a b : Bool) (x : Option CacheData) → cond (a || b || true) None x ≡ None
               by_both true b x = refl
               by_both false true x = refl
               by_both false false x = refl

@@ -4,8 +4,8 @@ use Rattle.hg_append.specs.Encoded.{IsWritten, ReadsAs}
 use Rattle.hg_append.specs.declared.encoding.Encoded.{Encoded}
 use Rattle.hg_append.specs.declared.way.Way.{Way}
 use Rattle.hg_append.specs.declared.way.Way.TheVariants as a_way
-use Rattle.hg_appended.specs.Either.{file_of}
-use Rattle.hg_appended.specs.Loss.{plan_of}
+use Rattle.hg_append.specs.Either.{file_of}
+use Rattle.hg_append.specs.Loss.{plan_of}
 use Rattle.hg_docket.specs.Docket.{Contents, docket_of}
 use Rattle.hg_docket.specs.Number.{next_name}
 use Rattle.hg_entry.specs.Table.{Table}

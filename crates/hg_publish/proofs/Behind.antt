@@ -12,10 +12,10 @@ use Rattle.hg_append.specs.Layout.{size_in}
 use Rattle.hg_append.specs.declared.encoding.Encoded.{Encoded}
 use Rattle.hg_append.specs.declared.way.Way.TheVariants as a_way
 use Rattle.hg_append.proofs.Sizes.{put_length_in}
-use Rattle.hg_appended.specs.Appended.{IsAppended, IsOverImage, contents_behind, end_with}
-use Rattle.hg_appended.specs.Either.{file_of}
-use Rattle.hg_appended.specs.Loss.{plan_of}
-use Rattle.hg_appended.proofs.Behind.{name_stays, planned}
+use Rattle.hg_append.specs.Appended.{IsAppended, IsOverImage, contents_behind, end_with}
+use Rattle.hg_append.specs.Either.{file_of}
+use Rattle.hg_append.specs.Loss.{plan_of}
+use Rattle.hg_append.proofs.Behind.{name_stays, planned}
 use Rattle.hg_docket.specs.Docket.{Contents, docket_of, docket_refusal, empty_docket, fields_in, marker}
 use Rattle.hg_docket.specs.Name.{is_name, is_name_byte}
 use Rattle.hg_docket.specs.Written as docket

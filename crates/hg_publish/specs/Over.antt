@@ -4,9 +4,9 @@ use Rattle.hg_append.specs.Encoded.{IsWritten}
 use Rattle.hg_append.specs.declared.encoding.Encoded.{Encoded}
 use Rattle.hg_append.specs.declared.way.Way.{Way}
 use Rattle.hg_append.specs.declared.way.Way.TheVariants as a_way
-use Rattle.hg_appended.specs.Appended.{IsAppended}
-use Rattle.hg_appended.specs.Either.{HasCauseBy, file_of}
-use Rattle.hg_appended.specs.Loss.{plan_of}
+use Rattle.hg_append.specs.Appended.{IsAppended}
+use Rattle.hg_append.specs.Either.{HasCauseBy, file_of}
+use Rattle.hg_append.specs.Loss.{plan_of}
 use Rattle.hg_base.specs.Fault.{Rose}
 use Rattle.hg_docket.specs.Docket.{docket_of}
 use Rattle.hg_docket.specs.Number.{next_name}

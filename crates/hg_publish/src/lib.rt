@@ -1,6 +1,6 @@
 //! Publishing a changed table by the better of two ways: behind the data file that stands, or anew.
 //!
-//! `publish_table` asks `hg_appended::plan` for the way, encodes the table by it, and publishes what was encoded. A crash at any moment leaves the
+//! `publish_table` asks `hg_append::plan` for the way, encodes the table by it, and publishes what was encoded. A crash at any moment leaves the
 //! dirstate as it was before or as it is after, by either way, and what it leaves may be appended to next. The caller holds the lock.
 //!
 //! ```text

@@ -3,8 +3,8 @@
 ghost use Rattle.std.specs.Prelude.{◌≡◌, ◌⊎◌, ◌≤◌, ◌<◌, length, None, true, IfErr, IsTrue, OnOk};
 ghost use Rattle.hg_append.specs.declared.encoding.Encoded.{Encoded};
 ghost use Rattle.hg_append.specs.declared.way.Way.TheVariants as a_way;
-ghost use Rattle.hg_appended.specs.Appended.{IsOverImage};
-ghost use Rattle.hg_appended.specs.Loss.{plan_of};
+ghost use Rattle.hg_append.specs.Appended.{IsOverImage};
+ghost use Rattle.hg_append.specs.Loss.{plan_of};
 ghost use Rattle.hg_docket.specs.Docket.{docket_of, docket_refusal};
 ghost use Rattle.hg_entry.specs.Table.{Table};
 ghost use Rattle.hg_mixed.specs.Shown.{AreLentWhole, ArePlacesOfImage};
@@ -17,7 +17,7 @@ ghost use Rattle.hg_shelf.specs.Polite.{Undisturbed};
 
 use crate::fault::PublishFault;
 use hg_append::Way;
-use hg_appended::{encode, plan};
+use hg_append::{encode, plan};
 use hg_mixed::Mixed;
 use hg_save::{Loaded, publish};
 use hg_save_behind::publish_behind;

@@ -12,13 +12,13 @@ use Rattle.std.proofs.lemmas.List.Concat.{flat_map-cons}
 use Rattle.std.proofs.lemmas.List.Kept.{IsStrictlySortedBy-filter}
 use Rattle.hg_base.specs.Within.{is_above}
 use Rattle.hg_base.proofs.Within.{same_bytes}
-use Rattle.hg_entry.specs.Entry.{EntryData}
+use Rattle.hg_entry.specs.Entry.{CacheData, EntryData}
 use Rattle.hg_mixed.specs.Edits.{IsFormed}
-use Rattle.hg_mixed.specs.Gathered.{AreGathered, Shows, is_recorded, path_of, paths_of}
+use Rattle.hg_mixed.specs.Gathered.{AreGathered, Shows, path_of, paths_of}
 use Rattle.hg_mixed.specs.Held.{Held, table}
 use Rattle.hg_mixed.specs.declared.line.Line.{Line}
 use Rattle.hg_mixed.proofs.Ordered.{same_bool}
-use Rattle.hg_report.specs.Debug.{IsDebugText, OneDebugText, copy_line, copy_lines, is_copied, nine_digits, parent_lines, record_line, record_lines, row_copy, row_line}
+use Rattle.hg_report.specs.Debug.{IsDebugText, OneDebugText, copy_line, copy_lines, is_copied, is_recorded, nine_digits, parent_lines, record_line, record_lines, row_copy, row_line}
 use Rattle.hg_report.proofs.Ordered.{one_all}
 
 -- ---- times
@@ -63,7 +63,7 @@ filtered_lines f q none (x ∷ ps) = lines_step f q none x ps (filtered_lines f 
 
 module _ (held : Held) where
   abbrev Sound : Line → Type 0
-  Sound row = (is_above None (path_of row) ≡ true) × (is_recorded (table held) (path_of row) ≡ true) × Shows held row
+  Sound row = (is_above None (path_of row) ≡ true) × ((table held).nodes (path_of row) ≡ true) × Shows held row
 
   lines_are : (rows : List Line) → AllByRecursion Sound rows → flat_map row_line rows ≡ record_lines (table held) (paths_of rows)
   lines_are [] each = refl
@@ -85,20 +85,35 @@ module _ (held : Held) where
       ∙ ap (λ (l : List ℕ). f (path_of row) ++ l) (copies_are rows each.1)
       ∙ sym (flat_map-cons f (path_of row) (paths_of rows))
 
+  no_line : (p : List ℕ) (entry : Option EntryData) (cache : Option CacheData) → (is_some entry || is_some cache) ≡ false → record_line p entry cache ≡ []
+  no_line p None None none = refl
+  no_line p None (Some cache) none = absurd (true≢false none)
+  no_line p (Some entry) cache none = absurd (true≢false none)
+
   no_copy : (p : List ℕ) (o : Option (List ℕ)) → is_some o ≡ false → copy_line p o ≡ []
   no_copy p None none = refl
   no_copy p (Some s) none = absurd (true≢false none)
 
   module _ (formed : IsFormed (table held)) (rows : List Line) (are : AreGathered held (is_above None) rows) (up : IsStrictlySortedBy (slice_cmp nat_cmp) (paths_of rows)) where
-    all_recorded : (p : List ℕ) → list_any (bytes_eq p) (paths_of rows) ≡ is_recorded (table held) p
-    all_recorded p = same_bool (list_any (bytes_eq p) (paths_of rows)) (is_recorded (table held) p) (λ is. among rows are.each is) (λ there. are.all p refl there)
+    all_nodes : (p : List ℕ) → list_any (bytes_eq p) (paths_of rows) ≡ (table held).nodes p
+    all_nodes p = same_bool (list_any (bytes_eq p) (paths_of rows)) ((table held).nodes p) (λ is. among rows are.each is) (λ there. are.all p refl there)
       where
-        among : (some : List Line) → AllByRecursion Sound some → list_any (bytes_eq p) (paths_of some) ≡ true → is_recorded (table held) p ≡ true
+        among : (some : List Line) → AllByRecursion Sound some → list_any (bytes_eq p) (paths_of some) ≡ true → (table held).nodes p ≡ true
         among [] each is = absurd (true≢false (sym is))
         among (row ∷ some) each is = elim (cases_Bool (bytes_eq p (path_of row))) [
-          | inl here ↦ ap (is_recorded (table held)) (same_bytes p (path_of row) here) ∙ each.0.1
+          | inl here ↦ ap (table held).nodes (same_bytes p (path_of row) here) ∙ each.0.1
           | inr other ↦ among some each.1 (sym (ap (λ (t : Bool). t || list_any (bytes_eq p) (paths_of some)) other) ∙ is)
         ]
+
+    -- what is recorded stands at a node
+    node_recorded : (p : List ℕ) → is_recorded (table held) p ≡ true → (table held).nodes p ≡ true
+    node_recorded p is = elim (cases_Bool ((table held).nodes p)) [
+      | inl node ↦ node
+      | inr none ↦ elim (cases_Bool (is_some ((table held).caches p))) [
+        | inl cache ↦ (formed.caches p cache).0
+        | inr uncached ↦ absurd (true≢false (sym is ∙ ap (λ (o : Option EntryData). is_some o || is_some ((table held).caches p)) (formed.entries p none) ∙ uncached))
+      ]
+    ]
 
     -- what is a copy has an entry
     copied_recorded : (p : List ℕ) → is_copied (table held) p ≡ true → is_recorded (table held) p ≡ true
@@ -119,25 +134,33 @@ module _ (held : Held) where
         → text ≡ two ++ flat_map row_copy rows → IsDebugText (table held) text
     text_is p1 p2 empty one two text is_p1 is_p2 none first second third =
         let lines : List ℕ = parent_lines held.p1 held.p2 in
-        let records : List ℕ = record_lines (table held) (paths_of rows) in
+        let records : List ℕ = record_lines (table held) (filter (is_recorded (table held)) (paths_of rows)) in
         let copies : List ℕ = copy_lines (table held) (filter (is_copied (table held)) (paths_of rows)) in
+        let records_same : flat_map row_line rows ≡ records =
+        lines_are rows are.each
+        ∙ sym (filtered_lines (λ path. record_line path ((table held).entries path) ((table held).caches path)) (is_recorded (table held)) (λ p not. no_line p ((table held).entries p) ((table held).caches p) not) (paths_of rows)) in
         let copies_same : flat_map row_copy rows ≡ copies =
         copies_are rows are.each
         ∙ sym (filtered_lines (λ path. copy_line path ((table held).sources path)) (is_copied (table held)) (λ p not. no_copy p ((table held).sources p) not) (paths_of rows)) in
         record {
-          recorded = paths_of rows;
-          are_recorded = record { ascending = up; all = all_recorded };
+          recorded = filter (is_recorded (table held)) (paths_of rows);
+          are_recorded = record {
+            ascending = IsStrictlySortedBy-filter (slice_cmp nat_cmp) (is_recorded (table held)) (paths_of rows) up;
+            all = λ p.
+                any_filter (is_recorded (table held)) p (paths_of rows)
+                ∙ and_if (is_recorded (table held) p) (list_any (bytes_eq p) (paths_of rows)) (λ is. all_nodes p ∙ node_recorded p is);
+          };
           copied = filter (is_copied (table held)) (paths_of rows);
           are_copied = record {
             ascending = IsStrictlySortedBy-filter (slice_cmp nat_cmp) (is_copied (table held)) (paths_of rows) up;
             all = λ p.
                 any_filter (is_copied (table held)) p (paths_of rows)
-                ∙ and_if (is_copied (table held) p) (list_any (bytes_eq p) (paths_of rows)) (λ is. all_recorded p ∙ copied_recorded p is);
+                ∙ and_if (is_copied (table held) p) (list_any (bytes_eq p) (paths_of rows)) (λ is. all_nodes p ∙ node_recorded p (copied_recorded p is));
           };
           whole =
               third
               ∙ ap (λ (l : List ℕ). l ++ flat_map row_copy rows) (second ∙ ap (λ (l : List ℕ). l ++ flat_map row_line rows) (first ∙ ap (λ (l : List ℕ). l ++ parent_lines p1 p2) none ∙ (λ i. parent_lines (is_p1 i) (is_p2 i))))
-              ∙ (λ i. lines ++ lines_are rows are.each i ++ copies_same i);
+              ∙ (λ i. lines ++ records_same i ++ copies_same i);
         }
 
 -- ---- one text

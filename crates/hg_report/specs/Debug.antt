@@ -1,5 +1,5 @@
 -- The text of a record: its parents, a line for each entry and each cached directory, and a line for each copy source.
-use Rattle.std.specs.Prelude.{ℕ, ◌≡◌, ◌-◌, Bool, if◌then◌else◌, List, [], ◌∷◌, ◌++◌, length, replicate, Option, Some, None, is_some, codes}
+use Rattle.std.specs.Prelude.{ℕ, ◌≡◌, ◌-◌, Bool, if◌then◌else◌, List, [], ◌∷◌, ◌++◌, ◌||◌, length, replicate, Option, Some, None, is_some, codes}
 use Rattle.std.specs.Option.{option_map}
 use Rattle.std.specs.Fmt.{decimal}
 use Rattle.std.specs.List.{flat_map, list_any}
@@ -8,11 +8,11 @@ use Rattle.std.specs.Ordering.{nat_cmp}
 use Rattle.std.specs.Cmp.Lexicographic.{slice_cmp}
 use Rattle.std.specs.Str.{bytes_eq}
 use Rattle.hex.specs.Hex.{encode_lower}
-use Rattle.hg_entry.specs.Entry.{EntryData, StampData, stamp_view, state_of, view}
+use Rattle.hg_entry.specs.Entry.{CacheData, EntryData, StampData, cache_view, state_of, view}
 use Rattle.hg_entry.specs.Table.{Table}
 use Rattle.hg_entry.specs.declared.entry.State.{State}
 use Rattle.hg_entry.specs.declared.entry.State.TheVariants as a_state
-use Rattle.hg_mixed.specs.Gathered.{is_recorded, path_of}
+use Rattle.hg_mixed.specs.Gathered.{path_of}
 use Rattle.hg_mixed.specs.declared.line.Line.{Line}
 
 -- the letter of what an entry says of its file: a r m n
@@ -55,9 +55,9 @@ abbrev pub cache_line : List ℕ → StampData → List ℕ
 cache_line path s = codes "d - - " ++ stamp_text s ++ 32 ∷ path ++ 10 ∷ []
 
 -- the line of what is recorded of a path, where there is anything
-abbrev pub record_line : List ℕ → Option EntryData → Option StampData → List ℕ
+abbrev pub record_line : List ℕ → Option EntryData → Option CacheData → List ℕ
 record_line path (Some e) cache = entry_line path e
-record_line path None (Some s) = cache_line path s
+record_line path None (Some cache) = cache_line path cache.stamp
 record_line path None None = []
 
 -- the line of a copy source, where there is one
@@ -67,7 +67,7 @@ copy_line path (Some source) = codes "copy: " ++ source ++ codes " -> " ++ path 
 
 -- the lines of a row: what is recorded of its path, and where it was copied from
 abbrev pub row_line : Line → List ℕ
-row_line row = record_line (path_of row) (option_map view row.entry) (option_map stamp_view row.cache)
+row_line row = record_line (path_of row) (option_map view row.entry) (option_map cache_view row.cache)
 
 abbrev pub row_copy : Line → List ℕ
 row_copy row = copy_line (path_of row) (option_map (λ s. s.text.now) row.source)
@@ -79,6 +79,10 @@ parent_lines p1 p2 = codes "p1 " ++ encode_lower p1 ++ codes "\np2 " ++ encode_l
 -- a path has a copy source
 abbrev pub is_copied : Table → List ℕ → Bool
 is_copied table path = is_some (table.sources path)
+
+-- a path has an entry, or is a cached directory
+abbrev pub is_recorded : Table → List ℕ → Bool
+is_recorded table path = is_some (table.entries path) || is_some (table.caches path)
 
 -- some paths are all that pass a test, ascending by their bytes
 pub record AreAll (test : List ℕ → Bool) (paths : List (List ℕ)) : Type 0 where

@@ -6,7 +6,7 @@ use Rattle.hg_base.specs.PathText.{is_component, joined}
 use Rattle.hg_base.specs.declared.id.Id20.{Id20}
 use Rattle.hg_base.proofs.Components.{parent_joined}
 use Rattle.hg_base.proofs.Paths.{component_plain}
-use Rattle.hg_entry.specs.Entry.{EntryData, StampData}
+use Rattle.hg_entry.specs.Entry.{CacheData, EntryData}
 use Rattle.hg_entry.specs.Table.{Table}
 use Rattle.hg_flat.specs.Parent.{manifest_at, parent_rows}
 use Rattle.hg_manifest.specs.Load.{During, IsFrontOf, Reads, file_at, file_manifest}
@@ -117,21 +117,21 @@ module _ (first second : Bool) (was : Option EntryData) where
 
 -- ---- the caches
 
-kept_cache : (gone stale held : Bool) (cache : Option StampData) (stamp : StampData) → cond (gone || stale || held) None cache ≡ Some stamp → (stale ≡ false) × (cache ≡ Some stamp)
-kept_cache true stale held cache stamp is = absurd (cc is)
-kept_cache false true held cache stamp is = absurd (cc is)
-kept_cache false false true cache stamp is = absurd (cc is)
-kept_cache false false false cache stamp is = (refl, is)
+kept_cache : (gone stale held : Bool) (was : Option CacheData) (cache : CacheData) → cond (gone || stale || held) None was ≡ Some cache → (stale ≡ false) × (was ≡ Some cache)
+kept_cache true stale held was cache is = absurd (cc is)
+kept_cache false true held was cache is = absurd (cc is)
+kept_cache false false true was cache is = absurd (cc is)
+kept_cache false false false was cache is = (refl, is)
 
 stays : (b : Bool) → (b ≡ true → ⊥) → not b ≡ true
 stays true h = absurd (h refl)
 stays false h = refl
 
 module _ (p1 p2 : List ℕ) (m1 m2 : Rows) (old new : Table) (is : HasParents p1 p2 m1 m2 old new) where
-  cached : (dir : List ℕ) (stamp : StampData) → new.caches dir ≡ Some stamp → (is.stale dir ≡ false) × (old.caches dir ≡ Some stamp)
-  cached dir stamp there = kept_cache (is.gone dir) (is.stale dir) (is_some (new.entries dir)) (old.caches dir) stamp (sym (is.caches dir) ∙ there)
+  cached : (dir : List ℕ) (cache : CacheData) → new.caches dir ≡ Some cache → (is.stale dir ≡ false) × (old.caches dir ≡ Some cache)
+  cached dir cache there = kept_cache (is.gone dir) (is.stale dir) (is_some (new.entries dir)) (old.caches dir) cache (sym (is.caches dir) ∙ there)
 
-  node_kept : (dir name : List ℕ) → is_component name ≡ true → old.nodes (joined (Some dir) name) ≡ true → (cache : Option StampData) → new.caches dir ≡ cache → is_some cache ≡ true
+  node_kept : (dir name : List ℕ) → is_component name ≡ true → old.nodes (joined (Some dir) name) ≡ true → (cache : Option CacheData) → new.caches dir ≡ cache → is_some cache ≡ true
       → new.nodes (joined (Some dir) name) ≡ true
   node_kept dir name component node None there some = absurd (cc some)
   node_kept dir name component node (Some stamp) there some =
@@ -143,7 +143,7 @@ module _ (p1 p2 : List ℕ) (m1 m2 : Rows) (old new : Table) (is : HasParents p1
   pub caches_kept : KeepsCaches old new
   caches_kept = record {
     hash = λ dir there. is.hash;
-    caches = λ dir stamp there. (cached dir stamp there).1;
+    caches = λ dir cache there. (cached dir cache there).1;
     nodes = λ dir name there component node. node_kept dir name component node (new.caches dir) refl there;
   }
 

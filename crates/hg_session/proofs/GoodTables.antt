@@ -109,7 +109,7 @@ module _ (path : List ℕ) (entry : EntryData) (source : Option (List ℕ)) (t :
     entries = λ at apart. update_other bytes_eq t.entries path (Some entry) at apart;
     sources = λ at apart. update_other bytes_eq t.sources path source at apart;
     nodes = λ at node. or_left (t.nodes at) (is_within at path) node;
-    caches = λ dir stamp is. elsewhere t.caches path dir stamp is;
+    caches = λ dir cache is. elsewhere t.caches path dir cache is;
   }
 
   marked : (mark : Option EntryData → Bool) → mark (Some entry) ≡ mark (t.entries path) → (at : List ℕ) → mark (after.entries at) ≡ mark (t.entries at)

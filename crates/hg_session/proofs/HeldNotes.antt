@@ -4,8 +4,8 @@ use Rattle.std.proofs.lemmas.Bool.{cases_Bool}
 use Rattle.hg_append.specs.declared.fault.EncodeFault.{EncodeFault}
 use Rattle.hg_append.specs.declared.fault.EncodeFault.TheVariants as an_encode
 use Rattle.hg_append.specs.declared.way.Way.TheVariants as a_way
-use Rattle.hg_appended.specs.Either.{HasCauseBy}
-use Rattle.hg_appended.specs.Loss.{plan_of}
+use Rattle.hg_append.specs.Either.{HasCauseBy}
+use Rattle.hg_append.specs.Loss.{plan_of}
 use Rattle.hg_base.specs.Fault.{HasCause, Rose}
 use Rattle.hg_docket.specs.Docket.{Contents, docket_of, docket_refusal}
 use Rattle.hg_entry.specs.Table.{Table}

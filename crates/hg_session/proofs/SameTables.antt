@@ -5,7 +5,7 @@ use Rattle.std.specs.Str.{bytes_eq}
 use Rattle.std.proofs.lemmas.Bool.{cases_Bool}
 use Rattle.std.proofs.lemmas.Bool.Decides.{Decides-eqb, not_from_Decides}
 use Rattle.std.proofs.lemmas.Slice.Eq.{bytes_eq-Decides}
-use Rattle.hg_entry.specs.Entry.{EntryData, StampData}
+use Rattle.hg_entry.specs.Entry.{CacheData, EntryData, StampData}
 use Rattle.hg_entry.specs.Table.{Table}
 use Rattle.hg_mixed.specs.Edits.{IsSame}
 
@@ -65,6 +65,12 @@ stamp_stays a b h =
     let ambiguous : a.ambiguous ≡ b.ambiguous = part (λ (s : StampData). s.ambiguous) mark_stays a b h in
     λ i. record { seconds = seconds i; nanos = nanos i; ambiguous = ambiguous i }
 
+cache_stays : Stays CacheData
+cache_stays a b h =
+    let stamp : a.stamp ≡ b.stamp = part (λ (c : CacheData). c.stamp) stamp_stays a b h in
+    let full : a.full ≡ b.full = part (λ (c : CacheData). c.full) mark_stays a b h in
+    λ i. record { stamp = stamp i; full = full i }
+
 entry_stays : Stays EntryData
 entry_stays a b h =
     let w : a.w ≡ b.w = part (λ (e : EntryData). e.w) mark_stays a b h in
@@ -97,5 +103,5 @@ table_stays a b h = record {
   entries = λ at. option_stays entry_stays (a.entries at) (b.entries at) (λ differs. h (λ s. differs (s.entries at)));
   sources = λ at. option_stays bytes_stay (a.sources at) (b.sources at) (λ differs. h (λ s. differs (s.sources at)));
   nodes = λ at. mark_stays (a.nodes at) (b.nodes at) (λ differs. h (λ s. differs (s.nodes at)));
-  caches = λ at. option_stays stamp_stays (a.caches at) (b.caches at) (λ differs. h (λ s. differs (s.caches at)));
+  caches = λ at. option_stays cache_stays (a.caches at) (b.caches at) (λ differs. h (λ s. differs (s.caches at)));
 }

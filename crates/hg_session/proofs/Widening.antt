@@ -9,7 +9,7 @@ use Rattle.hg_image.specs.Reading.{RecordFault}
 use Rattle.hg_report.specs.declared.fault.Fault.{Fault}
 use Rattle.hg_append.specs.declared.fault.EncodeFault.{EncodeFault}
 use Rattle.hg_append.specs.declared.fault.EncodeFault.TheVariants as an_encode
-use Rattle.hg_appended.specs.Loss.{plan_of}
+use Rattle.hg_append.specs.Loss.{plan_of}
 use Rattle.hg_ops.specs.declared.refusal.OpFault.{OpFault}
 use Rattle.hg_ops.specs.declared.refusal.OpFault.TheVariants as an_op
 use Rattle.hg_session.proofs.Makers.{IsWider, stands_later}

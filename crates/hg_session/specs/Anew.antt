@@ -2,8 +2,8 @@
 use Rattle.std.specs.Prelude.{ℕ, ◌≡◌, ◌⊎◌, false, true, List, Option, Result, Ok, Err}
 use Rattle.hg_append.specs.declared.fault.EncodeFault.{EncodeFault}
 use Rattle.hg_append.specs.declared.way.Way.TheVariants as a_way
-use Rattle.hg_appended.specs.Either.{HasCauseBy}
-use Rattle.hg_appended.specs.Loss.{plan_of}
+use Rattle.hg_append.specs.Either.{HasCauseBy}
+use Rattle.hg_append.specs.Loss.{plan_of}
 use Rattle.hg_base.specs.Fault.{Rose}
 use Rattle.hg_docket.specs.Docket.{docket_of}
 use Rattle.hg_entry.specs.Table.{Table}

@@ -3,7 +3,7 @@ use Rattle.std.specs.Prelude.{ℕ, ◌≡◌, ◌⊎◌, ◌≤◌, ◌<◌, Boo
 use Rattle.hg_append.specs.declared.encoding.Encoded.{Encoded}
 use Rattle.hg_append.specs.declared.fault.EncodeFault.{EncodeFault}
 use Rattle.hg_append.specs.declared.way.Way.TheVariants as a_way
-use Rattle.hg_appended.specs.Loss.{plan_of}
+use Rattle.hg_append.specs.Loss.{plan_of}
 use Rattle.hg_base.specs.Fault.{Rose}
 use Rattle.hg_docket.specs.Docket.{docket_of}
 use Rattle.hg_entry.specs.Table.{Table}

@@ -2,7 +2,7 @@
 use Rattle.std.specs.Prelude.{ℕ, ◌≡◌, ◌⊎◌, ◌≤◌, Option, Some, None, Result, Ok, IsSomeAnd}
 use Rattle.std.proofs.Common.{inl, inr}
 use Rattle.hg_append.specs.declared.way.Way.TheVariants as a_way
-use Rattle.hg_appended.specs.Loss.{plan_of}
+use Rattle.hg_append.specs.Loss.{plan_of}
 use Rattle.hg_entry.specs.Table.{Table}
 use Rattle.hg_image.specs.Reading.{RecordFault}
 use Rattle.hg_mixed.specs.Edits.{IsSame}

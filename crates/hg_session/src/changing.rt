@@ -2,7 +2,7 @@
 
 ghost use Rattle.std.specs.Prelude.{◌≡◌, ◌⊎◌, ◌<◌, ◌≤◌, ◌∷◌, [], Err, IfErr, IfOk, IsTrue, None, OnOk, false, length, true};
 ghost use Rattle.hg_append.specs.declared.way.Way.TheVariants as a_way;
-ghost use Rattle.hg_appended.specs.Loss.{plan_of};
+ghost use Rattle.hg_append.specs.Loss.{plan_of};
 ghost use Rattle.hg_base.specs.Fault.{HasCause};
 ghost use Rattle.hg_docket.specs.Docket.{docket_of, docket_refusal};
 ghost use Rattle.hg_image.specs.Reading.{data_reading};

@@ -3,7 +3,7 @@ use Rattle.std.proofs.Common.{ℕ, zero, ◌≡◌, Bool, true, false, cond, Lis
 use Rattle.std.specs.List.{Contains}
 use Rattle.std.proofs.lemmas.List.{append-nil, append_assoc}
 use Rattle.std.proofs.lemmas.List.Elements.{Contains-append_left, Contains-append_right}
-use Rattle.hg_entry.specs.Entry.{EntryData, StampData}
+use Rattle.hg_entry.specs.Entry.{CacheData, EntryData}
 use Rattle.hg_entry.specs.Table.{Table}
 use Rattle.hg_mixed.specs.Edits.{ArePlacedAsBefore, IsOfSameImage, IsSame, after_cache}
 use Rattle.hg_mixed.specs.Held.{Held, table}
@@ -72,7 +72,7 @@ pub seen_start : (notes : List DirNote) (a : Held) → SeenSoFar notes notes a a
 seen_start notes a = start WritesSeen notes a (unwritten (AreKnownSeen [] (table a)) (cached [] (table a)) a (table_same (table a)))
 
 pub seen_step : (notes left rest : List DirNote) (note : DirNote) (a b c : Held) → left ≡ rest ++ note ∷ [] → SeenSoFar notes left a b
-    → IsEdit note.dir (after_cache note.dir (Some note.stamp) (table b)) b c → IsOfSameImage b c → SeenSoFar notes rest a c
+    → IsEdit note.dir (after_cache note.dir (Some note.cache) (table b)) b c → IsOfSameImage b c → SeenSoFar notes rest a c
 seen_step notes left rest note a b c is so_far edit image =
     step WritesSeen notes left rest note a b c is so_far (seen_next note so_far.behind a b c so_far.written edit) image
 
@@ -101,7 +101,7 @@ unhashed notes t =
       caches = λ dir. with_seen (seen_at notes.seen dir) (is_among dir notes.gone) (t.caches dir);
     }
 
-seen_over : (note : Option DirNote) (gone : Bool) (cache : Option StampData) → with_seen note false (cond gone None cache) ≡ with_seen note gone cache
+seen_over : (note : Option DirNote) (gone : Bool) (cache : Option CacheData) → with_seen note false (cond gone None cache) ≡ with_seen note gone cache
 seen_over None gone cache = refl
 seen_over (Some note) gone cache = refl
 

@@ -25,12 +25,12 @@ accounted_now old new p apart hash whole nodes path state given hashed (inr both
     inr (subst (λ (s : List Piece). Ignored s path) same under.ignored)
 
 pub cached_is_listed : CachedIsListed
-cached_is_listed rows table old new p honest apart trusted k dir stamp stat state from upto is shown kind match given hashed name component there =
-    let so : IsAccountedDir old table.hash false table.nodes dir (face (new.at k) dir) =
-    again (IsAccountedDir old table.hash false table.nodes dir) old new p honest dir stamp (trusted.caches dir stamp is) k stat from upto shown (dir_not_other stat.kind kind) (match_tells stamp stat.mtime match).has in
+cached_is_listed rows table old new p honest apart trusted k dir cache stat state from upto is shown kind match given hashed name component there =
+    let so : IsAccountedDir old table.hash cache.full table.nodes dir (face (new.at k) dir) =
+    again (IsAccountedDir old table.hash cache.full table.nodes dir) old new p honest dir cache.stamp (trusted.caches dir cache is) k stat from upto shown (dir_not_other stat.kind kind) (match_tells cache.stamp stat.mtime match).has in
     let here : is_dir ((new.at k).things dir) ≡ true = face_dir (new.at k) dir so.kind in
     let named : (face (new.at k) dir).names name ≡ true =
     face_names (new.at k) dir name
     ∙ and_from (is_dir ((new.at k).things dir) && is_component name) (is_some ((new.at k).things (joined (Some dir) name)))
     (and_from (is_dir ((new.at k).things dir)) (is_component name) here component) there in
-    (λ hg. true≢false (sym named ∙ ap (face (new.at k) dir).names hg ∙ so.plain), accounted_now old new p apart table.hash false table.nodes (joined (Some dir) name) state given hashed (so.each name named))
+    (λ hg. true≢false (sym named ∙ ap (face (new.at k) dir).names hg ∙ so.plain), accounted_now old new p apart table.hash cache.full table.nodes (joined (Some dir) name) state given hashed (so.each name named))

@@ -5,7 +5,7 @@ use Rattle.std.specs.Str.{bytes_eq}
 use Rattle.std.proofs.lemmas.Bool.{and_parts}
 use Rattle.std.proofs.lemmas.Slice.Eq.{bytes_eq-Decides}
 use Rattle.hg_base.specs.PathText.{is_component, joined}
-use Rattle.hg_entry.specs.Entry.{EntryData, StampData}
+use Rattle.hg_entry.specs.Entry.{CacheData, EntryData, StampData}
 use Rattle.hg_ignore.specs.Patterns.{Apart, MayHold}
 use Rattle.hg_ignore.specs.State.{Piece, Texts}
 use Rattle.hg_tree.specs.Honest.{IsHonest}
@@ -13,7 +13,7 @@ use Rattle.hg_tree.specs.Moment.{is_dir}
 use Rattle.hg_tree.specs.History.{Extends}
 use Rattle.hg_walk.specs.Seeing.{SeenDir}
 use Rattle.hg_walk.specs.Trust.{IsEarned, IsTrusted}
-use Rattle.hg_walk.specs.Worked.{IsWorked, entry, file, folder, history, row, rows, shown_time, stamp, table, things}
+use Rattle.hg_walk.specs.Worked.{IsWorked, cache, entry, file, folder, history, row, rows, shown_time, stamp, table, things}
 
 extends : Extends (history 0) (history 1)
 extends = record { told = refl; later = omega arith; who = λ k below. refl; stay = λ k upto. refl }
@@ -56,7 +56,7 @@ earned = record {
   };
 }
 
-whole : SeenDir (history 0) folder stamp table.hash false table.nodes
+whole : SeenDir (history 0) folder cache table.hash table.nodes
 whole = record {
   at = 0;
   within = omega arith;
@@ -79,11 +79,11 @@ trusted = record {
       let times : stamp ≡ time = same_stamp stamp time (ap (λ (e : EntryData). e.stamp) parts.1 ∙ could.stamp_is) in
       subst (λ (p : List ℕ). IsEarned rows (history 0) p other time) (sym here)
       (subst (λ (s : StampData). IsEarned rows (history 0) file other s) times (subst (λ (e : EntryData). IsEarned rows (history 0) file e stamp) parts.1 earned));
-  caches = λ dir time is.
-      let parts = chosen (bytes_eq dir folder) stamp time is in
+  caches = λ dir other is.
+      let parts = chosen (bytes_eq dir folder) cache other is in
       let here : dir ≡ folder = (bytes_eq-Decides dir folder).0 parts.0 in
-      subst (λ (d : List ℕ). SeenDir (history 0) d time table.hash false table.nodes) (sym here)
-      (subst (λ (s : StampData). SeenDir (history 0) folder s table.hash false table.nodes) parts.1 whole);
+      subst (λ (d : List ℕ). SeenDir (history 0) d other table.hash table.nodes) (sym here)
+      (subst (λ (c : CacheData). SeenDir (history 0) folder c table.hash table.nodes) parts.1 whole);
 }
   where
     same_stamp : (a b : StampData) → Some a ≡ Some b → a ≡ b

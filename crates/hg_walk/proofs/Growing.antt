@@ -7,7 +7,7 @@ use Rattle.std.proofs.lemmas.List.Elements.{Contains-append_cases}
 use Rattle.std.proofs.lemmas.Slice.Eq.{bytes_eq-Decides}
 use Rattle.hg_base.specs.PathText.{joined}
 use Rattle.hg_compare.specs.Tracked.{ParentRow}
-use Rattle.hg_entry.specs.Entry.{EntryData, StampData}
+use Rattle.hg_entry.specs.Entry.{CacheData, EntryData, StampData}
 use Rattle.hg_entry.specs.Steps.{seen_clean}
 use Rattle.hg_entry.specs.Table.{Table}
 use Rattle.hg_ignore.proofs.Staying.{texts_stay}
@@ -30,16 +30,16 @@ accounted_on old new p hash whole nodes path (inl node) = inl node
 accounted_on old new p hash whole nodes path (inr both) =
     let under = both.1 in inr (both.0, record { state = under.state; given = texts_stay old new under.state p under.given; hashed = under.hashed; ignored = under.ignored })
 
-pub dir_on : (old new : History) → Extends old new → (dir : List ℕ) (stamp : StampData) (hash : List ℕ) (whole : Bool) (nodes : List ℕ → Bool) → SeenDir old dir stamp hash whole nodes → SeenDir new dir stamp hash whole nodes
-dir_on old new p dir stamp hash whole nodes seen =
-    seen_as (IsAccountedDir old hash whole nodes dir) (IsAccountedDir new hash whole nodes dir) new dir stamp
-    (λ shown so. record { kind = so.kind; plain = so.plain; each = λ name named. accounted_on old new p hash whole nodes (joined (Some dir) name) (so.each name named) })
-    (seen_on (IsAccountedDir old hash whole nodes dir) old new p dir stamp seen)
+pub dir_on : (old new : History) → Extends old new → (dir : List ℕ) (cache : CacheData) (hash : List ℕ) (nodes : List ℕ → Bool) → SeenDir old dir cache hash nodes → SeenDir new dir cache hash nodes
+dir_on old new p dir cache hash nodes seen =
+    seen_as (IsAccountedDir old hash cache.full nodes dir) (IsAccountedDir new hash cache.full nodes dir) new dir cache.stamp
+    (λ shown so. record { kind = so.kind; plain = so.plain; each = λ name named. accounted_on old new p hash cache.full nodes (joined (Some dir) name) (so.each name named) })
+    (seen_on (IsAccountedDir old hash cache.full nodes dir) old new p dir cache.stamp seen)
 
 pub trust_stays : (rows : List ℕ → Option ParentRow) (table : Table) (old new : History) → Extends old new → IsTrusted rows table old → IsTrusted rows table new
 trust_stays rows table old new p trusted = record {
   entries = λ path entry stamp is could. earned_on rows old new p path entry stamp (trusted.entries path entry stamp is could);
-  caches = λ dir stamp is. dir_on old new p dir stamp table.hash false table.nodes (trusted.caches dir stamp is);
+  caches = λ dir cache is. dir_on old new p dir cache table.hash table.nodes (trusted.caches dir cache is);
 }
 
 -- ---- one note more
@@ -58,8 +58,8 @@ one_more_clean rows t old new notes note p before own other among =
 pub one_more_seen : OneMoreSeen
 one_more_seen t old new hash notes note p before own other among =
     elim (Contains-append_cases notes (note ∷ []) other among) [
-      | inl here ↦ dir_on old new p other.dir other.stamp hash false t.nodes (before other here)
-      | inr last ↦ subst (λ (n : DirNote). SeenDir new n.dir n.stamp hash false t.nodes) (only_one note other last) own
+      | inl here ↦ dir_on old new p other.dir other.cache hash t.nodes (before other here)
+      | inr last ↦ subst (λ (n : DirNote). SeenDir new n.dir n.cache hash t.nodes) (only_one note other last) own
     ]
 
 -- ---- with notes
@@ -97,27 +97,27 @@ module _ (rows : List ℕ → Option ParentRow) (t : Table) (h : History) (notes
       same_stamp a b is = cc is
 
   -- a cache that isn't noted anew stands beside the old hash
-  old_cache : (dir : List ℕ) (stamp : StampData) (hash : Option (List ℕ)) → notes.hash ≡ hash → seen_at notes.seen dir ≡ None → (gone : Bool) → is_among dir notes.gone ≡ gone → cond gone None (t.caches dir) ≡ Some stamp
-      → SeenDir h dir stamp (with_hash hash t.hash) false t.nodes
-  old_cache dir stamp hash same none true gone is = absurd (cc is)
-  old_cache dir stamp None same none false gone is = trusted.caches dir stamp is
-  old_cache dir stamp (Some other) same none false gone is =
+  old_cache : (dir : List ℕ) (cache : CacheData) (hash : Option (List ℕ)) → notes.hash ≡ hash → seen_at notes.seen dir ≡ None → (gone : Bool) → is_among dir notes.gone ≡ gone → cond gone None (t.caches dir) ≡ Some cache
+      → SeenDir h dir cache (with_hash hash t.hash) t.nodes
+  old_cache dir cache hash same none true gone is = absurd (cc is)
+  old_cache dir cache None same none false gone is = trusted.caches dir cache is
+  old_cache dir cache (Some other) same none false gone is =
       absurd (true≢false (sym (earned.renewed (ap is_some same) dir none (ap is_some is)) ∙ gone))
 
-  cache_with : (dir : List ℕ) (stamp : StampData) (note : Option DirNote) → seen_at notes.seen dir ≡ note → with_seen note (is_among dir notes.gone) (t.caches dir) ≡ Some stamp
-      → SeenDir h dir stamp (with_hash notes.hash t.hash) false t.nodes
-  cache_with dir stamp None none is = old_cache dir stamp notes.hash refl none (is_among dir notes.gone) refl is
-  cache_with dir stamp (Some note) noted is =
+  cache_with : (dir : List ℕ) (cache : CacheData) (note : Option DirNote) → seen_at notes.seen dir ≡ note → with_seen note (is_among dir notes.gone) (t.caches dir) ≡ Some cache
+      → SeenDir h dir cache (with_hash notes.hash t.hash) t.nodes
+  cache_with dir cache None none is = old_cache dir cache notes.hash refl none (is_among dir notes.gone) refl is
+  cache_with dir cache (Some note) noted is =
       let at = found (λ (n : DirNote). bytes_eq n.dir dir) notes.seen note noted in
       let same : note.dir ≡ dir = (bytes_eq-Decides note.dir dir).0 at.0 in
-      let stamps : note.stamp ≡ stamp = cc is in
-      subst (λ (s : StampData). SeenDir h dir s (with_hash notes.hash t.hash) false t.nodes) stamps
-      (subst (λ (d : List ℕ). SeenDir h d note.stamp (with_hash notes.hash t.hash) false t.nodes) same (earned.seen note at.1))
+      let caches : note.cache ≡ cache = cc is in
+      subst (λ (c : CacheData). SeenDir h dir c (with_hash notes.hash t.hash) t.nodes) caches
+      (subst (λ (d : List ℕ). SeenDir h d note.cache (with_hash notes.hash t.hash) t.nodes) same (earned.seen note at.1))
 
 pub notes_are_trusted : NotesAreTrusted
 notes_are_trusted rows t h notes trusted earned = record {
   entries = λ path entry stamp is could. entry_with rows t h notes trusted earned path entry stamp (clean_at notes.clean path) refl is could;
-  caches = λ dir stamp is. cache_with rows t h notes trusted earned dir stamp (seen_at notes.seen dir) refl is;
+  caches = λ dir cache is. cache_with rows t h notes trusted earned dir cache (seen_at notes.seen dir) refl is;
 }
 
 -- ---- notes keep the marks

@@ -10,7 +10,7 @@ use Rattle.hg_base.specs.PathText.{is_component, joined}
 use Rattle.hg_base.specs.Within.{is_within}
 use Rattle.hg_base.proofs.Components.{parent_joined}
 use Rattle.hg_base.proofs.Paths.{component_plain}
-use Rattle.hg_entry.specs.Entry.{EntryData, StampData}
+use Rattle.hg_entry.specs.Entry.{CacheData, EntryData, StampData}
 use Rattle.hg_entry.specs.Table.{Table}
 use Rattle.hg_tree.specs.History.{History}
 use Rattle.hg_tree.specs.Honest.{has_name}
@@ -23,14 +23,14 @@ use Rattle.hg_walk.specs.Trust.{CouldVouch}
 
 -- ---- trust
 
-accounted_in : (h : History) (hash : List ℕ) (nodes more : List ℕ → Bool) (path : List ℕ) → (IsTrue (nodes path) → IsTrue (more path)) → IsAccounted h hash false nodes path → IsAccounted h hash false more path
-accounted_in h hash nodes more path to (inl node) = inl (to node)
-accounted_in h hash nodes more path to (inr both) = inr both
+accounted_in : (h : History) (hash : List ℕ) (whole : Bool) (nodes more : List ℕ → Bool) (path : List ℕ) → (IsTrue (nodes path) → IsTrue (more path)) → IsAccounted h hash whole nodes path → IsAccounted h hash whole more path
+accounted_in h hash whole nodes more path to (inl node) = inl (to node)
+accounted_in h hash whole nodes more path to (inr both) = inr both
 
-dir_kept : (old new : Table) (h : History) → KeepsCaches old new → (dir : List ℕ) (stamp : StampData) → new.caches dir ≡ Some stamp → SeenDir h dir stamp old.hash false old.nodes → SeenDir h dir stamp new.hash false new.nodes
-dir_kept old new h keeps dir stamp is seen =
+dir_kept : (old new : Table) (h : History) → KeepsCaches old new → (dir : List ℕ) (cache : CacheData) → new.caches dir ≡ Some cache → SeenDir h dir cache old.hash old.nodes → SeenDir h dir cache new.hash new.nodes
+dir_kept old new h keeps dir cache is seen =
     let cached : IsTrue (is_some (new.caches dir)) = ap is_some is in
-    subst (λ (hash : List ℕ). SeenDir h dir stamp hash false new.nodes) (sym (keeps.hash dir cached)) (
+    subst (λ (hash : List ℕ). SeenDir h dir cache hash new.nodes) (sym (keeps.hash dir cached)) (
     record {
       at = seen.at;
       within = seen.within;
@@ -45,7 +45,7 @@ dir_kept old new h keeps dir stamp is seen =
             let has : has_name (h.at seen.at) dir name ≡ true = sym (face_names (h.at seen.at) dir name) ∙ named in
             let first = and_parts (is_dir ((h.at seen.at).things dir) && is_component name) (is_some ((h.at seen.at).things (joined (Some dir) name))) has in
             let component = (and_parts (is_dir ((h.at seen.at).things dir)) (is_component name) first.0).1 in
-            accounted_in h old.hash old.nodes new.nodes (joined (Some dir) name) (keeps.nodes dir name cached component) (seen.so.each name named);
+            accounted_in h old.hash cache.full old.nodes new.nodes (joined (Some dir) name) (keeps.nodes dir name cached component) (seen.so.each name named);
       };
     }
     )
@@ -53,13 +53,13 @@ dir_kept old new h keeps dir stamp is seen =
 pub kept_is_trusted : KeptIsTrusted
 kept_is_trusted rows old new h trusted keeps = record {
   entries = λ path entry stamp is could. let was = keeps.entries path entry stamp is could in trusted.entries path entry stamp was.0 was.1;
-  caches = λ dir stamp is. dir_kept old new h keeps.caches dir stamp is (trusted.caches dir stamp (keeps.caches.caches dir stamp is));
+  caches = λ dir cache is. dir_kept old new h keeps.caches dir cache is (trusted.caches dir cache (keeps.caches.caches dir cache is));
 }
 
 pub others_are_trusted : OthersAreTrusted
 others_are_trusted rows others old new h trusted keeps none = record {
   entries = λ path entry stamp is could. absurd (none path entry stamp is could);
-  caches = λ dir stamp is. dir_kept old new h keeps dir stamp is (trusted.caches dir stamp (keeps.caches dir stamp is));
+  caches = λ dir cache is. dir_kept old new h keeps dir cache is (trusted.caches dir cache (keeps.caches dir cache is));
 }
 
 -- ---- edits behind one another
@@ -67,16 +67,16 @@ others_are_trusted rows others old new h trusted keeps none = record {
 cached_before : (old new : Table) → KeepsCaches old new → (dir : List ℕ) → IsTrue (is_some (new.caches dir)) → IsTrue (is_some (old.caches dir))
 cached_before old new keeps dir cached = by (new.caches dir) refl cached
   where
-    by : (cache : Option StampData) → new.caches dir ≡ cache → is_some cache ≡ true → is_some (old.caches dir) ≡ true
+    by : (cache : Option CacheData) → new.caches dir ≡ cache → is_some cache ≡ true → is_some (old.caches dir) ≡ true
     by None is some = absurd (cc some)
-    by (Some stamp) is some = ap is_some (keeps.caches dir stamp is)
+    by (Some cache) is some = ap is_some (keeps.caches dir cache is)
 
 pub keeps_through : KeepsThrough
 keeps_through a b c first second = record {
   entries = λ path entry stamp is could. let was = second.entries path entry stamp is could in first.entries path entry stamp was.0 was.1;
   caches = record {
     hash = λ dir cached. second.caches.hash dir cached ∙ first.caches.hash dir (cached_before b c second.caches dir cached);
-    caches = λ dir stamp is. first.caches.caches dir stamp (second.caches.caches dir stamp is);
+    caches = λ dir cache is. first.caches.caches dir cache (second.caches.caches dir cache is);
     nodes = λ dir name cached component node. second.caches.nodes dir name cached component (first.caches.nodes dir name (cached_before b c second.caches dir cached) component node);
   };
 }
@@ -89,7 +89,7 @@ same_keeps_times old new same = record {
   entries = λ path entry stamp is could. (sym (same.entries path) ∙ is, could_too entry stamp (new.sources path) (old.sources path) (same.sources path) could);
   caches = record {
     hash = λ dir cached. same.hash;
-    caches = λ dir stamp is. sym (same.caches dir) ∙ is;
+    caches = λ dir cache is. sym (same.caches dir) ∙ is;
     nodes = λ dir name cached component node. same.nodes (joined (Some dir) name) ∙ node;
   };
 }
@@ -132,7 +132,7 @@ set_is_edit path entry t none = record {
   entries = λ at apart. update_other bytes_eq t.entries path (Some entry) at apart;
   sources = λ at apart. refl;
   nodes = λ at node. or_left (t.nodes at) (is_within at path) node;
-  caches = λ dir stamp is. without t.caches path dir stamp is;
+  caches = λ dir cache is. without t.caches path dir cache is;
 }
   where
     one : (a b : EntryData) → Some a ≡ Some b → a ≡ b
@@ -145,15 +145,15 @@ copy_is_edit path source t none = record {
   entries = λ at apart. refl;
   sources = λ at apart. update_other bytes_eq t.sources path source at apart;
   nodes = λ at node. node;
-  caches = λ dir stamp is. is;
+  caches = λ dir cache is. is;
 }
 
 -- ---- a drop
 
-kept_cache : (gone stale : Bool) (cache : Option StampData) (stamp : StampData) → cond (gone || stale) None cache ≡ Some stamp → (stale ≡ false) × (cache ≡ Some stamp)
-kept_cache true stale cache stamp is = absurd (cc is)
-kept_cache false true cache stamp is = absurd (cc is)
-kept_cache false false cache stamp is = (refl, is)
+kept_cache : (gone stale : Bool) (was : Option CacheData) (cache : CacheData) → cond (gone || stale) None was ≡ Some cache → (stale ≡ false) × (was ≡ Some cache)
+kept_cache true stale was cache is = absurd (cc is)
+kept_cache false true was cache is = absurd (cc is)
+kept_cache false false was cache is = (refl, is)
 
 pub drop_keeps_times : DropKeepsTimes
 drop_keeps_times path t left pruned = record {
@@ -163,7 +163,7 @@ drop_keeps_times path t left pruned = record {
       (without t.entries path at entry there, could_too entry stamp (left.sources at) (t.sources at) (pruned.sources at ∙ update_other bytes_eq t.sources path None at apart) could);
   caches = record {
     hash = λ dir cached. pruned.hash;
-    caches = λ dir stamp is. (kept_cache (pruned.gone dir) (pruned.stale dir) (t.caches dir) stamp (sym (pruned.caches dir) ∙ is)).1;
+    caches = λ dir cache is. (kept_cache (pruned.gone dir) (pruned.stale dir) (t.caches dir) cache (sym (pruned.caches dir) ∙ is)).1;
     nodes = λ dir name cached component node. by_cache dir name component node (left.caches dir) refl cached;
   };
 }
@@ -175,11 +175,11 @@ drop_keeps_times path t left pruned = record {
         by true same none = absurd (cc none)
         by false same none = same
 
-    by_cache : (dir name : List ℕ) → is_component name ≡ true → t.nodes (joined (Some dir) name) ≡ true → (cache : Option StampData) → left.caches dir ≡ cache → is_some cache ≡ true
+    by_cache : (dir name : List ℕ) → is_component name ≡ true → t.nodes (joined (Some dir) name) ≡ true → (cache : Option CacheData) → left.caches dir ≡ cache → is_some cache ≡ true
         → left.nodes (joined (Some dir) name) ≡ true
     by_cache dir name component node None is some = absurd (cc some)
-    by_cache dir name component node (Some stamp) is some =
-        let fresh = (kept_cache (pruned.gone dir) (pruned.stale dir) (t.caches dir) stamp (sym (pruned.caches dir) ∙ is)).0 in
+    by_cache dir name component node (Some cache) is some =
+        let fresh = (kept_cache (pruned.gone dir) (pruned.stale dir) (t.caches dir) cache (sym (pruned.caches dir) ∙ is)).0 in
         let above = parent_joined (Some dir) name (component_plain name component) in
         pruned.nodes (joined (Some dir) name)
         ∙ and_from (t.nodes (joined (Some dir) name)) (not (pruned.gone (joined (Some dir) name))) node
@@ -194,11 +194,11 @@ drop_keeps_times path t left pruned = record {
 pub forget_keeps_times : ForgetKeepsTimes
 forget_keeps_times dir t = record {
   entries = λ path entry stamp is could. (is, could);
-  caches = record { hash = λ at cached. refl; caches = λ at stamp is. without t.caches dir at stamp is; nodes = λ at name cached component node. node };
+  caches = record { hash = λ at cached. refl; caches = λ at cache is. without t.caches dir at cache is; nodes = λ at name cached component node. node };
 }
 
 pub uncached_keeps_times : UncachedKeepsTimes
 uncached_keeps_times t = record {
   entries = λ path entry stamp is could. (is, could);
-  caches = record { hash = λ at cached. refl; caches = λ at stamp is. absurd (cc is); nodes = λ at name cached component node. node };
+  caches = record { hash = λ at cached. refl; caches = λ at cache is. absurd (cc is); nodes = λ at name cached component node. node };
 }

@@ -19,16 +19,16 @@ accounted h state whole nodes path given (inl node) = inl node
 accounted h state whole nodes path given (inr both) = inr (both.0, record { state = state; given = given; hashed = refl; ignored = both.1 })
 
 pub listed_is_seen : ListedIsSeen
-listed_is_seen h honest boundary dir before names state whole nodes stamp b i l j first second third within clock look again kind lists is given plain each =
-    let stamped = stamp_tells before.mtime boundary stamp is in
+listed_is_seen h honest boundary dir before names state nodes cache b i l j first second third within clock look again kind lists is given plain each =
+    let stamped = stamp_tells before.mtime boundary cache.stamp is in
     let other = dir_not_other before.kind kind in
     let at_list = between h honest boundary dir before b i l j first second third within clock look again other stamped.past in
     let at_look = between h honest boundary dir before b i i j first (omega arith) (omega (arith, second, third)) within clock look again other stamped.past in
     let listed : (name : List ℕ) → (face (h.at l) dir).names name ≡ is_among name names = face_is_listed (h.at l) dir names lists in
-    let so : IsAccountedDir h (Hash state) whole nodes dir (face (h.at l) dir) = record {
+    let so : IsAccountedDir h (Hash state) cache.full nodes dir (face (h.at l) dir) = record {
       kind = ap (λ (f : Face). f.kind) at_list.one ∙ face_of_kind (h.at j) dir before again ∙ ap (λ (k : Kind). Some k) kind;
       plain = listed (codes ".hg") ∙ plain;
-      each = λ name named. accounted h state whole nodes (joined (Some dir) name) given (each name (sym (listed name) ∙ named));
+      each = λ name named. accounted h state cache.full nodes (joined (Some dir) name) given (each name (sym (listed name) ∙ named));
     } in record {
       at = i;
       within = omega (arith, second, third, within);
@@ -36,5 +36,5 @@ listed_is_seen h honest boundary dir before names state whole nodes stamp b i l 
       shown = at_look.shown;
       stamped = stamped.has;
       past = at_look.past;
-      so = subst (IsAccountedDir h (Hash state) whole nodes dir) (at_list.one ∙ sym at_look.one) so;
+      so = subst (IsAccountedDir h (Hash state) cache.full nodes dir) (at_list.one ∙ sym at_look.one) so;
     }

@@ -4,7 +4,7 @@ use Rattle.std.specs.List.{Contains}
 use Rattle.std.specs.Str.{bytes_eq}
 use Rattle.std.proofs.lemmas.Bool.{cases_Bool}
 use Rattle.hg_base.proofs.Within.{equal_bytes, same_bytes}
-use Rattle.hg_entry.specs.Entry.{EntryData, StampData}
+use Rattle.hg_entry.specs.Entry.{CacheData, EntryData}
 use Rattle.hg_entry.specs.Steps.{seen_clean}
 use Rattle.hg_entry.specs.Table.{Table}
 use Rattle.hg_mixed.specs.Edits.{IsSame, after_cache}
@@ -135,10 +135,10 @@ turned_here : (a b : List ℕ) → bytes_eq a b ≡ true → bytes_eq b a ≡ tr
 turned_here a b here = ap (λ (x : List ℕ). bytes_eq x a) (sym (same_bytes a b here)) ∙ equal_bytes a
 
 -- a directory among some
-among_first : (dir at : List ℕ) (rest : List (List ℕ)) (cache : Option StampData) → bytes_eq dir at ≡ true → cond (is_among at (dir ∷ rest)) None cache ≡ None
+among_first : (dir at : List ℕ) (rest : List (List ℕ)) (cache : Option CacheData) → bytes_eq dir at ≡ true → cond (is_among at (dir ∷ rest)) None cache ≡ None
 among_first dir at rest cache here = ap (λ (b : Bool). cond (b || is_among at rest) None cache) (turned_here dir at here)
 
-among_rest : (dir at : List ℕ) (rest : List (List ℕ)) (cache : Option StampData) → bytes_eq dir at ≡ false → cond (is_among at (dir ∷ rest)) None cache ≡ cond (is_among at rest) None cache
+among_rest : (dir at : List ℕ) (rest : List (List ℕ)) (cache : Option CacheData) → bytes_eq dir at ≡ false → cond (is_among at (dir ∷ rest)) None cache ≡ cond (is_among at rest) None cache
 among_rest dir at rest cache apart = ap (λ (b : Bool). cond (b || is_among at rest) None cache) (turned dir at apart)
 
 gone_more : (dir : List ℕ) (rest : List (List ℕ)) (t mid : Table) → IsSame mid (forgotten rest t) → IsSame (after_cache dir None mid) (forgotten (dir ∷ rest) t)
@@ -165,7 +165,7 @@ forgotten_as_is (dir ∷ rest) t test known at is = elim (cases_Bool (bytes_eq d
 ]
 
 -- a cache that is written as it was
-cache_as_is : (dir : List ℕ) (cache : Option StampData) (t : Table) → t.caches dir ≡ cache → IsSame (after_cache dir cache t) t
+cache_as_is : (dir : List ℕ) (cache : Option CacheData) (t : Table) → t.caches dir ≡ cache → IsSame (after_cache dir cache t) t
 cache_as_is dir cache t is = record {
   p1 = refl;
   p2 = refl;
@@ -190,7 +190,7 @@ gone_next dir rest a b c written edit =
     cache_as_is dir None (table b)
     (written.made.caches dir ∙ forgotten_as_is rest (table a) test (λ other among. known other (later dir rest other among)) dir is ∙ known dir (first dir rest) is))
 
-seen_more : (note : DirNote) (rest : List DirNote) (t mid : Table) → IsSame mid (cached rest t) → IsSame (after_cache note.dir (Some note.stamp) mid) (cached (note ∷ rest) t)
+seen_more : (note : DirNote) (rest : List DirNote) (t mid : Table) → IsSame mid (cached rest t) → IsSame (after_cache note.dir (Some note.cache) mid) (cached (note ∷ rest) t)
 seen_more note rest t mid same = record {
   p1 = same.p1;
   p2 = same.p2;
@@ -200,10 +200,10 @@ seen_more note rest t mid same = record {
   nodes = same.nodes;
   caches = λ at. elim (cases_Bool (bytes_eq note.dir at)) [
     | inl here ↦
-        here_by note.dir at (Some note.stamp) (mid.caches at) here
+        here_by note.dir at (Some note.cache) (mid.caches at) here
         ∙ ap (λ (o : Option DirNote). with_seen o false (t.caches at)) (sym (here_by note.dir at (Some note) (seen_at rest at) here))
     | inr apart ↦
-        apart_by note.dir at (Some note.stamp) (mid.caches at) apart ∙ same.caches at
+        apart_by note.dir at (Some note.cache) (mid.caches at) apart ∙ same.caches at
         ∙ ap (λ (o : Option DirNote). with_seen o false (t.caches at)) (sym (apart_by note.dir at (Some note) (seen_at rest at) apart))
   ];
 }
@@ -221,12 +221,12 @@ cached_as_is (note ∷ rest) t test known at is = elim (cases_Bool (bytes_eq not
 ]
 
 pub seen_next : (note : DirNote) (rest : List DirNote) (a b c : Held) → WritesSeen rest a b
-    → IsEdit note.dir (after_cache note.dir (Some note.stamp) (table b)) b c → WritesSeen (note ∷ rest) a c
+    → IsEdit note.dir (after_cache note.dir (Some note.cache) (table b)) b c → WritesSeen (note ∷ rest) a c
 seen_next note rest a b c written edit =
-    written_on (AreKnownSeen rest (table a)) (λ test. test note.dir ≡ true → IsSame (after_cache note.dir (Some note.stamp) (table b)) (table b)) (AreKnownSeen (note ∷ rest) (table a))
-    (cached rest (table a)) (after_cache note.dir (Some note.stamp) (table b)) (cached (note ∷ rest) (table a)) a b c written
-    (edit_is_written note.dir (after_cache note.dir (Some note.stamp) (table b)) b c edit (λ at apart. (refl, apart_by note.dir at (Some note.stamp) ((table b).caches at) apart)))
+    written_on (AreKnownSeen rest (table a)) (λ test. test note.dir ≡ true → IsSame (after_cache note.dir (Some note.cache) (table b)) (table b)) (AreKnownSeen (note ∷ rest) (table a))
+    (cached rest (table a)) (after_cache note.dir (Some note.cache) (table b)) (cached (note ∷ rest) (table a)) a b c written
+    (edit_is_written note.dir (after_cache note.dir (Some note.cache) (table b)) b c edit (λ at apart. (refl, apart_by note.dir at (Some note.cache) ((table b).caches at) apart)))
     (seen_more note rest (table a) (table b) written.made) (λ test known other among. known other (later note rest other among))
     (λ test known is.
-    cache_as_is note.dir (Some note.stamp) (table b)
+    cache_as_is note.dir (Some note.cache) (table b)
     (written.made.caches note.dir ∙ cached_as_is rest (table a) test (λ other among. known other (later note rest other among)) note.dir is ∙ known note (first note rest) is))

@@ -1,7 +1,6 @@
 -- Times that are right over a call: where they are trusted, where there are none, and over parts of it.
 use Rattle.std.proofs.Common.{◌≡◌, Some, None, sym, ap, ◌∙◌, subst, arith, true≢false}
 use Rattle.std.specs.Prelude.{is_some}
-use Rattle.hg_entry.specs.Entry.{StampData}
 use Rattle.hg_ignore.proofs.Staying.{texts_stay}
 use Rattle.hg_mtime.proofs.Tests.{vouch_tells}
 use Rattle.hg_tree.specs.Moment.{Moment, stat_at}
@@ -16,14 +15,14 @@ use Rattle.hg_walk.proofs.Vouched.{vouched_is_clean}
 pub trusted_are_right : TrustedAreRight
 trusted_are_right rows table old new p honest apart trusted = record { clean = vouched_is_clean rows table old new p honest trusted; listed = cached_is_listed rows table old new p honest apart trusted }
 
-some_none : (stamp : StampData) → Some stamp ≡ None → ⊥
-some_none stamp is = true≢false (ap is_some is)
+some_none : {A : Type 0} (value : A) → Some value ≡ None → ⊥
+some_none value is = true≢false (ap is_some is)
 
 pub timeless_are_right : TimelessAreRight
 timeless_are_right rows table old new none = record {
   clean = λ k path entry stat from upto is shown vouch.
       let v = vouch_tells entry (is_some (table.sources path)) stat vouch in absurd (some_none v.stamp (sym v.stamp_is ∙ none.entries path entry is));
-  listed = λ k dir stamp stat state from upto is. absurd (some_none stamp (sym is ∙ none.caches dir));
+  listed = λ k dir cache stat state from upto is. absurd (some_none cache (sym is ∙ none.caches dir));
 }
 
 pub right_in_first : RightInFirst
@@ -32,14 +31,14 @@ right_in_first rows table old mid new p right = record {
       let same = p.stay k upto in
       subst (λ (m : Moment). tracked_letter (rows path) (marks_of entry) (is_some (table.sources path)) (m.things path) ≡ Some a_letter.C) same
       (right.clean k path entry stat from (omega (arith, upto, p.later)) is (ap (λ (m : Moment). stat_at m path) same ∙ shown) vouch);
-  listed = λ k dir stamp stat state from upto is shown kind match given hashed name component there.
+  listed = λ k dir cache stat state from upto is shown kind match given hashed name component there.
       let same = p.stay k upto in
-      right.listed k dir stamp stat state from (omega (arith, upto, p.later)) is (ap (λ (m : Moment). stat_at m dir) same ∙ shown) kind match (texts_stay mid new state p given) hashed name component
+      right.listed k dir cache stat state from (omega (arith, upto, p.later)) is (ap (λ (m : Moment). stat_at m dir) same ∙ shown) kind match (texts_stay mid new state p given) hashed name component
       (ap (λ (m : Moment). is_some (m.things (joined (Some dir) name))) same ∙ there);
 }
 
 pub right_in_second : RightInSecond
 right_in_second rows table old mid new p right = record {
   clean = λ k path entry stat from. right.clean k path entry stat (omega (arith, from, p.later));
-  listed = λ k dir stamp stat state from. right.listed k dir stamp stat state (omega (arith, from, p.later));
+  listed = λ k dir cache stat state from. right.listed k dir cache stat state (omega (arith, from, p.later));
 }

@@ -8,7 +8,7 @@ use Rattle.std.specs.declared.cmp.Ordering.TheVariants.{Equal, Less}
 use Rattle.std.specs.Cmp.{tied_itself}
 use Rattle.std.specs.Cmp.Lexicographic.{nat_list_cmp_total, slice_cmp}
 use Rattle.std.specs.Str.{bytes_eq}
-use Rattle.std.proofs.lemmas.Bool.{and_from, cases_lt}
+use Rattle.std.proofs.lemmas.Bool.{and_from, cases_Bool, cases_lt}
 use Rattle.std.proofs.lemmas.List.Elements.{All-contains, All-from_recursion, Contains-append_cases, Contains-append_left, Contains-append_right, Contains-push, Contains-push_cases}
 use Rattle.std.proofs.lemmas.List.Sorted.{searchable_from_sorted}
 use Rattle.std.proofs.lemmas.Map.Lookups.{exact_bytes}
@@ -23,7 +23,7 @@ use Rattle.hg_flat.specs.declared.kept.FlatRow.{FlatRow}
 use Rattle.hg_flat.proofs.Holding.{found_at, found_has}
 use Rattle.hg_flat.proofs.Recording.{flat_recorded}
 use Rattle.hg_mixed.specs.Edits.{IsFormed}
-use Rattle.hg_mixed.specs.Gathered.{AreGathered, Shows, is_recorded, path_of, paths_of}
+use Rattle.hg_mixed.specs.Gathered.{AreGathered, Shows, path_of, paths_of}
 use Rattle.hg_mixed.specs.Held.{Held, table}
 use Rattle.hg_mixed.specs.declared.line.Line.{Line}
 use Rattle.hg_walk.specs.Marks.{is_no_dir, stands}
@@ -136,17 +136,20 @@ entry_there : (o : Option Entry) (entry : EntryData) → option_map view o ≡ S
 entry_there None entry is = absurd (true≢false (sym (ap is_some is)))
 entry_there (Some e) entry is = (e, refl)
 
-recorded_entry : (t : Table) (path : List ℕ) (entry : EntryData) → t.entries path ≡ Some entry → is_recorded t path ≡ true
-recorded_entry t path entry is = ap (λ (o : Option EntryData). is_some o || is_some (t.caches path)) is
+entry_node : (t : Table) → IsFormed t → (path : List ℕ) (entry : EntryData) → t.entries path ≡ Some entry → t.nodes path ≡ true
+entry_node t formed path entry is = elim (cases_Bool (t.nodes path)) [
+  | inl node ↦ node
+  | inr none ↦ absurd (true≢false (ap is_some (sym is ∙ formed.entries path none)))
+]
 
-module _ (held : Held) (children : List Line) (are : AreGathered held (λ path. true) children) where
+module _ (held : Held) (children : List Line) (are : AreGathered held (λ path. true) children) (formed : IsFormed (table held)) where
   pub shows : (child : Line) → Contains children child → Shows held child
-  shows child has = (All-contains (λ (row : Line). (true ≡ true) × (is_recorded (table held) (path_of row) ≡ true) × Shows held row) children child (All-from_recursion (λ (row : Line). (true ≡ true) × (is_recorded (table held) (path_of row) ≡ true) × Shows held row) children are.each) has).2
+  shows child has = (All-contains (λ (row : Line). (true ≡ true) × ((table held).nodes (path_of row) ≡ true) × Shows held row) children child (All-from_recursion (λ (row : Line). (true ≡ true) × ((table held).nodes (path_of row) ≡ true) × Shows held row) children are.each) has).2
 
   -- a path with an entry has its node
   pub node_of : (path : List ℕ) (entry : EntryData) → (table held).entries path ≡ Some entry → (child : Line) × (e : Entry) × Contains children child × (path_of child ≡ path) × (child.entry ≡ Some e)
   node_of path entry is =
-      let has = any_has children path (are.all path refl (recorded_entry (table held) path entry is)) in
+      let has = any_has children path (are.all path refl (entry_node (table held) formed path entry is)) in
       let there = entry_there has.0.entry entry ((shows has.0 has.1).entry ∙ ap (table held).entries has.2 ∙ is) in
       (has.0, there.0, has.1, has.2, there.1)
 
@@ -177,8 +180,8 @@ module _ (held : Held) (children : List Line) (are : AreGathered held (λ path. 
   rows_record path = recorded_row path (row_at (tracked_rows children) path) refl
 
   -- they stand for the record as a map
-  pub rows_flat : IsFormed (table held) → (p1 p2 : List ℕ) → p1 ≡ (table held).p1 → p2 ≡ (table held).p2 → flat_from p1 p2 (row_at (tracked_rows children)) ≡ flat_of (table held)
-  rows_flat formed p1 p2 first second = flat_recorded (table held) p1 p2 (row_at (tracked_rows children)) formed.sources first second rows_record
+  pub rows_flat : (p1 p2 : List ℕ) → p1 ≡ (table held).p1 → p2 ≡ (table held).p2 → flat_from p1 p2 (row_at (tracked_rows children)) ≡ flat_of (table held)
+  rows_flat p1 p2 first second = flat_recorded (table held) p1 p2 (row_at (tracked_rows children)) formed.sources first second rows_record
 
 -- ---- by halving
 

@@ -109,7 +109,7 @@ module _ (wanted : Wanted) (held : Held) (children : List Line) (are : AreGather
   pub of_record : AreOf t id children
   of_record = record {
     first = λ i. record { 0 = is_id i };
-    each = λ child has. let s = shows held children are child has in record { entry = s.entry; source = s.source };
+    each = λ child has. let s = shows held children are formed child has in record { entry = s.entry; source = s.source };
   }
 
   known_whole : (marks : List Mark) → AreMarked (IsMarked wanted old later) children marks → AreKnown (known_of children marks) later old.last
@@ -169,7 +169,7 @@ module _ (wanted : Wanted) (held : Held) (children : List Line) (are : AreGather
         let entry_is : need.entry ≡ entry = cc entries in
         absurd (true≢false (sym vouch ∙ (λ i. vouches (sym entry_is i) (is_some (t.sources (sym found.1 i))) (sym stat_is i)) ∙ need.unvouched))
     vouched ours plain wants clock path entry stat has shown clean stamp stamped o is_o false unvouched =
-        let node = node_of held children are path entry has in
+        let node = node_of held children are formed path entry has in
         let child = node.0 in
         let at : path_of child ≡ path = node.3 in
         let found = n.recorded ours (keeps plain) wants child entry stat stamp node.2 (ap t.entries at ∙ has) (ap (stat_at (trees.now old)) at ∙ shown)

@@ -128,7 +128,7 @@ module _ (wanted : Wanted) (t : Table) (children : List Line) (marks : List Mark
         let e = all.earned (past_honest later new third.past honest) (first.past.told ∙ told)
         (λ note has. record { at = at.last; within = behind.past.later; is = clock_at note has told ∙ ap (λ (m : Moment). m.clock) (sym (behind.past.stay at.last (omega arith))) }) keeps in record {
           clean = λ note has entry is. earned_on (rows_in t (shelves.now start).files) later new third.past note.path _ note.stamp (e.clean note has entry is);
-          seen = λ note has. dir_on later new third.past note.dir note.stamp _ false t.nodes (e.seen note has);
+          seen = λ note has. dir_on later new third.past note.dir note.cache _ t.nodes (e.seen note has);
           renewed = e.renewed;
         }
 

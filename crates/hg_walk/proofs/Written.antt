@@ -5,7 +5,7 @@ use Rattle.std.specs.Str.{bytes_eq}
 use Rattle.std.proofs.lemmas.Bool.{cases_Bool}
 use Rattle.hg_base.specs.Within.{is_above, is_within}
 use Rattle.hg_base.proofs.Within.{same_bytes, within_split}
-use Rattle.hg_entry.specs.Entry.{EntryData, StampData}
+use Rattle.hg_entry.specs.Entry.{CacheData, EntryData}
 use Rattle.hg_entry.specs.Table.{Table}
 use Rattle.hg_mixed.specs.Edits.{ArePlacedAsBefore, IsFormed, IsOfSameImage, IsSame, Lends, Marks, after_set}
 use Rattle.hg_mixed.specs.Held.{Held, is_lent, table}
@@ -186,7 +186,7 @@ over path entry was t formed is = record {
       | inr below ↦ formed.rooted at path below own
     ]
 
-    uncached : (cache : Option StampData) → t.caches path ≡ cache → t.caches path ≡ None
+    uncached : (cache : Option CacheData) → t.caches path ≡ cache → t.caches path ≡ None
     uncached None same = same
     uncached (Some stamp) same = entry_none (sym is ∙ (formed.caches path (ap is_some same)).1)
       where

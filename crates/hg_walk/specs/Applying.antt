@@ -2,7 +2,7 @@
 use Rattle.std.specs.Prelude.{ℕ, ◌≡◌, Bool, true, false, IsTrue, List, [], Option, Some, None}
 use Rattle.std.specs.List.{Contains}
 use Rattle.hg_base.specs.Within.{is_above}
-use Rattle.hg_entry.specs.Entry.{EntryData, stamp_view}
+use Rattle.hg_entry.specs.Entry.{EntryData, cache_view, stamp_view}
 use Rattle.hg_entry.specs.Steps.{is_file, seen_clean}
 use Rattle.hg_entry.specs.Table.{Table}
 use Rattle.hg_mixed.specs.Edits.{IsSame}
@@ -15,7 +15,7 @@ abbrev pub clean_note : Clean → CleanNote
 clean_note note = record { path = note.path; stat = note.stat; stamp = stamp_view note.stamp }
 
 abbrev pub dir_note : ListedDir → DirNote
-dir_note note = record { dir = note.dir; stamp = stamp_view note.stamp }
+dir_note note = record { dir = note.dir; cache = cache_view note.stamp }
 
 -- nothing is noted but perhaps a hash
 pub record IsBlank (notes : NotesData) : Type 0 where
@@ -43,7 +43,7 @@ abbrev pub IsKnownClean : Table → CleanNote → Type 0
 IsKnownClean t note = (entry : EntryData) → t.entries note.path ≡ Some entry → seen_clean entry note.stat note.stamp ≡ entry
 
 abbrev pub IsKnownSeen : Table → DirNote → Type 0
-IsKnownSeen t note = t.caches note.dir ≡ Some note.stamp
+IsKnownSeen t note = t.caches note.dir ≡ Some note.cache
 
 abbrev pub IsKnownGone : Table → List ℕ → Type 0
 IsKnownGone t dir = t.caches dir ≡ None

@@ -2,14 +2,14 @@
 use Rattle.std.specs.Prelude.{ℕ, ◌≡◌, false, IsTrue, List, Some, is_some}
 use Rattle.std.specs.Str.{bytes_eq}
 use Rattle.hg_base.specs.PathText.{is_component, joined}
-use Rattle.hg_entry.specs.Entry.{EntryData, StampData}
+use Rattle.hg_entry.specs.Entry.{CacheData, EntryData, StampData}
 use Rattle.hg_entry.specs.Table.{Table}
 use Rattle.hg_walk.specs.Trust.{CouldVouch}
 
 -- no directory is cached anew, and of one that still is the hash is the same and each name that was a node is one
 pub record KeepsCaches (old new : Table) : Type 0 where
   pub hash : (dir : List ℕ) → IsTrue (is_some (new.caches dir)) → new.hash ≡ old.hash
-  pub caches : (dir : List ℕ) (stamp : StampData) → new.caches dir ≡ Some stamp → old.caches dir ≡ Some stamp
+  pub caches : (dir : List ℕ) (cache : CacheData) → new.caches dir ≡ Some cache → old.caches dir ≡ Some cache
   pub nodes : (dir name : List ℕ)
       → IsTrue (is_some (new.caches dir)) → IsTrue (is_component name) → IsTrue (old.nodes (joined (Some dir) name)) → IsTrue (new.nodes (joined (Some dir) name))
 
@@ -30,4 +30,4 @@ pub record IsEditAt (path : List ℕ) (old new : Table) : Type 0 where
   pub entries : (at : List ℕ) → bytes_eq path at ≡ false → new.entries at ≡ old.entries at
   pub sources : (at : List ℕ) → bytes_eq path at ≡ false → new.sources at ≡ old.sources at
   pub nodes : (at : List ℕ) → IsTrue (old.nodes at) → IsTrue (new.nodes at)
-  pub caches : (dir : List ℕ) (stamp : StampData) → new.caches dir ≡ Some stamp → old.caches dir ≡ Some stamp
+  pub caches : (dir : List ℕ) (cache : CacheData) → new.caches dir ≡ Some cache → old.caches dir ≡ Some cache

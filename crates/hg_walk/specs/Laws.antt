@@ -8,7 +8,7 @@ use Rattle.hg_compare.specs.Same.{Compares, parent_row}
 use Rattle.hg_compare.specs.Seen.{Compared}
 use Rattle.hg_compare.specs.Tracked.{ParentRow}
 use Rattle.hg_compare.specs.declared.looked.Looked.TheVariants as a_look
-use Rattle.hg_entry.specs.Entry.{EntryData, StampData}
+use Rattle.hg_entry.specs.Entry.{CacheData, EntryData, StampData}
 use Rattle.hg_entry.specs.Steps.{seen_clean}
 use Rattle.hg_entry.specs.Table.{Table}
 use Rattle.hg_ignore.specs.Patterns.{Apart}
@@ -71,12 +71,12 @@ NotedIsEarned =
 -- ignored path, and none is `.hg`: it was seen so with its time
 abbrev pub ListedIsSeen : Type 0
 ListedIsSeen =
-    (h : History) → IsHonest h → (boundary : Time) (dir : List ℕ) (before : Stat) (names : List (List ℕ)) (state : List Piece) (whole : Bool) (nodes : List ℕ → Bool) (stamp : StampData)
+    (h : History) → IsHonest h → (boundary : Time) (dir : List ℕ) (before : Stat) (names : List (List ℕ)) (state : List Piece) (nodes : List ℕ → Bool) (cache : CacheData)
     (b i l j : ℕ) → b ≤ i → i ≤ l → l ≤ j → j ≤ h.last → boundary ≡ (h.at b).clock → stat_at (h.at i) dir ≡ Some before → stat_at (h.at j) dir ≡ Some before
-    → before.kind ≡ a_kind.Dir → Lists (Some dir) (Some names) (h.at l) → stamp_of before.mtime boundary ≡ Some stamp → Texts h state
+    → before.kind ≡ a_kind.Dir → Lists (Some dir) (Some names) (h.at l) → stamp_of before.mtime boundary ≡ Some cache.stamp → Texts h state
     → is_among (codes ".hg") names ≡ false
-    → ((name : List ℕ) → IsTrue (is_among name names) → IsTrue (nodes (joined (Some dir) name)) ⊎ ((whole ≡ false) × Ignored state (joined (Some dir) name)))
-    → SeenDir h dir stamp (Hash state) whole nodes
+    → ((name : List ℕ) → IsTrue (is_among name names) → IsTrue (nodes (joined (Some dir) name)) ⊎ ((cache.full ≡ false) × Ignored state (joined (Some dir) name)))
+    → SeenDir h dir cache (Hash state) nodes
 
 -- ---- notes
 
@@ -94,7 +94,7 @@ OneMoreClean =
 abbrev pub OneMoreSeen : Type 0
 OneMoreSeen =
     (t : Table) (old new : History) (hash : List ℕ) (notes : List DirNote) (note : DirNote) → Extends old new
-    → AreSeen t old hash notes → SeenDir new note.dir note.stamp hash false t.nodes → AreSeen t new hash (notes ++ note ∷ [])
+    → AreSeen t old hash notes → SeenDir new note.dir note.cache hash t.nodes → AreSeen t new hash (notes ++ note ∷ [])
 
 -- notes don't touch what agrees with the parents
 abbrev pub NotedIsGood : Type 0

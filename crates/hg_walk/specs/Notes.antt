@@ -4,7 +4,7 @@ use Rattle.std.specs.List.{Contains, find}
 use Rattle.std.specs.Str.{bytes_eq}
 use Rattle.hg_base.specs.declared.stat.Stat.{Stat}
 use Rattle.hg_compare.specs.Tracked.{ParentRow}
-use Rattle.hg_entry.specs.Entry.{EntryData, StampData}
+use Rattle.hg_entry.specs.Entry.{CacheData, EntryData, StampData}
 use Rattle.hg_entry.specs.Steps.{seen_clean}
 use Rattle.hg_entry.specs.Table.{Table}
 use Rattle.hg_tree.specs.History.{History}
@@ -18,10 +18,10 @@ pub record CleanNote : Type 0 where
   pub stat : Stat
   pub stamp : StampData
 
--- a directory was listed, with the time that is recorded
+-- a directory was listed, with the cache that is recorded
 pub record DirNote : Type 0 where
   pub dir : List ℕ
-  pub stamp : StampData
+  pub cache : CacheData
 
 -- what a walk notes: clean paths, listed directories, directories that aren't cached any more, and the hash of the patterns where it is another
 pub record NotesData : Type 0 where
@@ -41,9 +41,9 @@ abbrev pub with_clean : Option CleanNote → Option EntryData → Option EntryDa
 with_clean None entry = entry
 with_clean (Some note) entry = option_map (λ e. seen_clean e note.stat note.stamp) entry
 
-abbrev pub with_seen : Option DirNote → Bool → Option StampData → Option StampData
+abbrev pub with_seen : Option DirNote → Bool → Option CacheData → Option CacheData
 with_seen None gone cache = if gone then None else cache
-with_seen (Some note) gone cache = Some note.stamp
+with_seen (Some note) gone cache = Some note.cache
 
 abbrev pub with_hash : Option (List ℕ) → List ℕ → List ℕ
 with_hash None hash = hash
@@ -67,7 +67,7 @@ AreClean rows t h notes = (note : CleanNote) → Contains notes note → IsClean
 
 -- each directory of the notes was seen under that hash
 abbrev pub AreSeen : Table → History → List ℕ → List DirNote → Type 0
-AreSeen t h hash notes = (note : DirNote) → Contains notes note → SeenDir h note.dir note.stamp hash false t.nodes
+AreSeen t h hash notes = (note : DirNote) → Contains notes note → SeenDir h note.dir note.cache hash t.nodes
 
 -- notes are earned: each by what was seen, and beside another hash each directory is noted anew or isn't cached any more
 pub record AreEarned (rows : List ℕ → Option ParentRow) (t : Table) (h : History) (notes : NotesData) : Type 0 where

@@ -5,7 +5,7 @@ use Rattle.hg_base.specs.declared.stat.Kind.TheVariants as a_kind
 use Rattle.hg_base.specs.declared.stat.Stat.{Stat}
 use Rattle.hg_compare.specs.Tracked.{ParentRow, tracked_letter}
 use Rattle.hg_compare.specs.declared.letter.Letter.TheVariants as a_letter
-use Rattle.hg_entry.specs.Entry.{EntryData, StampData}
+use Rattle.hg_entry.specs.Entry.{CacheData, EntryData}
 use Rattle.hg_entry.specs.Table.{Table, marks_of}
 use Rattle.hg_ignore.specs.State.{Hash, Ignored, Piece, Texts}
 use Rattle.hg_mtime.specs.Stamps.{matches}
@@ -24,8 +24,8 @@ VouchedAreClean rows table old new =
 -- of ignored paths at that moment, and `.hg` isn't one
 abbrev pub CachedAreListed : Table → History → History → Type 0
 CachedAreListed table old new =
-    (k : ℕ) (dir : List ℕ) (stamp : StampData) (stat : Stat) (state : List Piece) → old.last ≤ k → k ≤ new.last → table.caches dir ≡ Some stamp
-    → stat_at (new.at k) dir ≡ Some stat → stat.kind ≡ a_kind.Dir → matches stamp stat.mtime ≡ true → Texts new state → Hash state ≡ table.hash
+    (k : ℕ) (dir : List ℕ) (cache : CacheData) (stat : Stat) (state : List Piece) → old.last ≤ k → k ≤ new.last → table.caches dir ≡ Some cache
+    → stat_at (new.at k) dir ≡ Some stat → stat.kind ≡ a_kind.Dir → matches cache.stamp stat.mtime ≡ true → Texts new state → Hash state ≡ table.hash
     → (name : List ℕ) → IsTrue (is_component name) → IsTrue (is_some ((new.at k).things (joined (Some dir) name)))
     → (name ≡ codes ".hg" → ⊥) × (IsTrue (table.nodes (joined (Some dir) name)) ⊎ Ignored state (joined (Some dir) name))
 

@@ -6,7 +6,7 @@ use Rattle.hg_base.specs.declared.stat.Kind.{Kind}
 use Rattle.hg_base.specs.declared.stat.Kind.TheVariants as a_kind
 use Rattle.hg_base.specs.declared.time.Time.{Time}
 use Rattle.hg_compare.specs.Tracked.{ParentRow}
-use Rattle.hg_entry.specs.Entry.{StampData}
+use Rattle.hg_entry.specs.Entry.{CacheData, StampData}
 use Rattle.hg_ignore.specs.State.{Hash, Ignored, Piece, Texts}
 use Rattle.hg_mtime.specs.Stamps.{HasTime}
 use Rattle.hg_tree.specs.History.{History}
@@ -56,6 +56,6 @@ pub record IsAccountedDir (h : History) (hash : List ℕ) (whole : Bool) (nodes 
   pub plain : shown.names (codes ".hg") ≡ false
   pub each : (name : List ℕ) → IsTrue (shown.names name) → IsAccounted h hash whole nodes (joined (Some dir) name)
 
--- with that time a directory was seen to be such a one
-abbrev pub SeenDir : History → List ℕ → StampData → List ℕ → Bool → (List ℕ → Bool) → Type 0
-SeenDir h dir stamp hash whole nodes = WasSeen (IsAccountedDir h hash whole nodes dir) h dir stamp
+-- with the time of a cache a directory was seen to be such a one, whole where the cache is full
+abbrev pub SeenDir : History → List ℕ → CacheData → List ℕ → (List ℕ → Bool) → Type 0
+SeenDir h dir cache hash nodes = WasSeen (IsAccountedDir h hash cache.full nodes dir) h dir cache.stamp

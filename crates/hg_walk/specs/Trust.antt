@@ -3,7 +3,7 @@ use Rattle.std.specs.Prelude.{ℕ, ◌≡◌, Bool, true, false, ◌&&◌, ◌||
 use Rattle.std.specs.Map.{lookup}
 use Rattle.std.specs.Str.{bytes_eq}
 use Rattle.hg_compare.specs.Tracked.{ParentRow, equal_bools}
-use Rattle.hg_entry.specs.Entry.{EntryData, StampData}
+use Rattle.hg_entry.specs.Entry.{CacheData, EntryData, StampData}
 use Rattle.hg_entry.specs.Table.{Table}
 use Rattle.hg_manifest.specs.Plain.{is_null}
 use Rattle.hg_manifest.specs.Rows.{Rows}
@@ -34,7 +34,7 @@ pub record IsEarned (rows : List ℕ → Option ParentRow) (h : History) (path :
 pub record IsTrusted (rows : List ℕ → Option ParentRow) (table : Table) (h : History) : Type 0 where
   pub entries : (path : List ℕ) (entry : EntryData) (stamp : StampData)
       → table.entries path ≡ Some entry → CouldVouch entry (is_some (table.sources path)) stamp → IsEarned rows h path entry stamp
-  pub caches : (dir : List ℕ) (stamp : StampData) → table.caches dir ≡ Some stamp → SeenDir h dir stamp table.hash false table.nodes
+  pub caches : (dir : List ℕ) (cache : CacheData) → table.caches dir ≡ Some cache → SeenDir h dir cache table.hash table.nodes
 
 abbrev pub is_first : Option EntryData → Bool
 is_first None = false

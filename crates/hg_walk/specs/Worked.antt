@@ -7,7 +7,7 @@ use Rattle.hg_base.specs.declared.stat.Kind.TheVariants as a_kind
 use Rattle.hg_base.specs.declared.stat.Stat.{Stat}
 use Rattle.hg_base.specs.declared.time.Time.{Time}
 use Rattle.hg_compare.specs.Tracked.{ParentRow}
-use Rattle.hg_entry.specs.Entry.{EntryData, StampData}
+use Rattle.hg_entry.specs.Entry.{CacheData, EntryData, StampData}
 use Rattle.hg_entry.specs.Table.{Table}
 use Rattle.hg_ignore.specs.Patterns.{Apart}
 use Rattle.hg_ignore.specs.State.{Hash}
@@ -50,6 +50,9 @@ history last = record { told = true; last = last; at = λ k. moment; who = λ k.
 abbrev pub stamp : StampData
 stamp = record { seconds = 5000; nanos = 9; ambiguous = true }
 
+abbrev pub cache : CacheData
+cache = record { stamp = stamp; full = false }
+
 abbrev pub row : ParentRow
 row = record { exec = false; link = false; bytes = Some text }
 
@@ -68,7 +71,7 @@ table =
       entries = λ path. if bytes_eq path file then Some entry else None;
       sources = λ path. None;
       nodes = λ path. is_some (things path);
-      caches = λ path. if bytes_eq path folder then Some stamp else None;
+      caches = λ path. if bytes_eq path folder then Some cache else None;
     }
 
 abbrev pub file_stat : Stat

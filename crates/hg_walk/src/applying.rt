@@ -1,7 +1,7 @@
 //! Notes are written into a table.
 
 ghost use Rattle.std.specs.Prelude.{◌≡◌, Some, None, IsTrue, OnOk, map, option_map};
-ghost use Rattle.hg_entry.specs.Entry.{stamp_view, view};
+ghost use Rattle.hg_entry.specs.Entry.{cache_view, stamp_view, view};
 ghost use Rattle.hg_entry.specs.Steps.{is_file};
 ghost use Rattle.hg_mixed.specs.Edits.{ArePlacedAsBefore, IsFormed, IsOfSameImage, IsSame, after_cache};
 ghost use Rattle.hg_mixed.specs.Held.{table};
@@ -99,7 +99,7 @@ fn forget_all(mixed: &mut Mixed<'_>, mut gone: Vec<Path>) -> Result<(), OutOfMem
 // A directory is cached with the time that was noted.
 fn put_seen(mixed: &mut Mixed<'_>, note: &ListedDir) -> Result<(), OutOfMemory>
     requires { IsBare (table mixed.old) note.now.dir }
-    ensures edit { OnOk result (IsEdit note.now.dir (after_cache note.now.dir (Some (stamp_view note.now.stamp)) (table mixed.old)) mixed.old mixed.new) }
+    ensures edit { OnOk result (IsEdit note.now.dir (after_cache note.now.dir (Some (cache_view note.now.stamp)) (table mixed.old)) mixed.old mixed.new) }
     ensures image { IsOfSameImage mixed.old mixed.new }
 {
     mixed.note_dir(note.dir.as_ref(), note.stamp)

@@ -1,7 +1,7 @@
 //! The record of what a walk notes of times.
 
 ghost use Rattle.std.specs.Prelude.{◌≡◌, ◌↔◌, None, IsTrue, OnOk, OnErr, map};
-ghost use Rattle.hg_entry.specs.Entry.{stamp_view};
+ghost use Rattle.hg_entry.specs.Entry.{cache_view, stamp_view};
 ghost use Rattle.hg_walk.specs.Applying.{IsBlank, clean_note, dir_note};
 ghost use Rattle.hg_walk.specs.Noting.{with_clean_note, with_dir_note, with_gone, with_other_hash};
 
@@ -63,7 +63,7 @@ impl Notes {
 
     /// A directory was listed.
     pub fn add_seen(&mut self, dir: Path, stamp: Stamp) -> Result<(), OutOfMemory>
-        ensures ok { OnOk result (self.new ≡ with_dir_note dir (stamp_view stamp) self.old) }
+        ensures ok { OnOk result (self.new ≡ with_dir_note dir (cache_view stamp) self.old) }
         ensures err { OnErr result (self.new ≡ self.old) }
     {
         self.seen.push(ListedDir { dir, stamp })?;

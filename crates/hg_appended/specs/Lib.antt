@@ -1,4 +1,0 @@
-pub mod Appended
-pub mod Loss
-pub mod Appending
-pub mod Either
