@@ -7,7 +7,7 @@ use Rattle.hg_save.proofs.Published.{keeps_later, orderly_same}
 use Rattle.hg_save.specs.Loads.{files_at}
 use Rattle.hg_save.specs.Others.{HasData, KeepData, KeepsRecords}
 use Rattle.hg_session.proofs.Crashes.{crash_unwritten}
-use Rattle.hg_save_behind.specs.Behind.{KeepsUsed}
+use Rattle.hg_save.specs.Behind.{KeepsUsed}
 use Rattle.hg_session.proofs.Firm.{kept_upto}
 use Rattle.hg_session.proofs.GoodParts.{data_before, data_later, from_moment}
 use Rattle.hg_session.proofs.UsedSteps.{used_beside, used_both, used_later, used_shorter}

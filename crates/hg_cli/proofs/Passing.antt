@@ -11,12 +11,12 @@ use Rattle.hg_entry.specs.Entry.{CacheData}
 use Rattle.hg_entry.specs.Table.{Table, flat_of}
 use Rattle.hg_flat.specs.Patterns.{ignored_at}
 use Rattle.hg_gen.specs.Copy.{AreFiles}
-use Rattle.hg_publish.proofs.Solid.{sound_data}
+use Rattle.hg_save.proofs.Solid.{sound_data}
 use Rattle.hg_report.specs.Status.{sign_of}
 use Rattle.hg_save.specs.Others.{HasData, KeepData}
 use Rattle.hg_save.specs.Record.{data_name, reading}
 use Rattle.hg_save.specs.Saved.{new_docket}
-use Rattle.hg_save_behind.proofs.Spans.{keep_used}
+use Rattle.hg_save.proofs.SpansBehind.{keep_used}
 use Rattle.hg_session.proofs.Longer.{right_by_start, rows_stay}
 use Rattle.hg_session.proofs.SameTables.{one_table}
 use Rattle.hg_session.specs.Call.{Count, Looked, Saved, Sink}

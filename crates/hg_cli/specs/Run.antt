@@ -7,7 +7,7 @@ use Rattle.hg_report.specs.Cause.{of_words}
 use Rattle.hg_report.specs.declared.fault.Fault.{Fault}
 use Rattle.hg_save.specs.Others.{HasData, KeepData, KeepsRecords}
 use Rattle.hg_save.specs.Saved.{IsLatest}
-use Rattle.hg_save_behind.specs.Behind.{KeepsUsed}
+use Rattle.hg_save.specs.Behind.{KeepsUsed}
 use Rattle.hg_session.specs.Answered.{IsAnswered, IsIdle}
 use Rattle.hg_session.specs.Call.{Count, Looked, Saved, Sink}
 use Rattle.hg_session.specs.Crash.{IsCrashSafe, LeavesSound}

@@ -1,8 +1,7 @@
 // Records that are appended to: a worked case byte for byte, and lists of edits at random, each saved and opened again, beside a plain table.
 use crate::edits::{Edit, File, Plain, apply, is_same, rewritten};
 use crate::encodings::{LONG, PATHS, drawn, some_edit};
-use hg_append::{Encoded, Way};
-use hg_append::{encode, plan};
+use hg_append::{Encoded, Way, encode, plan};
 use hg_docket::Docket;
 use hg_image::{Image, List};
 use hg_mixed::Mixed;

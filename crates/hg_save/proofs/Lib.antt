@@ -17,3 +17,17 @@ pub mod Spans
 pub mod Stages
 pub mod Tails
 pub mod Torn
+pub mod Bases
+pub mod Ends
+pub mod KeepingBehind
+pub mod OrderlyBehind
+pub mod OwnBehind
+pub mod ReadingsBehind
+pub mod SpansBehind
+pub mod StagesBehind
+pub mod Anew
+pub mod Appended
+pub mod Behind
+pub mod Long
+pub mod Solid
+pub mod Ways

@@ -4,3 +4,5 @@ pub mod Loads
 pub mod Others
 pub mod Record
 pub mod Saved
+pub mod Behind
+pub mod Over

@@ -1,21 +1,27 @@
 //! Laws of the definitions.
 
-ghost use Rattle.std.specs.Prelude.{◌≡◌, ◌≤◌, ◌<◌, ◌+◌, ℕ, Err, IsTrue, List, None, Ok, Result, Some};
+ghost use Rattle.std.specs.Prelude.{Err, IsTrue, List, None, Ok, Result, Some, length, ℕ, ◌+◌, ◌<◌, ◌≡◌, ◌≤◌, ◌⊎◌};
 ghost use Rattle.hg_append.specs.Encoded.{IsWritten, ReadsAs};
 ghost use Rattle.hg_append.specs.declared.encoding.Encoded.{Encoded};
 ghost use Rattle.hg_docket.specs.Docket.{docket_of, docket_refusal};
 ghost use Rattle.hg_docket.specs.declared.fault.DocketFault.{DocketFault};
 ghost use Rattle.hg_entry.specs.Table.{Table};
-ghost use Rattle.hg_image.specs.Reading.{reading_of, RecordFault};
-ghost use Rattle.hg_image.specs.Reading as a_record_fault;
+ghost use Rattle.hg_image.specs.Reading.{RecordFault, reading_of};
 ghost use Rattle.hg_mixed.specs.Held.{Held, table};
-ghost use Rattle.hg_save.specs.Loads.{files_at, found_by, IsTry, Loads, Tries, Try};
-ghost use Rattle.hg_save.specs.Others.{HasData, IsKeeping, IsNotAhead, KeepData, KeepsFiles, KeepsStood, WasLoaded, WasRecorded};
-ghost use Rattle.hg_save.specs.Record.{id_in};
+ghost use Rattle.hg_save.specs.Loads.{IsTry, Loads, Tries, Try, files_at, found_by};
+ghost use Rattle.hg_save.specs.Others.{HasData, IsFrontOf, IsKeeping, IsNotAhead, KeepData, KeepsFiles, KeepsStood, UsesData, WasLoaded, WasRecorded, named_file};
+ghost use Rattle.hg_save.specs.Record.{docket_in, id_in};
 ghost use Rattle.hg_save.specs.Saved.{IsOver};
-ghost use Rattle.hg_save.specs.declared.load_fault.LoadFault.TheVariants as a_fault;
 ghost use Rattle.hg_save.specs.declared.loaded.Loaded.{Loaded};
-ghost use Rattle.hg_shelf.specs.History.{History, Who};
+ghost use Rattle.hg_shelf.specs.History.{Extends, Files, History, Who};
+ghost use Rattle.hg_docket.specs.Number.{next_name};
+ghost use Rattle.hg_save.specs.Behind.{IsBehind, IsKeepingUsed, IsNotBeyond, KeepsUsed};
+ghost use Rattle.hg_append.specs.Appended.{IsAppended, IsOverImage};
+ghost use Rattle.hg_append.specs.Either.{file_of};
+ghost use Rattle.hg_append.specs.Loss.{plan_of};
+ghost use Rattle.hg_image.specs.Reading as a_record_fault;
+ghost use Rattle.hg_save.specs.declared.load_fault.LoadFault.TheVariants as a_fault;
+ghost use Rattle.hg_append.specs.declared.way.Way.TheVariants as a_way;
 
 /// What a table is encoded as can be published over the record that the table was opened from.
 pub fn encoded_over()
@@ -50,4 +56,32 @@ pub fn data_kept()
     // So does a step of this program where none of these is ahead of the one that stands.
     ensures own { (h : History) (from k : ℕ) → IsKeeping (files_at h k) (files_at h (k + 1))
         → ((j : ℕ) → from ≤ j → j ≤ k → IsNotAhead (id_in (files_at h k)) (id_in (files_at h j))) → KeepsStood h from k }
+{}
+
+/// Where each step keeps the bytes that dockets use, whoever made it, and the standing docket's are there at first, the data that dockets name is
+/// kept throughout.
+pub fn used_kept()
+    ensures all { (h : History) (from : ℕ) → IsTrue h.told → HasData (files_at h from) → ((by : Who) → KeepsUsed by h from) → KeepData h from }
+    // So does a step that publishes a table anew: the docket stays, or it names the next identifier.
+    ensures anew { (before behind : Files) → IsKeeping before behind → (docket_in behind ≡ docket_in before) ⊎ (next_name (id_in before) ≡ Some (id_in behind))
+        → IsKeepingUsed before behind }
+    // A step that does keeps the data of the dockets that have stood, where none of these is beyond the one that stands.
+    ensures own { (h : History) (from k : ℕ) → IsKeepingUsed (files_at h k) (files_at h (k + 1))
+        → ((j : ℕ) → from ≤ j → j ≤ k → IsNotBeyond (files_at h k) (docket_in (files_at h j))) → KeepsStood h from k }
+{}
+
+/// Where others keep the data that dockets name, what a load found is all that its docket uses, and it stands at the front of the data file at each
+/// later moment at which the docket stands as it was loaded.
+pub fn nodes_stay()
+    ensures nodes { (old new h : History) (loaded : Loaded) → Extends new h → KeepData h old.last → UsesData loaded.docket.items → WasLoaded old new loaded
+        → (k : ℕ) → new.last ≤ k → k ≤ h.last → docket_in (files_at h k) ≡ loaded.docket.items
+        → IsFrontOf (named_file loaded.docket.items (files_at h k)) (docket_of loaded.docket.items).used loaded.nodes.items }
+    ensures long { (old new h : History) (loaded : Loaded) → Extends new h → KeepData h old.last → UsesData loaded.docket.items → WasLoaded old new loaded
+        → length loaded.nodes.items ≡ (docket_of loaded.docket.items).used }
+{}
+
+/// What a table is encoded as behind its data file can be published over the record that the table was opened from.
+pub fn encoded_behind()
+    ensures { (loaded : Loaded) (held : Held) (new : Encoded) → held.docket ≡ docket_of loaded.docket.items → held.bytes ≡ loaded.nodes.items → IsOverImage held
+        → plan_of held ≡ a_way.Append → IsAppended held new → ReadsAs (table held) (reading_of new.docket.items (file_of held new)) → IsBehind loaded new }
 {}

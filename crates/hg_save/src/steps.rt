@@ -34,6 +34,12 @@ pub fn put<S: Shelf>(shelf: &mut S, name: &str, place: u64, bytes: &[u8]) -> Res
     // Each of its steps changes no other file.
     ensures steps { Undisturbed (course (S.history shelf.old) (S.images shelf.old)) (course (S.history shelf.new) (S.images shelf.new))
         → OwnSteps (StepBy (ButFor name.now)) (course (S.history shelf.old) (S.images shelf.old)) (course (S.history shelf.new) (S.images shelf.new)) }
+    // And this one at most where it is written and past its old end.
+    ensures tears { Undisturbed (course (S.history shelf.old) (S.images shelf.old)) (course (S.history shelf.new) (S.images shelf.new))
+        → OwnSteps
+        (StepBy (TornAt name.now place (length bytes.now)))
+        (course (S.history shelf.old) (S.images shelf.old))
+        (course (S.history shelf.new) (S.images shelf.new)) }
     ensures lock { IsTrue (S.history shelf.old).told → IsHeld (S.history shelf.old) (S.history shelf.new) }
     ensures kept { Goes (course (S.history shelf.old) (S.images shelf.old)) (course (S.history shelf.new) (S.images shelf.new)) }
     ensures ours { (S.history shelf.new).ours ≡ (S.history shelf.old).ours }

@@ -12,7 +12,7 @@ use Rattle.hg_image.specs.Reading.{data_reading, of_data}
 use Rattle.hg_mixed.specs.Edits.{IsOfSameImage, IsSame}
 use Rattle.hg_mixed.specs.Held.{Held, table}
 use Rattle.hg_ops.proofs.Added.{same_table}
-use Rattle.hg_publish.specs.Over.{HasUsed, IsLentRight}
+use Rattle.hg_save.specs.Over.{HasUsed, IsLentRight}
 use Rattle.hg_ops.specs.declared.refusal.OpFault.{OpFault}
 use Rattle.hg_ops.specs.declared.refusal.OpFault.TheVariants as an_op
 use Rattle.hg_report.specs.declared.fault.Fault.{Fault}

@@ -7,7 +7,7 @@ use Rattle.hg_entry.specs.Table.{Table}
 use Rattle.hg_image.specs.Reading.{RecordFault}
 use Rattle.hg_mixed.specs.Edits.{IsSame}
 use Rattle.hg_report.specs.declared.fault.Fault.{Fault}
-use Rattle.hg_publish.proofs.Solid.{sound_solid}
+use Rattle.hg_save.proofs.Solid.{sound_solid}
 use Rattle.hg_save.proofs.Published.{keeps_front, keeps_later, latest_still, latest_until, left_until, published_earlier, published_later, published_sound}
 use Rattle.hg_save.specs.Others.{KeepsRecords, WasPublished}
 use Rattle.hg_save.specs.Record.{IsReadable, reading}

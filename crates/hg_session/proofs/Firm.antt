@@ -4,8 +4,8 @@ use Rattle.hg_entry.specs.Table.{Table}
 use Rattle.hg_report.specs.declared.fault.Fault.{Fault}
 use Rattle.hg_save.specs.Loads.{files_at}
 use Rattle.hg_save.specs.Others.{HasData, KeepData}
-use Rattle.hg_save_behind.proofs.Spans.{keep_used}
-use Rattle.hg_save_behind.specs.Behind.{IsKeepingUsed, KeepsUsed}
+use Rattle.hg_save.proofs.SpansBehind.{keep_used}
+use Rattle.hg_save.specs.Behind.{IsKeepingUsed, KeepsUsed}
 use Rattle.hg_session.proofs.GoodParts.{from_moment}
 use Rattle.hg_session.proofs.UsedSteps.{used_shorter, using_itself}
 use Rattle.hg_session.specs.Acts.{Makes}

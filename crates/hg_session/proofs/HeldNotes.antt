@@ -14,7 +14,7 @@ use Rattle.hg_image.specs.declared.fault.NodeFault.{NodeFault}
 use Rattle.hg_mixed.specs.Edits.{ArePlacedAsBefore, IsOfSameImage, IsSame}
 use Rattle.hg_mixed.specs.Held.{Held, table}
 use Rattle.hg_ops.proofs.Added.{same_table}
-use Rattle.hg_publish.specs.Over.{HasUsed, IsLentRight}
+use Rattle.hg_save.specs.Over.{HasUsed, IsLentRight}
 use Rattle.hg_save.proofs.Loads.{found_longer, last_within}
 use Rattle.hg_save.proofs.Others.{one_load}
 use Rattle.hg_save.specs.Asked.{docket_ask}
@@ -22,7 +22,7 @@ use Rattle.hg_save.specs.Loads.{IsTry, Loads, Try, files_at, found_by}
 use Rattle.hg_save.specs.Others.{IsFrontOf, KeepData, named_file}
 use Rattle.hg_save.specs.Record.{docket_in}
 use Rattle.hg_save.specs.declared.loaded.Loaded.{Loaded}
-use Rattle.hg_save_behind.proofs.Bases.{nodes_at}
+use Rattle.hg_save.proofs.Bases.{nodes_at}
 use Rattle.hg_session.proofs.Lending.{lends_by}
 use Rattle.hg_session.proofs.Locked.{end_remains, unwritten, unwritten_then}
 use Rattle.hg_session.proofs.NotesKept.{notes_keep}

@@ -14,7 +14,7 @@ use Rattle.hg_mixed.specs.Edits.{IsSame}
 use Rattle.hg_mixed.specs.Held.{Held, has_list, image_table, is_lent, table}
 use Rattle.hg_mixed.specs.Opened.{source_place}
 use Rattle.hg_mixed.specs.Shown.{AreLentWhole, ArePlacesOf}
-use Rattle.hg_publish.specs.Over.{IsLentRight}
+use Rattle.hg_save.specs.Over.{IsLentRight}
 use Rattle.hg_session.proofs.SameTables.{one_table}
 use Rattle.hg_session.specs.Kept.{IsSameBelow, KeepsLent}
 use Rattle.hg_session.specs.Ways.{LendsUnchanged}

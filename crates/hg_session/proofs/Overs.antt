@@ -1,9 +1,9 @@
 -- What publishing a table leads to, in the words of a command.
 use Rattle.std.proofs.Common.{ℕ, ◌≡◌, ◌⊎◌, true, Some, Result, Err, refl, sym, subst, inl, inr}
 use Rattle.hg_mixed.specs.Held.{Held}
-use Rattle.hg_publish.specs.Over.{HasPublishCause, IsPutOver, UnlessEncode}
-use Rattle.hg_publish.specs.declared.fault.PublishFault.{PublishFault}
-use Rattle.hg_publish.specs.declared.fault.PublishFault.TheVariants as a_publish
+use Rattle.hg_save.specs.Over.{HasPublishCause, IsPutOver, UnlessEncode}
+use Rattle.hg_save.specs.declared.publish_fault.PublishFault.{PublishFault}
+use Rattle.hg_save.specs.declared.publish_fault.PublishFault.TheVariants as a_publish
 use Rattle.hg_save.specs.declared.loaded.Loaded.{Loaded}
 use Rattle.hg_session.proofs.Locked.{unwritten_here}
 use Rattle.hg_session.specs.Anew.{MetWriting, WritesOnly}

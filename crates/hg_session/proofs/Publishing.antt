@@ -9,7 +9,7 @@ use Rattle.hg_docket.specs.Docket.{Contents, docket_of}
 use Rattle.hg_entry.specs.Table.{Table}
 use Rattle.hg_mixed.specs.Held.{Held, table}
 use Rattle.hg_ops.proofs.Added.{same_table}
-use Rattle.hg_publish.specs.Over.{HasUsed, IsGround, KeepsLists, KeepsOthersBy}
+use Rattle.hg_save.specs.Over.{HasUsed, IsGround, KeepsLists, KeepsOthersBy}
 use Rattle.hg_save.proofs.Parts.{torn_nowhere}
 use Rattle.hg_save.proofs.Published.{keeps_front}
 use Rattle.hg_save.specs.Leads.{Leads}
@@ -17,7 +17,7 @@ use Rattle.hg_save.specs.Others.{IsFrontOf, named_file}
 use Rattle.hg_save.specs.Record.{data_name, docket_in, reading}
 use Rattle.hg_save.specs.Saved.{IsExact, IsLatest, KeepsOthers, LeavesOnly, ReadsAsBeforeOr, ShowsOnly, Stands, WritesOnly, new_docket}
 use Rattle.hg_save.specs.declared.loaded.Loaded.{Loaded}
-use Rattle.hg_save_behind.specs.Behind.{KeepsUsedBytes}
+use Rattle.hg_save.specs.Behind.{KeepsUsedBytes}
 use Rattle.hg_session.proofs.Locked.{end_remains, front_latest, front_remains, front_solid, none_front}
 use Rattle.hg_session.proofs.UsedSteps.{used_front}
 use Rattle.hg_session.specs.Acts.{Makes, StandsAt}

@@ -5,8 +5,8 @@ use Rattle.hg_docket.proofs.Branches.{chosen, not_zero}
 use Rattle.hg_entry.specs.Table.{Table}
 use Rattle.hg_image.specs.Reading.{RecordFault, data_reading, of_data, reading_of}
 use Rattle.hg_image.specs.declared.fault.NodeFault.{NodeFault}
-use Rattle.hg_publish.proofs.Long.{front_sound}
-use Rattle.hg_publish.proofs.Solid.{named_is}
+use Rattle.hg_save.proofs.Long.{front_sound}
+use Rattle.hg_save.proofs.Solid.{named_is}
 use Rattle.hg_save.specs.Loads.{Loads, ReadsAsOf, ReadsUsed, Try, files_at, found_by}
 use Rattle.hg_save.specs.Others.{IsFrontOf, UsesData, named_file}
 use Rattle.hg_save.specs.Record.{data_in, data_name, docket_in, named_reading}

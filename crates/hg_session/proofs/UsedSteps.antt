@@ -5,8 +5,8 @@ use Rattle.hg_docket.specs.Docket.{docket_of}
 use Rattle.hg_save.proofs.Spans.{stays_itself}
 use Rattle.hg_save.specs.Loads.{files_at}
 use Rattle.hg_save.specs.Others.{HasData, KeepData, named_file}
-use Rattle.hg_save_behind.proofs.Spans.{keep_used}
-use Rattle.hg_save_behind.specs.Behind.{IsKeepingUsed, KeepsUsed}
+use Rattle.hg_save.proofs.SpansBehind.{keep_used}
+use Rattle.hg_save.specs.Behind.{IsKeepingUsed, KeepsUsed}
 use Rattle.hg_shelf.specs.History.{Extends, Files, History, Who, others, readers, us}
 use Rattle.hg_shelf.specs.Images.{Course}
 use Rattle.hg_shelf.specs.Polite.{OthersOnlyRead}

@@ -23,7 +23,7 @@ use Rattle.hg_save.specs.Loads.{IsTry, Tries, Try, files_at, found_by, id_by}
 use Rattle.hg_save.specs.Others.{IsFrontOf, named_file}
 use Rattle.hg_save.specs.Record.{data_name, docket_in, id_in, reading}
 use Rattle.hg_save.specs.Saved.{IsExact, IsLatest, ReadsAsBeforeOr, WritesOnly, name_after, used_in}
-use Rattle.hg_save_behind.specs.Behind.{IsSolid}
+use Rattle.hg_save.specs.Behind.{IsSolid}
 use Rattle.hg_session.specs.Acts.{Makes}
 use Rattle.hg_session.specs.Call.{Watched}
 use Rattle.hg_session.specs.Change.{AsksChange, ChangesBehind, FitsFirst, IsDone, IsFirm, IsKept, IsMade, IsPublished, IsReadFirst, IsSafe, IsSafeHeld, IsUnwritten, IsToBlame, IsWritten, MetChanging, MetMade, MetStop, MetUnfit, NoneOurs, Stretch, up_to}

@@ -11,8 +11,8 @@ use Rattle.hg_mixed.specs.Edits.{IsSame}
 use Rattle.hg_image.specs.Rows.{rows_of}
 use Rattle.hg_mixed.specs.Held.{Held, has_list, image_table, is_lent, table}
 use Rattle.hg_mixed.specs.Shown.{ArePlacesOf}
-use Rattle.hg_publish.specs.Over as over
-use Rattle.hg_publish.specs.Over.{IsPutOver, LeavesLists}
+use Rattle.hg_save.specs.Over as over
+use Rattle.hg_save.specs.Over.{IsPutOver, LeavesLists}
 use Rattle.hg_report.specs.declared.fault.Fault.{Fault}
 use Rattle.hg_save.specs.Loads.{Loads, Try}
 use Rattle.hg_save.specs.declared.loaded.Loaded.{Loaded}

@@ -9,9 +9,9 @@ use Rattle.hg_docket.specs.Docket.{docket_of}
 use Rattle.hg_entry.specs.Table.{Table}
 use Rattle.hg_mixed.specs.Edits.{IsSame}
 use Rattle.hg_mixed.specs.Held.{Held, table}
-use Rattle.hg_publish.specs.Over.{IsEncoded}
-use Rattle.hg_publish.specs.declared.fault.PublishFault.{PublishFault}
-use Rattle.hg_publish.specs.declared.fault.PublishFault.TheVariants as a_publish_fault
+use Rattle.hg_save.specs.Over.{IsEncoded}
+use Rattle.hg_save.specs.declared.publish_fault.PublishFault.{PublishFault}
+use Rattle.hg_save.specs.declared.publish_fault.PublishFault.TheVariants as a_publish_fault
 use Rattle.hg_ops.specs.declared.refusal.OpFault.{OpFault}
 use Rattle.hg_ops.specs.declared.refusal.OpFault.TheVariants as an_op_fault
 use Rattle.hg_append.specs.declared.fault.EncodeFault.TheVariants as an_encode_fault
@@ -22,7 +22,7 @@ use Rattle.hg_save.specs.Loads.{IsTry, Try}
 use Rattle.hg_save.specs.Others.{IsFrontOf, KeepsRecords, named_file}
 use Rattle.hg_save.specs.Record.{data_name, docket_in, reading}
 use Rattle.hg_save.specs.Saved.{IsExact, IsLatest, ReadsAsBeforeOr, WritesOnly}
-use Rattle.hg_save_behind.specs.Behind.{IsSolid, KeepsUsed}
+use Rattle.hg_save.specs.Behind.{IsSolid, KeepsUsed}
 use Rattle.hg_session.specs.Acts.{AsksBehind, ChangesTree, Makes, StandsAt, makes_of}
 use Rattle.hg_session.specs.Call.{Call, Count, Fails, FailsTwice, IsLeftAlone, Saved, Watched}
 use Rattle.hg_session.specs.Load.{of_read}

@@ -10,7 +10,7 @@ use Rattle.hg_report.specs.declared.fault.Fault.{Fault}
 use Rattle.hg_save.specs.Others.{KeepData, KeepsRecords, WasPublished}
 use Rattle.hg_save.specs.Record.{IsReadable, reading}
 use Rattle.hg_save.specs.Saved.{IsLatest}
-use Rattle.hg_save_behind.specs.Behind.{KeepsUsed}
+use Rattle.hg_save.specs.Behind.{KeepsUsed}
 use Rattle.hg_session.specs.Acts.{Makes}
 use Rattle.hg_session.specs.Call.{Saved}
 use Rattle.hg_session.specs.Change.{IsKept, IsSafe, IsUnwritten, NoneOurs, up_to}

@@ -16,12 +16,12 @@ use Rattle.hg_image.specs.Rows.{rows_of}
 use Rattle.hg_mixed.specs.Held.{Held, has_list, image_table, is_lent, source_at, table, text_at}
 use Rattle.hg_mixed.specs.Opened.{source_place}
 use Rattle.hg_mixed.specs.Shown.{ArePlacesOfImage, list_place}
-use Rattle.hg_publish.specs.Over.{IsEncoded}
+use Rattle.hg_save.specs.Over.{IsEncoded}
 use Rattle.hg_save.specs.Loads.{Try, files_at}
 use Rattle.hg_save.specs.Others.{IsFrontOf, named_file}
 use Rattle.hg_save.specs.Record.{docket_in, id_in}
 use Rattle.hg_save.specs.Saved.{KeepsOthers}
-use Rattle.hg_save_behind.specs.Behind.{KeepsUsedBytes}
+use Rattle.hg_save.specs.Behind.{KeepsUsedBytes}
 use Rattle.hg_session.specs.Kept.{IsSameBelow}
 use Rattle.hg_shelf.specs.History.{Files, History}
 use Rattle.hg_shelf.specs.Rules.{content}

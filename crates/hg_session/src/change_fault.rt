@@ -3,8 +3,8 @@
 use crate::read_fault::ReadFault;
 use hg_append::EncodeFault;
 use hg_ops::OpFault;
-use hg_publish::PublishFault;
 use hg_report::Fault;
+use hg_save::PublishFault;
 
 /// Why the record could not be changed.
 #[derive(Drop)]

@@ -7,6 +7,7 @@ use Rattle.hg_save.proofs.Held.{held_acts, held_either, held_passes, held_then}
 use Rattle.hg_save.proofs.Stages.{leads_weaker}
 use Rattle.hg_save.specs.Leads.{ButFor}
 use Rattle.hg_shelf.specs.Rules.{Syncs, Tears, TornAt, Writes}
+use Rattle.hg_save.proofs.OwnBehind.{tears_failed, tears_synced, tears_unsynced}
 use Rattle.hg_save.proofs.steps.put.Goals as goal
 
 pub returns-in_err-write_at-clause-torn : goal.returns-in_err-write_at-clause-torn
@@ -93,3 +94,23 @@ returns-clause-lock g c = λ told.
     held_then (g.S.Shelf.history c.args.shelf.now) (g.S.Shelf.history c.write_at.new.self) (g.S.Shelf.history c.sync.new.self) c.in_ok-sync.ensures.kept.past
     (held_acts (Writes c.args.name.now c.args.place c.args.bytes.now) (course (g.S.Shelf.history c.args.shelf.now) (g.S.Shelf.images c.args.shelf.now)) (course (g.S.Shelf.history c.write_at.new.self) (g.S.Shelf.images c.write_at.new.self)) c.requires (c.in_ok-write_at.ensures.written told))
     (held_acts (Syncs c.args.name.now) (course (g.S.Shelf.history c.write_at.new.self) (g.S.Shelf.images c.write_at.new.self)) (course (g.S.Shelf.history c.sync.new.self) (g.S.Shelf.images c.sync.new.self)) (c.in_ok-write_at.ensures.ours ∙ c.requires) (c.in_ok-sync.ensures.synced (c.in_ok-write_at.ensures.kept.past.told ∙ told)))
+
+pub returns-in_err-write_at-clause-tears : goal.returns-in_err-write_at-clause-tears
+returns-in_err-write_at-clause-tears g c = λ calm.
+    tears_failed c.args.name.now c.args.place c.args.bytes.now
+    (course (g.S.Shelf.history c.args.shelf.now) (g.S.Shelf.images c.args.shelf.now)) (course (g.S.Shelf.history c.write_at.new.self) (g.S.Shelf.images c.write_at.new.self))
+    c.requires (c.in_err-write_at.ensures.torn calm.told)
+
+pub returns-in_err-sync-clause-tears : goal.returns-in_err-sync-clause-tears
+returns-in_err-sync-clause-tears g c = λ calm.
+    tears_unsynced c.args.name.now c.args.place c.args.bytes.now
+    (course (g.S.Shelf.history c.args.shelf.now) (g.S.Shelf.images c.args.shelf.now)) (course (g.S.Shelf.history c.write_at.new.self) (g.S.Shelf.images c.write_at.new.self)) c.requires
+    (course (g.S.Shelf.history c.sync.new.self) (g.S.Shelf.images c.sync.new.self))
+    c.in_ok-write_at.ensures.ours c.in_err-sync.ensures.kept (c.in_ok-write_at.ensures.written calm.told) c.in_err-sync.ensures.unsynced
+
+pub returns-clause-tears : goal.returns-clause-tears
+returns-clause-tears g c = λ calm.
+    tears_synced c.args.name.now c.args.place c.args.bytes.now
+    (course (g.S.Shelf.history c.args.shelf.now) (g.S.Shelf.images c.args.shelf.now)) (course (g.S.Shelf.history c.write_at.new.self) (g.S.Shelf.images c.write_at.new.self)) c.requires
+    (course (g.S.Shelf.history c.sync.new.self) (g.S.Shelf.images c.sync.new.self))
+    c.in_ok-write_at.ensures.ours c.in_ok-sync.ensures.kept (c.in_ok-write_at.ensures.written calm.told) (c.in_ok-sync.ensures.synced (c.in_ok-write_at.ensures.kept.past.told ∙ calm.told))
