@@ -2,7 +2,8 @@
 """Makes docs/DEFINITIONS.md from the comments in specs/: each definition that a contract may cite, with the comment above it.
 
   documents.py            writes docs/DEFINITIONS.md
-  documents.py --check    tells whether it is as it would be written; its last line is `N passed, M failed`
+  documents.py --check    tells whether it is as it would be written, and whether what README, PROMISES and ARCHITECTURE name is there (named.py); its last line
+                          is `N passed, M failed`
 """
 
 import itertools
@@ -10,6 +11,9 @@ import os
 import re
 import sys
 import textwrap
+
+sys.dont_write_bytecode = True
+import named
 
 TOP = os.path.dirname(os.path.dirname(os.path.abspath(__file__)))
 TO = "docs/DEFINITIONS.md"
@@ -25,10 +29,16 @@ FIELD = re.compile(r"(?:pub )?([^\s:({]+)(?: [^\s:({]+)* :")
 SECTION = re.compile(r"-- -{3,} ?(.*)")
 
 
+def rows():
+    """The rows of crates.txt, in its order: a crate, and those that it uses."""
+    with open(f"{TOP}/crates.txt", encoding="utf-8") as file:
+        parts = [line.split("#")[0].split(":") for line in file]
+    return [(it[0].split()[0], it[1].split()) for it in parts if len(it) == 2]
+
+
 def crates():
     """The names in crates.txt, in its order."""
-    with open(f"{TOP}/crates.txt", encoding="utf-8") as file:
-        return [line.split(":")[0].split()[0] for line in file if ":" in line and not line.startswith("#")]
+    return [name for name, _ in rows()]
 
 
 def files_of(crate):
@@ -98,19 +108,27 @@ def document():
     return re.sub(r"\n{3,}", "\n\n", text)
 
 
+def is_written(made):
+    try:
+        with open(f"{TOP}/{TO}", encoding="utf-8") as file:
+            return file.read() == made
+    except FileNotFoundError:
+        return False
+
+
+def check(made):
+    good = is_written(made)
+    if not good:
+        print(f"{TO} is not what the comments in specs/ say: run `make documents`")
+    wrong = named.check(crates(), {used for _, all_used in rows() for used in all_used} - set(crates()))
+    print(f"{good + (wrong == 0)} passed, {(not good) + wrong} failed")
+    return 1 if wrong or not good else 0
+
+
 def main(words):
     made = document()
     if words == ["--check"]:
-        try:
-            with open(f"{TOP}/{TO}", encoding="utf-8") as file:
-                stands = file.read()
-        except FileNotFoundError:
-            stands = ""
-        if stands != made:
-            print(f"{TO} is not what the comments in specs/ say: run `make documents`\n0 passed, 1 failed")
-            return 1
-        print("1 passed, 0 failed")
-        return 0
+        return check(made)
     with open(f"{TOP}/{TO}", "w", encoding="utf-8") as file:
         file.write(made)
     return 0
