@@ -1,5 +1,5 @@
 """The worked cases of crates/hg_cases/data over real folders, but for those that have a device fail, another write or hold the lock meanwhile, that ask which calls
-were made or what a crash leaves, that tell a time within the clock's own second, and that name a file by `./`, which the program leaves out before; it prints how
+were made or what a crash leaves, that tell a time within the clock's own second, that name a file by `./`, which the program leaves out before, and that ask for the help of a command; it prints how
 many ran and how many were left out. A clock can't be set there: a thing of a time below the case's clock has that time, long past, and any other one a time to come."""
 
 import os
@@ -175,6 +175,8 @@ class World:
         is_met |= "[255]" in wanted and not any(it.startswith("2>") for it in wanted)
         is_met |= b"regexps" in self.failing
         is_told = is_changing(words) and any(it.startswith(b"./") for it in words)
+        # (which the program answers before)
+        is_told |= words[1:] == [b"--help"]
         # (or a time that is past in the case and still to come)
         is_close = any(it < self.clock and (it[0] == self.clock[0] or it[0] > time.time()) for it in self.times.values())
         return self.is_known and not self.is_due and not is_told and not (self.failing and is_met) and not (self.is_held and self.may_save(words)) and not is_close

@@ -14,7 +14,7 @@ SUBSETS = [its for count in (1, 2, 3) for its in combinations(STREAMS, count)]
 # words, and what is read
 COMMANDS = [
     (["debugscript"], b"add none\nfrob\n"), (["debugscript"], b""), (["debugscript"], b"status\n"), (["debugscript"], b"add a\nadd none\n"), (["add", "z"], None), (["add", "z", "none"], None), (["forget", "none"], None),
-    (["status"], None), (["copy", "k", "l"], None), (["--help"], None), (["--version"], None), (["frob"], None), ([], None),
+    (["status"], None), (["copy", "k", "l"], None), (["--help"], None), (["add", "--help"], None), (["--version"], None), (["frob"], None), ([], None),
 ]
 
 

@@ -127,7 +127,9 @@ CONVERT = ("to convert the dirstate: hg debugupgraderepo --run --config format.u
 PARENTS = "hgtrack-parents brings the parents of the working copy to .hg/plain"
 OUTSIDE = "a path outside the working copy can't be tracked"
 REGEXPS = "a regexp is read without look-ahead, look-behind and back references"
-ADVICE = [("dirstate: marker differs at byte ", "", CONVERT), ("no manifest ", "", PARENTS), ("manifest line ", "", PARENTS), ("manifest order at line ", "", PARENTS),
+LISTED = "hgtrack --help lists the commands"
+ADVICE = [("no command", "", LISTED), ("unknown command", "", LISTED), ("wrong arguments", "", LISTED),
+          ("dirstate: marker differs at byte ", "", CONVERT), ("no manifest ", "", PARENTS), ("manifest line ", "", PARENTS), ("manifest order at line ", "", PARENTS),
           ("no contents ", "", PARENTS), (".hgignore line ", ": regexp", REGEXPS)]
 
 
@@ -139,6 +141,11 @@ def further(text):
 def aborted(text):
     """The line of a fault, and the one that says what to do about it, where there is one."""
     return lines(f"abort: {text}") + b"".join(further(what) for begin, end, what in ADVICE if text.startswith(begin) and text.endswith(end))
+
+
+def no_flag(command, flag):
+    """The lines of a flag that a command doesn't have."""
+    return lines("abort: wrong arguments") + further(f"{command} has no flag {flag}: see hgtrack {command} --help")
 
 
 def because(name, reason):

@@ -4,7 +4,7 @@ import subprocess
 import sys
 
 from dirstate import written
-from folder import lay_out, lines, put_record
+from folder import aborted, lay_out, lines, put_record
 
 # how often a neighbour comes and goes, and how often at most that is done again where it was never seen
 TOGGLES, ROUNDS = 1_000, 10
@@ -63,7 +63,7 @@ def run_flushed(tests):
                 (("status",), lines(*[f"? {it}" for it in names])),
                 (("status", "-0"), b"".join(b"? %b\0" % it.encode() for it in names)),
                 (("status", "-0", "-n"), b"".join(b"%b\0" % it.encode() for it in names)),
-                (("stat",), b"abort: unknown command\n"),
+                (("stat",), aborted("unknown command")),
             ]:
                 with open(path, "wb") as both:
                     status = tests.run(root, words, stdout=both, stderr=both)[0]

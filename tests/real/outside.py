@@ -5,7 +5,8 @@ import subprocess
 import sys
 
 from dirstate import docket, written
-from folder import NO_HG, aborted, as_nobody, because, lay_out, lines, put, put_record
+from folder import NO_HG, aborted, as_nobody, because, lay_out, lines, no_flag, put, put_record
+from helps import HELPS
 
 GOOD, DATA = written([b"a"])
 UNKNOWN = aborted("unknown command")
@@ -26,12 +27,27 @@ def shelf(name, reason="permission denied"):
 # words that are no command, each with its line
 WORDS = [
     (aborted("no command"), [[]]),
-    (aborted("unknown command"), [["stat"], ["-m", "status"], ["--", "status"], [""], ["Status"], ["status "], ["debugstate"], ["help"], ["-h"], ["-V"], ["--help", "status"], ["--version", "--version"], ["s" * 100_000]]),
+    (aborted("unknown command"), [["stat"], ["-m", "status"], ["--", "status"], [""], ["Status"], ["status "], ["debugstate"], ["help"], ["-h"], ["-V"], ["--help", "status"], ["stat", "--help"], ["", "--help"], ["--version", "--version"], ["s" * 100_000]]),
     (aborted("wrong arguments"), [
-        ["status", "x"], ["status", ""], ["status", "-mx"], ["status", "-M"], ["status", "-"], ["status", "-m", "x"], ["status", "--modified=x"], ["status", "--no"], ["status", "--", "-m"], ["status", "--help"],
-        ["add"], ["add", "-x", "a"], ["forget", "--"], ["debugdirstate", "--all"], ["copy", "a"], ["copy", "a", "b", "c"], ["copy", "-A", "a", "b"], ["remove"], ["remove", "-A"], ["remove", "-f", "a"], ["remove", "--"],
-        ["debugsetparents"], ["debugsetparents", *3 * ["0" * 40]], ["debugload", "0"], [b"\xff"], [b"status", b"\xff"],
+        ["status", "x"], ["status", ""], ["status", "-"], ["status", "-m", "x"], ["status", "--", "-m"], ["status", "-m", "--", "--help"], ["add"], ["forget", "--"], ["copy", "a"], ["copy", "a", "b", "c"], ["remove"],
+        ["remove", "-A"], ["remove", "--"], ["debugsetparents"], ["debugsetparents", *3 * ["0" * 40]], ["debugload", "0"], ["debugscript", "x"], [b"\xff"], [b"status", b"\xff"],
     ]),
+    (no_flag("status", "-x"), [["status", "-x"], ["status", "-mx"], ["status", "-mxy"], ["status", "-x", "-y"], ["status", "x", "-x"], ["status", "-A", "--all", "-x", "--", "-y"]]),
+    (no_flag("status", "-M"), [["status", "-M"]]),
+    (no_flag("status", "--no"), [["status", "--no"], ["status", "--modified", "--no"]]),
+    (no_flag("status", "--modified=x"), [["status", "--modified=x"]]),
+    (no_flag("status", "---"), [["status", "---"], ["status", "-m", "---", "--"]]),
+    (no_flag("status", "-é"), [["status", "-é"]]),
+    (no_flag("status", "-mé"), [["status", "-mé"]]),
+    (no_flag("status", "-\\x0a"), [["status", "-m\n"]]),
+    (no_flag("status", "--a\\x0d\\x0ab"), [["status", "--a\r\nb"]]),
+    (no_flag("add", "-x"), [["add", "-x", "a"], ["add", "a", "-x"]]),
+    (no_flag("debugdirstate", "--all"), [["debugdirstate", "--all"]]),
+    (no_flag("copy", "-A"), [["copy", "-A", "a", "b"]]),
+    (no_flag("remove", "-f"), [["remove", "-f", "a"], ["remove", "-Af", "a"]]),
+    (no_flag("remove", "--afte"), [["remove", "--after", "--afte", "a"]]),
+    (no_flag("debugload", "-1"), [["debugload", "-1"]]),
+    (lines("abort: wrong arguments", "hgtrack: status --help takes no other word"), [["status", "-m", "--help"], ["status", "--help", "--help"], ["status", "--help", "x"]]),
     (aborted("argument 1 is not a node"), [["debugsetparents", "tip"], ["debugsetparents", "", "0" * 40]]),
     (aborted("argument 2 is not a node"), [["debugsetparents", "0" * 40, "0" * 39]]),
 ]
@@ -75,21 +91,19 @@ def run_words(tests):
     with tests.working_copy() as root:
         put_record(root, b"damaged")
         tests.check("words before the docket", root, b"", UNKNOWN, ["stat"])
-        for word, begins in (("--help", (b"Usage:\n  hgtrack status [FLAG ..]  ", b"\n  hgtrack debugdirstate  ")), ("--version", (b"hgtrack ",))):
-            status, out, err = tests.run(root, [word])
-            good = all(it in out for it in begins) and out.endswith(b"\n")
-            tests.compare(word, (status, good, err), (0, True, b""))
+        for words, out in HELPS:
+            tests.compare(" ".join(words), tests.run(root, words), (0, out.encode(), b""))
 
 
 def run_streams(tests):
     with tests.working_copy() as root:
         lay_out(root, ["a", "b"])
         put_record(root, GOOD, DATA)
-        for what, words, status, line in (("status", ["status"], 255, OUT), ("debugdirstate", ["debugdirstate"], 255, OUT), ("help", ["--help"], 255, OUT), ("version", ["--version"], 255, OUT)):
+        for what, words, status, line in (("status", ["status"], 255, OUT), ("debugdirstate", ["debugdirstate"], 255, OUT), ("help", ["--help"], 255, OUT), ("the help of a command", ["add", "--help"], 255, OUT), ("version", ["--version"], 255, OUT)):
             with open("/dev/full", "wb") as full:
                 at = tests.run(root, words, stdout=full)
             tests.compare(f"{what}: output to a full device", (at[0], at[2]), (status, line))
-            at = tests.run(root, ["-c", '"$0" "$1" >&-', tests.program, *words], executable="/bin/sh")
+            at = tests.run(root, ["-c", '"$0" "$@" >&-', tests.program, *words], executable="/bin/sh")
             tests.compare(f"{what}: output closed", (at[0], at[2]), (status, line))
             reader, writer = os.pipe()
             os.close(reader)

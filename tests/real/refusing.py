@@ -9,7 +9,7 @@ import signal
 import stat
 
 from dirstate import written
-from folder import OUTSIDE, aborted, as_nobody, because, further, holder, lay_out, lines, ours, put, put_record, seen
+from folder import OUTSIDE, aborted, as_nobody, because, further, holder, lay_out, lines, no_flag, ours, put, put_record, seen
 from saving import told
 
 GOOD, DATA = written([b"a", b"d/b"])
@@ -31,6 +31,8 @@ WORDS = [
     (["forget", "gone"], "forget gone: not tracked"),
     (["forget", ".hg/dirstate"], "forget .hg/dirstate: bad path"),
 ]
+
+NO_HELP = lines("abort: wrong arguments") + further("add --help takes no other word")
 
 # what is wrong with the record, the docket, the data, the line
 DAMAGED = [
@@ -221,16 +223,19 @@ def run_below(tests):
         tests.compare("from a folder below: no other .hg", [os.path.isdir(f"{root}/{it}/.hg") for it in ("sub", "sub/deep")], 2 * [False])
 
 
-# from which folder, the words with a dash in front, alone or beside others
+# from which folder, the words with a dash in front, alone or beside others, and what is said of them
 DASHED = [
-    (at, words)
+    (at, words, said)
     for at in ("", "sub", "sub/deep")
-    for words in (["add", "--help"], ["forget", "--"], ["add", "-x"], ["add", "x", "-x"], ["forget", "x", "-y"], ["add", "--version"])
+    for words, said in (
+        (["forget", "--"], aborted("wrong arguments")), (["add", "-x"], no_flag("add", "-x")), (["add", "x", "-x"], no_flag("add", "-x")), (["forget", "x", "-y"], no_flag("forget", "-y")),
+        (["add", "--version"], no_flag("add", "--version")), (["add", "x", "--help"], NO_HELP), (["add", "--help", "x"], NO_HELP),
+    )
 ]
 # files whose names begin with a dash, or that stand below such a folder, told so that no word is a flag
 TELLS_DASHED = [
     ("", ["add", "./-x"]), ("sub", ["add", "../-x"]), ("sub", ["forget", "../-d/x"]), ("-d", ["add", "x"]), ("-d", ["add", "./x"]),
-    ("", ["forget", "--", "-x", "--"]), ("sub", ["add", "x", "--", "-x", "deep/-x"]), ("", ["add", "--", "--"]), ("sub/deep", ["forget", "./../--"]),
+    ("", ["forget", "--", "-x", "--"]), ("sub", ["add", "x", "--", "-x", "deep/-x"]), ("", ["add", "--", "--"]), ("sub", ["add", "--", "--help"]), ("sub/deep", ["forget", "./../--"]),
 ]
 
 
@@ -239,13 +244,13 @@ def run_dashed(tests):
     with tests.working_copy() as root:
         lay_out(root, ["x", "-x", "--", "--help", "sub/x", "sub/-x", "sub/--", "sub/--help", "sub/deep/x", "sub/deep/-x", "-d/x"])
         put_record(root, *written([b"--", b"--help", b"-d/x", b"-x", b"sub/--", b"sub/deep/x", b"sub/x", b"x"]))
-        for at, words in DASHED:
+        for at, words, said in DASHED:
             before = recorded(root)
             got = tests.run(os.path.join(root, at), words)
-            tests.compare(f"with a dash in front, in {at or '.'}: {' '.join(words)}", (*got, recorded(root) == before), (255, b"", aborted("wrong arguments"), True))
+            tests.compare(f"with a dash in front, in {at or '.'}: {' '.join(words)}", (*got, recorded(root) == before), (255, b"", said, True))
         for at, words in TELLS_DASHED:
             tests.compare(f"a file with a dash in front, in {at or '.'}: {' '.join(words)}", tests.run(os.path.join(root, at), words), (0, b"", b""))
-        tests.compare("which are tracked then", tests.run(root, ("status", "-an")), (0, lines("--", "--help", "-d/x", "sub/-x", "sub/deep/-x", "sub/deep/x", "sub/x", "x"), b""))
+        tests.compare("which are tracked then", tests.run(root, ("status", "-an")), (0, lines("--", "--help", "-d/x", "sub/--help", "sub/-x", "sub/deep/-x", "sub/deep/x", "sub/x", "x"), b""))
 
 
 def run(tests):

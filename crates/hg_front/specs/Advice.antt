@@ -5,6 +5,7 @@ use Rattle.std.specs.Option.{option_and_then}
 use Rattle.hg_docket.specs.declared.fault.DocketFault.TheVariants as a_docket
 use Rattle.hg_report.specs.declared.fault.Fault.{Fault}
 use Rattle.hg_report.specs.declared.fault.Fault.TheVariants as a_fault
+use Rattle.hg_front.specs.Flags.{listed, usage_advice}
 use Rattle.hg_front.specs.Marks.{has}
 use Rattle.hg_front.specs.Placed.{refusable}
 use Rattle.hg_front.specs.declared.carrying.Ran.{Ran}
@@ -29,6 +30,8 @@ advice (a_fault.ManifestLine line) = Some parents
 advice (a_fault.ManifestOrder line) = Some parents
 advice (a_fault.NoContents id) = Some parents
 advice (a_fault.BadRegexp line) = Some regexps
+advice a_fault.NoCommand = Some listed
+advice a_fault.UnknownCommand = Some listed
 advice fault = None
 
 -- what the devices say of themselves: the name and the reason of the first failure of each, and of the lock that was refused
@@ -63,9 +66,14 @@ behind_status status words =
     then behind_words words a_mark.Nothing ∷ behind_words words a_mark.Absolute ∷ behind_words words a_mark.Outside ∷ behind_words words a_mark.Directory ∷ []
     else []
 
-abbrev pub behind_outcome : ℕ → Option Fault → List (List ℕ) → Sayings → List (Option (List ℕ))
-behind_outcome status (Some fault) words told = behind_fault fault told ∷ []
-behind_outcome status None words told = behind_status status words
+-- of wrong arguments by the words that were given, of another fault by what it is
+abbrev pub behind_given : Fault → List (List ℕ) → Sayings → Option (List ℕ)
+behind_given a_fault.Usage given told = Some (usage_advice given)
+behind_given fault given told = behind_fault fault told
+
+abbrev pub behind_outcome : ℕ → Option Fault → List (List ℕ) → List (List ℕ) → Sayings → List (Option (List ℕ))
+behind_outcome status (Some fault) given words told = behind_given fault given told ∷ []
+behind_outcome status None given words told = behind_status status words
 
 abbrev pub behind : Ran → Sayings → List (Option (List ℕ))
-behind ran told = behind_outcome ran.outcome.status ran.outcome.fault (refusable ran.placed) told
+behind ran told = behind_outcome ran.outcome.status ran.outcome.fault ran.placed.words (refusable ran.placed) told

@@ -1,8 +1,10 @@
 pub mod Advice
 pub mod Carried
+pub mod Flags
 pub mod Further
 pub mod Guard
 pub mod Marks
+pub mod Pages
 pub mod Placed
 pub mod Printing
 pub mod Reading

@@ -3,13 +3,15 @@
 ghost use Rattle.std.specs.Prelude.{◌≡◌};
 ghost use Rattle.std.specs.Option.{option_map};
 ghost use Rattle.hg_front.specs.Advice as advices;
-ghost use Rattle.hg_front.specs.Further.{SaysEach};
+ghost use Rattle.hg_front.specs.Further.{SaysAny, SaysEach};
 ghost use Rattle.hg_front.specs.Placed as placed_words;
 
 use crate::carrying::Ran;
+use crate::flags::{LISTED, say_of_usage};
 use crate::further::explain;
 use crate::marks::{Mark, first_refusable};
 use crate::placing::Placed;
+use hg_base::Words;
 use hg_docket::DocketFault;
 use hg_report::Fault;
 use hg_stream::Sink;
@@ -34,6 +36,7 @@ fn advice(fault: &Fault) -> Option<&'static str>
         | Fault::ManifestOrder { .. }
         | Fault::NoContents { .. } => Some(PARENTS),
         Fault::BadRegexp { .. } => Some(REGEXPS),
+        Fault::NoCommand | Fault::UnknownCommand => Some(LISTED),
         _ => None,
     }
 }
@@ -55,6 +58,22 @@ fn behind_fault<'a>(fault: &Fault, told: Reasons<'a>) -> Option<&'a str>
         Fault::ShelfFailed => told.shelf,
         Fault::Held => told.lock,
         _ => advice(fault),
+    }
+}
+
+// Says more of a fault that words met.
+fn say_of_fault<E: Sink>(
+    alloc: Global,
+    err: &mut E,
+    fault: &Fault,
+    words: &Words,
+    told: Reasons<'_>,
+)
+    ensures { SaysAny (E.bytes err.old) (E.bytes err.new) (advices.behind_given fault.now words.now (record { tree = option_map (λ text. text.now) told.entry.tree; shelf = option_map (λ text. text.now) told.entry.shelf; lock = option_map (λ text. text.now) told.entry.lock })) }
+{
+    match fault {
+        Fault::Usage => say_of_usage(alloc, err, words),
+        _ => explain(alloc, err, behind_fault(fault, told)),
     }
 }
 
@@ -86,12 +105,13 @@ fn say_of_words<E: Sink>(alloc: Global, err: &mut E, placed: &Placed)
     explain(alloc, err, behind_words(placed, Mark::Directory));
 }
 
-/// Says more behind the lines of a command, where there is more to say: of its fault, or of the words that it refused.
+/// Says more behind the lines of a command, where there is more to say: of its fault, of words that are no
+/// command, or of those that it refused.
 pub fn say_more<E: Sink>(alloc: Global, err: &mut E, ran: &Ran, told: Reasons<'_>)
     ensures { SaysEach (advices.behind ran.now (record { tree = option_map (λ text. text.now) told.entry.tree; shelf = option_map (λ text. text.now) told.entry.shelf; lock = option_map (λ text. text.now) told.entry.lock })) (E.bytes err.old) (E.bytes err.new) }
 {
     match &ran.outcome.fault {
-        Some(fault) => explain(alloc, err, behind_fault(fault, told)),
+        Some(fault) => say_of_fault(alloc, err, fault, &ran.placed.words, told),
         None => if ran.outcome.status == 1 {
             say_of_words(alloc, err, &ran.placed);
         },

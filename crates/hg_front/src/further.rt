@@ -21,9 +21,9 @@ fn line_of(alloc: Global, text: &str) -> Result<String, AllocError>
     Ok(line)
 }
 
-// Puts a piece, or a front of it where the stream fails, which isn't told anywhere.
+/// Puts a piece, or a front of it where the stream fails, which isn't told anywhere.
 #[tactic(auto, using(crate::proofs::Fronts::whole_is_front))]
-fn put<E: Sink>(err: &mut E, piece: &[u8])
+pub(crate) fn put<E: Sink>(err: &mut E, piece: &[u8])
     ensures { GrownByFront (E.bytes err.old) (E.bytes err.new) piece.now }
 {
     match put_all(err, piece) {

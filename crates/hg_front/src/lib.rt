@@ -2,10 +2,10 @@
 //!
 //! `place` reads the words once, and makes the file words of a command paths from the root. `begun_at` tells where a command is started, and `guard` says by the
 //! requirements of the repository (`.hg/requires`) whether it may begin. `carry` runs the command, or ends it where it may not begin, with a line `abort: ...`
-//! and one that says what next. `say_more` prints, behind the line of a fault, why a device failed or what to do.
+//! and one that says what next. `say_more` prints, behind the line of a fault, why a device failed, which word is no flag, or what to do.
 //!
 //! ```text
-//! own_text(alloc, &words)?;                            // Some("hgtrack 0.1.0\n") of `--version` alone
+//! own_text(alloc, &words)?;                            // Some("hgtrack 0.1.0\n") of `--version` alone; the help of `add` of `add --help`
 //! place(alloc, Some("src"), words)?;                   // of `add main.c`: `add -- src/main.c`
 //! guard(Some("dirstate-v2\nlargefiles\n"), None, &placed);  // Err(Refused { why: Unsupported, what: "largefiles" })
 //! guard(Some("store\n"), None, &placed);               // Err(Refused { why: OldDirstate, what: "dirstate-v2" })
@@ -14,10 +14,12 @@
 
 mod advice;
 mod carrying;
+mod flags;
 mod further;
 mod guarding;
 mod marks;
 mod own;
+mod pages;
 mod placing;
 mod reading;
 mod refusing;
@@ -28,6 +30,6 @@ pub use advice::{Reasons, say_more};
 pub use carrying::{Ran, carry, status_of_carried};
 pub use guarding::{Refused, Why, guard};
 pub use own::{own_text, print};
-pub use placing::{Placed, place, unreached, unread};
+pub use placing::{Placed, place, unreached, unread, unreadable};
 pub use reading::{Requires, Unreadable};
 pub use start::{Here, begun_at};

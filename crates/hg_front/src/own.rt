@@ -9,6 +9,7 @@ ghost use Rattle.hg_report.specs.declared.fault.Fault.TheVariants as a_fault;
 ghost use Rattle.hg_stream.specs.Stream.{Grown, GrownByFront};
 ghost use Rattle.hg_words.specs.Help.{help_of};
 
+use crate::pages::page_of;
 use hg_base::Words;
 use hg_report::Fault;
 use hg_session::failed;
@@ -22,22 +23,29 @@ const HEAD: &str =
 Usage:
 ";
 
-const TAIL: &str = "  hgtrack --help  print this help
+const TAIL: &str =
+    "  hgtrack COMMAND --help  print what a command does, what it takes, and an example
+  hgtrack --help  print this help
   hgtrack --version  print the version
 
-Flags of status, in any order, joined or apart; they end at a word `--`:
-  -m --modified   M: changed              -A --all         all letters, and copies
-  -a --added      A: added                -n --no-status   names without letters
-  -r --removed    R: removed              -0 --print0      NUL at the end of each line
-  -d --deleted    !: missing              -C --copies      what was copied, and from where
-  -c --clean      C: unchanged
-  -u --unknown    ?: not tracked
-  -i --ignored    I: ignored
+It runs in any folder of a working copy, whose root is the nearest folder with a folder `.hg`. Paths are told from the root; a FILE,
+SOURCE or TARGET is told from the current folder, and stands behind `--` where its name begins with a dash.
 
-Where no letter is asked for, M A R ! ? are listed. Paths are told from the root of the working copy, which is the nearest folder
-with a folder `.hg`; a FILE, SOURCE or TARGET is told from the current folder, and stands behind `--` where its name begins with a
-dash. With `-A` remove takes no file away, and wants it gone. It ends with 0, with 1 where a word was refused, each by a line of its
-own, or with 255 after a line `abort: ...`. A line `hgtrack: ...` behind these says why, or what to do.
+Exit status:
+  0    all was done
+  1    a file was refused, in a line of its own; the others were done
+  255  a fault, in a line `abort: ...`; a line `hgtrack: ...` behind it says why, or what to do
+
+Files:
+  .hgignore     the patterns of what is ignored
+  .hg/dirstate  the record's docket, which names the data file beside it
+  .hg/requires  what the repository asks of a program
+  .hg/plain     the manifests and files of the parents, as hgtrack-parents brings them
+  .hg/wlock     the lock of the working copy, while the record is changed
+  .hg/probe     a file that is written to ask the file system's clock
+
+Environment:
+  no variable is read
 ";
 
 const VERSION: &str = "hgtrack 0.1.0\n";
@@ -60,6 +68,16 @@ fn put_row(text: &mut String, row: &HelpRow) -> Result<(), AllocError>
     text.push_str("\n")
 }
 
+// That of the command of a name.
+fn put_row_of(text: &mut String, row: &HelpRow, name: &str) -> Result<(), AllocError>
+    ensures { OnOk result (string_bytes text.new ≡ string_bytes text.old ++ own.row_of name.now (help_of row.now)) }
+{
+    if row.name != name {
+        return Ok(());
+    }
+    put_row(text, row)
+}
+
 // The commands that are built, and how they are called.
 fn help(alloc: Global) -> Result<String, AllocError>
     ensures { IfOk result (λ text. string_bytes text ≡ own.help_text) }
@@ -73,16 +91,57 @@ fn help(alloc: Global) -> Result<String, AllocError>
     Ok(text)
 }
 
-/// What is printed for a single word that asks of the program itself.
+// How a command is called, and what is said of it.
+fn page(alloc: Global, name: &str, said: &str) -> Result<String, AllocError>
+    ensures { IfOk result (λ text. string_bytes text ≡ own.page_text name.now said.now) }
+{
+    let mut text = String::from_str(alloc, "Usage:\n")?;
+    let rows = help_rows();
+    for i in 0..rows.len() {
+        put_row_of(&mut text, &rows[i], name)?;
+    }
+    text.push_str(said)?;
+    Ok(text)
+}
+
+// The help of a command.
+fn help_of_command(alloc: Global, name: &str) -> Result<Option<String>, AllocError>
+    ensures { IfOk result (λ text. option_map string_bytes text ≡ own.command_text name.now) }
+{
+    match page_of(name) {
+        Some(said) => Ok(Some(page(alloc, name, said)?)),
+        None => Ok(None),
+    }
+}
+
+// What is printed for a single word that asks of the program itself.
+fn alone(alloc: Global, word: &str) -> Result<Option<String>, AllocError>
+    ensures { IfOk result (λ text. option_map string_bytes text ≡ own.alone word.now) }
+{
+    match word {
+        "--help" => Ok(Some(help(alloc)?)),
+        "--version" => Ok(Some(String::from_str(alloc, VERSION)?)),
+        _ => Ok(None),
+    }
+}
+
+// The same for two: a command, and `--help`.
+fn beside(alloc: Global, name: &str, word: &str) -> Result<Option<String>, AllocError>
+    ensures { IfOk result (λ text. option_map string_bytes text ≡ own.beside name.now word.now) }
+{
+    if word != "--help" {
+        return Ok(None);
+    }
+    help_of_command(alloc, name)
+}
+
+/// What is printed for words that ask of the program itself, or of a command.
 pub fn own_text(alloc: Global, words: &Words) -> Result<Option<String>, AllocError>
     ensures { IfOk result (λ text. option_map string_bytes text ≡ own.own_text words.now) }
 {
-    if words.len() != 1 {
-        return Ok(None);
-    }
-    match words.at(0).as_str() {
-        "--help" => Ok(Some(help(alloc)?)),
-        "--version" => Ok(Some(String::from_str(alloc, VERSION)?)),
+    match words.len() {
+        1 => alone(alloc, words.at(0).as_str()),
+        2 => beside(alloc, words.at(0).as_str(), words.at(1).as_str()),
         _ => Ok(None),
     }
 }

@@ -2,11 +2,13 @@
 
 ghost use Rattle.std.specs.Prelude.{◌≡◌, ◌⊎◌, ◌<◌, Err, IfErr, IfOk, Ok, false, is_some, length};
 ghost use Rattle.std.specs.Option.{option_map};
+ghost use Rattle.hg_front.specs.Flags.{listed};
 ghost use Rattle.hg_front.specs.Further.{TellsFault};
 ghost use Rattle.hg_front.specs.Placed.{HasFiles, IsPlaced};
 ghost use Rattle.hg_report.specs.declared.fault.Fault.TheVariants as a_fault;
 ghost use Rattle.hg_words.specs.Command.{command_of};
 
+use crate::flags::LISTED;
 use crate::further::failed_because;
 use hg_base::Words;
 use hg_report::Fault;
@@ -31,6 +33,14 @@ pub fn unread(kind: ErrorKind) -> Fault
         ErrorKind::OutOfMemory => Fault::OutOfMemory,
         _ => Fault::Usage,
     }
+}
+
+/// Ends a command whose words aren't text.
+pub fn unreadable<E: Sink>(alloc: Global, err: &mut E) -> u8
+    ensures status { result ≡ 255 }
+    ensures told { TellsFault (E.bytes err.old) (E.bytes err.new) (E.faults err.old) a_fault.Usage listed }
+{
+    failed_because(alloc, Fault::Usage, err, LISTED)
 }
 
 /// What words are in the folder where a command is started. A folder that can't be told is a failure of the working copy where there are

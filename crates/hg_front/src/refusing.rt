@@ -50,19 +50,21 @@ fn next(why: Why) -> &'static str
     }
 }
 
-fn put(line: &mut Vec<u8>, text: &str) -> Result<(), OutOfMemory>
+/// Puts a text.
+pub(crate) fn put_text(line: &mut Vec<u8>, text: &str) -> Result<(), OutOfMemory>
     ensures { OnOk result (line.new.items ≡ line.old.items ++ text.now) }
 {
     line.extend_from_slice(text.as_bytes())?;
     Ok(())
 }
 
-fn put_byte(line: &mut Vec<u8>, byte: u8) -> Result<(), OutOfMemory>
+/// Puts a byte of a name, which ends no line.
+pub(crate) fn put_byte(line: &mut Vec<u8>, byte: u8) -> Result<(), OutOfMemory>
     ensures { OnOk result (line.new.items ≡ line.old.items ++ shown_byte byte) }
 {
     match byte {
-        b'\n' => put(line, "\\x0a"),
-        b'\r' => put(line, "\\x0d"),
+        b'\n' => put_text(line, "\\x0a"),
+        b'\r' => put_text(line, "\\x0d"),
         _ => {
             line.push(byte)?;
             Ok(())
@@ -70,8 +72,8 @@ fn put_byte(line: &mut Vec<u8>, byte: u8) -> Result<(), OutOfMemory>
     }
 }
 
-// Puts a name, in which nothing ends the line.
-fn put_name(line: &mut Vec<u8>, name: &str) -> Result<(), OutOfMemory>
+/// Puts a name, in which nothing ends the line.
+pub(crate) fn put_name(line: &mut Vec<u8>, name: &str) -> Result<(), OutOfMemory>
     ensures { OnOk result (line.new.items ≡ line.old.items ++ shown name.now) }
 {
     for byte in name.as_bytes() {
@@ -84,13 +86,13 @@ fn refusal_text(alloc: Global, refused: Refused<'_>) -> Result<Vec<u8>, OutOfMem
     ensures { IfOk result (λ text. text.items ≡ refusal_lines (refused.entry.why, refused.entry.what.now)) }
 {
     let mut text = Vec::new(alloc);
-    put(&mut text, "abort: ")?;
-    put(&mut text, front(refused.why))?;
+    put_text(&mut text, "abort: ")?;
+    put_text(&mut text, front(refused.why))?;
     put_name(&mut text, refused.what)?;
-    put(&mut text, behind(refused.why))?;
-    put(&mut text, "\nhgtrack: ")?;
-    put(&mut text, next(refused.why))?;
-    put(&mut text, "\n")?;
+    put_text(&mut text, behind(refused.why))?;
+    put_text(&mut text, "\nhgtrack: ")?;
+    put_text(&mut text, next(refused.why))?;
+    put_text(&mut text, "\n")?;
     Ok(text)
 }
 

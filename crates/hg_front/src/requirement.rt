@@ -24,8 +24,8 @@ const WRITERS: &str = "dirstate-tracked-key-v1";
 
 const UNSUPPORTED: &str = "exp-sparse git largefiles lfs narrowhg-experimental";
 
-// Whether a name is one of a table's, which stand one behind another with a space between them.
-fn is_listed(table: &str, name: &str) -> bool
+/// Whether a name is one of a table's, which stand one behind another with a space between them.
+pub(crate) fn is_listed(table: &str, name: &str) -> bool
     ensures { result ≡ a_requirement.is_listed table.now name.now }
 {
     table.split(' ').any(|listed| listed == name)

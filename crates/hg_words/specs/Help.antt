@@ -28,5 +28,5 @@ help_table =
     ∷ record { name = codes "debugsetparents"; words = codes "NODE [NODE]"; line = codes "set the parents"; is_built = true }
     ∷ record { name = codes "debugdirstate"; words = []; line = codes "print what the dirstate records of each path"; is_built = true }
     ∷ record { name = codes "debugscript"; words = []; line = codes "run commands from standard input"; is_built = true }
-    ∷ record { name = codes "debugload"; words = codes "N"; line = codes "time a status over a working copy of N folders in memory"; is_built = true }
+    ∷ record { name = codes "debugload"; words = codes "N"; line = codes "make a working copy of N folders in memory, and count the letters of its status"; is_built = true }
     ∷ []

@@ -64,7 +64,7 @@ static ROWS: [HelpRow; 9] = [
     HelpRow {
         name: "debugload",
         words: "N",
-        line: "time a status over a working copy of N folders in memory",
+        line: "make a working copy of N folders in memory, and count the letters of its status",
         is_built: true,
     },
 ];

@@ -10,6 +10,7 @@
 //! hgtrack copy src/main.c src/other.c
 //! hgtrack debugdirstate
 //! hgtrack --help
+//! hgtrack status --help
 //! hgtrack --version
 //! ```
 #![tactic(auto)]
@@ -18,6 +19,7 @@ use hg_base::{Text, Words};
 use hg_disk::{RealShelf, RealTree, Root, Start, enter_root, open_streams};
 use hg_front::{
     Reasons, begun_at, carry, own_text, print, say_more, status_of_carried, unreached, unread,
+    unreadable,
 };
 use hg_ignore::Builds;
 use hg_report::Fault;
@@ -49,6 +51,7 @@ fn main(rt: HostRuntime) -> ExitCode {
     let mut err = WriterSink::new(rt.stderr());
     let words = match read_words(alloc, &rt) {
         Ok(words) => words,
+        Err(Fault::Usage) => return ExitCode::from(unreadable(alloc, &mut err)),
         Err(fault) => return ExitCode::from(failed(alloc, fault, &mut err).status),
     };
     let status = match own_text(alloc, &words) {
