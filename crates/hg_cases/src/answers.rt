@@ -1,25 +1,24 @@
 //! What a line behind `?` asks of what stands there.
 
 use crate::line::Line;
-use crate::play::Scene;
 use crate::tables::{crashes, damaged, fails};
 use crate::tokens::{token_at, word_at};
 use crate::world::World;
 use hg_tree::Asked;
 
 /// Tells what a line is answered.
-pub(crate) fn answer(scene: Scene<'_>, world: &mut World, tokens: &[Vec<u8>]) {
+pub(crate) fn answer(lines: &[&str], laid: &[usize], world: &mut World, tokens: &[Vec<u8>]) {
     match word_at(tokens, 0, &mut world.wrong) {
-        "?" => question(scene, world, tokens),
+        "?" => question(lines, laid, world, tokens),
         _ => world.run(tokens, 1),
     }
 }
 
-fn question(scene: Scene<'_>, world: &mut World, tokens: &[Vec<u8>]) {
+fn question(lines: &[&str], laid: &[usize], world: &mut World, tokens: &[Vec<u8>]) {
     match word_at(tokens, 1, &mut world.wrong) {
-        "fails" => fails(scene, world, tokens),
-        "crashes" => crashes(scene, world, tokens),
-        "cut" | "spoilt" => damaged(scene, world, tokens),
+        "fails" => fails(lines, laid, world, tokens),
+        "crashes" => crashes(lines, laid, world, tokens),
+        "cut" | "spoilt" => damaged(lines, laid, world, tokens),
         _ => look(world, tokens),
     }
     world.data.ended = true;

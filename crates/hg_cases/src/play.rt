@@ -7,18 +7,11 @@ use crate::tokens::{tokens, word_at};
 use crate::world::World;
 use std::alloc::Global;
 
-/// The lines of a file, and the places of those that say what stands there.
-#[derive(Clone, Copy)]
-pub(crate) struct Scene<'a> {
-    pub lines: &'a [&'a str],
-    pub laid: &'a [usize],
-}
-
-/// Lays out anew what stands there.
-pub(crate) fn lay_all(scene: Scene<'_>, world: &mut World) {
+/// Lays out anew what stands there: the lines of a file at these places say it.
+pub(crate) fn lay_all(lines: &[&str], laid: &[usize], world: &mut World) {
     world.clear();
-    for place in scene.laid {
-        lay_line(world, line_at(scene.lines, *place));
+    for place in laid {
+        lay_line(world, line_at(lines, *place));
     }
 }
 
@@ -78,7 +71,7 @@ impl Played {
             }
             "again" => {
                 self.laid.truncate(self.kept);
-                lay_all(self.scene(lines), world);
+                lay_all(lines, self.laid.as_slice(), world);
             }
             "start" => self.kept = self.laid.len(),
             "$" | "?" => self.ask(world, lines, place, tokens),
@@ -89,13 +82,6 @@ impl Played {
         }
     }
 
-    fn scene<'a>(&'a self, lines: &'a [&'a str]) -> Scene<'a> {
-        Scene {
-            lines,
-            laid: self.laid.as_slice(),
-        }
-    }
-
     // That line says what stands there too.
     fn keep(&mut self, world: &mut World, place: usize) {
         world.wrong.check(self.laid.push(place).is_ok());
@@ -103,7 +89,7 @@ impl Played {
 
     // Compares what comes of a line with what stands below it.
     fn ask(&mut self, world: &mut World, lines: &[&str], place: usize, tokens: &[Vec<u8>]) {
-        answer(self.scene(lines), world, tokens);
+        answer(lines, self.laid.as_slice(), world, tokens);
         self.keep(world, place);
         self.compare(lines, place, world.told.line.as_str());
     }

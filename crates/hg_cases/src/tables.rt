@@ -3,7 +3,7 @@
 
 use crate::commands::fail_at;
 use crate::line::Line;
-use crate::play::{Scene, lay_all};
+use crate::play::lay_all;
 use crate::printed::put_numberless;
 use crate::tokens::word_at;
 use crate::world::World;
@@ -83,21 +83,22 @@ impl Table {
 }
 
 // Ends a table: what stood there stands there again, and the lines are told.
-fn end(scene: Scene<'_>, world: &mut World, table: &mut Table) {
+fn end(lines: &[&str], laid: &[usize], world: &mut World, table: &mut Table) {
     table.flush();
-    lay_all(scene, world);
+    lay_all(lines, laid, world);
     world.told.line.copy(&table.lines);
 }
 
 // Runs a command where nothing fails.
 fn usually(
-    scene: Scene<'_>,
+    lines: &[&str],
+    laid: &[usize],
     world: &mut World,
     tokens: &[Vec<u8>],
     from: usize,
     table: &mut Table,
 ) -> Calls {
-    lay_all(scene, world);
+    lay_all(lines, laid, world);
     world.tell_record();
     table.before.copy(&world.told.line);
     world.run(tokens, from);
@@ -163,14 +164,15 @@ fn put_image(
 
 // Tells how it goes where a call of a device fails.
 fn put_failing(
-    scene: Scene<'_>,
+    lines: &[&str],
+    laid: &[usize],
     world: &mut World,
     tokens: &[Vec<u8>],
     call: u64,
     table: &mut Table,
 ) {
     let device = word_at(tokens, 2, &mut world.wrong);
-    lay_all(scene, world);
+    lay_all(lines, laid, world);
     fail_at(world, device, call);
     world.run(tokens, 3);
     table.line.put_on_one(world.told.line.as_str());
@@ -185,50 +187,50 @@ fn put_failing(
 }
 
 /// Tells a line for each call of a device that fails.
-pub(crate) fn fails(scene: Scene<'_>, world: &mut World, tokens: &[Vec<u8>]) {
+pub(crate) fn fails(lines: &[&str], laid: &[usize], world: &mut World, tokens: &[Vec<u8>]) {
     let mut table = Table::new(world.alloc);
-    let calls = usually(scene, world, tokens, 3, &mut table);
+    let calls = usually(lines, laid, world, tokens, 3, &mut table);
     for call in 0..calls.of(word_at(tokens, 2, &mut world.wrong)) {
-        put_failing(scene, world, tokens, call, &mut table);
+        put_failing(lines, laid, world, tokens, call, &mut table);
     }
-    end(scene, world, &mut table);
+    end(lines, laid, world, &mut table);
 }
 
 /// Tells a line for a crash just before each call of the files below `.hg`, and behind the last.
-pub(crate) fn crashes(scene: Scene<'_>, world: &mut World, tokens: &[Vec<u8>]) {
+pub(crate) fn crashes(lines: &[&str], laid: &[usize], world: &mut World, tokens: &[Vec<u8>]) {
     let mut table = Table::new(world.alloc);
-    usually(scene, world, tokens, 2, &mut table);
-    lay_all(scene, world);
+    usually(lines, laid, world, tokens, 2, &mut table);
+    lay_all(lines, laid, world);
     let begun = world.shelf.device.calls();
     world.run(tokens, 2);
     for call in begun..world.shelf.device.calls().saturating_add(1) {
         put_images(world, tokens, 2, call, &mut table);
         table.end_line();
     }
-    end(scene, world, &mut table);
+    end(lines, laid, world, &mut table);
 }
 
 /// Tells a line for each length that a file is cut at, or for each of its bytes that is spoilt.
-pub(crate) fn damaged(scene: Scene<'_>, world: &mut World, tokens: &[Vec<u8>]) {
+pub(crate) fn damaged(lines: &[&str], laid: &[usize], world: &mut World, tokens: &[Vec<u8>]) {
     let name = word_at(tokens, 2, &mut world.wrong);
     match world.file(name) {
-        Some(bytes) => damage(scene, world, tokens, bytes.as_slice()),
+        Some(bytes) => damage(lines, laid, world, tokens, bytes.as_slice()),
         None => world.wrong.set("no such file below .hg"),
     }
 }
 
-fn damage(scene: Scene<'_>, world: &mut World, tokens: &[Vec<u8>], bytes: &[u8]) {
+fn damage(lines: &[&str], laid: &[usize], world: &mut World, tokens: &[Vec<u8>], bytes: &[u8]) {
     let mut table = Table::new(world.alloc);
     let is_cut = word_at(tokens, 1, &mut world.wrong) == "cut";
     for at in 0..bytes.len() {
-        lay_all(scene, world);
+        lay_all(lines, laid, world);
         let (front, rest) = bytes.split_at(at);
         let last = if is_cut { &[] } else { rest };
         lay_damaged(world, tokens, front, last);
         world.run(tokens, 3);
         put_damaged(world, &mut table);
     }
-    end(scene, world, &mut table);
+    end(lines, laid, world, &mut table);
 }
 
 // Lays a file, the bytes in front of a place, and those from it on, of which the first is spoilt.
