@@ -1,6 +1,7 @@
 """Ignore texts: what real projects write, beside `hg status`; texts that are refused, by the line that says so; warnings, and an error stream that fails."""
 
 import os
+import re
 import shutil
 
 from dirstate import written
@@ -181,6 +182,16 @@ def run_refused(tests):
             tests.check(f"ignoring: {what}, no letter that patterns decide", root, lines("A t"), b"", ("status", "-m", "-a", "-r", "-d", "-c"))
 
 
+def run_heavy(tests):
+    """Regexps that are each taken may be too heavy together; which of them is told then is no matter here."""
+    with tests.working_copy() as root:
+        lay_out(root, [".hg/", "a"])
+        put(f"{root}/.hgignore", 100 * b"a{3000}\n")
+        status, out, err = tests.run(root)
+        told = re.fullmatch(rb"abort: \.hgignore line (\d+): size\n", err)
+        tests.compare("ignoring: regexps that are too heavy together", (status, out, told is not None and 1 < int(told[1]) <= 100), (255, b"", True))
+
+
 def run_warned(tests):
     """Warnings come behind the report; an error stream that takes nothing of them is a fault, of which no more is written."""
     with tests.working_copy() as root:
@@ -207,6 +218,7 @@ def run_unread(tests):
 
 def run(tests):
     run_refused(tests)
+    run_heavy(tests)
     run_warned(tests)
     run_unread(tests)
     run_different(tests, shutil.which("hg") is not None)

@@ -253,6 +253,65 @@ def run_dashed(tests):
         tests.compare("which are tracked then", tests.run(root, ("status", "-an")), (0, lines("--", "--help", "-d/x", "sub/--help", "sub/-x", "sub/deep/-x", "sub/deep/x", "sub/x", "x"), b""))
 
 
+# in which folder, and words behind `add` there: what they are told as from the root, as paths, and as none
+TOLD = [
+    ("", {"a": "a", "a/b": "a/b", "./a": "a", "././a/b": "a/b", "a b/ä€": "a b/ä€", ".a": ".a", "..a/b": "..a/b", ".../a": ".../a"},
+     {"": "", ".": ".", "..": "..", "./": "", "../a": "../a", "./../a": "./../a", "/a": "/a", "./..": "..", ".//a": "/a", "a/../b": "a/../b",
+     "a/": "a/"}),
+    ("d", {"a": "d/a", "./a": "d/a", "../a": "a", "./.././a": "a"},
+     {"../../a": "../../a", "..": "d/..", "../": "", "../..": ".."}),
+    ("d/e", {"a": "d/e/a", "a/b": "d/e/a/b", "././a": "d/e/a", "../a": "d/a", ".././a": "d/a", "./../a/b": "d/a/b", "../../a": "a", ".a": "d/e/.a",
+     "..a": "d/e/..a", ".../a": "d/e/.../a", "../.../..a/.a": "d/.../..a/.a"},
+     {"": "", ".": "d/e/.", "..": "d/e/..", "../..": "d/..", "./": "d/e/", "../": "d/", "/a": "/a", "/": "/", "..//a": "d//a", "../../..": "..",
+     "../../../a": "../../../a", "./../../../a": "./../../../a", "../.././../e/a": "../.././../e/a", "a/../b": "d/e/a/../b", "a/./b": "d/e/a/./b",
+     "a//b": "d/e/a//b"}),
+    ("d/e f", {"ä b": "d/e f/ä b"},
+     {}),
+    ("ä/€", {"../ö": "ä/ö"},
+     {}),
+    (".hg/store", {"../../a": "a"},
+     {}),
+    (".hg", {},
+     {"a": ".hg/a"}),
+]
+
+# words in the folder `d/e`, some with a dash in front, and what is said of each: nothing is tracked; then `d/e/a` and `d/e/-a` are, and `d/b` and `d/e/--` stand there
+SPELLED = [
+    (["add", "add", "../forget", "", "../../../a"], ["add d/e/add: no such file", "add d/forget: no such file", "add : bad path", "add ../../../a: bad path"]),
+    (["add", "-"], ["add d/e/-: no such file"]),
+    (["add", "--", "-x", "./-y", "--z", "--"], [f"add d/e/{it}: no such file" for it in ("-x", "-y", "--z", "--")]),
+    (["add", "a", "--", "../-x"], ["add d/e/a: no such file", "add d/-x: no such file"]),
+    (["forget", "./a b", "a-"], ["forget d/e/a b: not tracked", "forget d/e/a-: not tracked"]),
+    (["remove", "a"], ["remove d/e/a: not tracked"]),
+    (["remove", "a", "-A", "b", "--after", "-AA", "--", "-A"], [f"remove d/e/{it}: not tracked" for it in ("a", "b", "-A")]),
+    (["copy", "a", "../b"], ["copy d/e/a: not tracked"]),
+]
+COPIED = [(["copy", "a", "../b"], ["copy d/b: exists"]), (["copy", "--", "-a", "--"], ["copy d/e/--: exists"])]
+
+
+def refusals(tests, root, words):
+    """The lines of refused words, without what is said of what to do."""
+    status, out, err = tests.run(root, words)
+    return status, out, [it for it in err.decode().splitlines() if not it.startswith("hgtrack: ")]
+
+
+def run_told(tests):
+    """What each word is told as, by the line that refuses it: as a path where nothing stands, or as none."""
+    with tests.working_copy() as root:
+        lay_out(root, [".hg/store/", "d/e/", "d/e f/", "ä/€/"])
+        for folder, paths, others in TOLD:
+            for words, reason in ((paths, "no such file"), (others, "bad path")):
+                for word, path in words.items():
+                    got = refusals(tests, os.path.join(root, folder), ("add", word))
+                    tests.compare(f"told from {folder or '.'}: add {word}", got, (1, b"", [f"add {path}: {reason}"]))
+        for words, said in SPELLED:
+            tests.compare(f"told from d/e: {' '.join(words)}", refusals(tests, f"{root}/d/e", words), (1, b"", said))
+        lay_out(root, ["d/e/a", "d/e/-a", "d/e/--", "d/b"])
+        put_record(root, *written([b"d/e/-a", b"d/e/a"]))
+        for words, said in COPIED:
+            tests.compare(f"told from d/e: {' '.join(words)}", refusals(tests, f"{root}/d/e", words), (1, b"", said))
+
+
 def run(tests):
-    for part in (run_words, run_locked, run_damaged, run_rights, run_modes, run_outside, run_below, run_dashed):
+    for part in (run_words, run_locked, run_damaged, run_rights, run_modes, run_outside, run_below, run_dashed, run_told):
         part(tests)

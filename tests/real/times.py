@@ -11,7 +11,7 @@ import time
 
 from calls import ERRORS, Calls, compiled, has_gcc
 from commits import HEX, P1, PARENT, W, put_commit, put_entries
-from dirstate import written
+from dirstate import HAS_MODE_AND_SIZE, HAS_MTIME, docket, record, written
 from folder import MEMORY, SECONDS, as_nobody, lay_out, lines, put, put_record
 from mercurial import OPTIONS, hg
 from parents import export, init
@@ -515,8 +515,20 @@ def run_stops(tests):
         tests.compare(f"times: {len(seen)} stops, the record before and then the one after", (seen == sorted(seen, key=bool), set(seen)), (True, {0, 1}))
 
 
+def run_great(tests):
+    """The low 31 bits of a size vouch for a file of over 2 GiB: it isn't read, and neither a manifest nor contents are there."""
+    with tests.working_copy() as root:
+        put(f"{root}/f", b"")
+        os.truncate(f"{root}/f", 2**31 + 4)
+        os.utime(f"{root}/f", ns=(LONG_PAST, LONG_PAST))
+        node = record(0, 1, flags=W | P1 | HAS_MODE_AND_SIZE | HAS_MTIME, size=4, seconds=LONG_PAST // 10**9)
+        put_record(root, docket(45, (1, 1), p1=PARENT), b"f" + node)
+        tests.compare("a great file", tests.run(root, ("status", "-c")), (0, b"C f\n", b""))
+
+
 def run(tests):
     run_ticks(tests)
+    run_great(tests)
     run_clocks(tests)
     run_thrift(tests)
     run_two_at_once(tests)

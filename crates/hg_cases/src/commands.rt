@@ -1,26 +1,23 @@
 //! The lines that lay out what stands before a run.
 
-use crate::bytes::Docket;
+ghost use Rattle.std.specs.Prelude.{IsTrue};
+ghost use Rattle.hg_tree.specs.Moment.{is_short_thing};
+
 use crate::due::lay_due;
-use crate::tokens::{joined, number_at, number_of_32, time_at, word_at, words_from};
-use crate::world::{World, file};
+use crate::line::Line;
+use crate::tokens::{joined, number_at, path_at, time_at, word_at};
+use crate::world::World;
 use crate::wrong::Wrong;
 use hg_base::{Blob, PathRef};
+use hg_shelf::MemShelf;
 use hg_tree::Thing;
 use std::alloc::Global;
 
 /// Does what a line says.
-pub(crate) fn lay(world: &mut World, tokens: &[Vec<u8>]) -> Result<(), Wrong> {
-    match word_at(tokens, 0)? {
-        "$" => {
-            let words = words_from(world.alloc, tokens, 1)?;
-            world.run(&words)?;
-            Ok(())
-        }
-        "?" => {
-            world.data.ended = true;
-            Ok(())
-        }
+pub(crate) fn lay(world: &mut World, tokens: &[Vec<u8>]) {
+    match word_at(tokens, 0, &mut world.wrong) {
+        "$" => world.run(tokens, 1),
+        "?" => world.data.ended = true,
         "data" | "node" | "tower" => lay_data(world, tokens),
         "docket" => lay_docket(world, tokens),
         "file" | "files" | "exec" | "link" | "dir" | "other" | "take" => lay_thing(world, tokens),
@@ -31,223 +28,299 @@ pub(crate) fn lay(world: &mut World, tokens: &[Vec<u8>]) -> Result<(), Wrong> {
     }
 }
 
-fn lay_data(world: &mut World, tokens: &[Vec<u8>]) -> Result<(), Wrong> {
+fn lay_data(world: &mut World, tokens: &[Vec<u8>]) {
     world.data.begin();
-    match word_at(tokens, 0)? {
-        "data" => {
-            let bytes = joined(world.alloc, tokens, 1)?;
-            Ok(world.data.bytes.extend_from_slice(bytes.as_slice())?)
+    match word_at(tokens, 0, &mut world.wrong) {
+        "data" => lay_text(world, tokens),
+        "node" => world.data.put_node(tokens, &mut world.wrong),
+        _ => {
+            let levels = number_at(tokens, 1, &mut world.wrong);
+            world.data.put_tower(levels, &mut world.wrong);
         }
-        "node" => world.data.put_node(tokens),
-        _ => world.data.put_tower(number_of_32(word_at(tokens, 1)?)?),
     }
 }
 
-fn lay_docket(world: &mut World, tokens: &[Vec<u8>]) -> Result<(), Wrong> {
-    let docket = world.data.docket(world.alloc, tokens, 1)?;
-    let bytes = docket.bytes(world.alloc)?;
-    world.shelf.device.place("dirstate", bytes.as_slice())?;
+fn lay_text(world: &mut World, tokens: &[Vec<u8>]) {
+    let bytes = joined(world.alloc, tokens, 1, &mut world.wrong);
+    world.data.put(bytes.as_slice(), &mut world.wrong);
+}
+
+fn lay_docket(world: &mut World, tokens: &[Vec<u8>]) {
+    world.data.make_docket(tokens, 1, &mut world.wrong);
     world.data.ended = true;
-    if docket.alone {
-        return Ok(());
+    let docket = world.data.docket.as_slice();
+    world
+        .wrong
+        .check(world.shelf.device.place("dirstate", docket).is_ok());
+    if !world.data.alone {
+        lay_data_file(world);
     }
-    lay_data_file(world, &docket)
 }
 
-fn lay_data_file(world: &mut World, docket: &Docket) -> Result<(), Wrong> {
-    let mut name = String::from_str(world.alloc, "dirstate.")?;
-    name.push_str(docket.id.as_str())?;
-    let bytes = world.data.bytes.as_slice();
-    Ok(world.shelf.device.place(name.as_str(), bytes)?)
+fn lay_data_file(world: &mut World) {
+    let mut name = Line::new(world.alloc);
+    name.put("dirstate.");
+    name.put(world.data.id.as_str());
+    put_file(
+        &mut world.shelf.device,
+        name.as_str(),
+        world.data.bytes.as_slice(),
+        &mut world.wrong,
+    );
 }
 
-fn lay_thing(world: &mut World, tokens: &[Vec<u8>]) -> Result<(), Wrong> {
-    let path = PathRef::read(word_at(tokens, 1)?)?;
-    let time = world.time;
-    match word_at(tokens, 0)? {
+fn put_file(shelf: &mut MemShelf, name: &str, bytes: &[u8], wrong: &mut Wrong) {
+    wrong.check(shelf.place(name, bytes).is_ok());
+}
+
+fn lay_thing(world: &mut World, tokens: &[Vec<u8>]) {
+    match word_at(tokens, 0, &mut world.wrong) {
         "files" => lay_files(world, tokens),
-        "file" => lay_bytes(world, path, tokens, false),
-        "exec" => lay_bytes(world, path, tokens, true),
-        "link" => lay_link(world, path, tokens),
-        "dir" => Ok(world.tree.device.place(path, Thing::Dir, time)?),
-        "other" => Ok(world.tree.device.place(path, Thing::Other, time)?),
-        _ => Ok(world.tree.device.take(path)?),
+        "file" => lay_bytes(world, tokens, false),
+        "exec" => lay_bytes(world, tokens, true),
+        "link" => lay_link(world, tokens),
+        "dir" => lay_at(world, tokens, Thing::Dir),
+        "other" => lay_at(world, tokens, Thing::Other),
+        _ => take(world, tokens),
     }
 }
 
-fn lay_files(world: &mut World, tokens: &[Vec<u8>]) -> Result<(), Wrong> {
+fn take(world: &mut World, tokens: &[Vec<u8>]) {
+    if let Some(path) = path_at(tokens, 1, &mut world.wrong) {
+        world.wrong.check(world.tree.device.take(path).is_ok());
+    }
+}
+
+fn place(world: &mut World, path: PathRef<'_>, thing: Thing)
+    requires { IsTrue (is_short_thing thing) }
+{
+    let time = world.time;
+    world
+        .wrong
+        .check(world.tree.device.place(path, thing, time).is_ok());
+}
+
+fn lay_at(world: &mut World, tokens: &[Vec<u8>], thing: Thing)
+    requires { IsTrue (is_short_thing thing) }
+{
+    match path_at(tokens, 1, &mut world.wrong) {
+        Some(path) => place(world, path, thing),
+        None => {}
+    }
+}
+
+fn lay_files(world: &mut World, tokens: &[Vec<u8>]) {
     for at in 1..tokens.len() {
-        let path = PathRef::read(word_at(tokens, at)?)?;
-        lay_bytes(world, path, &[], false)?;
+        if let Some(path) = path_at(tokens, at, &mut world.wrong) {
+            lay_plain(world, path);
+        }
     }
-    Ok(())
 }
 
-/// The text of a thing: the byte `b` where none is named.
-pub(crate) fn content(alloc: Global, tokens: &[Vec<u8>]) -> Result<Blob, Wrong> {
-    if tokens.len() < 3 {
-        return Ok(Blob::of(alloc, b"b")?);
+// A file of the byte `b`.
+fn lay_plain(world: &mut World, path: PathRef<'_>) {
+    match Blob::of(world.alloc, b"b") {
+        Ok(bytes) => place(world, path, Thing::File { exec: false, bytes }),
+        Err(_) => world.wrong.check(false),
     }
-    let bytes = joined(alloc, tokens, 2)?;
-    Ok(Blob::of(alloc, bytes.as_slice())?)
 }
 
-fn lay_bytes(
-    world: &mut World,
-    path: PathRef<'_>,
+/// The text of a thing, from that token on: the byte `b` where none is named.
+pub(crate) fn content(
+    alloc: Global,
     tokens: &[Vec<u8>],
-    exec: bool,
-) -> Result<(), Wrong> {
-    let bytes = content(world.alloc, tokens)?;
-    let time = world.time;
-    Ok(
-        world
-            .tree
-            .device
-            .place(path, Thing::File { exec, bytes }, time)?,
-    )
-}
-
-fn lay_link(world: &mut World, path: PathRef<'_>, tokens: &[Vec<u8>]) -> Result<(), Wrong> {
-    let target = content(world.alloc, tokens)?;
-    if target.as_bytes().len() > 4_095 {
-        return Err("a target that is too long".into());
-    }
-    let time = world.time;
-    Ok(world.tree.device.place(path, Thing::Link { target }, time)?)
-}
-
-fn lay_file(world: &mut World, tokens: &[Vec<u8>]) -> Result<(), Wrong> {
-    let name = word_at(tokens, 1)?;
-    let bytes = match word_at(tokens, 0)? {
-        "hg" => joined(world.alloc, tokens, 2)?,
-        _ => changed(world, name, tokens)?,
+    from: usize,
+    wrong: &mut Wrong,
+) -> Option<Blob> {
+    let blob = if tokens.len() <= from {
+        Blob::of(alloc, b"b").ok()
+    } else {
+        Blob::of(alloc, joined(alloc, tokens, from, wrong).as_slice()).ok()
     };
-    Ok(world.shelf.device.place(name, bytes.as_slice())?)
+    wrong.check(blob.is_some());
+    blob
+}
+
+fn lay_bytes(world: &mut World, tokens: &[Vec<u8>], exec: bool) {
+    if let Some(bytes) = content(world.alloc, tokens, 2, &mut world.wrong) {
+        lay_at(world, tokens, Thing::File { exec, bytes });
+    }
+}
+
+fn lay_link(world: &mut World, tokens: &[Vec<u8>]) {
+    if let Some(target) = content(world.alloc, tokens, 2, &mut world.wrong) {
+        lay_target(world, tokens, target);
+    }
+}
+
+fn lay_target(world: &mut World, tokens: &[Vec<u8>], target: Blob) {
+    if target.as_bytes().len() > 4_095 {
+        world.wrong.set("a target that is too long");
+    } else {
+        lay_at(world, tokens, Thing::Link { target });
+    }
+}
+
+fn lay_file(world: &mut World, tokens: &[Vec<u8>]) {
+    let name = word_at(tokens, 1, &mut world.wrong);
+    let bytes = match word_at(tokens, 0, &mut world.wrong) {
+        "hg" => joined(world.alloc, tokens, 2, &mut world.wrong),
+        _ => changed(world, name, tokens),
+    };
+    put_file(
+        &mut world.shelf.device,
+        name,
+        bytes.as_slice(),
+        &mut world.wrong,
+    );
 }
 
 // The bytes of a file that is there, as a line changes them.
-fn changed(world: &World, name: &str, tokens: &[Vec<u8>]) -> Result<Vec<u8>, Wrong> {
-    let Some(bytes) = file(world.alloc, &world.shelf.device, name)? else {
-        return Err("no such file below .hg".into());
-    };
-    match word_at(tokens, 0)? {
-        "patch" => patched(world.alloc, bytes, tokens),
-        "cut" => Ok(cut(bytes, number_at(tokens, 2)?)),
-        _ => longer(world.alloc, bytes, tokens),
+fn changed(world: &mut World, name: &str, tokens: &[Vec<u8>]) -> Vec<u8> {
+    match world.file(name) {
+        Some(bytes) => changed_bytes(world, bytes, tokens),
+        None => {
+            world.wrong.set("no such file below .hg");
+            Vec::new(world.alloc)
+        }
     }
 }
 
-fn cut(bytes: Vec<u8>, len: u64) -> Vec<u8> {
+fn changed_bytes(world: &mut World, bytes: Vec<u8>, tokens: &[Vec<u8>]) -> Vec<u8> {
     let mut bytes = bytes;
-    bytes.truncate(len as usize);
+    match word_at(tokens, 0, &mut world.wrong) {
+        "patch" => patch(world, &mut bytes, tokens),
+        "cut" => bytes.truncate(number_at(tokens, 2, &mut world.wrong) as usize),
+        _ => extend(world, &mut bytes, tokens),
+    }
     bytes
 }
 
-fn longer(alloc: Global, bytes: Vec<u8>, tokens: &[Vec<u8>]) -> Result<Vec<u8>, Wrong> {
-    let mut bytes = bytes;
-    let more = joined(alloc, tokens, 2)?;
-    bytes.extend_from_slice(more.as_slice())?;
-    Ok(bytes)
+fn extend(world: &mut World, bytes: &mut Vec<u8>, tokens: &[Vec<u8>]) {
+    for token in tokens.iter().skip(2) {
+        world
+            .wrong
+            .check(bytes.extend_from_slice(token.as_slice()).is_ok());
+    }
 }
 
-fn patched(alloc: Global, bytes: Vec<u8>, tokens: &[Vec<u8>]) -> Result<Vec<u8>, Wrong> {
-    let place = number_at(tokens, 2)? as usize;
-    let patch = joined(alloc, tokens, 3)?;
-    let mut all = Vec::new(alloc);
-    all.extend_from_slice(bytes.get(..place).unwrap_or(bytes.as_slice()))?;
-    all.extend_from_slice(patch.as_slice())?;
-    let behind = place.saturating_add(patch.len());
-    all.extend_from_slice(bytes.get(behind..).unwrap_or(&[]))?;
-    Ok(all)
+// Bytes in place of others, or behind the last.
+fn patch(world: &mut World, bytes: &mut Vec<u8>, tokens: &[Vec<u8>]) {
+    let place = number_at(tokens, 2, &mut world.wrong) as usize;
+    let patch = joined(world.alloc, tokens, 3, &mut world.wrong);
+    for (i, byte) in patch.as_slice().iter().enumerate() {
+        put_byte(bytes, place.saturating_add(i), *byte, &mut world.wrong);
+    }
+}
+
+fn put_byte(bytes: &mut Vec<u8>, at: usize, byte: u8, wrong: &mut Wrong) {
+    match bytes.get_mut(at) {
+        Some(place) => *place = byte,
+        None => wrong.check(bytes.push(byte).is_ok()),
+    }
 }
 
 // So often these digits that they are forty.
-fn forty(alloc: Global, front: &str, digits: &str) -> Result<String, Wrong> {
-    let mut name = String::from_str(alloc, front)?;
+fn put_forty(line: &mut Line, digits: &str) {
     for digit in digits.chars().cycle().take(40) {
-        name.push(digit)?;
+        line.put_char(digit);
     }
-    Ok(name)
 }
 
-fn lay_manifest(world: &mut World, tokens: &[Vec<u8>]) -> Result<(), Wrong> {
-    let name = forty(world.alloc, "plain/m-", word_at(tokens, 1)?)?;
-    let mut text = String::new(world.alloc);
+fn lay_manifest(world: &mut World, tokens: &[Vec<u8>]) {
+    let mut name = Line::new(world.alloc);
+    let mut text = Line::new(world.alloc);
+    name.put("plain/m-");
+    put_forty(&mut name, word_at(tokens, 1, &mut world.wrong));
     for at in 2..tokens.len() {
-        put_row(world.alloc, &mut text, word_at(tokens, at)?)?;
+        put_row(
+            &mut text,
+            word_at(tokens, at, &mut world.wrong),
+            &mut world.wrong,
+        );
     }
-    Ok(
-        world
-            .shelf
-            .device
-            .place(name.as_str(), text.as_str().as_bytes())?,
-    )
+    put_file(
+        &mut world.shelf.device,
+        name.as_str(),
+        text.as_str().as_bytes(),
+        &mut world.wrong,
+    );
 }
 
 // A row of a manifest: the path, NUL, forty digits, and the flag.
-fn put_row(alloc: Global, text: &mut String, row: &str) -> Result<(), Wrong> {
+fn put_row(text: &mut Line, row: &str, wrong: &mut Wrong) {
     let Some((path, value)) = row.split_once('=') else {
-        return Err("no row of a manifest".into());
+        wrong.set("no row of a manifest");
+        return;
     };
-    let (digit, flag) = parted(value);
-    let digits = forty(alloc, "", digit)?;
-    text.push_str(path)?;
-    text.push('\0')?;
-    text.push_str(digits.as_str())?;
-    text.push_str(flag)?;
-    Ok(text.push('\n')?)
+    let (digit, flag) = value.split_at_checked(1).unwrap_or(("", value));
+    text.put(path);
+    text.put("\0");
+    put_forty(text, digit);
+    text.put(flag);
+    text.put("\n");
 }
 
-// The first character of a text, and the others.
-fn parted(value: &str) -> (&str, &str) {
-    match value.split_at_checked(1) {
-        Some(parts) => parts,
-        None => ("", value),
-    }
+fn lay_contents(world: &mut World, tokens: &[Vec<u8>]) {
+    let mut name = Line::new(world.alloc);
+    name.put("plain/f-");
+    put_forty(&mut name, word_at(tokens, 1, &mut world.wrong));
+    let bytes = joined(world.alloc, tokens, 2, &mut world.wrong);
+    put_file(
+        &mut world.shelf.device,
+        name.as_str(),
+        bytes.as_slice(),
+        &mut world.wrong,
+    );
 }
 
-fn lay_contents(world: &mut World, tokens: &[Vec<u8>]) -> Result<(), Wrong> {
-    let name = forty(world.alloc, "plain/f-", word_at(tokens, 1)?)?;
-    let bytes = joined(world.alloc, tokens, 2)?;
-    Ok(world.shelf.device.place(name.as_str(), bytes.as_slice())?)
-}
-
-fn lay_device(world: &mut World, tokens: &[Vec<u8>]) -> Result<(), Wrong> {
-    match word_at(tokens, 0)? {
-        "fail" => fail(world, word_at(tokens, 1)?, number_at(tokens, 2)?)?,
-        "due" => lay_due(world, tokens)?,
-        "time" => world.time = time_at(tokens, 1)?,
-        "clock" => {
-            let clock = time_at(tokens, 1)?;
-            world.tree.device.set_clock(clock)?;
-        }
+fn lay_device(world: &mut World, tokens: &[Vec<u8>]) {
+    match word_at(tokens, 0, &mut world.wrong) {
+        "fail" => fail(world, tokens),
+        "due" => lay_due(world, tokens),
+        "time" => world.time = time_at(tokens, 1, &mut world.wrong),
+        "clock" => set_clock(world, tokens),
         "held" => world.shelf.device.hold(true),
         "free" => world.shelf.device.hold(false),
-        "pieces" => world.streams.pieces = number_at(tokens, 1)? as usize,
-        "input" => world.streams.input = joined(world.alloc, tokens, 1)?,
+        "pieces" => world.streams.pieces = number_at(tokens, 1, &mut world.wrong) as usize,
+        "input" => world.streams.input = joined(world.alloc, tokens, 1, &mut world.wrong),
         "counted" => world.counted = true,
-        _ => return Err("no such word".into()),
+        _ => world.wrong.set("no such word"),
     }
-    Ok(())
+}
+
+fn set_clock(world: &mut World, tokens: &[Vec<u8>]) {
+    let clock = time_at(tokens, 1, &mut world.wrong);
+    world
+        .wrong
+        .check(world.tree.device.set_clock(clock).is_ok());
+}
+
+fn fail(world: &mut World, tokens: &[Vec<u8>]) {
+    let call = number_at(tokens, 2, &mut world.wrong);
+    let device = word_at(tokens, 1, &mut world.wrong);
+    fail_at(world, device, call);
 }
 
 /// That call of the next run fails.
-pub(crate) fn fail(world: &mut World, device: &str, call: u64) -> Result<(), Wrong> {
+pub(crate) fn fail_at(world: &mut World, device: &str, call: u64) {
     match device {
-        "tree" => {
-            let call = world.tree.calls.made().saturating_add(call);
-            world.tree.device.fail_at(call)?;
-        }
-        "shelf" => {
-            let call = world.shelf.device.calls().saturating_add(call);
-            world.shelf.device.fail_at(call)?;
-        }
+        "tree" => fail_tree(world, call),
+        "shelf" => fail_shelf(world, call),
         "in" => world.streams.in_fails = Some(call),
         "out" => world.streams.out_fails = Some(call),
         "err" => world.streams.err_fails = Some(call),
         "regexps" => world.streams.regexps_fail = Some(call),
-        _ => return Err("no such device".into()),
+        _ => world.wrong.set("no such device"),
     }
-    Ok(())
+}
+
+fn fail_tree(world: &mut World, call: u64) {
+    let call = world.tree.calls.made().saturating_add(call);
+    world.wrong.check(world.tree.device.fail_at(call).is_ok());
+}
+
+fn fail_shelf(world: &mut World, call: u64) {
+    let call = world.shelf.device.calls().saturating_add(call);
+    world.wrong.check(world.shelf.device.fail_at(call).is_ok());
 }

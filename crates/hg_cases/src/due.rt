@@ -1,73 +1,95 @@
 //! What others do just before a call of the next run.
 
+ghost use Rattle.std.specs.Prelude.{IsTrue};
+ghost use Rattle.hg_tree.specs.Moment.{is_short_thing};
+ghost use Rattle.hg_tree.specs.Coming.{is_short_change};
+
 use crate::commands::content;
-use crate::tokens::{joined, number_at, time_at, word_at};
+use crate::tokens::{joined, number_at, path_at, time_at, word_at};
 use crate::world::World;
 use crate::wrong::Wrong;
-use hg_base::{Blob, Path, PathRef, Text};
+use hg_base::{Blob, Path, Text};
 use hg_shelf::Outside;
 use hg_tree::{Outside as OutsideTree, Thing};
 use std::alloc::Global;
 
 /// Others do something just before a call: of the working copy, or else of the files below `.hg`.
-pub(crate) fn lay_due(world: &mut World, tokens: &[Vec<u8>]) -> Result<(), Wrong> {
-    if word_at(tokens, 1)? == "tree" {
-        let call = world
-            .tree
-            .calls
-            .made()
-            .saturating_add(number_at(tokens, 2)?);
-        return lay_due_thing(world, call, tokens.get(3..).unwrap_or(&[]));
+pub(crate) fn lay_due(world: &mut World, tokens: &[Vec<u8>]) {
+    if word_at(tokens, 1, &mut world.wrong) == "tree" {
+        lay_due_thing(world, tokens);
+        return;
     }
-    let call = world
-        .shelf
-        .device
-        .calls()
-        .saturating_add(number_at(tokens, 1)?);
-    let change = file_change(world.alloc, tokens)?;
-    Ok(world.shelf.device.due(call, change)?)
+    let call = number_at(tokens, 1, &mut world.wrong);
+    let call = world.shelf.device.calls().saturating_add(call);
+    match file_change(world.alloc, tokens, &mut world.wrong) {
+        Some(change) => world
+            .wrong
+            .check(world.shelf.device.due(call, change).is_ok()),
+        None => world.wrong.check(false),
+    }
 }
 
 // They put a file, or take it away.
-fn file_change(alloc: Global, tokens: &[Vec<u8>]) -> Result<Outside, Wrong> {
-    let name = Text::of(alloc, word_at(tokens, 2)?)?;
+fn file_change(alloc: Global, tokens: &[Vec<u8>], wrong: &mut Wrong) -> Option<Outside> {
+    let name = Text::of(alloc, word_at(tokens, 2, wrong)).ok()?;
     if tokens.len() < 4 {
-        return Ok(Outside::Remove { name });
+        return Some(Outside::Remove { name });
     }
-    let bytes = joined(alloc, tokens, 3)?;
-    let bytes = Blob::of(alloc, bytes.as_slice())?;
-    Ok(Outside::Place { name, bytes })
+    placed(alloc, name, tokens, wrong)
+}
+
+fn placed(alloc: Global, name: Text, tokens: &[Vec<u8>], wrong: &mut Wrong) -> Option<Outside> {
+    let bytes = Blob::of(alloc, joined(alloc, tokens, 3, wrong).as_slice()).ok()?;
+    Some(Outside::Place { name, bytes })
 }
 
 // They set the clock, put a thing, or take away what stands there.
-fn lay_due_thing(world: &mut World, call: u64, tokens: &[Vec<u8>]) -> Result<(), Wrong> {
-    if word_at(tokens, 0)? == "clock" {
-        let to = time_at(tokens, 1)?;
-        return Ok(world.tree.device.due(call, OutsideTree::Clock { to })?);
+fn lay_due_thing(world: &mut World, tokens: &[Vec<u8>]) {
+    let call = number_at(tokens, 2, &mut world.wrong);
+    let call = world.tree.calls.made().saturating_add(call);
+    match word_at(tokens, 3, &mut world.wrong) {
+        "clock" => {
+            let to = time_at(tokens, 4, &mut world.wrong);
+            make_due(world, call, OutsideTree::Clock { to });
+        }
+        "take" => take_due(world, call, tokens),
+        "dir" => place_due(world, call, tokens, Thing::Dir),
+        "file" => file_due(world, call, tokens),
+        _ => world.wrong.set("no such thing for others"),
     }
-    let path = Path::of(world.alloc, PathRef::read(word_at(tokens, 1)?)?)?;
+}
+
+fn make_due(world: &mut World, call: u64, change: OutsideTree)
+    requires { IsTrue (is_short_change change) }
+{
+    world
+        .wrong
+        .check(world.tree.device.due(call, change).is_ok());
+}
+
+fn owned(world: &mut World, tokens: &[Vec<u8>]) -> Option<Path> {
+    let path = path_at(tokens, 4, &mut world.wrong)?;
+    Path::of(world.alloc, path).ok()
+}
+
+fn take_due(world: &mut World, call: u64, tokens: &[Vec<u8>]) {
+    if let Some(path) = owned(world, tokens) {
+        make_due(world, call, OutsideTree::Take { path });
+    }
+}
+
+fn place_due(world: &mut World, call: u64, tokens: &[Vec<u8>], thing: Thing)
+    requires { IsTrue (is_short_thing thing) }
+{
     let mtime = world.time;
-    match word_at(tokens, 0)? {
-        "take" => Ok(world.tree.device.due(call, OutsideTree::Take { path })?),
-        "dir" => {
-            let thing = Thing::Dir;
-            Ok(
-                world
-                    .tree
-                    .device
-                    .due(call, OutsideTree::Place { path, thing, mtime })?,
-            )
-        }
-        "file" => {
-            let bytes = content(world.alloc, tokens)?;
-            let thing = Thing::File { exec: false, bytes };
-            Ok(
-                world
-                    .tree
-                    .device
-                    .due(call, OutsideTree::Place { path, thing, mtime })?,
-            )
-        }
-        _ => Err("no such thing for others".into()),
+    match owned(world, tokens) {
+        Some(path) => make_due(world, call, OutsideTree::Place { path, thing, mtime }),
+        None => {}
+    }
+}
+
+fn file_due(world: &mut World, call: u64, tokens: &[Vec<u8>]) {
+    if let Some(bytes) = content(world.alloc, tokens, 5, &mut world.wrong) {
+        place_due(world, call, tokens, Thing::File { exec: false, bytes });
     }
 }

@@ -18,16 +18,19 @@ mod answers;
 mod bytes;
 mod commands;
 mod due;
+mod line;
 mod noted;
 mod once;
 mod play;
 mod printed;
+mod streams;
 mod tables;
 mod tokens;
 mod world;
 mod wrong;
 
 use crate::play::play;
+use crate::world::World;
 use std::test::Fail;
 use std::{env, fs};
 
@@ -54,15 +57,23 @@ fn put_texts(rt: &HostRuntime, names: &mut Vec<String>) -> Result<(), Fail> {
     Ok(names.sort()?)
 }
 
-fn play_file(rt: &HostRuntime, name: &str) -> Result<(), Fail> {
+fn play_file(rt: &HostRuntime, world: &mut World, name: &str) -> Result<(), Fail> {
     let text = fs::read_to_string(rt, name)?;
-    let told = play(rt.alloc(), name, text.as_str())?;
+    play(world, name, text.as_str());
+    let told = world.told.line.as_str();
     Ok(print!(rt; "{told}")?)
 }
 
-fn main(rt: HostRuntime) -> Result<(), Fail> {
-    for name in &names(&rt)? {
-        play_file(&rt, name.as_str())?;
+fn play_files(rt: &HostRuntime, world: &mut World) -> Result<(), Fail> {
+    for name in &names(rt)? {
+        play_file(rt, world, name.as_str())?;
     }
     Ok(())
+}
+
+fn main(rt: HostRuntime) -> Result<(), Fail> {
+    match World::new(rt.alloc()) {
+        Ok(mut world) => play_files(&rt, &mut world),
+        Err(_) => Err("no memory".into()),
+    }
 }

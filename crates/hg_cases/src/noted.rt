@@ -1,10 +1,11 @@
 //! Devices that note the names of the calls that are made of them.
 
+use crate::line::Line;
 use hg_base::{Failed, Got, Kind, PathRef, Stat, Time};
 use hg_shelf::Shelf;
 use hg_stream::Sink;
 use hg_tree::{Name, Tree, TreeFault};
-use std::alloc::{AllocError, Global};
+use std::alloc::Global;
 
 /// A device, the calls that were made of it with the files that they name, and how many of them came before the last run.
 #[derive(Drop)]
@@ -51,14 +52,12 @@ impl Notes {
         self.made().saturating_sub(self.before as u64)
     }
 
-    /// The calls of the last run, a line each.
-    pub fn last(&self) -> Result<String, AllocError> {
-        let mut all = String::new(self.alloc);
+    /// Puts the calls of the last run, a line each.
+    pub fn put_last(&self, all: &mut Line) {
         for line in self.lines.iter().skip(self.before) {
-            all.push_str(line.as_str())?;
-            all.push('\n')?;
+            all.put(line.as_str());
+            all.put("\n");
         }
-        Ok(all)
     }
 
     // Notes a call. For want of memory its name is left out, or the call isn't counted.

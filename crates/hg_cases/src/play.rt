@@ -2,152 +2,138 @@
 
 use crate::answers::answer;
 use crate::commands::lay;
-use crate::printed::on_one_line;
-use crate::tokens::{tokens, word_at, words_from};
-use crate::world::{Told, World};
-use crate::wrong::Wrong;
-use std::alloc::{AllocError, Global};
+use crate::line::Line;
+use crate::tokens::{tokens, word_at};
+use crate::world::World;
+use std::alloc::Global;
 
-/// The lines of a file, and the places of those that say what stands there.
-#[derive(Clone, Copy)]
-pub(crate) struct Scene<'a> {
-    pub alloc: Global,
-    pub lines: &'a [&'a str],
-    pub laid: &'a [usize],
+/// Lays out anew what stands there: the lines of a file at these places say it.
+pub(crate) fn lay_all(lines: &[&str], laid: &[usize], world: &mut World) {
+    world.clear();
+    for place in laid {
+        lay_line(world, line_at(lines, *place));
+    }
 }
 
-impl Scene<'_> {
-    /// What stands there.
-    pub fn world(self) -> Result<World, Wrong> {
-        let mut world = World::new(self.alloc)?;
-        for place in self.laid {
-            if let Err(wrong) = self.lay_line(&mut world, *place) {
-                return Err(wrong.at(*place));
-            }
-        }
-        Ok(world)
-    }
-
-    fn lay_line(self, world: &mut World, place: usize) -> Result<(), Wrong> {
-        let tokens = tokens(self.alloc, line_at(self.lines, place))?;
-        lay(world, tokens.as_slice())
-    }
+fn lay_line(world: &mut World, line: &str) {
+    let tokens = tokens(world.alloc, line, &mut world.wrong);
+    lay(world, tokens.as_slice());
 }
 
 // How far a file is played: the places of the lines that say what stands there, how many of them there were at `start`, how many answers
-// were compared, how many were as expected, and a line for each other one.
+// were compared, how many were as expected, a line for each other one, and the number of the line that is played.
 #[derive(Drop)]
 struct Played {
-    alloc: Global,
     laid: Vec<usize>,
     kept: usize,
-    answers: u32,
-    right: u32,
-    others: String,
+    answers: u64,
+    right: u64,
+    others: Line,
+    line: u64,
 }
 
 impl Played {
     fn new(alloc: Global) -> Played {
         Played {
-            alloc,
             laid: Vec::new(alloc),
             kept: 0,
             answers: 0,
             right: 0,
-            others: String::new(alloc),
+            others: Line::new(alloc),
+            line: 0,
         }
     }
 
-    fn scene<'a>(&'a self, lines: &'a [&'a str]) -> Scene<'a> {
-        Scene {
-            alloc: self.alloc,
-            lines,
-            laid: self.laid.as_slice(),
-        }
-    }
-
-    fn world(&self, lines: &[&str]) -> Result<World, Wrong> {
-        let scene = self.scene(lines);
-        scene.world()
-    }
-
-    // Plays lines from a place on, up to one at which what stands there is laid out anew. It answers the place behind that.
-    fn play_from(&mut self, lines: &[&str], from: usize) -> Result<usize, Wrong> {
-        let mut world = self.world(lines)?;
-        for place in from..lines.len() {
-            match self.play(&mut world, lines, place) {
-                Ok(true) => {}
-                Ok(false) => return Ok(place.saturating_add(1)),
-                Err(wrong) => return Err(wrong.at(place)),
-            }
-        }
-        Ok(lines.len())
-    }
-
-    // Plays the line at a place, and answers whether what stands there stays.
-    fn play(&mut self, world: &mut World, lines: &[&str], place: usize) -> Result<bool, Wrong> {
+    // Plays the line at a place, where no line before it was wrong.
+    fn play(&mut self, world: &mut World, lines: &[&str], place: usize) {
         let line = line_at(lines, place);
-        if line.is_empty() || line.starts_with(' ') || line.starts_with('#') {
-            return Ok(true);
+        if world.wrong.why.is_some() {
+            return;
         }
-        let tokens = tokens(self.alloc, line)?;
-        match word_at(tokens.as_slice(), 0)? {
+        self.line = (place as u64).saturating_add(1);
+        match line.bytes().next() {
+            None | Some(b' ' | b'#') => {}
+            Some(_) => self.play_line(world, lines, place, line),
+        }
+    }
+
+    fn play_line(&mut self, world: &mut World, lines: &[&str], place: usize, line: &str) {
+        let tokens = tokens(world.alloc, line, &mut world.wrong);
+        self.play_tokens(world, lines, place, tokens.as_slice());
+    }
+
+    fn play_tokens(&mut self, world: &mut World, lines: &[&str], place: usize, tokens: &[Vec<u8>]) {
+        match word_at(tokens, 0, &mut world.wrong) {
             "new" => {
                 self.laid.clear();
                 self.kept = 0;
-                return Ok(false);
+                world.clear();
             }
             "again" => {
                 self.laid.truncate(self.kept);
-                return Ok(false);
+                lay_all(lines, self.laid.as_slice(), world);
             }
             "start" => self.kept = self.laid.len(),
-            "$" | "?" => self.ask(world, lines, place, tokens.as_slice())?,
+            "$" | "?" => self.ask(world, lines, place, tokens),
             _ => {
-                lay(world, tokens.as_slice())?;
-                self.laid.push(place)?;
+                lay(world, tokens);
+                self.keep(world, place);
             }
         }
-        Ok(true)
+    }
+
+    // That line says what stands there too.
+    fn keep(&mut self, world: &mut World, place: usize) {
+        world.wrong.check(self.laid.push(place).is_ok());
     }
 
     // Compares what comes of a line with what stands below it.
-    fn ask(
-        &mut self,
-        world: &mut World,
-        lines: &[&str],
-        place: usize,
-        tokens: &[Vec<u8>],
-    ) -> Result<(), Wrong> {
-        let got = got(self.scene(lines), world, tokens)?;
-        self.laid.push(place)?;
+    fn ask(&mut self, world: &mut World, lines: &[&str], place: usize, tokens: &[Vec<u8>]) {
+        answer(lines, self.laid.as_slice(), world, tokens);
+        self.keep(world, place);
+        self.compare(lines, place, world.told.line.as_str());
+    }
+
+    fn compare(&mut self, lines: &[&str], place: usize, got: &str) {
         self.answers = self.answers.saturating_add(1);
-        if is_expected(lines, place, got.as_str()) {
+        if is_expected(lines, place, got) {
             self.right = self.right.saturating_add(1);
-            return Ok(());
+            return;
         }
-        let told = on_one_line(self.alloc, got.as_str())?;
-        let number = place.saturating_add(1);
-        Ok(write!(self.others, "  line {number}: {told}\n")?)
+        self.others.put("  line ");
+        self.others.put_number(self.line);
+        self.others.put(": ");
+        self.others.put_on_one(got);
+        self.others.put("\n");
     }
 
-    fn told(&self, name: &str) -> Result<String, AllocError> {
-        let right = self.right;
-        let answers = self.answers;
-        let others = self.others.as_str();
-        format!(in self.alloc; "{name}: {right} of {answers}\n{others}")
+    // Tells how it went.
+    fn tell(&self, world: &mut World, name: &str) {
+        let told = &mut world.told.line;
+        told.clear();
+        told.put(name);
+        told.put(": ");
+        match world.wrong.why {
+            Some(why) => self.tell_wrong(told, why),
+            None => self.tell_right(told),
+        }
     }
-}
 
-// What comes of a line that is to be compared.
-fn got(scene: Scene<'_>, world: &mut World, tokens: &[Vec<u8>]) -> Result<String, Wrong> {
-    if word_at(tokens, 0)? == "?" {
-        world.data.ended = true;
-        return answer(scene, world, tokens);
+    fn tell_right(&self, told: &mut Line) {
+        told.put_number(self.right);
+        told.put(" of ");
+        told.put_number(self.answers);
+        told.put("\n");
+        told.put(self.others.as_str());
     }
-    let words = words_from(scene.alloc, tokens, 1)?;
-    let Told { text, .. } = world.run(&words)?;
-    Ok(text)
+
+    fn tell_wrong(&self, told: &mut Line, why: &str) {
+        told.put("line ");
+        told.put_number(self.line);
+        told.put(": ");
+        told.put(why);
+        told.put("\n");
+    }
 }
 
 // Whether these lines, and no other, stand behind two spaces each below a line.
@@ -172,33 +158,21 @@ fn line_at<'a>(lines: &[&'a str], place: usize) -> &'a str {
     lines.get(place).copied().unwrap_or("")
 }
 
-/// Plays a file, and tells how many answers were as expected, and what each other was.
-pub(crate) fn play(alloc: Global, name: &str, text: &str) -> Result<String, Wrong> {
-    let mut lines = Vec::new(alloc);
+/// Plays a file, and tells how many answers were as expected, and what each other was; or which line can't be played.
+pub(crate) fn play(world: &mut World, name: &str, text: &str) {
+    let mut lines = Vec::new(world.alloc);
+    world.clear();
+    world.wrong.why = None;
     for line in text.lines() {
-        lines.push(line)?;
+        world.wrong.check(lines.push(line).is_ok());
     }
-    play_lines(alloc, name, lines.as_slice())
+    play_lines(world, name, lines.as_slice());
 }
 
-fn play_lines(alloc: Global, name: &str, lines: &[&str]) -> Result<String, Wrong> {
-    let mut played = Played::new(alloc);
-    let mut next = 0;
-    for _ in 0..lines.len() {
-        if next >= lines.len() {
-            break;
-        }
-        match played.play_from(lines, next) {
-            Ok(place) => next = place,
-            Err(wrong) => return unplayed(alloc, name, wrong),
-        }
+fn play_lines(world: &mut World, name: &str, lines: &[&str]) {
+    let mut played = Played::new(world.alloc);
+    for place in 0..lines.len() {
+        played.play(world, lines, place);
     }
-    Ok(played.told(name)?)
-}
-
-// That a line can't be played.
-fn unplayed(alloc: Global, name: &str, wrong: Wrong) -> Result<String, Wrong> {
-    let why = wrong.why;
-    let number = wrong.line.unwrap_or(0);
-    Ok(format!(in alloc; "{name}: line {number}: {why}\n")?)
+    played.tell(world, name);
 }

@@ -3,7 +3,7 @@
 //! In a text stand `\n`, `\0`, `\t`, `\r`, `\\`, `\"` and `\xHH`; `"b"*9` is that text nine times.
 
 use crate::wrong::Wrong;
-use hg_base::{Text, Time, Words};
+use hg_base::{PathRef, Text, Time, Words};
 use std::alloc::Global;
 use std::mem;
 use std::str::from_utf8;
@@ -29,232 +29,265 @@ struct Reader {
     token: Vec<u8>,
     text: Vec<u8>,
     state: State,
+    wrong: Wrong,
 }
 
 impl Reader {
-    fn take(&mut self, byte: u8) -> Result<(), Wrong> {
+    fn take(&mut self, byte: u8) {
         match self.state {
             State::Between | State::Bare => self.bare(byte),
             State::Text => self.quoted(byte),
             State::Escape => self.escaped(byte),
-            State::FirstDigit => {
-                self.state = State::SecondDigit(digit(byte)?);
-                Ok(())
-            }
-            State::SecondDigit(first) => {
-                let second = digit(byte)?;
-                self.put(first.saturating_mul(16).saturating_add(second))
-            }
+            State::FirstDigit => self.state = State::SecondDigit(digit(byte, &mut self.wrong)),
+            State::SecondDigit(first) => self.second(first, byte),
             State::Closed => self.closed(byte),
             State::Times(times) => self.repeated(byte, times),
         }
     }
 
-    fn bare(&mut self, byte: u8) -> Result<(), Wrong> {
+    fn bare(&mut self, byte: u8) {
         match byte {
             b' ' => self.finish(),
-            b'"' => {
-                self.state = State::Text;
-                Ok(())
-            }
+            b'"' => self.state = State::Text,
             _ => {
                 self.state = State::Bare;
-                Ok(self.token.push(byte)?)
+                self.wrong.check(self.token.push(byte).is_ok());
             }
         }
     }
 
-    fn quoted(&mut self, byte: u8) -> Result<(), Wrong> {
+    fn quoted(&mut self, byte: u8) {
         match byte {
-            b'"' => {
-                self.state = State::Closed;
-                Ok(())
-            }
-            b'\\' => {
-                self.state = State::Escape;
-                Ok(())
-            }
+            b'"' => self.state = State::Closed,
+            b'\\' => self.state = State::Escape,
             _ => self.put(byte),
         }
     }
 
-    fn escaped(&mut self, byte: u8) -> Result<(), Wrong> {
+    fn escaped(&mut self, byte: u8) {
         match byte {
             b'n' => self.put(b'\n'),
             b'0' => self.put(0),
             b't' => self.put(b'\t'),
             b'r' => self.put(b'\r'),
-            b'x' => {
-                self.state = State::FirstDigit;
-                Ok(())
-            }
+            b'x' => self.state = State::FirstDigit,
             b'\\' | b'"' => self.put(byte),
-            _ => Err("no such escape".into()),
+            _ => self.wrong.set("no such escape"),
         }
+    }
+
+    fn second(&mut self, first: u8, byte: u8) {
+        let second = digit(byte, &mut self.wrong);
+        self.put(first.saturating_mul(16).saturating_add(second));
     }
 
     // A byte of the text.
-    fn put(&mut self, byte: u8) -> Result<(), Wrong> {
+    fn put(&mut self, byte: u8) {
         self.state = State::Text;
-        Ok(self.text.push(byte)?)
+        self.wrong.check(self.text.push(byte).is_ok());
     }
 
-    fn closed(&mut self, byte: u8) -> Result<(), Wrong> {
+    fn closed(&mut self, byte: u8) {
         if byte == b'*' {
             self.state = State::Times(0);
-            return Ok(());
+            return;
         }
-        self.close(1)?;
-        self.bare(byte)
+        self.close(1);
+        self.bare(byte);
     }
 
-    fn repeated(&mut self, byte: u8, times: usize) -> Result<(), Wrong> {
+    fn repeated(&mut self, byte: u8, times: usize) {
         if byte.is_ascii_digit() {
-            let digit = digit(byte)?;
-            self.state = State::Times(times.saturating_mul(10).saturating_add(usize::from(digit)));
-            return Ok(());
+            let digit = usize::from(digit(byte, &mut self.wrong));
+            self.state = State::Times(times.saturating_mul(10).saturating_add(digit));
+            return;
         }
-        self.close(times)?;
-        self.bare(byte)
+        self.close(times);
+        self.bare(byte);
     }
 
     // Puts the text so often behind the token.
-    fn close(&mut self, times: usize) -> Result<(), Wrong> {
-        repeat(&mut self.token, self.text.as_slice(), times)?;
+    fn close(&mut self, times: usize) {
+        self.wrong
+            .check(repeat(&mut self.token, self.text.as_slice(), times));
         self.text.clear();
         self.state = State::Bare;
-        Ok(())
     }
 
     // Ends the token, where one is open.
-    fn finish(&mut self) -> Result<(), Wrong> {
+    fn finish(&mut self) {
         if matches!(self.state, State::Bare) {
             let token = mem::replace(&mut self.token, Vec::new(self.alloc));
-            self.tokens.push(token)?;
+            self.wrong.check(self.tokens.push(token).is_ok());
         }
         self.state = State::Between;
-        Ok(())
+    }
+
+    // Ends the line: a space behind it ends its last token.
+    fn end(&mut self) {
+        self.take(b' ');
+        if !matches!(self.state, State::Between) {
+            self.wrong.set("a text without its end");
+        }
     }
 }
 
 // A hexadecimal digit.
-fn digit(byte: u8) -> Result<u8, Wrong> {
+fn digit(byte: u8, wrong: &mut Wrong) -> u8 {
     match char::from(byte).to_digit(16) {
-        Some(digit) => Ok(u8::try_from(digit).unwrap_or(0)),
-        None => Err("no digit".into()),
+        Some(digit) => u8::try_from(digit).unwrap_or(0),
+        None => {
+            wrong.set("no digit");
+            0
+        }
     }
 }
 
-// Puts a text so often behind others. One byte is put many times at once.
-fn repeat(all: &mut Vec<u8>, text: &[u8], times: usize) -> Result<(), Wrong> {
+// Puts a text so often behind others, and tells whether there was memory. One byte is put many times at once.
+fn repeat(all: &mut Vec<u8>, text: &[u8], times: usize) -> bool {
     if let [byte] = text {
-        return Ok(all.resize(all.len().saturating_add(times), *byte)?);
+        return all.resize(all.len().saturating_add(times), *byte).is_ok();
     }
     for _ in 0..times {
-        all.extend_from_slice(text)?;
+        if all.extend_from_slice(text).is_err() {
+            return false;
+        }
     }
-    Ok(())
+    true
 }
 
 /// The tokens of a line.
-pub(crate) fn tokens(alloc: Global, line: &str) -> Result<Vec<Vec<u8>>, Wrong> {
+pub(crate) fn tokens(alloc: Global, line: &str, wrong: &mut Wrong) -> Vec<Vec<u8>> {
     let mut reader = Reader {
         alloc,
         tokens: Vec::new(alloc),
         token: Vec::new(alloc),
         text: Vec::new(alloc),
         state: State::Between,
+        wrong: *wrong,
     };
     for byte in line.bytes() {
-        reader.take(byte)?;
+        reader.take(byte);
     }
-    ended(reader)
-}
-
-// A space behind the line ends its last token.
-fn ended(mut reader: Reader) -> Result<Vec<Vec<u8>>, Wrong> {
-    reader.take(b' ')?;
-    if !matches!(reader.state, State::Between) {
-        return Err("a text without its end".into());
-    }
+    reader.end();
+    *wrong = reader.wrong;
     let Reader { tokens, .. } = reader;
-    Ok(tokens)
+    tokens
 }
 
 /// The token at that place; none behind the last.
-pub(crate) fn token_at(tokens: &[Vec<u8>], at: usize) -> Result<&[u8], Wrong> {
+pub(crate) fn token_at<'a>(tokens: &'a [Vec<u8>], at: usize, wrong: &mut Wrong) -> &'a [u8] {
     match tokens.get(at) {
-        Some(token) => Ok(token.as_slice()),
-        None => Err("a token is missing".into()),
+        Some(token) => token.as_slice(),
+        None => {
+            wrong.set("a token is missing");
+            &[]
+        }
     }
-}
-
-/// The same as text.
-pub(crate) fn word_at(tokens: &[Vec<u8>], at: usize) -> Result<&str, Wrong> {
-    text(token_at(tokens, at)?)
 }
 
 /// Bytes as text.
-pub(crate) fn text(bytes: &[u8]) -> Result<&str, Wrong> {
+pub(crate) fn text<'a>(bytes: &'a [u8], wrong: &mut Wrong) -> &'a str {
     match from_utf8(bytes) {
-        Ok(text) => Ok(text),
-        Err(_) => Err("a token isn't text".into()),
+        Ok(text) => text,
+        Err(_) => {
+            wrong.set("a token isn't text");
+            ""
+        }
     }
 }
 
-/// A decimal number.
-pub(crate) fn number(text: &str) -> Result<u64, Wrong> {
-    match text.parse::<u64>() {
-        Ok(number) => Ok(number),
-        Err(_) => Err("no number".into()),
+/// The text at that place.
+pub(crate) fn word_at<'a>(tokens: &'a [Vec<u8>], at: usize, wrong: &mut Wrong) -> &'a str {
+    text(token_at(tokens, at, wrong), wrong)
+}
+
+/// A number, decimal, or hexadecimal behind `0x`.
+pub(crate) fn number(text: &str, wrong: &mut Wrong) -> u64 {
+    match number_in(text) {
+        Some(number) => number,
+        None => {
+            wrong.set("no number");
+            0
+        }
     }
 }
 
-/// A decimal number of 32 bits.
-pub(crate) fn number_of_32(text: &str) -> Result<u32, Wrong> {
-    match text.parse::<u32>() {
-        Ok(number) => Ok(number),
-        Err(_) => Err("no number of 32 bits".into()),
+/// The same, where a text is one.
+pub(crate) fn number_in(text: &str) -> Option<u64> {
+    match text.strip_prefix("0x") {
+        Some(digits) => u64::from_str_radix(digits, 16).ok(),
+        None => text.parse::<u64>().ok(),
     }
 }
 
 /// The number at that place.
-pub(crate) fn number_at(tokens: &[Vec<u8>], at: usize) -> Result<u64, Wrong> {
-    number(word_at(tokens, at)?)
+pub(crate) fn number_at(tokens: &[Vec<u8>], at: usize, wrong: &mut Wrong) -> u64 {
+    number(word_at(tokens, at, wrong), wrong)
+}
+
+/// The path at that place.
+pub(crate) fn path_at<'a>(
+    tokens: &'a [Vec<u8>],
+    at: usize,
+    wrong: &mut Wrong,
+) -> Option<PathRef<'a>> {
+    let path = PathRef::read(word_at(tokens, at, wrong)).ok();
+    if path.is_none() {
+        wrong.set("no path");
+    }
+    path
 }
 
 /// The time at that place: seconds since 1970, which may stand behind a minus, a point, and nanoseconds into that second.
-pub(crate) fn time_at(tokens: &[Vec<u8>], at: usize) -> Result<Time, Wrong> {
-    let Some((seconds, nanos)) = word_at(tokens, at)?.split_once('.') else {
-        return Err("no time".into());
-    };
-    time_of(seconds, number_of_32(nanos)?)
+pub(crate) fn time_at(tokens: &[Vec<u8>], at: usize, wrong: &mut Wrong) -> Time {
+    let (seconds, nanos) = word_at(tokens, at, wrong)
+        .split_once('.')
+        .unwrap_or(("", ""));
+    time_of(seconds, number(nanos, wrong), wrong)
 }
 
-fn time_of(seconds: &str, nanos: u32) -> Result<Time, Wrong> {
-    let Ok(seconds) = seconds.parse::<i64>() else {
-        return Err("no number of seconds".into());
-    };
-    if nanos >= 1_000_000_000 {
-        return Err("more nanoseconds than a second has".into());
+fn time_of(seconds: &str, nanos: u64, wrong: &mut Wrong) -> Time {
+    let seconds = seconds.parse::<i64>().ok();
+    if seconds.is_none() {
+        wrong.set("no number of seconds");
     }
-    Ok(Time { seconds, nanos })
+    if nanos >= 1_000_000_000 {
+        wrong.set("more nanoseconds than a second has");
+    }
+    Time {
+        seconds: seconds.unwrap_or(0),
+        nanos: (nanos % 1_000_000_000) as u32,
+    }
 }
 
 /// The tokens from that place on, joined.
-pub(crate) fn joined(alloc: Global, tokens: &[Vec<u8>], from: usize) -> Result<Vec<u8>, Wrong> {
+pub(crate) fn joined(alloc: Global, tokens: &[Vec<u8>], from: usize, wrong: &mut Wrong) -> Vec<u8> {
     let mut all = Vec::new(alloc);
     for token in tokens.iter().skip(from) {
-        all.extend_from_slice(token.as_slice())?;
+        wrong.check(all.extend_from_slice(token.as_slice()).is_ok());
     }
-    Ok(all)
+    all
 }
 
 /// The tokens from that place on, as the words of a command.
-pub(crate) fn words_from(alloc: Global, tokens: &[Vec<u8>], from: usize) -> Result<Words, Wrong> {
+pub(crate) fn words_from(
+    alloc: Global,
+    tokens: &[Vec<u8>],
+    from: usize,
+    wrong: &mut Wrong,
+) -> Words {
     let mut words = Words::new(alloc);
     for token in tokens.iter().skip(from) {
-        words.push(Text::of(alloc, text(token.as_slice())?)?)?;
+        push_word(alloc, &mut words, text(token.as_slice(), wrong), wrong);
     }
-    Ok(words)
+    words
+}
+
+/// Puts a word last.
+pub(crate) fn push_word(alloc: Global, words: &mut Words, word: &str, wrong: &mut Wrong) {
+    match Text::of(alloc, word) {
+        Ok(text) => wrong.check(words.push(text).is_ok()),
+        Err(_) => wrong.check(false),
+    }
 }

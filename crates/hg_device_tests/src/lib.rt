@@ -1,5 +1,5 @@
-//! Tests of the lower crates by their public calls: paths and words, a working copy and files below `.hg` in memory, streams, the records of a
-//! dirstate, and readers and writers of one in several processes.
+//! Tests of the lower crates by their public calls: paths, a working copy and files below `.hg` in memory, streams, and readers and writers of a dirstate in
+//! several processes.
 //!
 //! This crate has tests alone: each of those crates is proved once where its tests stand here. What is tested is what no clause says: that memory is
 //! found, and that the clauses say what was meant, on cases that were worked by hand.
@@ -7,12 +7,6 @@
 
 #[cfg(test)]
 mod crashes;
-#[cfg(test)]
-mod dockets;
-#[cfg(test)]
-mod entries;
-#[cfg(test)]
-mod folders;
 #[cfg(test)]
 mod paths;
 #[cfg(test)]
@@ -22,10 +16,6 @@ mod races;
 #[cfg(test)]
 mod shelves;
 #[cfg(test)]
-mod stamps;
-#[cfg(test)]
 mod streams;
 #[cfg(test)]
 mod trees;
-#[cfg(test)]
-mod words;

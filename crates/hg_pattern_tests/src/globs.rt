@@ -1,6 +1,6 @@
-//! Globs and the texts in them, as the help page means them.
+//! Globs and the texts in them, as the help page means them, and texts that are no globs.
 use hg_base::OutOfMemory;
-use hg_case_tests::{Play, agree, number, text, word};
+use hg_case_tests::{Play, agree, text, word};
 use hg_glob::{Glob, GlobFault, GlobLine, Globs};
 use std::alloc::Global;
 use std::string::String;
@@ -9,11 +9,11 @@ use std::test::Fail;
 // Directories of 64 characters, one of them beyond ASCII, as the first word of each case: with them in front of a glob and of a text, that is long.
 const DIRECTORIES: &str = "a-directory/with-a-long-name/and-one/more-of-them/before-it-a/ö/ ";
 
-// One glob, which is asked as many are.
-pub(crate) fn alone(alloc: Global, rooted: bool, text: &str) -> Result<Globs, GlobFault> {
+// One glob that holds from the front on, which is asked as many are.
+fn alone(alloc: Global, text: &str) -> Result<Globs, GlobFault> {
     let glob = Glob::read(alloc, text)?;
     let mut lines = Vec::new(alloc);
-    push(&mut lines, GlobLine { rooted, glob })?;
+    push(&mut lines, GlobLine { rooted: true, glob })?;
     Ok(Globs::of(alloc, lines)?)
 }
 
@@ -30,7 +30,7 @@ fn joined(alloc: Global, front: &str, word: &str) -> Result<String, Fail> {
 }
 
 // The words whose texts the globs stand in, behind a front.
-pub(crate) fn standing(
+fn standing(
     alloc: Global,
     globs: &Globs,
     front: &str,
@@ -55,7 +55,7 @@ impl Play for Whole {
         let (glob, texts) = rest.split_once(' ').ok_or("no texts")?;
         let front = text(alloc, front)?;
         let whole = joined(alloc, front.as_str(), glob)?;
-        let globs = alone(alloc, true, whole.as_str())?;
+        let globs = alone(alloc, whole.as_str())?;
         standing(alloc, &globs, front.as_str(), texts, answer)
     }
 }
@@ -107,6 +107,7 @@ a** a ab a/b ba \e => a ab a/b
 a**b ab a/b axxb a/c/b a abc => ab a/b axxb a/c/b
 **a** a xax /a/ \e b/ => a xax /a/
 a/** a/ a/b a/b/c a b/a/ => a/ a/b a/b/c
+*/b*{c,[d-f]}/[α-γ]? /bxe/βy /bxg/βy /bxe/δy => /bxe/βy
 ";
 
 const ONES: &str = r"
@@ -180,22 +181,63 @@ x{a,bc}y xay xbcy xy xaby => xay xbcy
 ";
 
 #[test]
-fn characters(rt: HostRuntime) -> Result<(), Fail> {
-    agree_anywhere(rt.alloc(), CHARACTERS)
+fn means_what_the_help_page_says(rt: HostRuntime) -> Result<(), Fail> {
+    for table in [CHARACTERS, STARS, ONES, CLASSES, BRACES] {
+        agree_anywhere(rt.alloc(), table)?;
+    }
+    Ok(())
 }
 
-#[test]
-fn stars_and_ones(rt: HostRuntime) -> Result<(), Fail> {
-    agree_anywhere(rt.alloc(), STARS)?;
-    agree_anywhere(rt.alloc(), ONES)
+// A word, so often where that is said, and a last one: why the text is no glob.
+struct Faults;
+
+impl Play for Faults {
+    fn play(alloc: Global, steps: &str, answer: &mut String) -> Result<(), Fail> {
+        let mut whole = String::new(alloc);
+        for _ in 0..word(steps, 1).parse::<u64>().unwrap_or(1) {
+            whole.push_str(text(alloc, word(steps, 0))?.as_str())?;
+        }
+        whole.push_str(word(steps, 2))?;
+        print_fault(alloc, whole.as_str(), answer)
+    }
 }
 
-#[test]
-fn classes(rt: HostRuntime) -> Result<(), Fail> {
-    agree_anywhere(rt.alloc(), CLASSES)
+fn print_fault(alloc: Global, text: &str, answer: &mut String) -> Result<(), Fail> {
+    let fault = Glob::read(alloc, text).err();
+    write!(answer, "{fault:?}")?;
+    Ok(())
 }
 
+const FAULTS: &str = r"
+{a => Some(Unbalanced { at: 0 })
+a{b => Some(Unbalanced { at: 1 })
+ä{ => Some(Unbalanced { at: 2 })
+€{ => Some(Unbalanced { at: 3 })
+😀{ => Some(Unbalanced { at: 4 })
+{a{b} => Some(Unbalanced { at: 0 })
+{a}{b => Some(Unbalanced { at: 3 })
+{a\\} => Some(Unbalanced { at: 0 })
+{[a,b}c] => Some(Unbalanced { at: 0 })
+{[b-a] => Some(Unbalanced { at: 0 })
+[b-a] => Some(Range { at: 1 })
+[!b-a] => Some(Range { at: 2 })
+[b-a]{ => Some(Range { at: 1 })
+ä[€b-a] => Some(Range { at: 6 })
+{[z-a-c]} => Some(Range { at: 2 })
+[a-b-a] => None
+[b-a => None
+[{] => None
+\\{ => None
+{}} => None
+a 4095 => None
+a 4096 => Some(TooLong { len: 4096 })
+{ 4096 => Some(TooLong { len: 4096 })
+€ 1365 => None
+€ 1365 a => Some(TooLong { len: 4096 })
+{ 4095 => Some(Unbalanced { at: 0 })
+";
+
 #[test]
-fn braces(rt: HostRuntime) -> Result<(), Fail> {
-    agree_anywhere(rt.alloc(), BRACES)
+fn refuses_what_is_no_glob(rt: HostRuntime) -> Result<(), Fail> {
+    agree::<Faults>(rt.alloc(), "", FAULTS)
 }

@@ -1,11 +1,10 @@
-//! Tests of globs and of ignore texts by their public calls.
+//! Tests of globs and of ignore texts by their public calls, as far as no answer of the program shows it: texts that are no paths, where in a text its fault
+//! is, hashes, and what matches by itself.
 //!
-//! This crate has tests alone: each of those crates is proved once where its tests stand here. What is tested is what no clause says: that memory is
-//! found, that `regex` takes what it should, and that globs and texts mean what the help page says, the answers by hand.
+//! This crate has tests alone: each of those crates is proved once where its tests stand here. What is tested is what no clause says: that memory is found,
+//! and that globs mean what the help page says, the answers by hand.
 #![tactic(auto)]
 
-#[cfg(test)]
-mod glob_lines;
 #[cfg(test)]
 mod globs;
 #[cfg(test)]

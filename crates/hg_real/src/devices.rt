@@ -123,3 +123,25 @@ folder .hg; file .hg/wlock \e; briefly; other lock => Ok(true) Ok(true)
 fn locks_below_hg(rt: HostRuntime) -> Result<(), Fail> {
     agree(&rt, &Root::nameless(), "", LOCKS)
 }
+
+// Under the lock the shelf stands in `.hg`, and the tree finds its way from there, and back.
+const STANDS: &str = r"
+folder .hg; file real_test \e; stat real_test; lock; is wlock; stat real_test; write one 0 abc; sync one; size one; unlock; stat real_test; is .hg/wlock; unlink real_test => File false 0 Ok(true) true File false 0 Ok(()) Ok(()) Ok(Some(3)) Ok(()) File false 0 false
+";
+
+#[test]
+fn go_each_their_way(rt: HostRuntime) -> Result<(), Fail> {
+    agree(&rt, &Root::current(&rt), "", STANDS)
+}
+
+// What was written and isn't what was written last is opened to be made sure: it stays open. Of what is made sure or read under the lock 64 files at most stay
+// open (the lock, the root that names `.hg`, the data and `.hg`; then the data once more), up to the end of the shelf; of what is read without it none.
+const OPENS: &str = "
+write one 0 1; write other 0 2; held /.hg/one; sync one; held /.hg/one => Ok(()) Ok(()) 1 Ok(()) 2
+lock; write data 0 abc; sync data; opened; read data 1; opened; names 100; opened; unlock; opened; read data 1; opened => Ok(true) Ok(()) Ok(()) 4 Bytes(2) bc.. 5 Ok(()) 65 Ok(()) 64 Bytes(2) bc.. 64
+";
+
+#[test]
+fn keeps_few_files_open(rt: HostRuntime) -> Result<(), Fail> {
+    agree(&rt, &Root::nameless(), "", OPENS)
+}

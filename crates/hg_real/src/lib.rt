@@ -11,10 +11,8 @@ mod clocks;
 #[cfg(test)]
 mod devices;
 #[cfg(test)]
-mod open_files;
+mod open;
 #[cfg(test)]
 mod puts;
-#[cfg(test)]
-mod standing;
 #[cfg(test)]
 mod steps;

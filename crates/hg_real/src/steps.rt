@@ -1,5 +1,6 @@
 //! Cases over real files: their steps, one function each.
 use crate::acting::acted;
+use crate::open::{open_files, print_open};
 use hg_base::{Failed, Got, PathRef, Stat};
 use hg_case_tests::{bytes, none, note, number, print, word};
 use hg_disk::{RealShelf, RealTree, Root};
@@ -15,9 +16,10 @@ type Shelves<'a> = RealShelf<'a, HostRuntime>;
 
 type Files<'a> = RealTree<'a, HostRuntime>;
 
-// What a case is played over: two shelves that share a working copy, and its tree.
+// What a case is played over: two shelves that share a working copy, and its tree; and how many files were open before.
 #[derive(Drop)]
 struct World<'a> {
+    before: usize,
     one: Shelves<'a>,
     other: Shelves<'a>,
     tree: Files<'a>,
@@ -51,6 +53,14 @@ fn rename(shelf: &mut Shelves<'_>, from: &str, to: &str) -> Result<(), Failed> {
 
 fn sync_names(shelf: &mut Shelves<'_>) -> Result<(), Failed> {
     shelf.sync_names()
+}
+
+// Makes the names sure so often, and answers the first failure.
+fn sync_names_often(shelf: &mut Shelves<'_>, times: u64) -> Result<(), Failed> {
+    for _ in 0..times {
+        sync_names(shelf)?;
+    }
+    Ok(())
 }
 
 fn remove(shelf: &mut Shelves<'_>, name: &str) -> Result<(), Failed> {
@@ -94,6 +104,7 @@ fn change(shelf: &mut Shelves<'_>, step: &str) -> Result<Result<(), Failed>, Fai
         "sync" => Ok(sync(shelf, name)),
         "rename" => Ok(rename(shelf, name, word(step, 2))),
         "sync_names" => Ok(sync_names(shelf)),
+        "names" => Ok(sync_names_often(shelf, number(step, 1)?)),
         "remove" => Ok(remove(shelf, name)),
         "unlock" => Ok(unlock(shelf)),
         _ => Err(Fail::new("no such step")),
@@ -357,6 +368,7 @@ fn done(
     }
     match word(step, 0) {
         "briefly" => print_locked(lock_briefly(rt, root), answer),
+        "opened" | "held" => print_open(rt, world.before, step, answer),
         "folder" | "file" | "link" | "mode" | "time" | "unlink" => lay(rt, step),
         "text" | "is" | "rights" => seen(rt, step, answer),
         "stat" | "list" | "contents" | "times" | "later" => {
@@ -369,8 +381,15 @@ fn done(
     }
 }
 
-fn play(rt: &HostRuntime, root: &Root, steps: &str, answer: &mut String) -> Result<(), Fail> {
+fn play(
+    rt: &HostRuntime,
+    root: &Root,
+    before: usize,
+    steps: &str,
+    answer: &mut String,
+) -> Result<(), Fail> {
     let mut world = World {
+        before,
         one: RealShelf::new(rt, root),
         other: RealShelf::new(rt, root),
         tree: RealTree::new(rt, root),
@@ -410,7 +429,12 @@ fn case(
     if let Some((steps, _)) = line.split_once(" =>") {
         clear(rt);
         let whole = format!(in rt.alloc(); "{before}{steps}")?;
-        play(rt, root, whole.as_str(), &mut found)?;
+        let before = open_files(rt)?;
+        play(rt, root, before, whole.as_str(), &mut found)?;
+        let behind = open_files(rt)?;
+        if behind != before {
+            write!(found, " {behind} open files, and {before} before")?;
+        }
         clear(rt);
     }
     note(line, found.as_str(), wrong)

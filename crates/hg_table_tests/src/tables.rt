@@ -59,12 +59,8 @@ const CLEAN: Entry = Entry {
     fallback: 0,
 };
 
-/// The table of a record.
-pub(crate) fn opened<'a>(
-    alloc: Global,
-    docket: &Docket<'a>,
-    bytes: &'a [u8],
-) -> Result<Mixed<'a>, Fail> {
+// The table of a record.
+fn opened<'a>(alloc: Global, docket: &Docket<'a>, bytes: &'a [u8]) -> Result<Mixed<'a>, Fail> {
     let image = Image::open(docket, bytes)?;
     Ok(Mixed::open(alloc, image)?)
 }
@@ -130,9 +126,9 @@ fn set_hash(m: &mut Mixed<'_>) {
     m.set_hash([3; 20]);
 }
 
-/// One edit. `+a`: the file is added; `!a`: it is removed; `~a`: it is clean; `-a`: its entry goes; `=a`: it was copied from `c`; `*d`: the directory was
-/// seen at noon; `/d`: that is forgotten; `uncache`: so is each; `ids`: the parents are ones and twos; `hash`: the hash is threes.
-pub(crate) fn step(m: &mut Mixed<'_>, word: &str) -> Result<(), Fail> {
+// One edit. `+a`: the file is added; `!a`: it is removed; `~a`: it is clean; `-a`: its entry goes; `=a`: it was copied from `c`; `*d`: the directory was
+// seen at noon; `/d`: that is forgotten; `uncache`: so is each; `ids`: the parents are ones and twos; `hash`: the hash is threes.
+fn step(m: &mut Mixed<'_>, word: &str) -> Result<(), Fail> {
     let Some((sign, path)) = word.split_at_checked(1) else {
         return Ok(());
     };
@@ -163,8 +159,8 @@ fn whole(m: &mut Mixed<'_>, word: &str) -> Result<(), Fail> {
     }
 }
 
-/// The edits of words.
-pub(crate) fn steps(m: &mut Mixed<'_>, words: &str) -> Result<(), Fail> {
+// The edits of words.
+fn steps(m: &mut Mixed<'_>, words: &str) -> Result<(), Fail> {
     for word in words.split(' ') {
         step(m, word)?;
     }
