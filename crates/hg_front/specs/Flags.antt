@@ -4,7 +4,7 @@ use Rattle.std.specs.List.{find, list_any, starts_with}
 use Rattle.std.specs.Option.{option_and_then, option_map_or}
 use Rattle.std.specs.Str.{bytes_eq}
 use Rattle.hg_words.specs.Command.{Flag, remove_flags, status_flags}
-use Rattle.hg_front.specs.Refusing.{shown, shown_byte}
+use Rattle.hg_front.specs.Shown.{shown, shown_byte}
 
 -- the flags of a command: those that the table of the commands gives it
 abbrev pub flags_of : List ℕ → List Flag

@@ -10,5 +10,6 @@ pub mod Printing
 pub mod Reading
 pub mod Refusing
 pub mod Requirement
+pub mod Shown
 pub mod Start
 pub mod Words

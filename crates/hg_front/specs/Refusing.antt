@@ -1,20 +1,13 @@
 -- The two lines of a command that is refused before it begins: why, and what to do.
-use Rattle.std.specs.Prelude.{ℕ, ◌≡◌, ◌⊎◌, if◌then◌else◌, List, [], ◌∷◌, ◌++◌, Option, Some, None, codes, ◌==◌}
-use Rattle.std.specs.List.{flat_map}
+use Rattle.std.specs.Prelude.{ℕ, ◌≡◌, ◌⊎◌, List, [], ◌∷◌, ◌++◌, Option, Some, None, codes}
 use Rattle.hg_report.specs.declared.fault.Fault.TheVariants as a_fault
 use Rattle.hg_session.specs.Put.{IsTold, TellsLine}
 use Rattle.hg_front.specs.Advice.{convert}
 use Rattle.hg_front.specs.Guard.{Reason}
 use Rattle.hg_front.specs.Further.{further_line}
+use Rattle.hg_front.specs.Shown.{shown}
 use Rattle.hg_front.specs.declared.guarding.Why.{Why}
 use Rattle.hg_front.specs.declared.guarding.Why.TheVariants as why
-
--- a byte of a name: what would end the line is written by its two hexadecimal digits
-abbrev pub shown_byte : ℕ → List ℕ
-shown_byte b = if b == 10 then codes "\\x0a" else (if b == 13 then codes "\\x0d" else b ∷ [])
-
-abbrev pub shown : List ℕ → List ℕ
-shown what = flat_map shown_byte what
 
 -- the words before and behind the name
 abbrev pub front : Why → List ℕ

@@ -2,7 +2,8 @@
 
 ghost use Rattle.std.specs.Prelude.{◌≡◌, ◌++◌, IfOk, OnOk};
 ghost use Rattle.hg_front.specs.Refusing as refusals;
-ghost use Rattle.hg_front.specs.Refusing.{TellsRefusal, refusal_lines, shown, shown_byte};
+ghost use Rattle.hg_front.specs.Refusing.{TellsRefusal, refusal_lines};
+ghost use Rattle.hg_front.specs.Shown.{shown, shown_byte};
 ghost use Rattle.hg_session.specs.Put.{IsTold};
 
 use crate::advice::CONVERT;

@@ -1,6 +1,6 @@
 use Rattle.std.proofs.Common.{◌≡◌, ◌++◌, take}
 use Rattle.std.specs.List.{flat_map}
-use Rattle.hg_front.specs.Refusing.{shown_byte}
+use Rattle.hg_front.specs.Shown.{shown_byte}
 use Rattle.hg_front.proofs.refusing.put_name.Given as goal
 
 -- the bytes so far stand behind what was there
