@@ -12,11 +12,14 @@ use Rattle.hg_server.specs.declared.fault.ServeFault.TheVariants as a_fault
 
 -- ---- chains of tests
 
-last_of : (b1 b2 b3 b4 b5 : Bool) (x1 x2 x3 x4 x5 x6 : Option ServeFault) → b1 ≡ false → b2 ≡ false → b3 ≡ false → b4 ≡ false → b5 ≡ false
+pub last_of : (b1 b2 b3 b4 b5 : Bool) (x1 x2 x3 x4 x5 x6 : Option ServeFault) → b1 ≡ false → b2 ≡ false → b3 ≡ false → b4 ≡ false → b5 ≡ false
     → cond b1 x1 (cond b2 x2 (cond b3 x3 (cond b4 x4 (cond b5 x5 x6)))) ≡ x6
 last_of b1 b2 b3 b4 b5 x1 x2 x3 x4 x5 x6 e1 e2 e3 e4 e5 = rw (e1, e2, e3, e4, e5) refl
 
-fifth_of : (b1 b2 b3 b4 b5 : Bool) (x1 x2 x3 x4 x5 x6 : Option ServeFault) → b1 ≡ false → b2 ≡ false → b3 ≡ false → b4 ≡ false → b5 ≡ true
+pub third_of : (b1 b2 b3 : Bool) (x1 x2 x3 x4 : Option ServeFault) → b1 ≡ false → b2 ≡ false → b3 ≡ true → cond b1 x1 (cond b2 x2 (cond b3 x3 x4)) ≡ x3
+third_of b1 b2 b3 x1 x2 x3 x4 e1 e2 e3 = rw (e1, e2, e3) refl
+
+pub fifth_of : (b1 b2 b3 b4 b5 : Bool) (x1 x2 x3 x4 x5 x6 : Option ServeFault) → b1 ≡ false → b2 ≡ false → b3 ≡ false → b4 ≡ false → b5 ≡ true
     → cond b1 x1 (cond b2 x2 (cond b3 x3 (cond b4 x4 (cond b5 x5 x6)))) ≡ x5
 fifth_of b1 b2 b3 b4 b5 x1 x2 x3 x4 x5 x6 e1 e2 e3 e4 e5 = rw (e1, e2, e3, e4, e5) refl
 

@@ -4,3 +4,6 @@ pub mod Taking
 pub mod Heads
 pub mod Nuls
 pub mod Reading
+pub mod Writing
+pub mod Chaining
+pub mod Parting

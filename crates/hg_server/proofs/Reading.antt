@@ -1,8 +1,8 @@
 -- What was taken of a request, piece by piece, and what is said of it at the end.
-use Rattle.std.proofs.Common.{◌≡◌, ℕ, ◌+◌, ◌-◌, ◌<◌, ◌≤◌, Bool, true, false, cond, ltb, List, [], ◌++◌, length, take, drop, Option, Some, None, Ok, Err, MatchBool, option_map, refl, sym, ap, ◌∙◌, subst, append_assoc, arith, inl, inr}
+use Rattle.std.proofs.Common.{◌≡◌, ℕ, ◌+◌, ◌-◌, ◌<◌, ◌≤◌, Bool, true, false, cond, eqb, ltb, List, [], ◌++◌, length, take, drop, Option, Some, None, Ok, Err, MatchBool, option_map, refl, sym, ap, ◌∙◌, subst, append_assoc, arith, inl, inr}
 use Rattle.std.specs.Int.{w32, from_be_bytes}
 use Rattle.std.specs.Str.{is_utf8}
-use Rattle.std.proofs.lemmas.Bool.{le-ltb, ltb-false}
+use Rattle.std.proofs.lemmas.Bool.{le-ltb, ltb-false, ne_eqb}
 use Rattle.std.proofs.lemmas.List.{append-nil, length-append, length-drop, take-append-le}
 use Rattle.std.proofs.Math.Seq.{drop-append-le}
 use Rattle.hg_server.specs.Requests.{IsAtEnd, Reads, Says, Took, refusal, room, size_in, text_in}
@@ -33,13 +33,13 @@ few_by false size is = omega (arith, ltb-false 1048576 size (sym is))
 pub room_few : (part : List ℕ) → room part ≤ 1048591
 room_few part = few_by (ltb 1048576 (size_in part)) (size_in part) refl
 
-same_size : (part more : List ℕ) → 15 ≤ length part → size_in (part ++ more) ≡ size_in part
+pub same_size : (part more : List ℕ) → 15 ≤ length part → size_in (part ++ more) ≡ size_in part
 same_size part more long =
     ap (λ (l : List ℕ). from_be_bytes w32 (take 4 l)) (drop-append-le 11 part more (omega (arith, long)))
     ∙ ap (from_be_bytes w32) (take-append-le 4 (drop 11 part) more (omega (arith, long, length-drop 11 part)))
 
 within_more : (n most : ℕ) (part more : List ℕ) → IsOpen n part most → length more ≤ most → length (part ++ more) ≤ room (part ++ more)
-within_more n most part more open few = elim open.allowed [
+within_more n most part more begun few = elim begun.allowed [
     inl low ↦ omega (arith, low, few, length-append part more, room_by (ltb 1048576 (size_in (part ++ more))) (size_in (part ++ more)))
   | inr high ↦
       let same = same_size part more high.0 in
@@ -47,15 +47,21 @@ within_more n most part more open few = elim open.allowed [
           ap (λ (b : Bool). cond b 15 (15 + size_in (part ++ more))) (le-ltb 1048576 (size_in (part ++ more)) (omega (arith, high, same))) in
       omega (arith, high, same, is, few, length-append part more) ]
 
+-- bytes of which some are missing
+pub is_begun : (n most : ℕ) (bytes part : List ℕ) → bytes ≡ part → Lacks n bytes (Ok most) → 0 < most → IsOpen n part most
+is_begun n most bytes part same lacks more =
+    let test : eqb most 0 ≡ false = ne_eqb most 0 (λ none. omega (arith, none, more)) in
+    subst (λ (l : List ℕ). IsOpen n l most) same (subst (λ (b : Bool). MatchBool b (IsThere n bytes) (IsOpen n bytes most)) test lacks)
+
 pub allowed_few : (n most : ℕ) (part : List ℕ) → IsOpen n part most → length part + most ≤ 1048591
-allowed_few n most part open = elim open.allowed [ inl low ↦ omega (arith, low) | inr high ↦ omega (arith, high) ]
+allowed_few n most part begun = elim begun.allowed [ inl low ↦ omega (arith, low) | inr high ↦ omega (arith, high) ]
 
 -- one piece more
 pub more_taken : (n most : ℕ) (some : Bool) (from mid to : Option (List ℕ)) (old new : List ℕ) → Took from mid old → IsOpen n old most → TakesSome old new mid to most some
     → (Took from to new) × (length new ≤ room new)
-more_taken n most some from mid to old new before open takes =
+more_taken n most some from mid to old new before begun takes =
     subst (λ (l : List ℕ). (Took from to l) × (length l ≤ room l)) (sym takes.whole)
-    (took_twice from mid to old takes.more before takes.took, within_more n most old takes.more open takes.few)
+    (took_twice from mid to old takes.more before takes.took, within_more n most old takes.more begun takes.few)
 
 pub grows : (most : ℕ) (some : Bool) (mid to : Option (List ℕ)) (old new : List ℕ) → TakesSome old new mid to most some → some ≡ true → length old < length new
 grows most some mid to old new takes so =
@@ -102,13 +108,13 @@ nothing_more most some mid to old new takes so =
 
 pub ends_between : (n most : ℕ) (some : Bool) (from mid to : Option (List ℕ)) (old new : List ℕ) → Took from mid old → IsOpen n old most → TakesSome old new mid to most some → some ≡ false → new ≡ []
     → Reads n from to (Ok None)
-ends_between n most some from mid to old new before open takes so none =
-    let taken = more_taken n most some from mid to old new before open takes in
+ends_between n most some from mid to old new before begun takes so none =
+    let taken = more_taken n most some from mid to old new before begun takes in
     record { part = new; took = taken.0; within = taken.1; says = (none, (nothing_more most some mid to old new takes so).1) }
 
 pub ends_inside : (n most : ℕ) (some : Bool) (from mid to : Option (List ℕ)) (old new : List ℕ) → Took from mid old → IsOpen n old most → TakesSome old new mid to most some → some ≡ false → 0 < length new
     → Reads n from to (Err (a_fault.ServerShort n))
-ends_inside n most some from mid to old new before open takes so inside =
-    let taken = more_taken n most some from mid to old new before open takes in
+ends_inside n most some from mid to old new before begun takes so inside =
+    let taken = more_taken n most some from mid to old new before begun takes in
     let rest = nothing_more most some mid to old new takes so in
-    record { part = new; took = taken.0; within = taken.1; says = (ap (refusal n) rest.0 ∙ open.judged, inside, rest.1) }
+    record { part = new; took = taken.0; within = taken.1; says = (ap (refusal n) rest.0 ∙ begun.judged, inside, rest.1) }

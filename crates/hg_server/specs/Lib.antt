@@ -4,3 +4,4 @@ pub mod Requests
 pub mod Steps
 pub mod Replies
 pub mod Serving
+pub mod Readings

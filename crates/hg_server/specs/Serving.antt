@@ -16,10 +16,11 @@ pub record Exchange : Type 0 where
   pub err : List ℕ
   pub status : ℕ
 
--- the bytes of requests, one behind another, and those of their answers
+-- the bytes of requests, one behind another
 abbrev pub asked : List Exchange → List ℕ
 asked exchanges = flat_map (λ e. request e.text) exchanges
 
+-- the bytes of their answers
 abbrev pub answered : List Exchange → List ℕ
 answered exchanges = flat_map (λ e. answer e.out e.err e.status) exchanges
 

@@ -16,6 +16,7 @@
 
 mod fault;
 mod judging;
+mod laws;
 mod messages;
 mod part;
 mod requests;
@@ -24,5 +25,6 @@ mod server;
 mod words;
 
 pub use fault::ServeFault;
+pub use laws::{one_reading, what_is_written_is_read};
 pub use runner::Runner;
 pub use server::serve;
