@@ -25,6 +25,9 @@ chain_more : {C D : Type 0} (Does : C → D → D → Type 0) (calls : List C) (
 chain_more {D = D} Does [] call old mid new runs does = (new, subst (λ (d : D). Does call d new) runs does, refl)
 chain_more Does (one ∷ calls) call old mid new runs does = (runs.0, runs.1, chain_more Does calls call runs.0 mid new runs.2 does)
 
+none_some : {fault : ServeFault} → None ≡ Some fault → ⊥
+none_some e = cc e
+
 -- ---- counts of failures
 
 pub fails_later : {T : Type 0} (before mid now : ℕ) (result : Result T ServeFault) (own : ServeFault) → mid ≡ before → FailsAs mid now result own → FailsAs before now result own
@@ -116,17 +119,19 @@ module _ {R : Type 0} (step : Step R) (from old : Option (List ℕ)) (before : R
       lacks : next ≡ now → Serves step from to old next before after (Err a_fault.OutOfMemory)
       lacks same =
           let low : length going.exchanges + 1 ≤ 4294967296 = omega (arith, going.count, reads.says.3) in
+          let none : refusal (length going.exchanges + 1) reads.part ≡ None =
+              ap (refusal (length going.exchanges + 1)) reads.says.1 ∙ whole_not_refused (length going.exchanges + 1) reads.says.0 low reads.says.2 in
           record {
             exchanges = going.exchanges;
             reached = mid;
             part = reads.part;
             runs = going.runs;
-            left = tt;
+            left = λ short. absurd (none_some (sym none ∙ short));
             few = omega (arith, going.count, going.few);
             took = took_twice from left to (asked going.exchanges) reads.part going.took reads.took;
             within = reads.within;
             puts = subst (λ (o : Option (List ℕ)). Grown old o (hello ++ answered going.exchanges)) (sym same) going.puts;
-            ends = inr (ap (refusal (length going.exchanges + 1)) reads.says.1 ∙ whole_not_refused (length going.exchanges + 1) reads.says.0 low reads.says.2);
+            ends = inr none;
           }
 
       pub unanswered : (fault : ServeFault) → Responds step words mid after now next (Err fault) → Serves step from to old next before after (Err fault)
@@ -156,7 +161,7 @@ module _ {R : Type 0} (step : Step R) (from old : Option (List ℕ)) (before : R
     }
 
     module _ (fault : ServeFault) (reads : Reads (served + 1) left to (Err fault)) where
-      refuses : IsLeft mid mid (Err fault) → Puts going.exchanges old now (Err fault) → Ends served reads.part to (Err fault) → Serves step from to old now before mid (Err fault)
+      refuses : IsLeft (length going.exchanges + 1) reads.part mid mid (Err fault) → Puts going.exchanges old now (Err fault) → Ends served reads.part to (Err fault) → Serves step from to old now before mid (Err fault)
       refuses stays puts ends = record {
         exchanges = going.exchanges;
         reached = mid;
@@ -171,7 +176,7 @@ module _ {R : Type 0} (step : Step R) (from old : Option (List ℕ)) (before : R
       }
 
     pub unread : (fault : ServeFault) → Reads (served + 1) left to (Err fault) → Serves step from to old now before mid (Err fault)
-    unread a_fault.OutOfMemory reads = refuses a_fault.OutOfMemory reads tt going.puts reads.says
+    unread a_fault.OutOfMemory reads = refuses a_fault.OutOfMemory reads (λ short. refl) going.puts reads.says
     unread a_fault.InFailed reads = refuses a_fault.InFailed reads refl going.puts reads.says
     unread a_fault.OutFailed reads = absurd reads.says
     unread (a_fault.ServerCommand m) reads = refuses (a_fault.ServerCommand m) reads refl going.puts reads.says

@@ -1,11 +1,11 @@
 -- What a server does from its first byte to its last.
-use Rattle.std.specs.Prelude.{ℕ, ◌≡◌, ◌+◌, ◌≤◌, List, [], ◌∷◌, ◌++◌, length, Option, Result, Ok, Err}
+use Rattle.std.specs.Prelude.{ℕ, ◌≡◌, ◌+◌, ◌≤◌, List, [], ◌∷◌, ◌++◌, length, Option, Some, Result, Ok, Err}
 use Rattle.std.specs.List.{flat_map}
 use Rattle.hg_base.specs.Runs.{RunsEach}
 use Rattle.hg_stream.specs.Stream.{Grown, GrownByFront}
 use Rattle.hg_server.specs.Protocol.{IsFit, answer, hello, request, words_of}
 use Rattle.hg_server.specs.Replies.{Step}
-use Rattle.hg_server.specs.Requests.{IsAtEnd, Says, Took, room}
+use Rattle.hg_server.specs.Requests.{IsAtEnd, Says, Took, refusal, room}
 use Rattle.hg_server.specs.declared.fault.ServeFault.{ServeFault}
 use Rattle.hg_server.specs.declared.fault.ServeFault.TheVariants as a_fault
 
@@ -48,10 +48,10 @@ Ends served part left (Ok n) = (n ≡ served) × (part ≡ []) × IsAtEnd left
 Ends served part left (Err a_fault.OutFailed) = part ≡ []
 Ends served part left (Err fault) = Says (served + 1) part left (Err fault)
 
--- where the chain of runs ends: at the runner that is left, unless there was no memory
-abbrev pub IsLeft : {R : Type 0} → R → R → Result ℕ ServeFault → Type 0
-IsLeft reached after (Err a_fault.OutOfMemory) = Unit {0}
-IsLeft reached after result = after ≡ reached
+-- where the chain of runs ends: at the runner that is left, unless the next request was there and its run lacked memory
+abbrev pub IsLeft : {R : Type 0} → ℕ → List ℕ → R → R → Result ℕ ServeFault → Type 0
+IsLeft n part reached after (Err a_fault.OutOfMemory) = refusal n part ≡ Some (a_fault.ServerShort n) → after ≡ reached
+IsLeft n part reached after result = after ≡ reached
 
 -- a server ran: which requests were run, one after another, by steps of the runner; what was taken for them and behind them; and what was put
 pub record Serves {R : Type 0} (step : Step R) (from to : Option (List ℕ)) (old new : Option (List ℕ)) (before after : R) (result : Result ℕ ServeFault) : Type 0 where
@@ -59,7 +59,7 @@ pub record Serves {R : Type 0} (step : Step R) (from to : Option (List ℕ)) (ol
   pub reached : R
   pub part : List ℕ
   pub runs : RunsEach (IsRun step) exchanges before reached
-  pub left : IsLeft reached after result
+  pub left : IsLeft (length exchanges + 1) part reached after result
   pub few : length exchanges ≤ 4294967296
   pub took : Took from to (asked exchanges ++ part)
   pub within : length part ≤ room part
