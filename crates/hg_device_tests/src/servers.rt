@@ -1,4 +1,6 @@
 //! Requests that are served over streams in memory, by a runner that prints its words.
+ghost use Rattle.std.specs.Prelude.{◌<◌, IfOk};
+
 use hg_base::{OutOfMemory, Words};
 use hg_case_tests::{Play, agree, bytes, number, print, word};
 use hg_server::{Runner, ServeFault, serve};
@@ -6,8 +8,6 @@ use hg_stream::{MemSink, MemSource, put_all};
 use std::alloc::Global;
 use std::string::String;
 use std::test::Fail;
-
-ghost use Rattle.std.specs.Prelude.{◌<◌, IfOk};
 
 // Prints its words, each in brackets. The word `told` is told on the error stream, `long` is a text of 65,537 bytes, and behind `lack` there is no memory. Its
 // status is how many commands it ran before.
@@ -35,12 +35,7 @@ impl Runner for Printer {
     }
 }
 
-fn say(
-    alloc: Global,
-    word: &str,
-    out: &mut MemSink,
-    err: &mut MemSink,
-) -> Result<(), OutOfMemory> {
+fn say(alloc: Global, word: &str, out: &mut MemSink, err: &mut MemSink) -> Result<(), OutOfMemory> {
     match word {
         "told" => put(err, b"told\n"),
         "long" => put(out, long(alloc, 65_537)?.as_slice()),
@@ -84,11 +79,7 @@ impl Play for Bytes {
     }
 }
 
-fn play(
-    alloc: Global,
-    steps: &str,
-    out: &mut MemSink,
-) -> Result<Result<u64, ServeFault>, Fail> {
+fn play(alloc: Global, steps: &str, out: &mut MemSink) -> Result<Result<u64, ServeFault>, Fail> {
     let bytes = bytes(alloc, word(steps, 4))?;
     let mut input = MemSource::new(alloc, bytes.as_slice(), most(steps, 0)?)?;
     input.fail_at(number(steps, 1)?)?;

@@ -120,7 +120,7 @@ module _ {R : Type 0} (step : Step R) (from old : Option (List ℕ)) (before : R
       lacks same =
           let low : length going.exchanges + 1 ≤ 4294967296 = omega (arith, going.count, reads.says.3) in
           let none : refusal (length going.exchanges + 1) reads.part ≡ None =
-              ap (refusal (length going.exchanges + 1)) reads.says.1 ∙ whole_not_refused (length going.exchanges + 1) reads.says.0 low reads.says.2 in
+          ap (refusal (length going.exchanges + 1)) reads.says.1 ∙ whole_not_refused (length going.exchanges + 1) reads.says.0 low reads.says.2 in
           record {
             exchanges = going.exchanges;
             reached = mid;

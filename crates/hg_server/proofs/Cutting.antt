@@ -24,7 +24,7 @@ one_more n some = omega arith
 pub pieces_more : (text : List ℕ) → 0 < length text → pieces text ≡ take 65536 text ∷ pieces (drop 65536 text)
 pieces_more text some =
     let count : div_ceil (length text) 65536 ≡ suc (div_ceil (length (drop 65536 text)) 65536) =
-        one_more (length text) some ∙ ap (λ (n : ℕ). suc (div_ceil n 65536)) (sym (length-drop 65536 text)) in
+    one_more (length text) some ∙ ap (λ (n : ℕ). suc (div_ceil n 65536)) (sym (length-drop 65536 text)) in
     ap (λ (n : ℕ). map (λ k. take 65536 (drop (65536 * k) text)) (range_with_len 0 n)) count
     ∙ ap (λ (ps : List (List ℕ)). take 65536 text ∷ ps) (pieces_behind 65536 text 0 (div_ceil (length (drop 65536 text)) 65536))
 

@@ -25,7 +25,7 @@ front_agrees text front back is =
     let eleven : length line ≡ 11 = refl in
     let front_is : take m front ≡ take m (request text) = sym (take-append-le m front back (omega arith)) ∙ ap (take m) (sym is) in
     let line_is : take m (request text) ≡ take m line =
-        ap (take m) (append_assoc line (to_be_bytes w32 (length text)) text) ∙ take-append-le m line (to_be_bytes w32 (length text) ++ text) (omega (arith, eleven)) in
+    ap (take m) (append_assoc line (to_be_bytes w32 (length text)) text) ∙ take-append-le m line (to_be_bytes w32 (length text) ++ text) (omega (arith, eleven)) in
     ap (λ (l : List ℕ). bytes_eq l (take m line)) (front_is ∙ line_is) ∙ equal_bytes (take m line)
 
 module _ (n : ℕ) (text front back : List ℕ) (low : n ≤ 4294967296) (fit : IsFit text) (is : request text ≡ front ++ back) (more : 0 < length back) where
@@ -73,15 +73,15 @@ one_by n (p ∷ first) [] left right f g is fit fit' few few' ends ends' =
     absurd (none_first (n + 0) right (flat_map request first ++ left) p g (omega (arith, few)) fit.0 ends' (sym is ∙ append_assoc (request p) (flat_map request first) left))
 one_by n (p ∷ first) (q ∷ second) left right f g is fit fit' few few' ends ends' =
     let whole : request p ++ (flat_map request first ++ left) ≡ request q ++ (flat_map request second ++ right) =
-        sym (append_assoc (request p) (flat_map request first) left) ∙ is ∙ append_assoc (request q) (flat_map request second) right in
+    sym (append_assoc (request p) (flat_map request first) left) ∙ is ∙ append_assoc (request q) (flat_map request second) right in
     let same : p ≡ q = sym (texted p (flat_map request first ++ left) fit.0.short) ∙ ap text_in whole ∙ texted q (flat_map request second ++ right) fit'.0.short in
     let behind : flat_map request first ++ left ≡ flat_map request second ++ right =
-        sym (drop-append_seam (request p) (flat_map request first ++ left)) ∙ ap (drop (length (request p))) whole
-        ∙ ap (λ (t : List ℕ). drop (length (request t)) (request q ++ (flat_map request second ++ right))) same ∙ drop-append_seam (request q) (flat_map request second ++ right) in
+    sym (drop-append_seam (request p) (flat_map request first ++ left)) ∙ ap (drop (length (request p))) whole
+    ∙ ap (λ (t : List ℕ). drop (length (request t)) (request q ++ (flat_map request second ++ right))) same ∙ drop-append_seam (request q) (flat_map request second ++ right) in
     let next : n + length (p ∷ first) ≡ n + 1 + length first = omega arith in
     let next' : n + length (q ∷ second) ≡ n + 1 + length second = omega arith in
     let rest = one_by (n + 1) first second left right f g behind fit.1 fit'.1 (omega (arith, few, next)) (omega (arith, few', next'))
-        (subst (λ (k : ℕ). IsRest k left f) next ends) (subst (λ (k : ℕ). IsRest k right g) next' ends') in
+    (subst (λ (k : ℕ). IsRest k left f) next ends) (subst (λ (k : ℕ). IsRest k right g) next' ends') in
     (ap (λ (t : List ℕ). t ∷ first) same ∙ ap (λ (l : List (List ℕ)). q ∷ l) rest.0, rest.1)
 
 pub one_reading : HasOneReading

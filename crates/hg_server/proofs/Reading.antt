@@ -40,12 +40,13 @@ same_size part more long =
 
 within_more : (n most : ℕ) (part more : List ℕ) → IsOpen n part most → length more ≤ most → length (part ++ more) ≤ room (part ++ more)
 within_more n most part more begun few = elim begun.allowed [
-    inl low ↦ omega (arith, low, few, length-append part more, room_by (ltb 1048576 (size_in (part ++ more))) (size_in (part ++ more)))
+  | inl low ↦ omega (arith, low, few, length-append part more, room_by (ltb 1048576 (size_in (part ++ more))) (size_in (part ++ more)))
   | inr high ↦
       let same = same_size part more high.0 in
       let is : room (part ++ more) ≡ 15 + size_in (part ++ more) =
-          ap (λ (b : Bool). cond b 15 (15 + size_in (part ++ more))) (le-ltb 1048576 (size_in (part ++ more)) (omega (arith, high, same))) in
-      omega (arith, high, same, is, few, length-append part more) ]
+      ap (λ (b : Bool). cond b 15 (15 + size_in (part ++ more))) (le-ltb 1048576 (size_in (part ++ more)) (omega (arith, high, same))) in
+      omega (arith, high, same, is, few, length-append part more)
+]
 
 -- bytes of which some are missing
 pub is_begun : (n most : ℕ) (bytes part : List ℕ) → bytes ≡ part → Lacks n bytes (Ok most) → 0 < most → IsOpen n part most

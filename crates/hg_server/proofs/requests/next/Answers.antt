@@ -14,6 +14,6 @@ pub loop-part-preserved : goal.loop-part-preserved
 loop-part-preserved g c =
     let more : 0 < c.in_ok-most.most = search rules in
     let taken =
-        more_taken c.args.n c.in_ok-most.most c.in_ok-take.field-0 (g.I.Source.left c.args.input.now) (g.I.Source.left c.loop-part.input) (g.I.Source.left c.take.new.input) c.loop-part.part c.take.new.self
-        c.loop-part.invariant.took (is_begun c.args.n c.in_ok-most.most c.bytes.result.now c.loop-part.part c.bytes.ensures c.in_ok-most.ensures more) c.in_ok-take.ensures.takes in
+    more_taken c.args.n c.in_ok-most.most c.in_ok-take.field-0 (g.I.Source.left c.args.input.now) (g.I.Source.left c.loop-part.input) (g.I.Source.left c.take.new.input) c.loop-part.part c.take.new.self
+    c.loop-part.invariant.took (is_begun c.args.n c.in_ok-most.most c.bytes.result.now c.loop-part.part c.bytes.ensures c.in_ok-most.ensures more) c.in_ok-take.ensures.takes in
     record { took = taken.0; within = taken.1; quiet = c.in_ok-take.ensures.cause.quiet (λ is. cc is) ∙ c.loop-part.invariant.quiet }
