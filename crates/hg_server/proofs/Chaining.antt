@@ -1,17 +1,17 @@
 -- Requests that are served one after another: none yet, one more, and how it ends.
-use Rattle.std.proofs.Common.{◌≡◌, ℕ, ◌+◌, ◌≤◌, List, [], ◌∷◌, ◌++◌, length, Option, Result, Some, None, Ok, Err, flat_map, refl, sym, ap, ◌∙◌, subst, append_assoc, arith, inl, inr}
+use Rattle.std.proofs.Common.{◌≡◌, ℕ, ◌+◌, ◌≤◌, List, [], ◌∷◌, ◌++◌, length, Option, Result, Some, None, Ok, Err, flat_map, refl, sym, ap, ◌∙◌, subst, append_assoc, arith, inr}
 use Rattle.std.proofs.lemmas.Grind.{flat_map-append}
 use Rattle.std.proofs.lemmas.List.{append-nil, length-append}
 use Rattle.hg_base.specs.Fault.{Rose}
 use Rattle.hg_base.specs.Runs.{RunsEach}
 use Rattle.hg_stream.proofs.Grown.{grown_twice}
 use Rattle.hg_stream.specs.Stream.{Grown, GrownByFront}
-use Rattle.hg_server.proofs.Reading.{room_few, took_nothing, took_twice}
+use Rattle.hg_server.proofs.Reading.{took_nothing, took_twice}
 use Rattle.hg_server.proofs.Writing.{whole_not_refused}
 use Rattle.hg_server.specs.Failing.{FailsAs}
-use Rattle.hg_server.specs.Protocol.{IsFit, answer, hello, request}
+use Rattle.hg_server.specs.Protocol.{answer, hello, request}
 use Rattle.hg_server.specs.Replies.{Replies, Responds, Step}
-use Rattle.hg_server.specs.Requests.{IsAtEnd, Reads, Says, Took, refusal, room}
+use Rattle.hg_server.specs.Requests.{Reads, Says, Took, refusal}
 use Rattle.hg_server.specs.Serving.{Ends, Exchange, IsCutOff, IsLeft, IsRun, Puts, Serves, answered, asked}
 use Rattle.hg_server.specs.declared.fault.ServeFault.{ServeFault}
 use Rattle.hg_server.specs.declared.fault.ServeFault.TheVariants as a_fault

@@ -1,14 +1,13 @@
 -- Judging bytes that were taken for a request: those of which all stand there, and those behind which some are missing.
-use Rattle.std.proofs.Common.{◌≡◌, ℕ, ◌+◌, ◌-◌, ◌<◌, ◌≤◌, min, Bool, true, false, cond, not, ◌&&◌, eqb, ltb, List, [], ◌∷◌, ◌++◌, length, take, drop, Option, Some, None, MatchBool, refl, sym, ap, ◌∙◌, subst, arith, inl, inr, bytes_eq}
+use Rattle.std.proofs.Common.{◌≡◌, ℕ, ◌+◌, ◌-◌, ◌<◌, ◌≤◌, min, Bool, true, false, cond, not, ◌&&◌, eqb, ltb, List, ◌++◌, length, take, drop, Option, MatchBool, refl, sym, ap, ◌∙◌, subst, arith, inr}
 use Rattle.std.specs.Int.{w32, to_be_bytes}
-use Rattle.std.proofs.lemmas.Bool.{le-ltb, ltb-false, ltb-true, lt-ltb}
-use Rattle.std.proofs.lemmas.List.{drop-drop, length-drop, length-take, take-append-drop, take_all}
+use Rattle.std.proofs.lemmas.Bool.{le-ltb, ltb-false, lt-ltb}
+use Rattle.std.proofs.lemmas.List.{drop-drop, length-drop, take-append-drop, take_all}
 use Rattle.hg_base.proofs.Within.{same_bytes}
-use Rattle.hg_server.specs.Protocol.{line, request}
-use Rattle.hg_server.specs.Requests.{agrees, refusal, room, size_in, text_in, text_refusal}
+use Rattle.hg_server.specs.Protocol.{line}
+use Rattle.hg_server.specs.Requests.{agrees, room, size_in}
 use Rattle.hg_server.specs.Steps.{IsOpen, IsThere}
 use Rattle.hg_server.specs.declared.fault.ServeFault.{ServeFault}
-use Rattle.hg_server.specs.declared.fault.ServeFault.TheVariants as a_fault
 
 -- ---- chains of tests
 

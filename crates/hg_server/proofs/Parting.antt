@@ -1,5 +1,5 @@
 -- Parting a text into requests, in one way alone.
-use Rattle.std.proofs.Common.{◌≡◌, ℕ, ◌+◌, ◌<◌, ◌≤◌, min, Bool, true, false, cond, not, ◌&&◌, eqb, ltb, List, [], ◌∷◌, ◌++◌, length, take, drop, flat_map, Option, Some, None, refl, sym, ap, ◌∙◌, subst, append_assoc, arith, bytes_eq}
+use Rattle.std.proofs.Common.{◌≡◌, ℕ, ◌+◌, ◌<◌, ◌≤◌, min, Bool, true, false, not, ◌&&◌, eqb, ltb, List, [], ◌∷◌, ◌++◌, length, take, drop, flat_map, Option, Some, None, refl, sym, ap, ◌∙◌, subst, append_assoc, arith, bytes_eq}
 use Rattle.std.specs.Int.{w32, to_be_bytes}
 use Rattle.std.proofs.lemmas.Bool.{le-ltb, lt-ltb, ltb-false}
 use Rattle.std.proofs.lemmas.List.{append-nil, length-append, take-append-le}
@@ -9,7 +9,7 @@ use Rattle.hg_server.proofs.Heads.{fifth_of, third_of}
 use Rattle.hg_server.proofs.Reading.{same_size}
 use Rattle.hg_server.proofs.Writing.{long, not_refused, sized, texted}
 use Rattle.hg_server.specs.Protocol.{IsFit, line, request}
-use Rattle.hg_server.specs.Readings.{AreFit, HasOneReading, IsAwaited, IsReading, IsRest, IsTaken}
+use Rattle.hg_server.specs.Readings.{AreFit, HasOneReading, IsAwaited, IsRest, IsTaken}
 use Rattle.hg_server.specs.Requests.{agrees, refusal, size_in, text_in}
 use Rattle.hg_server.specs.declared.fault.ServeFault.{ServeFault}
 use Rattle.hg_server.specs.declared.fault.ServeFault.TheVariants as a_fault

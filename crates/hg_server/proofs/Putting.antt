@@ -1,5 +1,5 @@
 -- Bytes that are put in parts.
-use Rattle.std.proofs.Common.{◌≡◌, ℕ, List, [], ◌++◌, Option, Result, Ok, Err, OnErr, append_assoc, sym, ap, ◌∙◌}
+use Rattle.std.proofs.Common.{ℕ, List, ◌++◌, Option, Result, Ok, Err, OnErr, append_assoc, sym, ap, ◌∙◌}
 use Rattle.hg_stream.proofs.Grown.{grown_twice}
 use Rattle.hg_stream.specs.Stream.{Grown, GrownBut, GrownByFront}
 

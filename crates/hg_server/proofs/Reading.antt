@@ -1,11 +1,11 @@
 -- What was taken of a request, piece by piece, and what is said of it at the end.
-use Rattle.std.proofs.Common.{◌≡◌, ℕ, ◌+◌, ◌-◌, ◌<◌, ◌≤◌, Bool, true, false, cond, eqb, ltb, List, [], ◌++◌, length, take, drop, Option, Some, None, Ok, Err, MatchBool, option_map, refl, sym, ap, ◌∙◌, subst, append_assoc, arith, inl, inr}
+use Rattle.std.proofs.Common.{◌≡◌, ℕ, ◌+◌, ◌<◌, ◌≤◌, Bool, true, false, cond, eqb, ltb, List, [], ◌++◌, length, take, drop, Option, Some, None, Ok, Err, MatchBool, option_map, refl, sym, ap, ◌∙◌, subst, append_assoc, arith, inl, inr}
 use Rattle.std.specs.Int.{w32, from_be_bytes}
 use Rattle.std.specs.Str.{is_utf8}
 use Rattle.std.proofs.lemmas.Bool.{le-ltb, ltb-false, ne_eqb}
 use Rattle.std.proofs.lemmas.List.{append-nil, length-append, length-drop, take-append-le}
 use Rattle.std.proofs.Math.Seq.{drop-append-le}
-use Rattle.hg_server.specs.Requests.{IsAtEnd, Reads, Says, Took, refusal, room, size_in, text_in}
+use Rattle.hg_server.specs.Requests.{IsAtEnd, Reads, Says, Took, refusal, room, size_in}
 use Rattle.hg_server.specs.Steps.{AreWords, IsOpen, IsThere, Lacks, TakesSome}
 use Rattle.hg_server.specs.declared.fault.ServeFault.{ServeFault}
 use Rattle.hg_server.specs.declared.fault.ServeFault.TheVariants as a_fault

@@ -1,15 +1,13 @@
 -- A request as a client writes it: read from its first byte on, it isn't refused.
-use Rattle.std.proofs.Common.{◌≡◌, ℕ, ◌+◌, ◌<◌, ◌≤◌, ◌^◌, min, Bool, true, false, cond, not, ◌&&◌, eqb, ltb, List, [], ◌∷◌, ◌++◌, length, take, drop, Option, Some, None, refl, sym, ap, ◌∙◌, subst, append_assoc, arith, bytes_eq}
-use Rattle.std.specs.Int.{w32, from_be_bytes, to_be_bytes}
+use Rattle.std.proofs.Common.{◌≡◌, ℕ, ◌+◌, ◌≤◌, min, Bool, true, cond, not, ◌&&◌, eqb, List, [], ◌++◌, length, take, Some, None, refl, sym, ap, ◌∙◌, subst, arith, bytes_eq}
 use Rattle.std.specs.Str.{is_utf8}
-use Rattle.std.proofs.lemmas.Bool.{le-ltb, lt-ltb}
+use Rattle.std.proofs.lemmas.Bool.{le-ltb}
 use Rattle.std.proofs.lemmas.List.{append-nil, length-append}
 use Rattle.std.proofs.lemmas.Nat.{from_be_bytes-to_be_bytes_4}
 use Rattle.std.proofs.Math.Seq.{take-append_seam}
 use Rattle.hg_server.proofs.Heads.{last_of}
 use Rattle.hg_server.specs.Protocol.{IsFit, line, request}
 use Rattle.hg_server.specs.Requests.{agrees, refusal, size_in, text_in}
-use Rattle.hg_server.specs.declared.fault.ServeFault.{ServeFault}
 use Rattle.hg_server.specs.declared.fault.ServeFault.TheVariants as a_fault
 
 module _ (text more : List ℕ) (short : length text ≤ 1048576) where

@@ -1,5 +1,5 @@
 -- The protocol of the command server as bytes: a request, and what is answered to one.
-use Rattle.std.specs.Prelude.{ℕ, ◌≡◌, ◌+◌, ◌*◌, ◌≤◌, true, if◌then◌else◌, List, [], ◌∷◌, ◌++◌, length, take, drop, map, codes, ◌==◌}
+use Rattle.std.specs.Prelude.{ℕ, ◌≡◌, ◌*◌, ◌≤◌, true, if◌then◌else◌, List, [], ◌∷◌, ◌++◌, length, take, drop, map, codes, ◌==◌}
 use Rattle.std.specs.Int.{w32, div_ceil, to_be_bytes}
 use Rattle.std.specs.List.{flat_map, range_with_len, slice_split}
 use Rattle.std.specs.Str.{is_utf8}

@@ -1,5 +1,5 @@
 -- Reading a request from its first byte on: how bytes that were taken for one are judged.
-use Rattle.std.specs.Prelude.{ℕ, ◌≡◌, ◌+◌, ◌≤◌, ◌<◌, ◌⊎◌, min, Bool, true, false, not, ◌&&◌, if◌then◌else◌, List, [], ◌∷◌, ◌++◌, length, take, drop, Option, Some, None, option_map, IfSome, Result, Ok, Err, ◌==◌, nat_lt}
+use Rattle.std.specs.Prelude.{ℕ, ◌≡◌, ◌+◌, ◌≤◌, ◌<◌, ◌⊎◌, min, Bool, not, ◌&&◌, if◌then◌else◌, List, [], ◌++◌, length, take, drop, Option, Some, None, option_map, IfSome, Result, Ok, Err, ◌==◌, nat_lt}
 use Rattle.std.specs.Int.{w32, from_be_bytes}
 use Rattle.std.specs.Str.{bytes_eq, is_utf8}
 use Rattle.hg_server.specs.Protocol.{IsFit, line, request, words_of}

@@ -1,5 +1,5 @@
 -- The steps in which a request is read.
-use Rattle.std.specs.Prelude.{ℕ, ◌≡◌, ◌+◌, ◌≤◌, ◌<◌, ◌⊎◌, Bool, true, false, List, [], ◌++◌, length, drop, Option, Some, None, Result, Ok, Err, MatchBool, ◌==◌}
+use Rattle.std.specs.Prelude.{ℕ, ◌≡◌, ◌+◌, ◌≤◌, ◌<◌, ◌⊎◌, Bool, true, false, List, [], ◌++◌, length, drop, Option, Some, Result, Ok, Err, MatchBool, ◌==◌}
 use Rattle.std.specs.Str.{is_utf8}
 use Rattle.hg_server.specs.Protocol.{request, words_of}
 use Rattle.hg_server.specs.Requests.{IsAtEnd, Took, refusal, size_in, text_in, text_refusal}

@@ -1,4 +1,4 @@
-use Rattle.std.proofs.Common.{ℕ, rules}
+use Rattle.std.proofs.Common.{rules}
 use Rattle.hg_server.proofs.Heads.{lacks}
 use Rattle.hg_server.proofs.judging.missing.Goals as goal
 

@@ -1,4 +1,4 @@
-use Rattle.std.proofs.Common.{ℕ, ◌<◌, ◌∙◌, length, arith, rules}
+use Rattle.std.proofs.Common.{◌<◌, ◌∙◌, length, rules}
 use Rattle.hg_server.proofs.Putting.{at_err, part_begun, part_put}
 use Rattle.hg_server.proofs.Cutting.{cut_at}
 use Rattle.hg_server.specs.Protocol.{message, messages}

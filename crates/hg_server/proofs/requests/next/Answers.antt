@@ -1,4 +1,4 @@
-use Rattle.std.proofs.Common.{◌≡◌, ℕ, ◌<◌, ◌∙◌, false, length, rules}
+use Rattle.std.proofs.Common.{◌≡◌, ◌<◌, ◌∙◌, false, length, rules}
 use Rattle.hg_server.proofs.Reading.{ends_inside, is_begun, more_taken}
 use Rattle.hg_server.proofs.requests.next.Goals as goal
 

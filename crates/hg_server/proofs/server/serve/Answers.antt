@@ -1,4 +1,4 @@
-use Rattle.std.proofs.Common.{ℕ, ◌∙◌}
+use Rattle.std.proofs.Common.{◌∙◌}
 use Rattle.std.proofs.lemmas.Result.{err_from_is_err_and}
 use Rattle.hg_server.proofs.Chaining.{goes, unanswered, unread}
 use Rattle.hg_server.proofs.server.serve.Goals as goal
