@@ -14,6 +14,8 @@ mod puts;
 #[cfg(test)]
 mod races;
 #[cfg(test)]
+mod servers;
+#[cfg(test)]
 mod shelves;
 #[cfg(test)]
 mod streams;

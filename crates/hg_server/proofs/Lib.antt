@@ -1,0 +1,9 @@
+pub mod Putting
+pub mod Cutting
+pub mod Taking
+pub mod Heads
+pub mod Nuls
+pub mod Reading
+pub mod Writing
+pub mod Chaining
+pub mod Parting
