@@ -5,5 +5,4 @@ pub mod Lines
 pub mod Sourced
 pub mod Staying
 pub mod Steps
-pub mod Texts
 pub mod Union

@@ -2,17 +2,17 @@
 use Rattle.std.proofs.Common.{◌≡◌, ℕ, ◌+◌, Bool, true, false, not, cond, List, [], ◌∷◌, ◌++◌, map, Option, Some, None, is_some, refl, sym, subst, ap, ◌∙◌, append_assoc, append-nil, ◌&&◌, ◌||◌}
 use Rattle.std.proofs.lemmas.List.{map-append}
 use Rattle.regex.specs.declared.string.regex.Regex.{Regex}
-use Rattle.hg_ignore.specs.Text.{has, pieces, text_of}
+use Rattle.hg_syntax.specs.Text.{has, pieces, text_of}
 use Rattle.hg_ignore.specs.Line.{Item, glob, regexp, unknown, included, Said, said, lines_from, lines_of}
 use Rattle.hg_ignore.specs.Regexp.{finds, found_by, IsBuiltFrom}
 use Rattle.hg_ignore.specs.Taking.{globs_of, regexps_of, warnings_of, fault_at, or_else, first_fault, is_regexp_at, comes_to, HasLineCause, Taken, Reaches}
 use Rattle.hg_ignore.specs.declared.reading.Reading.{Reading}
-use Rattle.hg_ignore.specs.declared.syntax.Syntax.{Syntax}
-use Rattle.hg_ignore.specs.declared.syntax.Syntax.TheVariants as a_syntax
+use Rattle.hg_syntax.specs.declared.syntax.Syntax.{Syntax}
+use Rattle.hg_syntax.specs.declared.syntax.Syntax.TheVariants as a_syntax
 use Rattle.hg_ignore.specs.declared.fault.IgnoreFault.{IgnoreFault}
 use Rattle.hg_ignore.specs.declared.fault.IgnoreFault.TheVariants as a_fault
 use Rattle.hg_ignore.proofs.Compiled.{built_is, found_is}
-use Rattle.hg_ignore.proofs.Texts.{cut_pieces, plain_pieces}
+use Rattle.hg_syntax.proofs.Texts.{cut_pieces, plain_pieces}
 
 -- a regexp that was built is taken in
 pub taken_regexp : (n : ℕ) (text : List ℕ) (old new : Reading) (regex : Regex) → new.regexes.items ≡ old.regexes.items ++ regex ∷ [] → new.globs.items ≡ old.globs.items → new.warnings ≡ old.warnings → new.syntax ≡ old.syntax → IsBuiltFrom text regex

@@ -1,10 +1,10 @@
 -- How a glob is normalized.
 use Rattle.std.proofs.Common.{◌≡◌, ◌≢◌, ℕ, Bool, true, false, cond, List, [], ◌∷◌, ◌++◌, drop, inl, inr, refl, sym, ap, ◌∙◌, append_assoc, append-nil}
 use Rattle.std.specs.List.{filter}
-use Rattle.hg_ignore.specs.Text.{has, pieces}
+use Rattle.hg_syntax.specs.Text.{has, pieces}
 use Rattle.hg_ignore.specs.Line.{is_step, slashed}
 use Rattle.hg_ignore.specs.Normal.{steps_of, IsSlashed}
-use Rattle.hg_ignore.proofs.Texts.{cut_pieces, plain_pieces}
+use Rattle.hg_syntax.proofs.Texts.{cut_pieces, plain_pieces}
 
 step_onto : (piece : List ℕ) (more : List (List ℕ)) (t : Bool) → is_step piece ≡ t → slashed (filter is_step (piece ∷ more)) ≡ cond t (47 ∷ piece) [] ++ slashed (filter is_step more)
 step_onto piece more true e = ap (λ t. slashed (cond t (piece ∷ filter is_step more) (filter is_step more))) e

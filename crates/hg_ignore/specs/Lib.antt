@@ -8,4 +8,3 @@ pub mod Regexp
 pub mod Source
 pub mod State
 pub mod Taking
-pub mod Text

@@ -2,11 +2,12 @@
 use Rattle.std.specs.Prelude.{ℕ, ◌+◌, if◌then◌else◌, Bool, true, false, not, ◌||◌, ◌==◌, List, [], ◌∷◌, ◌++◌, length, drop, Option, Some, None, codes}
 use Rattle.std.specs.Str.{bytes_eq}
 use Rattle.std.specs.List.{flat_map, filter}
-use Rattle.hg_ignore.specs.Text.{pieces, cut_at, trimmed, text_of}
-use Rattle.hg_ignore.specs.declared.syntax.Syntax.{Syntax}
-use Rattle.hg_ignore.specs.declared.syntax.Syntax.TheVariants as a_syntax
-use Rattle.hg_ignore.specs.declared.syntax.Form.{Form}
-use Rattle.hg_ignore.specs.declared.syntax.Form.TheVariants as a_form
+use Rattle.hg_syntax.specs.Syntax.{form_of, syntax_named}
+use Rattle.hg_syntax.specs.Text.{pieces, cut_at, trimmed, text_of}
+use Rattle.hg_syntax.specs.declared.syntax.Syntax.{Syntax}
+use Rattle.hg_syntax.specs.declared.syntax.Syntax.TheVariants as a_syntax
+use Rattle.hg_syntax.specs.declared.syntax.Form.{Form}
+use Rattle.hg_syntax.specs.declared.syntax.Form.TheVariants as a_form
 
 -- what a line says, with its number: a glob, which holds from the root alone or in each directory; a regexp; a syntax of a name that
 -- isn't known; another file to be read
@@ -15,39 +16,6 @@ pub data Item : Type 0 where
   regexp : ℕ → List ℕ → Item
   unknown : ℕ → List ℕ → Item
   included : ℕ → Item
-
--- the syntax of that name
-abbrev pub syntax_named : List ℕ → Option Syntax
-syntax_named name =
-    if bytes_eq name (codes "glob")
-    then Some a_syntax.Glob
-    else (
-    if bytes_eq name (codes "rootglob")
-    then Some a_syntax.RootGlob
-    else (if bytes_eq name (codes "regexp") || bytes_eq name (codes "re") then Some a_syntax.Regexp else None)
-    )
-
--- what the word in front of a line's first colon makes of the line: it names the syntax of the lines that follow, it names another
--- file, it is the line's own syntax, or it is part of a pattern
-abbrev pub form_of : List ℕ → Form
-form_of word =
-    if bytes_eq word (codes "syntax")
-    then a_form.Naming
-    else (
-    if bytes_eq word (codes "include") || bytes_eq word (codes "subinclude")
-    then a_form.Including
-    else (
-    if bytes_eq word (codes "glob") || bytes_eq word (codes "relglob")
-    then a_form.Own a_syntax.Glob
-    else (
-    if bytes_eq word (codes "rootglob")
-    then a_form.Own a_syntax.RootGlob
-    else (
-    if bytes_eq word (codes "re") || bytes_eq word (codes "regexp") || bytes_eq word (codes "relre") then a_form.Own a_syntax.Regexp else a_form.Plain
-    )
-    )
-    )
-    )
 
 -- a component of a glob that says where to look: not empty, and not `.`
 abbrev pub is_step : List ℕ → Bool
@@ -93,7 +61,8 @@ syntax_said n syntax name (Some named) = record { items = []; syntax = named }
 -- a line with a colon, by what stands before it and behind it
 abbrev pub form_said : ℕ → Syntax → List ℕ → List ℕ → Form → Said
 form_said n syntax text rest a_form.Naming = syntax_said n syntax (trimmed rest) (syntax_named (trimmed rest))
-form_said n syntax text rest a_form.Including = record { items = included n ∷ []; syntax = syntax }
+form_said n syntax text rest a_form.Include = record { items = included n ∷ []; syntax = syntax }
+form_said n syntax text rest a_form.SubInclude = record { items = included n ∷ []; syntax = syntax }
 form_said n syntax text rest (a_form.Own own) = pattern_said n syntax own rest
 form_said n syntax text rest a_form.Plain = pattern_said n syntax syntax text
 

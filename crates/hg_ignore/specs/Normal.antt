@@ -1,7 +1,7 @@
 -- The steps by which a glob is normalized.
 use Rattle.std.specs.Prelude.{ℕ, ◌≡◌, ◌⊎◌, List, [], ◌∷◌}
 use Rattle.std.specs.List.{filter}
-use Rattle.hg_ignore.specs.Text.{pieces}
+use Rattle.hg_syntax.specs.Text.{pieces}
 use Rattle.hg_ignore.specs.Line.{is_step, slashed}
 
 -- the components of a glob that say where to look, with a slash before each

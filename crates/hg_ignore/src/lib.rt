@@ -23,7 +23,7 @@
 //! ```
 //!
 //! `Ignore` is the state: contracts see the files that were read, with their texts. `Regexps` is what compiles regexps and counts
-//! those that are too big; `Builds` does so by `regex`. What a line says is defined in `specs/Text.antt` and `specs/Line.antt`, what is
+//! those that are too big; `Builds` does so by `regex`. What a line says is defined in `specs/Line.antt`, what is
 //! ignored and hashed in `specs/State.antt`, which lines are refused in `specs/Taking.antt`, and what is read when in `specs/Source.antt`.
 //! What a layer above may say of all this stands in `specs/Patterns.antt`.
 #![tactic(auto)]
@@ -39,8 +39,6 @@ mod regexps;
 mod searching;
 mod sets;
 mod source;
-mod syntax;
-mod text;
 mod warnings;
 
 pub use fault::IgnoreFault;

@@ -3,11 +3,11 @@
 ghost use Rattle.std.specs.Prelude.{◌≡◌, ◌++◌, ◌∷◌, [], drop, IfOk, OnOk, string_bytes, if◌then◌else◌};
 ghost use Rattle.hg_ignore.specs.Line as lines;
 ghost use Rattle.hg_ignore.specs.Line.{is_absolute, is_step, slashed};
-ghost use Rattle.hg_ignore.specs.Text.{pieces};
+ghost use Rattle.hg_syntax.specs.Text.{pieces};
 ghost use Rattle.hg_ignore.specs.Normal.{steps_of, IsSlashed};
 
-use crate::text::cut;
 use hg_base::OutOfMemory;
+use hg_syntax::cut;
 use std::alloc::Global;
 
 /// Whether a component of a glob says where to look: it isn't empty, and isn't `.`.

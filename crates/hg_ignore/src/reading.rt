@@ -2,20 +2,20 @@
 
 ghost use Rattle.std.specs.Prelude.{◌≡◌, ◌≤◌, ◌+◌, length, IfOk, IfErr, OnOk, [], ◌∷◌};
 ghost use Rattle.hg_ignore.specs.Line as lines;
-ghost use Rattle.hg_ignore.specs.Line.{pattern_said, pattern_line, glob_line, normalized, syntax_named, lines_of, said, cut_said, regexp};
-ghost use Rattle.hg_ignore.specs.Text as texts;
-ghost use Rattle.hg_ignore.specs.Text.{trimmed};
+ghost use Rattle.hg_ignore.specs.Line.{pattern_said, pattern_line, glob_line, normalized, lines_of, said, cut_said, regexp};
+ghost use Rattle.hg_syntax.specs.Syntax.{syntax_named};
+ghost use Rattle.hg_syntax.specs.Text as texts;
+ghost use Rattle.hg_syntax.specs.Text.{trimmed};
 ghost use Rattle.hg_ignore.specs.Taking.{Counted, HasLineCause, Reaches, Taken};
-ghost use Rattle.hg_ignore.specs.declared.syntax.Syntax.TheVariants as a_syntax;
+ghost use Rattle.hg_syntax.specs.declared.syntax.Syntax.TheVariants as a_syntax;
 
 use crate::fault::IgnoreFault;
 use crate::normal::normalized;
 use crate::regexps::{RegexpFault, Regexps};
-use crate::syntax::{Form, Syntax, form_of, syntax_named};
-use crate::text::{cut, text_of, trimmed};
 use crate::warnings::{Warning, Warnings};
 use hg_base::Text;
 use hg_glob::{Glob, GlobFault, GlobLine};
+use hg_syntax::{Form, Syntax, cut, form_of, syntax_named, text_of, trimmed};
 use regex::Regex;
 use std::alloc::Global;
 
@@ -157,7 +157,7 @@ impl Reading {
     {
         match form {
             Form::Naming => self.take_syntax(alloc, n, trimmed(rest)),
-            Form::Including => Err(IgnoreFault::BadInclude { line: n }),
+            Form::Include | Form::SubInclude => Err(IgnoreFault::BadInclude { line: n }),
             Form::Own(own) => self.take_pattern(alloc, regexps, n, own, rest),
             Form::Plain => self.take_pattern(alloc, regexps, n, self.syntax, text),
         }

@@ -1,7 +1,7 @@
 use Rattle.std.proofs.Common.{◌∙◌, arith, refl, rules, IsUtf8}
 use Rattle.std.proofs.lemmas.Result.{err_from_is_err_and}
 use Rattle.hg_ignore.specs.Line.{lines_of}
-use Rattle.hg_ignore.proofs.Texts.{cut_length}
+use Rattle.hg_syntax.proofs.Texts.{cut_length}
 use Rattle.hg_ignore.proofs.Lines.{read_first, taken_more, caused_more, taken_last, caused_last}
 use Rattle.hg_ignore.proofs.reading.read_lines.Goals as goal
 

@@ -1,6 +1,6 @@
 use Rattle.hg_ignore.specs.Kept.{patterns_asked}
 use Rattle.hg_ignore.proofs.Asking.{glob_decides, set_decides}
-use Rattle.hg_ignore.proofs.Texts.{text_bytes}
+use Rattle.hg_syntax.proofs.Texts.{text_bytes}
 use Rattle.hg_ignore.proofs.matcher.Matcher.matches_text.Goals as goal
 
 pub returns-then-some_stands-clause-matches : goal.returns-then-some_stands-clause-matches

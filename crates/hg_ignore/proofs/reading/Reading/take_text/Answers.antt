@@ -1,8 +1,8 @@
 use Rattle.std.proofs.Common.{sym, subst, Option, List, ℕ, OnOk, IfErr}
 use Rattle.hg_ignore.specs.Line.{cut_said, form_said}
 use Rattle.hg_ignore.specs.Taking.{HasLineCause, Taken}
-use Rattle.hg_ignore.specs.declared.syntax.Form.{Form}
-use Rattle.hg_ignore.proofs.Texts.{cut_is_none, cut_is_some}
+use Rattle.hg_syntax.specs.declared.syntax.Form.{Form}
+use Rattle.hg_syntax.proofs.Texts.{cut_is_none, cut_is_some}
 use Rattle.hg_ignore.proofs.reading.Reading.take_text.Goals as goal
 
 pub returns-in-None-clause-taken : goal.returns-in-None-clause-taken

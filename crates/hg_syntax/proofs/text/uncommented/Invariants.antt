@@ -1,8 +1,8 @@
 use Rattle.std.proofs.Common.{◌≡◌, ◌++◌, length, string_bytes}
 use denote.Text.{Utf8}
 use denote.Shadow.{shadow}
-use Rattle.hg_ignore.specs.Text.{kept, pieces}
-use Rattle.hg_ignore.proofs.text.uncommented.Given as goal
+use Rattle.hg_syntax.specs.Text.{kept, pieces}
+use Rattle.hg_syntax.proofs.text.uncommented.Given as goal
 
 -- what is put and what is left make the line
 abbrev pub invariant-loop-front : goal.invariant-loop-front

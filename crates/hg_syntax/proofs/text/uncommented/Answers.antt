@@ -1,6 +1,6 @@
 use Rattle.std.proofs.Common.{◌∙◌, ◌++◌, sym, ap, rules, lit<, IsUtf8, string_bytes}
-use Rattle.hg_ignore.proofs.Texts.{kept_comment, kept_escaped, kept_plain, put_more}
-use Rattle.hg_ignore.proofs.text.uncommented.Goals as goal
+use Rattle.hg_syntax.proofs.Texts.{kept_comment, kept_escaped, kept_plain, put_more}
+use Rattle.hg_syntax.proofs.text.uncommented.Goals as goal
 
 pub returns-in-None : goal.returns-in-None
 returns-in-None c =

@@ -2,8 +2,8 @@
 
 ghost use Rattle.std.specs.Prelude.{◌≡◌, ◌<◌, ◌≤◌, ◌-◌, IfOk, option_map, length, string_bytes, IsCharBoundary};
 ghost use Rattle.std.specs.List.{suffix_len, prefix_len};
-ghost use Rattle.hg_ignore.specs.Text as texts;
-ghost use Rattle.hg_ignore.specs.Text.{IsCut, is_escaping, is_white, uncommented, without_end, without_start, escaped};
+ghost use Rattle.hg_syntax.specs.Text as texts;
+ghost use Rattle.hg_syntax.specs.Text.{IsCut, is_escaping, is_white, uncommented, without_end, without_start, escaped};
 
 use hg_base::OutOfMemory;
 use std::alloc::Global;

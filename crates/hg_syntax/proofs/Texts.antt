@@ -9,7 +9,7 @@ use Rattle.std.proofs.lemmas.List.Splits.{length-slice_split, slice_split_at, sl
 use Rattle.std.proofs.lemmas.Bool.{or_from, ne_eqb}
 use Rattle.std.proofs.lemmas.Str.Pattern.{IsSplitOnceResult, split_parts}
 use Rattle.std.proofs.Math.Seq.{take-append_seam}
-use Rattle.hg_ignore.specs.Text.{has, pieces, IsCut, cut_at, odd_from, is_escaping, without_last, escaped, kept, is_white}
+use Rattle.hg_syntax.specs.Text.{has, pieces, IsCut, cut_at, odd_from, is_escaping, without_last, escaped, kept, is_white}
 
 -- no byte has that value
 pub plain_from : (at : ℕ) (text : List ℕ) → ((i : ℕ) → i < length text → get_or text i 0 ≢ at) → has at text ≡ false

@@ -1,7 +1,7 @@
 use Rattle.std.proofs.Common.{◌∙◌, sym, lit<}
 use Rattle.std.proofs.lemmas.Str.Pattern.{strip_suffix_char}
-use Rattle.hg_ignore.proofs.Texts.{escaped_none, escaped_twice, escaped_once, strips_none, strips_some}
-use Rattle.hg_ignore.proofs.text.escaped.Goals as goal
+use Rattle.hg_syntax.proofs.Texts.{escaped_none, escaped_twice, escaped_once, strips_none, strips_some}
+use Rattle.hg_syntax.proofs.text.escaped.Goals as goal
 
 pub returns-in-None : goal.returns-in-None
 returns-in-None c = sym (escaped_none c.args.text.now (strips_none c.args.text.now _ (strip_suffix_char 92 c.args.text.now _ c.strip_suffix.ensures.cases (lit< tt)) c.in-None.is))

@@ -1,7 +1,7 @@
 use Rattle.std.proofs.Common.{◌≡◌, ◌+◌, ◌-◌, ◌≤◌, length, take, IsCharBoundary}
 use Rattle.std.specs.List.{suffix_len}
-use Rattle.hg_ignore.specs.Text.{is_white}
-use Rattle.hg_ignore.proofs.text.end_of.Given as goal
+use Rattle.hg_syntax.specs.Text.{is_white}
+use Rattle.hg_syntax.proofs.text.end_of.Given as goal
 
 abbrev pub invariant-loop-end : goal.invariant-loop-end
 invariant-loop-end l = record {

@@ -1,7 +1,7 @@
 use Rattle.std.proofs.Common.{◌≡◌, ◌+◌, ◌-◌, ◌≤◌, length, drop, IsCharBoundary}
 use Rattle.std.specs.List.{prefix_len}
-use Rattle.hg_ignore.specs.Text.{is_white}
-use Rattle.hg_ignore.proofs.text.start_of.Given as goal
+use Rattle.hg_syntax.specs.Text.{is_white}
+use Rattle.hg_syntax.proofs.text.start_of.Given as goal
 
 abbrev pub invariant-loop-start : goal.invariant-loop-start
 invariant-loop-start l = record {

@@ -1,7 +1,7 @@
 use Rattle.std.proofs.Common.{arith, rules}
 use Rattle.std.proofs.lemmas.Str.{IsCharBoundary-start}
-use Rattle.hg_ignore.proofs.Texts.{start_more}
-use Rattle.hg_ignore.proofs.text.start_of.Goals as goal
+use Rattle.hg_syntax.proofs.Texts.{start_more}
+use Rattle.hg_syntax.proofs.text.start_of.Goals as goal
 
 pub loop-start-init : goal.loop-start-init
 loop-start-init c = record { within = omega arith; rest = omega arith; cut = IsCharBoundary-start c.args.text.now c.utf8.text }

@@ -1,7 +1,7 @@
 //! The syntaxes of lines, and the words that name them.
 
 ghost use Rattle.std.specs.Prelude.{◌≡◌};
-ghost use Rattle.hg_ignore.specs.Line.{form_of, syntax_named};
+ghost use Rattle.hg_syntax.specs.Syntax.{form_of, syntax_named};
 
 /// How a line is read: as a regexp, as a glob in each directory, or as a glob from the root on.
 #[derive(Clone, Copy, Debug, PartialEq, Eq)]
@@ -16,8 +16,10 @@ pub enum Syntax {
 pub enum Form {
     /// It names the syntax of the lines that follow.
     Naming,
-    /// It names another file.
-    Including,
+    /// It names another file, by its path from the root.
+    Include,
+    /// It names another file, by its path from the directory of the file that holds the line.
+    SubInclude,
     /// It is the line's own syntax.
     Own(Syntax),
     /// It is part of a pattern.
@@ -47,8 +49,11 @@ pub fn form_of(word: &str) -> Form
     if word == "syntax" {
         return Form::Naming;
     }
-    if word == "include" || word == "subinclude" {
-        return Form::Including;
+    if word == "include" {
+        return Form::Include;
+    }
+    if word == "subinclude" {
+        return Form::SubInclude;
     }
     if word == "glob" || word == "relglob" {
         return Form::Own(Syntax::Glob);
