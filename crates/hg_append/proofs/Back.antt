@@ -15,7 +15,7 @@ use Rattle.hg_image.specs.Reading.{row_at}
 use Rattle.hg_image.specs.Rows.{AreDistinct, Row, list_rows}
 use Rattle.hg_image.specs.Walk.{levels, list_fault}
 use Rattle.hg_image.proofs.Apart.{each_then, list_dist}
-use Rattle.hg_mixed.specs.Children.{ChildData}
+use Rattle.hg_nodes.specs.Children.{ChildData}
 use Rattle.hg_mixed.specs.Held.{Held, is_lent, table}
 use Rattle.hg_mixed.specs.Shown.{IsAsImage, list_place}
 use Rattle.hg_image.proofs.Found.{row_path}

@@ -12,7 +12,7 @@ use Rattle.hg_docket.specs.Written.{is_writable}
 use Rattle.hg_image.specs.Counts.{are_counted, is_copy, is_counted, is_entry}
 use Rattle.hg_image.specs.Rows.{rows_of}
 use Rattle.hg_image.specs.declared.opened.Image.{Image}
-use Rattle.hg_mixed.specs.Edits.{IsFormed}
+use Rattle.hg_nodes.specs.Edits.{IsFormed}
 use Rattle.hg_mixed.specs.Held.{Held, is_lent, table}
 use Rattle.hg_mixed.specs.Shown.{AreLentWhole, ArePlacesOfImage}
 use Rattle.hg_append.specs.declared.encoding.Encoded.{Encoded}

@@ -10,7 +10,8 @@ use Rattle.hg_image.specs.Counts.{are_counted, is_entry, is_tracked}
 use Rattle.hg_image.specs.Reading.{row_at}
 use Rattle.hg_image.specs.Rows.{Row, list_rows}
 use Rattle.hg_image.specs.Walk.{list_fault}
-use Rattle.hg_mixed.specs.Children.{ChildData, IsChild}
+use Rattle.hg_mixed.specs.Children.{IsChild}
+use Rattle.hg_nodes.specs.Children.{ChildData}
 use Rattle.hg_mixed.specs.Held.{Held, table}
 use Rattle.hg_append.specs.declared.kept.Kept.{Kept}
 use Rattle.hg_append.specs.Keeps.{Keeps}

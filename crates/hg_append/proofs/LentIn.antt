@@ -30,8 +30,9 @@ use Rattle.hg_append.proofs.Longer.{longer_by, rows_empty}
 use Rattle.hg_image.proofs.Names.{less_differs}
 use Rattle.hg_image.proofs.Sound.{list_sound}
 use Rattle.hg_append.proofs.Under.{IsPart, Under, part_length, row_found, row_under, rows_rooted, under_below, under_own, under_path, under_rows, under_sound, under_source}
-use Rattle.hg_mixed.specs.Children.{AreChildren, ChildData, IsChild}
-use Rattle.hg_mixed.specs.Edits.{IsFormed}
+use Rattle.hg_mixed.specs.Children.{AreChildren, IsChild}
+use Rattle.hg_nodes.specs.Children.{ChildData}
+use Rattle.hg_nodes.specs.Edits.{IsFormed}
 use Rattle.hg_mixed.specs.Held.{Held, has_list, is_lent, source_at, table, text_at}
 use Rattle.hg_mixed.specs.Opened.{source_place}
 use Rattle.hg_mixed.specs.Shown.{AreLentWhole, ArePlacesOfImage}

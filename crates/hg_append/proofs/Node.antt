@@ -14,9 +14,10 @@ use Rattle.hg_node.specs.Node.{AreFactsSized, AreTextsSized, bytes_of}
 use Rattle.hg_image.specs.declared.fault.NodeFault.{NodeFault}
 use Rattle.hg_image.specs.Node.{breaks_rule, is_too_deep, first_of, place_fault, fields_of, is_after, is_sourced, is_text, node_fault, part_at, path_of, name_of, record_at, source_of}
 use Rattle.hg_image.specs.Rows.{Row, row_of}
-use Rattle.hg_mixed.specs.Children.{ChildData, IsChild}
+use Rattle.hg_mixed.specs.Children.{IsChild}
+use Rattle.hg_nodes.specs.Children.{ChildData}
 use Rattle.hg_mixed.specs.Held.{Held}
-use Rattle.hg_mixed.specs.Written.{fields_for}
+use Rattle.hg_nodes.specs.Written.{fields_for}
 use Rattle.hg_append.specs.declared.kept.Kept.{Kept}
 use Rattle.hg_append.specs.Keeps.{Keeps, new_text, number_unless, only_if, size_unless, text_start}
 use Rattle.hg_append.specs.Tree.{Nothing, Node, Tree, heads, is_tracked, kept_of}

@@ -13,7 +13,8 @@ use Rattle.hg_base.proofs.Within.{equal_bytes, same_bytes}
 use Rattle.hg_entry.specs.Entry.{has_entry}
 use Rattle.hg_image.specs.Rows.{Row, rows_of}
 use Rattle.hg_image.proofs.Apart.{not_after_itself}
-use Rattle.hg_mixed.specs.Children.{AreChildren, ChildData, IsChild}
+use Rattle.hg_mixed.specs.Children.{AreChildren, IsChild}
+use Rattle.hg_nodes.specs.Children.{ChildData}
 use Rattle.hg_mixed.specs.Held.{Held, is_lent, source_at, table, text_at}
 use Rattle.hg_append.specs.declared.kept.Kept.{Kept}
 use Rattle.hg_append.specs.Keeps.{Keeps, keeps_nothing}

@@ -1,9 +1,8 @@
 -- A table that was written anew is read again: the case of an append that keeps nothing, at place 0.
 use Rattle.std.proofs.Common.{◌≡◌, ℕ, ◌+◌, ◌-◌, ◌*◌, ◌<◌, ◌≤◌, ◌^◌, Bool, true, false, cond, List, [], ◌∷◌, ◌++◌, length, take, Option, Some, None, refl, sym, ap, subst, ◌∙◌, arith, eqb, ltb, eq-eqb, le-leb}
-use Rattle.std.specs.Prelude.{count_by}
+use Rattle.std.specs.Prelude.{count_by, is_some}
 use Rattle.std.specs.List.{sum_by}
 use Rattle.std.proofs.lemmas.Bool.{and_from, ne_eqb}
-use Rattle.std.specs.Prelude.{is_some}
 use Rattle.std.proofs.lemmas.Bool.Decides.{nat_tests}
 use Rattle.std.proofs.lemmas.List.{length-append, take_all}
 use Rattle.std.proofs.lemmas.List.Sums.{sum_by-append, sum_by-cons}
@@ -16,8 +15,8 @@ use Rattle.hg_image.specs.Rows.{Row, list_rows, rows_of}
 use Rattle.hg_image.specs.Walk.{image_fault, levels, list_fault}
 use Rattle.hg_image.specs.declared.fault.NodeFault.{NodeFault}
 use Rattle.hg_image.specs.declared.fault.NodeFault.TheVariants as a_fault
-use Rattle.hg_mixed.specs.Children.{ChildData}
-use Rattle.hg_mixed.specs.Edits.{IsFormed, IsSame}
+use Rattle.hg_nodes.specs.Children.{ChildData}
+use Rattle.hg_nodes.specs.Edits.{IsFormed, IsSame}
 use Rattle.hg_mixed.specs.Held.{Held, table}
 use Rattle.hg_append.specs.declared.encoding.Encoded.{Encoded}
 use Rattle.hg_append.specs.Encoded.{IsSoundly, ReadsAs, contents_of}

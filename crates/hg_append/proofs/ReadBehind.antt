@@ -14,7 +14,7 @@ use Rattle.hg_image.specs.Walk.{image_fault, levels, list_fault}
 use Rattle.hg_image.specs.declared.fault.NodeFault.{NodeFault}
 use Rattle.hg_image.specs.declared.fault.NodeFault.TheVariants as a_fault
 use Rattle.hg_mixed.specs.Held.{Held, is_lent, table}
-use Rattle.hg_mixed.specs.Edits.{IsSame}
+use Rattle.hg_nodes.specs.Edits.{IsSame}
 use Rattle.hg_mixed.specs.Shown.{list_place}
 use Rattle.hg_append.specs.declared.encoding.Encoded.{Encoded}
 use Rattle.hg_append.specs.Appended.{IsExact, IsSoundlyAppended, StaysAt, contents_behind, end_with, file_with}

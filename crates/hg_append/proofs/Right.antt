@@ -18,10 +18,11 @@ use Rattle.hg_entry.specs.declared.entry.Fields.{Fields}
 use Rattle.hg_image.specs.Node.{fields_of}
 use Rattle.hg_image.specs.Reading.{row_at, table_of}
 use Rattle.hg_image.specs.Rows.{Row}
-use Rattle.hg_mixed.specs.Children.{AreChildren, ChildData, IsChild}
-use Rattle.hg_mixed.specs.Edits.{IsFormed, IsSame}
+use Rattle.hg_mixed.specs.Children.{AreChildren, IsChild}
+use Rattle.hg_nodes.specs.Children.{ChildData}
+use Rattle.hg_nodes.specs.Edits.{IsFormed, IsSame}
 use Rattle.hg_mixed.specs.Held.{Held, table}
-use Rattle.hg_mixed.specs.Written.{fields_for}
+use Rattle.hg_nodes.specs.Written.{fields_for}
 use Rattle.hg_append.specs.declared.kept.Kept.{Kept}
 use Rattle.hg_append.specs.Keeps.{Keeps}
 use Rattle.hg_append.specs.Tree.{AreBelowIn, AreKids, IsTreeIn, Nothing, Node, Tree, heads, kept_of}

@@ -13,11 +13,13 @@ use Rattle.hg_image.specs.Reading.{row_at}
 use Rattle.hg_image.specs.Rows.{Row, rows_of}
 use Rattle.hg_image.specs.Walk.{levels, list_fault}
 use Rattle.hg_image.proofs.Apart.{each_then}
-use Rattle.hg_mixed.specs.Children.{AreChildren, ChildData, IsChild}
-use Rattle.hg_mixed.specs.Edits.{IsFormed}
-use Rattle.hg_mixed.specs.Held.{Held, has_list, image_table, is_lent, node_in, source_at, table, table_of, text_at}
+use Rattle.hg_mixed.specs.Children.{AreChildren, IsChild}
+use Rattle.hg_nodes.specs.Children.{ChildData}
+use Rattle.hg_nodes.specs.Edits.{IsFormed}
+use Rattle.hg_mixed.specs.Held.{Held, has_list, image_table, is_lent, node_in, source_at, table, text_at}
+use Rattle.hg_nodes.specs.Memory.{table_of}
 use Rattle.hg_mixed.specs.Lent.{covers}
-use Rattle.hg_mixed.specs.Node.{NodeData, source_text_in, text_in}
+use Rattle.hg_nodes.specs.Node.{NodeData, source_text_in, text_in}
 use Rattle.hg_mixed.specs.Opened.{node_of, source_place}
 use Rattle.hg_mixed.specs.Shown.{AreLentWhole, ArePlacesOfImage, IsAsImage, list_place}
 use Rattle.hg_mixed.proofs.Kept.{IsListed, has_by, listed_by}

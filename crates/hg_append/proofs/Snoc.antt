@@ -2,7 +2,7 @@
 use Rattle.std.proofs.Common.{◌≡◌, ℕ, ◌+◌, cond, List, [], ◌∷◌, ◌++◌, length, refl, sym, ap, ◌∙◌, arith, append_assoc, append-nil}
 use Rattle.std.specs.List.{AllByRecursion}
 use Rattle.hg_node.specs.Node.{bytes_of}
-use Rattle.hg_mixed.specs.Children.{ChildData}
+use Rattle.hg_nodes.specs.Children.{ChildData}
 use Rattle.hg_mixed.specs.Held.{Held}
 use Rattle.hg_append.specs.Keeps.{Keeps, keeps_nothing}
 use Rattle.hg_append.specs.Tree.{AreBelowIn, AreKids, Counting, Tree, Nothing, Node, heads, kept_of, number_in}

@@ -11,9 +11,10 @@ use Rattle.hg_base.proofs.Components.{joined_parent}
 use Rattle.hg_base.proofs.Paths.{path_parts, path_some}
 use Rattle.hg_node.specs.Node.{bytes_of}
 use Rattle.hg_node.specs.declared.record.Rec.{Rec}
-use Rattle.hg_mixed.specs.Children.{AreChildren, ChildData, IsChild}
+use Rattle.hg_mixed.specs.Children.{AreChildren, IsChild}
+use Rattle.hg_nodes.specs.Children.{ChildData}
 use Rattle.hg_mixed.specs.Held.{Held, table}
-use Rattle.hg_mixed.specs.Written.{fields_for}
+use Rattle.hg_nodes.specs.Written.{fields_for}
 use Rattle.hg_append.specs.declared.sums.Sums.{Sums}
 use Rattle.hg_append.specs.declared.lists.Put.{Put}
 use Rattle.hg_append.specs.declared.kept.Kept.{Kept}

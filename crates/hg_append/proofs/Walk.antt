@@ -22,10 +22,11 @@ use Rattle.hg_image.specs.Rows.{AreParted, Row, list_rows, nodes_rows}
 use Rattle.hg_image.specs.Walk.{depth_of, levels, list_fault, nodes_fault}
 use Rattle.hg_image.proofs.Counted.{count_append, count_cons, counted_parts}
 use Rattle.hg_image.proofs.Walk.{below, list_empty, list_inside}
-use Rattle.hg_mixed.specs.Children.{ChildData, IsChild, AreChildren}
-use Rattle.hg_mixed.specs.Edits.{IsFormed}
+use Rattle.hg_mixed.specs.Children.{IsChild, AreChildren}
+use Rattle.hg_nodes.specs.Children.{ChildData}
+use Rattle.hg_nodes.specs.Edits.{IsFormed}
 use Rattle.hg_mixed.specs.Held.{Held, table}
-use Rattle.hg_mixed.specs.Written.{fields_for}
+use Rattle.hg_nodes.specs.Written.{fields_for}
 use Rattle.hg_append.specs.declared.kept.Kept.{Kept}
 use Rattle.hg_append.specs.Keeps.{Keeps, bytes_unless, number_unless}
 use Rattle.hg_append.specs.Tree.{AreBelowIn, AreKids, Counting, IsTreeIn, Nothing, Node, Tree, heads, is_tracked, kept_of, number_in}
@@ -43,7 +44,7 @@ use Rattle.hg_base.proofs.Compared.{cmp_joined}
 use Rattle.hg_base.proofs.Components.{components_more, components_name, joined_parent}
 use Rattle.hg_image.proofs.Apart.{kids_of, list_later}
 use Rattle.hg_image.proofs.Parted.{parted}
-use Rattle.hg_mixed.specs.Clash.{is_tracked_entry}
+use Rattle.hg_nodes.specs.Clash.{is_tracked_entry}
 
 one_more : (dir : Option (List ℕ)) (name : List ℕ) → has_slash name ≡ false → length (components (joined dir name)) ≡ depth_of dir + 1
 one_more None name plain = ap length (components_name name plain)

@@ -7,7 +7,7 @@ use Rattle.hg_docket.specs.Written as docket
 use Rattle.hg_image.specs.Counts.{is_copy, is_counted}
 use Rattle.hg_image.specs.Rows.{rows_of}
 use Rattle.hg_image.specs.Walk.{levels, list_fault}
-use Rattle.hg_mixed.specs.Edits.{IsFormed}
+use Rattle.hg_nodes.specs.Edits.{IsFormed}
 use Rattle.hg_mixed.specs.Held.{Held, is_lent, table}
 use Rattle.hg_mixed.specs.Shown.{AreLentWhole, ArePlacesOfImage, list_place}
 use Rattle.hg_append.specs.declared.encoding.Encoded.{Encoded}

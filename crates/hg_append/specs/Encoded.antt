@@ -5,7 +5,7 @@ use Rattle.hg_docket.specs.Number.{next_name}
 use Rattle.hg_docket.specs.Written as docket
 use Rattle.hg_entry.specs.Table.{Table}
 use Rattle.hg_image.specs.Reading.{RecordFault}
-use Rattle.hg_mixed.specs.Edits.{IsSame}
+use Rattle.hg_nodes.specs.Edits.{IsSame}
 use Rattle.hg_mixed.specs.Held.{Held}
 use Rattle.hg_append.specs.declared.encoding.Encoded.{Encoded}
 use Rattle.hg_append.specs.declared.fault.EncodeFault.{EncodeFault}

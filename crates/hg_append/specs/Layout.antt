@@ -4,8 +4,8 @@ use Rattle.std.specs.Prelude.{ℕ, ◌+◌, ◌-◌, List, [], ◌++◌, length,
 use Rattle.hg_base.specs.PathText.{base_of}
 use Rattle.hg_node.specs.declared.record.Rec.{Rec}
 use Rattle.hg_node.specs.Node.{bytes_of}
-use Rattle.hg_mixed.specs.Children.{ChildData}
-use Rattle.hg_mixed.specs.Written.{fields_for}
+use Rattle.hg_nodes.specs.Children.{ChildData}
+use Rattle.hg_nodes.specs.Written.{fields_for}
 use Rattle.hg_append.specs.Keeps.{Keeps, bytes_unless, keeps_nothing, new_text, number_unless, size_unless, text_start}
 use Rattle.hg_append.specs.Tree.{Counting, Tree, Nothing, Node, has_entry, heads, is_tracked, kept_of, number_in}
 

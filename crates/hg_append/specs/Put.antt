@@ -7,9 +7,10 @@ use Rattle.hg_entry.specs.declared.entry.Fields.{Fields}
 use Rattle.hg_entry.specs.Entry.{cache_of, entry_of, is_timely}
 use Rattle.hg_node.specs.Node.{bytes_of}
 use Rattle.hg_node.specs.declared.record.Rec.{Rec}
-use Rattle.hg_mixed.specs.Children.{AreChildren, ChildData}
+use Rattle.hg_mixed.specs.Children.{AreChildren}
+use Rattle.hg_nodes.specs.Children.{ChildData}
 use Rattle.hg_mixed.specs.Held.{Held}
-use Rattle.hg_mixed.specs.Written.{fields_for}
+use Rattle.hg_nodes.specs.Written.{fields_for}
 use Rattle.hg_append.specs.declared.sums.Sums.{Sums}
 use Rattle.hg_append.specs.declared.lists.Put.{Put}
 use Rattle.hg_append.specs.declared.kept.Kept.{Kept}

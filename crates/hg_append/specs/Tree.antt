@@ -1,7 +1,8 @@
 -- The nodes of a table as a tree.
 use Rattle.std.specs.Prelude.{ℕ, ◌≡◌, ◌+◌, Bool, if◌then◌else◌, List, [], ◌∷◌, ◌++◌, Option, Some, None, is_some}
-use Rattle.hg_mixed.specs.Children.{AreChildren, ChildData}
-use Rattle.hg_mixed.specs.Clash.{is_tracked_entry}
+use Rattle.hg_mixed.specs.Children.{AreChildren}
+use Rattle.hg_nodes.specs.Children.{ChildData}
+use Rattle.hg_nodes.specs.Clash.{is_tracked_entry}
 use Rattle.hg_mixed.specs.Held.{Held}
 use Rattle.hg_append.specs.declared.kept.Kept.{Kept}
 use Rattle.hg_append.specs.Keeps.{Keeps, keeps_nothing, number_unless, only_if}

@@ -5,7 +5,7 @@ ghost use Rattle.hg_node.specs.Node.{bytes_of};
 ghost use Rattle.hg_mixed.specs.Child.{shown_child};
 ghost use Rattle.hg_mixed.specs.Children.{AreChildren, IsChild};
 ghost use Rattle.hg_mixed.specs.Walk.{IsBelow, ListIsOf, ListsAreOf, walked};
-ghost use Rattle.hg_mixed.specs.Written.{fields_for};
+ghost use Rattle.hg_nodes.specs.Written.{fields_for};
 ghost use Rattle.std.specs.Str.{is_utf8};
 ghost use Rattle.hg_base.specs.PathText.{is_path, parent_of};
 ghost use Rattle.hg_append.specs.Keeps.{keeps_by, new_text, text_start};

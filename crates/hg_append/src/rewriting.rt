@@ -7,7 +7,7 @@ ghost use Rattle.hg_docket.specs.Written as written;
 ghost use Rattle.hg_image.specs.Counts.{is_counted};
 ghost use Rattle.hg_image.specs.Reading.{reading_of};
 ghost use Rattle.hg_image.specs.Rows.{rows_of};
-ghost use Rattle.hg_mixed.specs.Edits.{IsFormed};
+ghost use Rattle.hg_nodes.specs.Edits.{IsFormed};
 ghost use Rattle.hg_mixed.specs.Held.{table};
 ghost use Rattle.hg_append.specs.Encoded.{HasCause, IsFit, IsSoundly, IsWritten, ReadsAs, Yields, contents_with};
 ghost use Rattle.hg_append.specs.Layout.{size_of};

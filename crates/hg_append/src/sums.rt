@@ -2,7 +2,7 @@
 
 ghost use Rattle.std.specs.Prelude.{◌≡◌};
 ghost use Rattle.hg_mixed.specs.Child.{shown_child};
-ghost use Rattle.hg_mixed.specs.Clash as clash;
+ghost use Rattle.hg_nodes.specs.Clash as clash;
 ghost use Rattle.hg_entry.specs.Entry.{view};
 ghost use Rattle.std.specs.Option.{option_map};
 ghost use Rattle.hg_append.specs.Put as puts;

@@ -27,7 +27,7 @@ fn docket_of(saved: &Saved) -> Result<Docket<'_>, Fail> {
 // The record of these edits of an empty table, written anew.
 fn saved_anew(alloc: Global, edits: &[Edit]) -> Result<Saved, Fail> {
     let docket = Docket::read(b"")?;
-    let mut m = Mixed::open(alloc, Image::open(&docket, b"")?)?;
+    let mut m = Mixed::open(Image::open(&docket, b"")?);
     let mut plain = Plain::of(alloc, PATHS)?;
     for it in edits {
         apply(alloc, &mut m, &mut plain, *it)?;
@@ -42,7 +42,7 @@ fn saved_anew(alloc: Global, edits: &[Edit]) -> Result<Saved, Fail> {
 // What one more edit of a record is encoded as, by the better way.
 fn one_more(alloc: Global, saved: &Saved, edit: Edit) -> Result<(Way, Encoded), Fail> {
     let docket = docket_of(saved)?;
-    let mut m = Mixed::open(alloc, Image::open(&docket, &saved.file)?)?;
+    let mut m = Mixed::open(Image::open(&docket, &saved.file)?);
     let mut plain = Plain::of(alloc, PATHS)?;
     apply(alloc, &mut m, &mut plain, edit)?;
     let way = plan(&m);
@@ -130,7 +130,7 @@ fn is_saved(alloc: Global, saved: &Saved, plain: &Plain) -> Result<(), Fail> {
     if needed.saturating_add(docket.unreachable as u64) != docket.used as u64 {
         return Err("another number of bytes that nothing leads to".into());
     }
-    let m = Mixed::open(alloc, image)?;
+    let m = Mixed::open(image);
     if !is_same(&m, plain)? {
         return Err("another table is read".into());
     }
@@ -145,7 +145,7 @@ fn changed(
     state: &mut u64,
 ) -> Result<(Way, Encoded), Fail> {
     let docket = docket_of(saved)?;
-    let mut m = Mixed::open(alloc, Image::open(&docket, &saved.file)?)?;
+    let mut m = Mixed::open(Image::open(&docket, &saved.file)?);
     for _ in 0..drawn(state, 4) {
         apply(alloc, &mut m, plain, some_edit(state))?;
     }

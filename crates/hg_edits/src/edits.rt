@@ -4,7 +4,8 @@ use hg_base::{Id20, PathRef, Stamp};
 use hg_docket::Docket;
 use hg_entry::Entry;
 use hg_image::Image;
-use hg_mixed::{Mixed, SetFault};
+use hg_mixed::Mixed;
+use hg_nodes::SetFault;
 use std::alloc::Global;
 use std::test::Fail;
 use std::vec::Vec;
@@ -298,9 +299,15 @@ fn is_tracked(row: &Row) -> bool {
 }
 
 // An edit of both tables, which have to agree on what is refused.
-fn set(m: &mut Mixed<'_>, plain: &mut Plain, path: &str, entry: Entry) -> Result<(), Fail> {
+fn set(
+    alloc: Global,
+    m: &mut Mixed<'_>,
+    plain: &mut Plain,
+    path: &str,
+    entry: Entry,
+) -> Result<(), Fail> {
     let clash = plain.clash(path, entry);
-    match m.set(PathRef::read(path)?, entry) {
+    match m.set(alloc, PathRef::read(path)?, entry) {
         Ok(()) => {
             if clash.is_some() {
                 return Err("an entry is set that clashes".into());
@@ -319,6 +326,7 @@ fn set(m: &mut Mixed<'_>, plain: &mut Plain, path: &str, entry: Entry) -> Result
 }
 
 fn copy(
+    alloc: Global,
     m: &mut Mixed<'_>,
     plain: &mut Plain,
     path: &str,
@@ -329,8 +337,8 @@ fn copy(
         return Ok(());
     }
     match source {
-        None => m.copy_from(at, None)?,
-        Some(source) => m.copy_from(at, Some(PathRef::read(source)?))?,
+        None => m.copy_from(alloc, at, None)?,
+        Some(source) => m.copy_from(alloc, at, Some(PathRef::read(source)?))?,
     }
     plain.copy(path, source);
     Ok(())
@@ -341,11 +349,17 @@ fn drop_entry(alloc: Global, m: &mut Mixed<'_>, plain: &mut Plain, path: &str) -
     if m.get(at).is_none() {
         return Ok(());
     }
-    m.drop_entry(at)?;
+    m.drop_entry(alloc, at)?;
     plain.drop_entry(alloc, path)
 }
 
-fn note(m: &mut Mixed<'_>, plain: &mut Plain, dir: &str, time: Stamp) -> Result<(), Fail> {
+fn note(
+    alloc: Global,
+    m: &mut Mixed<'_>,
+    plain: &mut Plain,
+    dir: &str,
+    time: Stamp,
+) -> Result<(), Fail> {
     let at = PathRef::read(dir)?;
     if !m.has_node(at) {
         return Ok(());
@@ -353,12 +367,12 @@ fn note(m: &mut Mixed<'_>, plain: &mut Plain, dir: &str, time: Stamp) -> Result<
     if m.get(at).is_some() {
         return Ok(());
     }
-    m.note_dir(at, time)?;
+    m.note_dir(alloc, at, time)?;
     plain.note(dir, Some(time));
     Ok(())
 }
 
-fn forget(m: &mut Mixed<'_>, plain: &mut Plain, dir: &str) -> Result<(), Fail> {
+fn forget(alloc: Global, m: &mut Mixed<'_>, plain: &mut Plain, dir: &str) -> Result<(), Fail> {
     let at = PathRef::read(dir)?;
     if !m.has_node(at) {
         return Ok(());
@@ -366,7 +380,7 @@ fn forget(m: &mut Mixed<'_>, plain: &mut Plain, dir: &str) -> Result<(), Fail> {
     if m.get(at).is_some() {
         return Ok(());
     }
-    m.forget_dir(at)?;
+    m.forget_dir(alloc, at)?;
     plain.note(dir, None);
     Ok(())
 }
@@ -379,13 +393,13 @@ pub(crate) fn apply(
     edit: Edit,
 ) -> Result<(), Fail> {
     match edit {
-        Edit::Set(path, file) => set(m, plain, path, entry_of(file)),
-        Edit::Copy(path, source) => copy(m, plain, path, source),
+        Edit::Set(path, file) => set(alloc, m, plain, path, entry_of(file)),
+        Edit::Copy(path, source) => copy(alloc, m, plain, path, source),
         Edit::Drop(path) => drop_entry(alloc, m, plain, path),
-        Edit::Note(dir, when) => note(m, plain, dir, time_of(when)),
-        Edit::Forget(dir) => forget(m, plain, dir),
+        Edit::Note(dir, when) => note(alloc, m, plain, dir, time_of(when)),
+        Edit::Forget(dir) => forget(alloc, m, plain, dir),
         Edit::NoCaches => {
-            m.drop_caches()?;
+            m.drop_caches(alloc)?;
             plain.no_caches();
             Ok(())
         }
@@ -446,6 +460,6 @@ pub(crate) fn reads_back(alloc: Global, encoded: &Encoded, plain: &Plain) -> Res
     if !image.counted() {
         return Err("counts that are wrong".into());
     }
-    let m = Mixed::open(alloc, image)?;
+    let m = Mixed::open(image);
     is_same(&m, plain)
 }

@@ -153,7 +153,7 @@ fn marks(alloc: Global, plain: &Plain) -> Result<String, Fail> {
 // How many bytes the data file has after these edits, and what then stands where; both tables agree, before and after.
 fn worked(alloc: Global, edits: &[Edit]) -> Result<(usize, String), Fail> {
     let docket = Docket::read(b"")?;
-    let mut m = Mixed::open(alloc, Image::open(&docket, b"")?)?;
+    let mut m = Mixed::open(Image::open(&docket, b"")?);
     let mut plain = Plain::of(alloc, PATHS)?;
     for it in edits {
         apply(alloc, &mut m, &mut plain, *it)?;
@@ -244,7 +244,7 @@ pub(crate) fn some_edit(state: &mut u64) -> Edit {
 // A list of edits at random, encoded and read back; both tables agree after each edit.
 fn one_list(alloc: Global, state: &mut u64) -> Result<(), Fail> {
     let docket = Docket::read(b"")?;
-    let mut m = Mixed::open(alloc, Image::open(&docket, b"")?)?;
+    let mut m = Mixed::open(Image::open(&docket, b"")?);
     let mut plain = Plain::of(alloc, PATHS)?;
     for _ in 0..drawn(state, 25) {
         apply(alloc, &mut m, &mut plain, some_edit(state))?;

@@ -13,7 +13,7 @@ use Rattle.hg_gen.proofs.Naming.{files_differ, other_bytes}
 use Rattle.hg_image.specs.Reading.{table_of}
 use Rattle.hg_image.specs.Rows.{Row, list_rows, nodes_rows, rows_of}
 use Rattle.hg_image.specs.Walk.{image_fault, levels, list_fault}
-use Rattle.hg_mixed.specs.Edits.{IsSame, after_ids, after_set}
+use Rattle.hg_nodes.specs.Edits.{IsSame, after_ids, after_set}
 use Rattle.hg_tree.proofs.Planting.{equal_bytes, same_bytes}
 
 -- an empty table

@@ -5,7 +5,7 @@ ghost use Rattle.hg_entry.specs.Entry.{view};
 ghost use Rattle.hg_gen.specs.Copy.{path_of};
 ghost use Rattle.hg_gen.specs.Recorded as recorded;
 ghost use Rattle.hg_gen.specs.Recorded.{AreEntries, IsEmpty, IsRecorded, KeepsHead};
-ghost use Rattle.hg_mixed.specs.Edits.{IsSame, after_set};
+ghost use Rattle.hg_nodes.specs.Edits.{IsSame, after_set};
 ghost use Rattle.hg_mixed.specs.Held.{table};
 
 use crate::lot::{is_in_parent, is_tracked};
@@ -57,7 +57,7 @@ fn set_entry(
     ensures head { OnOk result (KeepsHead mixed.old mixed.new) }
 {
     let path = path_of(alloc, file)?;
-    match mixed.set(path.as_ref(), entry) {
+    match mixed.set(alloc, path.as_ref(), entry) {
         Ok(()) => Ok(()),
         Err(_) => Err(OutOfMemory),
     }
@@ -93,7 +93,7 @@ fn record_over(alloc: Global, image: Image<'_>, dirs: u32) -> Result<Encoded, Ou
     requires empty { IsEmpty image }
     ensures { IfOk result (IsRecorded dirs) }
 {
-    let mut mixed = Mixed::open(alloc, image)?;
+    let mut mixed = Mixed::open(image);
     mixed.set_ids(PARENT, NONE);
     fill(alloc, &mut mixed, dirs)?;
     match encode(alloc, &mixed, Way::Rewrite) {

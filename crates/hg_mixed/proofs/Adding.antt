@@ -1,10 +1,11 @@
 -- The nodes of a list of an image are taken one after the other.
-use Rattle.std.proofs.Common.{ℕ, ◌≡◌, ◌+◌, Bool, true, false, cond, ◌&&◌, not, List, Option, Some, None, refl, sym, ap, ◌∙◌, true≢false, inl, inr, ◌⊎◌, arith}
+use Rattle.std.proofs.Common.{ℕ, ◌≡◌, ◌+◌, Bool, true, false, cond, ◌&&◌, not, List, Option, Some, None, refl, sym, ap, ◌∙◌, subst, true≢false, inl, inr, ◌⊎◌, arith}
+use Rattle.std.specs.Option.{option_map}
 use Rattle.std.specs.Prelude.{is_some, Result, Ok, Err, OnErr}
 use Rattle.std.specs.Str.{bytes_eq}
-use Rattle.std.proofs.lemmas.Bool.{cases_Bool, cases_order, cond-true, cond-false, both_ways}
-use Rattle.hg_base.specs.PathText.{is_below, is_path, parent_of}
-use Rattle.hg_base.proofs.Within.{above_is, above_none, same_bytes, within_split}
+use Rattle.std.proofs.lemmas.Bool.{cases_Bool, cases_order, cond-true, cond-false}
+use Rattle.hg_base.specs.PathText.{parent_of}
+use Rattle.hg_base.proofs.Within.{same_bytes}
 use Rattle.hg_entry.specs.Entry.{CacheData, EntryData, cache_of, entry_of, has_entry}
 use Rattle.hg_image.specs.Node.{fields_of, path_of}
 use Rattle.hg_image.specs.Reading.{row_at}
@@ -12,13 +13,12 @@ use Rattle.hg_image.specs.Rows.{Row}
 use Rattle.hg_image.specs.View.{IsMember, dir_of, row, rows_in}
 use Rattle.hg_image.specs.declared.opened.List.{List as NodeList}
 use Rattle.hg_image.specs.declared.opened.NodeRef.{NodeRef}
-use Rattle.hg_mixed.specs.Drop.{bare}
-use Rattle.hg_mixed.specs.Edits.{IsFormed}
-use Rattle.hg_mixed.specs.Node.{AreSame, IsPut, NodeData, entry_in, node_at, source_in}
-use Rattle.hg_mixed.specs.Opened.{IsThere, node_of}
-use Rattle.hg_mixed.specs.Taken.{AddsNodes, AddsOwn, AddsSome, HasRow, IsAsBefore, IsElsewhere, IsNotOf, path_at}
-use Rattle.hg_mixed.specs.Times.{IsTimed, time_at}
-use Rattle.hg_mixed.proofs.Edited.{update_other, update_same}
+use Rattle.hg_nodes.specs.Adding.{Adds, AreOthersKept, IsAsBefore, IsElsewhere}
+use Rattle.hg_nodes.specs.Memory.{MemoryData}
+use Rattle.hg_nodes.specs.Node.{NodeData, node_at}
+use Rattle.hg_mixed.specs.Opened.{node_of}
+use Rattle.hg_mixed.specs.Taken.{AddsNodes, AddsOwn, AddsSome, HasRow, IsNotOf, path_at}
+use Rattle.hg_nodes.specs.Times.{time_at}
 use Rattle.hg_image.proofs.Found.{dir_member, row_member}
 
 -- ---- what is formed
@@ -36,7 +36,7 @@ pub apart : (b x y z : Bool) (time : CacheData) (entry : EntryData) → is_some 
 apart true x y z time entry h = absurd (true≢false (sym h))
 apart false x y z time entry h = refl
 
-no_entry : (row : Row) → is_some (cache_of (fields_of row.rec)) ≡ true → entry_of (fields_of row.rec) ≡ None
+pub no_entry : (row : Row) → is_some (cache_of (fields_of row.rec)) ≡ true → entry_of (fields_of row.rec) ≡ None
 no_entry row h = apart (has_entry row.rec.flags) _ _ _ _ _ h
 
 -- no source where none is
@@ -44,91 +44,16 @@ pub source_false : (b c : Bool) (source : List ℕ) → b ≡ false → cond (b 
 source_false true c source h = absurd (true≢false h)
 source_false false c source h = refl
 
--- the same nodes, and no time that wasn't there
-pub formed_less : (rows : List (List ℕ × NodeData)) (times : List (List ℕ × CacheData)) (new : List (List ℕ × NodeData)) (after : List (List ℕ × CacheData)) → IsFormed (bare rows times) → AreSame rows new
-    → ((at : List ℕ) → is_some (time_at after at) ≡ true → is_some (time_at times at) ≡ true) → IsFormed (bare new after)
-formed_less rows times new after formed same less = record {
-  paths = λ at h. formed.paths at (sym (ap is_some (same at)) ∙ h);
-  rooted = λ dir at below h. ap is_some (same dir) ∙ formed.rooted dir at below (sym (ap is_some (same at)) ∙ h);
-  entries = λ at h. ap entry_in (same at) ∙ formed.entries at (sym (ap is_some (same at)) ∙ h);
-  sources = λ at h. ap source_in (same at) ∙ formed.sources at (sym (ap entry_in (same at)) ∙ h);
-  caches = λ at h. let had = formed.caches at (less at h) in (ap is_some (same at) ∙ had.0, ap entry_in (same at) ∙ had.1);
-}
+-- what is recorded of a row is added as the row's node
+pub adds_same : (a b : List ℕ) (m n : NodeData) (s t : Option CacheData) → a ≡ b → m ≡ n → s ≡ t
+    → (old : List (List ℕ × NodeData)) (before : List (List ℕ × CacheData)) (new : List (List ℕ × NodeData)) (after : List (List ℕ × CacheData)) → Adds a m s old before new after → Adds b n t old before new after
+adds_same a b m n s t path node time old before new after adds =
+    subst (λ (p : List ℕ). Adds p n t old before new after) path
+    (subst (λ (d : NodeData). Adds a d t old before new after) node (subst (λ (c : Option CacheData). Adds a m c old before new after) time adds))
 
-module _ (row : Row) (rows : List (List ℕ × NodeData)) (times : List (List ℕ × CacheData)) (new : List (List ℕ × NodeData)) (after : List (List ℕ × CacheData)) (good : is_path row.path ≡ true)
-    (formed : IsFormed (bare rows times)) (there : IsThere rows (parent_of row.path)) (put : IsPut row.path (Some (node_of row)) rows new)
-    (sourced : has_entry row.rec.flags ≡ false → row.source ≡ None) where
-  at_path : (at : List ℕ) → bytes_eq row.path at ≡ true → node_at new at ≡ Some (node_of row)
-  at_path at h = put at ∙ cond-true (bytes_eq row.path at) (Some (node_of row)) (node_at rows at) h
-
-  at_other : (at : List ℕ) → bytes_eq row.path at ≡ false → node_at new at ≡ node_at rows at
-  at_other at h = put at ∙ cond-false (bytes_eq row.path at) (Some (node_of row)) (node_at rows at) h
-
-  stays : (at : List ℕ) → is_some (node_at rows at) ≡ true → is_some (node_at new at) ≡ true
-  stays at h = elim (cases_Bool (bytes_eq row.path at)) [
-    | inl here ↦ ap is_some (at_path at here)
-    | inr other ↦ ap is_some (at_other at other) ∙ h
-  ]
-
-  above : (o : Option (List ℕ)) → parent_of row.path ≡ o → (dir : List ℕ) → is_below dir row.path ≡ true → is_some (node_at rows dir) ≡ true
-  above None is dir below = absurd (both_ways (is_below dir row.path) (above_none row.path good is dir) below)
-  above (Some d) is dir below = elim (within_split dir d (sym (above_is d row.path good is dir) ∙ below)) [
-    | inl e ↦ ap (λ (p : List ℕ). is_some (node_at rows p)) (sym e) ∙ there d is
-    | inr more ↦ formed.rooted dir d more (there d is)
-  ]
-
-  -- with any time that no entry stands beside
-  own_formed : (time : Option CacheData) → IsTimed row.path time times after → (is_some time ≡ true → entry_of (fields_of row.rec) ≡ None) → IsFormed (bare new after)
-  own_formed time timed fit = record {
-    paths = λ at h. elim (cases_Bool (bytes_eq row.path at)) [
-      | inl here ↦ ap is_path (sym (same_bytes row.path at here)) ∙ good
-      | inr other ↦ formed.paths at (sym (ap is_some (at_other at other)) ∙ h)
-    ];
-    rooted = λ dir at below h. elim (cases_Bool (bytes_eq row.path at)) [
-      | inl here ↦ stays dir (above (parent_of row.path) refl dir (ap (is_below dir) (same_bytes row.path at here) ∙ below))
-      | inr other ↦ stays dir (formed.rooted dir at below (sym (ap is_some (at_other at other)) ∙ h))
-    ];
-    entries = λ at h. elim (cases_Bool (bytes_eq row.path at)) [
-      | inl here ↦ absurd (both_ways (is_some (node_at new at)) h (ap is_some (at_path at here)))
-      | inr other ↦ ap entry_in (at_other at other) ∙ formed.entries at (sym (ap is_some (at_other at other)) ∙ h)
-    ];
-    sources = λ at h. elim (cases_Bool (bytes_eq row.path at)) [
-      | inl here ↦ ap source_in (at_path at here) ∙ no_source row sourced (sym (ap entry_in (at_path at here)) ∙ h)
-      | inr other ↦ ap source_in (at_other at other) ∙ formed.sources at (sym (ap entry_in (at_other at other)) ∙ h)
-    ];
-    caches = λ at h. elim (cases_Bool (bytes_eq row.path at)) [
-      | inl here ↦ (
-        ap is_some (at_path at here),
-        ap entry_in (at_path at here) ∙ fit (sym (ap is_some (timed at ∙ cond-true (bytes_eq row.path at) time (time_at times at) here)) ∙ h),
-      )
-      | inr other ↦
-          let had = formed.caches at (sym (ap is_some (timed at ∙ cond-false (bytes_eq row.path at) time (time_at times at) other)) ∙ h) in
-          (ap is_some (at_other at other) ∙ had.0, ap entry_in (at_other at other) ∙ had.1)
-    ];
-  }
-
-  -- the node is taken
-  pub adds_own : IsTimed row.path (cache_of (fields_of row.rec)) times after → AddsOwn row rows times new after
-  adds_own timed = record { put = put; timed = timed; formed = own_formed (cache_of (fields_of row.rec)) timed (no_entry row) }
-
-  -- it is taken without its time, for which there was no memory
-  pub adds_untimed : is_some (cache_of (fields_of row.rec)) ≡ true → ((at : List ℕ) → time_at after at ≡ time_at times at) → IsElsewhere row.path rows times new after
-  adds_untimed cached same = record {
-    others = λ at other. record { node = at_other at other; time = same at };
-    formed = own_formed (time_at times row.path) (λ at. same at ∙ sym (update_same (time_at times) row.path (time_at times row.path) refl at)) (λ _. no_entry row cached);
-  }
-
-less_time : (b : Bool) (was : Option CacheData) → is_some (cond b None was) ≡ true → is_some was ≡ true
-less_time true was h = absurd (true≢false (sym h))
-less_time false was h = h
-
--- the time of a path is gone, and no node was taken
-pub untimed : (path : List ℕ) (rows : List (List ℕ × NodeData)) (times : List (List ℕ × CacheData)) (new : List (List ℕ × NodeData)) (after : List (List ℕ × CacheData)) → IsFormed (bare rows times) → AreSame rows new
-    → IsTimed path None times after → IsElsewhere path rows times new after
-untimed path rows times new after formed same timed = record {
-  others = λ at other. record { node = same at; time = timed at ∙ update_other (time_at times) path None at other };
-  formed = formed_less rows times new after formed same (λ at h. less_time (bytes_eq path at) (time_at times at) (sym (ap is_some (timed at)) ∙ h));
-}
+pub mapped_some : {X Y : Type 0} (f : X → Y) (o : Option X) → is_some o ≡ true → is_some (option_map f o) ≡ true
+mapped_some f None some = some
+mapped_some f (Some x) some = refl
 
 -- ---- one after the other
 
@@ -202,3 +127,7 @@ module _ (list : NodeList) (i : ℕ) (node : NodeRef) (member : IsMember list no
 pub on_err_of : {T E : Type 0} (r : Result T E) (P : Type 0) → P → OnErr r P
 on_err_of (Ok done) P p = tt
 on_err_of (Err fault) P p = p
+
+-- what one step more leaves
+pub others_on : (a b c : MemoryData) → AreOthersKept a b → AreOthersKept b c → AreOthersKept a c
+others_on a b c p q = record { p1 = q.p1 ∙ p.p1; p2 = q.p2 ∙ p.p2; hash = q.hash ∙ p.hash; changed = q.changed ∙ p.changed }

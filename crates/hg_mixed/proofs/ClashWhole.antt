@@ -11,20 +11,20 @@ use Rattle.hg_entry.specs.Entry.{EntryData}
 use Rattle.hg_entry.specs.Table.{Table}
 use Rattle.hg_image.specs.Reading as reading
 use Rattle.hg_image.specs.Rows.{Row}
-use Rattle.hg_mixed.specs.Clash.{IsClash, IsLeast, Sets, clashes, is_tracked_entry}
+use Rattle.hg_nodes.specs.Clash.{IsClash, IsLeast, Sets, clashes, is_tracked_entry}
 use Rattle.hg_mixed.specs.Held.{Held, table}
 use Rattle.hg_mixed.specs.Lent.{covers}
-use Rattle.hg_mixed.specs.Lists.{has_rows_in, or_root}
-use Rattle.hg_mixed.specs.Memory.{InMemory, memory_table}
-use Rattle.hg_mixed.specs.Node.{NodeData, entry_in, node_at}
+use Rattle.hg_nodes.specs.Lists.{has_rows_in, or_root}
+use Rattle.hg_mixed.specs.Own.{InMemory, memory_table}
+use Rattle.hg_nodes.specs.Node.{NodeData, entry_in, node_at}
 use Rattle.hg_mixed.specs.Near.{IsNear}
 use Rattle.hg_mixed.specs.Parted.{IsFree, IsMoved, IsParted, whole}
-use Rattle.hg_mixed.specs.declared.fault.SetFault.{SetFault}
-use Rattle.hg_mixed.specs.declared.fault.SetFault.TheVariants as a_fault
+use Rattle.hg_nodes.specs.declared.fault.SetFault.{SetFault}
+use Rattle.hg_nodes.specs.declared.fault.SetFault.TheVariants as a_fault
 use Rattle.hg_mixed.proofs.Covered.{kid_free, way_free}
 use Rattle.hg_mixed.proofs.Lifted.{own_entry, own_node}
-use Rattle.hg_mixed.proofs.Listed.{rows_none}
-use Rattle.hg_mixed.proofs.Searched.{least_same}
+use Rattle.hg_nodes.proofs.Listed.{rows_none}
+use Rattle.hg_nodes.proofs.Searched.{least_same}
 
 -- ---- two tables with the same entries near a path
 

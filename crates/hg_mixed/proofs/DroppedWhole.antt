@@ -12,14 +12,14 @@ use Rattle.hg_entry.specs.Entry.{CacheData}
 use Rattle.hg_entry.specs.Table.{Table}
 use Rattle.hg_image.specs.Reading as reading
 use Rattle.hg_image.specs.Rows.{Row}
-use Rattle.hg_mixed.specs.Drop.{IsPrunedAt, IsPruned, after_clear}
-use Rattle.hg_mixed.specs.Edits.{IsFormed, IsSame}
+use Rattle.hg_nodes.specs.Drop.{IsPrunedAt, IsPruned, after_clear}
+use Rattle.hg_nodes.specs.Edits.{IsFormed, IsSame}
 use Rattle.hg_mixed.specs.Held.{Held, table}
 use Rattle.hg_mixed.specs.Lent.{covers}
-use Rattle.hg_mixed.specs.Memory.{InMemory, memory_table}
+use Rattle.hg_mixed.specs.Own.{InMemory, memory_table}
 use Rattle.hg_mixed.specs.Parted.{IsFree, IsMoved, IsParted, whole}
 use Rattle.hg_mixed.proofs.Covered.{kid_free, way_free}
-use Rattle.hg_mixed.proofs.Dropped.{alike_pruned}
+use Rattle.hg_nodes.proofs.Dropped.{alike_pruned}
 use Rattle.hg_mixed.proofs.Lifted.{own_node, parted_kept, update_merged}
 
 -- ---- what is left of a formed table is formed

@@ -1,22 +1,20 @@
 -- Lists that are lent no more, since something above them differs.
-use Rattle.std.proofs.Common.{ℕ, ◌≡◌, Bool, true, false, cond, ◌||◌, List, [], ◌∷◌, Option, Some, None, String, inl, inr, refl, sym, ap, ◌∙◌, subst}
+use Rattle.std.proofs.Common.{ℕ, ◌≡◌, Bool, true, false, cond, ◌||◌, List, [], ◌∷◌, Option, Some, None, inl, inr, refl, sym, ap, ◌∙◌, subst}
 use Rattle.std.specs.Prelude.{is_some, MatchBool}
 use Rattle.std.specs.List.{list_any}
 use Rattle.std.specs.Str.{bytes_eq}
-use Rattle.std.specs.String.{string_bytes}
 use Rattle.std.proofs.lemmas.Bool.{cases_Bool, cond-false, cond-true, or_left, or_right}
 use Rattle.hg_base.specs.PathText.{is_below, is_path, parent_of}
 use Rattle.hg_base.specs.Within.{is_above, is_within}
-use Rattle.hg_base.specs.declared.time.Stamp.{Stamp}
 use Rattle.hg_base.proofs.Within.{above_is, above_none, equal_bytes, same_bytes, within_below, within_itself, within_split}
-use Rattle.hg_entry.specs.Entry.{CacheData, cache_view}
+use Rattle.hg_entry.specs.Entry.{CacheData}
 use Rattle.hg_image.specs.Rows.{Row}
-use Rattle.hg_mixed.specs.Edits.{IsFormed}
-use Rattle.hg_mixed.specs.Held.{table_of}
+use Rattle.hg_nodes.specs.Edits.{IsFormed, IsSame}
+use Rattle.hg_nodes.specs.Memory.{MemoryData, table_in, table_of}
 use Rattle.hg_mixed.specs.Lent.{AreEnded, AreLentStill, IsLentPut, as_dir, lent_at}
-use Rattle.hg_mixed.specs.Memory.{Ends}
-use Rattle.hg_mixed.specs.Node.{NodeData}
-use Rattle.hg_mixed.specs.Times.{AreEndedOver, AreTimedPaths, time_at, times_of}
+use Rattle.hg_mixed.specs.Own.{Ends, InMemory, memory_table}
+use Rattle.hg_nodes.specs.Node.{NodeData}
+use Rattle.hg_nodes.specs.Times.{AreTimedPaths, time_at}
 use Rattle.hg_mixed.proofs.Lents.{same_bools}
 
 -- ---- above a path
@@ -63,27 +61,6 @@ ended_next time rest times old was now ended so_far dir =
     ∙ two_conds (is_above (as_dir dir) time.0) (list_any (λ t. is_above (as_dir dir) t.0) rest) None (lent_at was dir)
     ∙ so_far dir
 
-module _ {Y : Type 0} where
-  -- one more cached directory
-  pub ended_step : (e : String Y × Stamp) (rest : List (String Y × Stamp)) (iterator : List (String Y × Stamp)) → iterator ≡ e ∷ rest → (times : List (List ℕ × CacheData)) (path : List ℕ) → path ≡ string_bytes e.0
-      → (old was now : List (List ℕ × List Row)) → AreEnded path was now
-      → ((dir : List ℕ) → cond (list_any (λ t. is_above (as_dir dir) t.0) (times_of iterator)) None (lent_at was dir) ≡ cond (list_any (λ t. is_above (as_dir dir) t.0) times) None (lent_at old dir))
-      → (dir : List ℕ) → cond (list_any (λ t. is_above (as_dir dir) t.0) (times_of rest)) None (lent_at now dir) ≡ cond (list_any (λ t. is_above (as_dir dir) t.0) times) None (lent_at old dir)
-  ended_step e rest iterator steps times path is old was now ended so_far =
-      ended_next (string_bytes e.0, cache_view e.1) (times_of rest) times old was now (subst (λ (p : List ℕ). AreEnded p was now) is ended)
-      (subst (λ (i : List (String Y × Stamp)). (dir : List ℕ) → cond (list_any (λ t. is_above (as_dir dir) t.0) (times_of i)) None (lent_at was dir) ≡ cond (list_any (λ t. is_above (as_dir dir) t.0) times) None (lent_at old dir))
-      steps so_far)
-
-  pub paths_step : (e : String Y × Stamp) (rest iterator : List (String Y × Stamp)) → iterator ≡ e ∷ rest → AreTimedPaths (times_of iterator) → (is_path (string_bytes e.0) ≡ true) × AreTimedPaths (times_of rest)
-  paths_step e rest iterator steps paths = subst (λ (i : List (String Y × Stamp)). AreTimedPaths (times_of i)) steps paths
-
-  pub ended_all : (iterator : List (String Y × Stamp)) → iterator ≡ [] → (times : List (List ℕ × CacheData)) (old now : List (List ℕ × List Row))
-      → ((dir : List ℕ) → cond (list_any (λ t. is_above (as_dir dir) t.0) (times_of iterator)) None (lent_at now dir) ≡ cond (list_any (λ t. is_above (as_dir dir) t.0) times) None (lent_at old dir))
-      → AreEndedOver times old now
-  ended_all iterator none times old now so_far =
-      subst (λ (i : List (String Y × Stamp)). (dir : List ℕ) → cond (list_any (λ t. is_above (as_dir dir) t.0) (times_of i)) None (lent_at now dir) ≡ cond (list_any (λ t. is_above (as_dir dir) t.0) times) None (lent_at old dir))
-      none so_far
-
 -- each cached directory is a path, where the table is formed
 some_more : {X : Type 0} (b : Bool) (x : X) (o : Option X) → is_some o ≡ true → is_some (cond b (Some x) o) ≡ true
 some_more true x o h = refl
@@ -104,3 +81,22 @@ timed_paths p1 p2 hash rows times formed = timed_by times (λ at some. formed.pa
 pub ends_by : (path : List ℕ) (same : Type 0) (old new : List (List ℕ × List Row)) (differs : Bool) → MatchBool differs (same → ⊥) same → MatchBool differs (AreEnded path old new) (AreLentStill old new) → Ends path same old new
 ends_by path same old new true other ended = inr (other, ended)
 ends_by path same old new false is still = inl (is, still)
+
+abbrev own_of : MemoryData → List (List ℕ × List Row) → InMemory
+own_of memory kept =
+    record {
+      p1 = memory.p1;
+      p2 = memory.p2;
+      hash = memory.hash;
+      changed = memory.changed;
+      rows = memory.rows;
+      times = memory.times;
+      kept = kept;
+    }
+
+-- what is in memory says whether something differs, and so which lists are kept
+pub ends_of : (was : MemoryData) (kept : List (List ℕ × List Row)) (old : InMemory) → own_of was kept ≡ old → (path : List ℕ) (new : MemoryData) (now : List (List ℕ × List Row)) (differs : Bool)
+    → MatchBool differs (IsSame (table_in new) (table_in was) → ⊥) (IsSame (table_in new) (table_in was)) → MatchBool differs (AreEnded path kept now) (AreLentStill kept now)
+    → Ends path (IsSame (table_in new) (memory_table old)) old.kept now
+ends_of was kept old same path new now differs told ended =
+    subst (λ (h : InMemory). Ends path (IsSame (table_in new) (memory_table h)) h.kept now) same (ends_by path (IsSame (table_in new) (table_in was)) kept now differs told ended)

@@ -15,18 +15,18 @@ use Rattle.hg_image.specs.Walk.{levels}
 use Rattle.hg_image.specs.declared.opened.Image.{Image}
 use Rattle.hg_image.specs.declared.opened.List.{List as NodeList}
 use Rattle.hg_image.specs.declared.opened.NodeRef.{NodeRef}
-use Rattle.hg_mixed.specs.Edits.{IsFormed, IsSame}
+use Rattle.hg_nodes.specs.Edits.{IsFormed, IsSame}
 use Rattle.hg_mixed.specs.Held.{has_list, is_left_in}
 use Rattle.hg_mixed.specs.Lent.{AreLentStill, CoversNone, IsLentPut, IsNoneLent, as_dir, covers, lent_at}
-use Rattle.hg_mixed.specs.Lists.{dir_text, or_root}
-use Rattle.hg_mixed.specs.Memory.{InMemory, memory_table}
-use Rattle.hg_mixed.specs.Node.{node_at}
-use Rattle.hg_mixed.specs.Opened.{IsThere, node_of}
+use Rattle.hg_nodes.specs.Lists.{dir_text, or_root}
+use Rattle.hg_mixed.specs.Own.{InMemory, memory_table}
+use Rattle.hg_nodes.specs.Node.{node_at, IsThere}
+use Rattle.hg_mixed.specs.Opened.{node_of}
 use Rattle.hg_mixed.specs.Parted.{IsFree, IsMoved, IsParted, image_rows, whole}
 use Rattle.hg_mixed.specs.Taken.{AddsNodes, AddsSome, AreBared, AreOthersKept, AreServed, CoversLess, IsBare, IsBared, IsKid, IsOpen, IsOut, IsServed, IsServedKid, LendsKid, LendsKids, path_at}
 use Rattle.hg_mixed.proofs.Adding.{member_path}
 use Rattle.hg_image.proofs.Found.{below_member, dir_member, row_above, row_is_path, row_rooted}
-use Rattle.hg_mixed.proofs.Edited.{update_here}
+use Rattle.hg_nodes.proofs.Edited.{update_here}
 use Rattle.hg_mixed.proofs.Kept.{lent_same}
 use Rattle.hg_mixed.proofs.Moving.{AgreeNodes, Agrees, as_dir_is, as_own, as_path, bare_in, between, dir_there, formed_same, lends_less, lends_same, lent_still, merged_same, moved_all, moved_kept, moved_lends, moved_some, moved_trans, none_is, one_node, others_kept, placed_at, removed_here, removed_less, right_above, same_as_none, some_never}
 

@@ -21,10 +21,11 @@ use Rattle.hg_base.proofs.Components.{parent_joined}
 use Rattle.hg_base.proofs.Paths.{path_parts, path_some}
 use Rattle.hg_base.proofs.Within.{above_is, above_none, equal_bytes, same_bytes, within_below, within_itself, within_split}
 use Rattle.hg_mixed.specs.Child.{shown_child}
-use Rattle.hg_mixed.specs.Children.{AreChildren, ChildData, IsChild}
-use Rattle.hg_mixed.specs.Edits.{IsFormed}
+use Rattle.hg_mixed.specs.Children.{AreChildren, IsChild}
+use Rattle.hg_nodes.specs.Children.{ChildData}
+use Rattle.hg_nodes.specs.Edits.{IsFormed}
 use Rattle.hg_mixed.specs.Held.{Held, table}
-use Rattle.hg_mixed.specs.Lists.{or_root}
+use Rattle.hg_nodes.specs.Lists.{or_root}
 use Rattle.hg_mixed.specs.declared.child.Child.{Child}
 use Rattle.hg_mixed.specs.declared.line.Line.{Line}
 use Rattle.hg_mixed.specs.Gathered.{AreGathered, AreLeft, Gathers, Shows, is_done, is_left, line_of, path_of, paths_of}

@@ -11,8 +11,9 @@ use Rattle.hg_image.specs.declared.opened.List.{List as NodeList}
 use Rattle.hg_image.specs.declared.opened.NodeRef.{NodeRef}
 use Rattle.hg_mixed.specs.Child.{shown_child}
 use Rattle.hg_mixed.specs.ChildOf.{row_child}
-use Rattle.hg_mixed.specs.Children.{ChildData}
-use Rattle.hg_mixed.specs.Held.{Held, table_of}
+use Rattle.hg_nodes.specs.Children.{ChildData}
+use Rattle.hg_mixed.specs.Held.{Held}
+use Rattle.hg_nodes.specs.Memory.{table_of}
 use Rattle.hg_mixed.specs.Lent.{as_dir, lent_at}
 use Rattle.hg_mixed.specs.Parted.{IsLentIn, IsParted, image_of}
 use Rattle.hg_mixed.specs.Walk.{IsLentAt, ListIsOf, ListsAreOf}

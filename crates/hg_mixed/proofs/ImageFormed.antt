@@ -20,11 +20,11 @@ use Rattle.hg_image.specs.Walk.{levels}
 use Rattle.hg_image.specs.declared.opened.Image.{Image}
 use Rattle.hg_image.specs.declared.opened.List.{List as NodeList}
 use Rattle.hg_image.proofs.Sourced.{IsSourcedByEntry, list_sourced}
-use Rattle.hg_mixed.specs.Edits.{IsFormed, IsSame}
+use Rattle.hg_nodes.specs.Edits.{IsFormed, IsSame}
 use Rattle.hg_mixed.specs.Held.{merged, node_here}
 use Rattle.hg_mixed.specs.Lent.{IsLentPut, IsNoneLent, covers, lent_at}
-use Rattle.hg_mixed.specs.Memory.{InMemory, memory_table}
-use Rattle.hg_mixed.specs.Node.{node_at, source_in, source_text_in, text_in}
+use Rattle.hg_mixed.specs.Own.{InMemory, memory_table}
+use Rattle.hg_nodes.specs.Node.{node_at, source_in, source_text_in, text_in}
 use Rattle.hg_mixed.specs.Opened.{node_of, source_place}
 use Rattle.hg_mixed.specs.Parted.{ArePlaced, IsParted, image_rows, whole}
 use Rattle.hg_mixed.proofs.Adding.{apart}

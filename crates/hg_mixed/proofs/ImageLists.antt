@@ -19,9 +19,9 @@ use Rattle.hg_image.specs.declared.opened.NodeRef.{NodeRef}
 use Rattle.hg_mixed.specs.Held.{Held, has_list, image_table, is_left_in, is_lent, is_lent_in, node_here, table}
 use Rattle.hg_mixed.specs.Lent.{covers, lent_at}
 use Rattle.hg_image.specs.Found.{HasBelow}
-use Rattle.hg_mixed.specs.Lists.{or_root}
-use Rattle.hg_mixed.specs.Memory.{InMemory}
-use Rattle.hg_mixed.specs.Node.{NodeData, entry_in, node_at, source_in, source_text_in, text_in}
+use Rattle.hg_nodes.specs.Lists.{or_root}
+use Rattle.hg_mixed.specs.Own.{InMemory}
+use Rattle.hg_nodes.specs.Node.{NodeData, entry_in, node_at, source_in, source_text_in, text_in}
 use Rattle.hg_mixed.specs.Opened.{node_of, source_place}
 use Rattle.hg_mixed.specs.Parted.{AreWhole, image_rows}
 use Rattle.hg_mixed.specs.Shown.{AnswersLent, AnswersList, AreLentWhole, IsAsImage, IsListAt}

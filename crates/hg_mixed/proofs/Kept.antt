@@ -11,7 +11,7 @@ use Rattle.hg_image.specs.Reading.{row_at}
 use Rattle.hg_image.specs.Rows.{Row}
 use Rattle.hg_mixed.specs.Held.{has_list, is_left_in, is_lent_in}
 use Rattle.hg_mixed.specs.Lent.{AreEnded, as_dir, covers, lent_at}
-use Rattle.hg_mixed.specs.Lists.{dir_text, or_root}
+use Rattle.hg_nodes.specs.Lists.{dir_text, or_root}
 use Rattle.hg_mixed.proofs.Covered.{covers_below, covers_listed, kid_covered}
 use Rattle.hg_mixed.proofs.Lents.{covered_by, covers_some, same_bools}
 

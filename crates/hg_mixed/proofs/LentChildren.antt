@@ -27,12 +27,14 @@ use Rattle.hg_image.proofs.Names.{name_in, names_rise}
 use Rattle.hg_image.proofs.RowsOf.{rows_end, rows_whole}
 use Rattle.hg_image.proofs.Sound.{list_at}
 use Rattle.hg_mixed.specs.ChildOf.{has_below, row_child}
-use Rattle.hg_mixed.specs.Children.{AreChildren, ChildData, IsChild}
-use Rattle.hg_mixed.specs.Held.{Held, image_table, table, table_of}
+use Rattle.hg_mixed.specs.Children.{AreChildren, IsChild}
+use Rattle.hg_nodes.specs.Children.{ChildData}
+use Rattle.hg_mixed.specs.Held.{Held, image_table, table}
+use Rattle.hg_nodes.specs.Memory.{table_of}
 use Rattle.hg_mixed.specs.Lent.{IsInImage, as_dir, covers, lent_at}
 use Rattle.hg_image.specs.Found.{level, own_rows}
-use Rattle.hg_mixed.specs.Lists.{or_root}
-use Rattle.hg_mixed.specs.Node.{source_text_in, text_in}
+use Rattle.hg_nodes.specs.Lists.{or_root}
+use Rattle.hg_nodes.specs.Node.{source_text_in, text_in}
 use Rattle.hg_mixed.specs.Opened.{node_of}
 use Rattle.hg_mixed.specs.Parted.{IsLentIn, IsParted, image_of}
 use Rattle.hg_mixed.specs.Rest.{children_from, children_in}

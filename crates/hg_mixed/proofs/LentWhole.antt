@@ -15,17 +15,19 @@ use Rattle.hg_entry.specs.Entry.{CacheData, EntryData}
 use Rattle.hg_image.specs.Reading.{row_at}
 use Rattle.hg_image.specs.Reading as reading
 use Rattle.hg_image.specs.Rows.{Row, rows_of}
-use Rattle.hg_mixed.specs.Drop.{IsPruned, after_clear}
-use Rattle.hg_mixed.specs.Edits.{AreLentAsBefore, IsSame, Lends, LendsUncached, after_cache, after_copy, after_no_caches, after_set}
+use Rattle.hg_nodes.specs.Drop.{IsPruned, after_clear}
+use Rattle.hg_mixed.specs.Edits.{AreLentAsBefore, Lends, LendsUncached}
+use Rattle.hg_nodes.specs.Edits.{IsSame, after_cache, after_copy, after_no_caches, after_set}
 use Rattle.hg_mixed.specs.Held.{Held, has_list, is_left_in, is_lent, is_lent_in, node_here, table}
-use Rattle.hg_mixed.specs.Lent.{AreEnded, AreLentStill, as_dir, covers, lent_at}
-use Rattle.hg_mixed.specs.Lists.{or_root}
-use Rattle.hg_mixed.specs.Memory.{AreCleared, Ends, InMemory, IsSourceWritten, memory_table}
-use Rattle.hg_mixed.specs.Node.{AreSame, NodeData, entry_in, node_at, or_blank, planted, with_entry}
+use Rattle.hg_mixed.specs.Lent.{AreEnded, AreLentStill, as_dir, covers, lent_at, AreEndedOver}
+use Rattle.hg_nodes.specs.Lists.{or_root}
+use Rattle.hg_mixed.specs.Own.{Ends, InMemory, memory_table}
+use Rattle.hg_nodes.specs.Memory.{AreCleared, IsSourceWritten}
+use Rattle.hg_nodes.specs.Node.{AreSame, NodeData, entry_in, node_at, or_blank, planted, with_entry}
 use Rattle.hg_mixed.specs.Opened.{node_of}
 use Rattle.hg_mixed.specs.Parted.{AreWhole, IsMoved, whole}
-use Rattle.hg_mixed.specs.Times.{AreEndedOver, time_at}
-use Rattle.hg_mixed.proofs.Edited.{copy_was, update_other}
+use Rattle.hg_nodes.specs.Times.{time_at}
+use Rattle.hg_nodes.proofs.Edited.{copy_was, update_other}
 use Rattle.hg_mixed.proofs.Kept.{lent_ended, no_root, some_more}
 use Rattle.hg_mixed.proofs.Lents.{covered_by}
 

@@ -9,15 +9,15 @@ use Rattle.std.specs.String.{string_bytes, string_cmp}
 use Rattle.std.specs.Ordering.{is_eq, match_ordering}
 use Rattle.std.specs.declared.cmp.Ordering.{Ordering}
 use Rattle.std.specs.declared.cmp.Ordering.TheVariants.{Less, Equal, Greater}
-use Rattle.std.proofs.lemmas.Bool.{cases_Bool, cond-true, false_from_ne_true, or_left, or_right}
+use Rattle.std.proofs.lemmas.Bool.{cases_Bool, cond-true, false_from_ne_true, ne_eqb, or_left, or_right}
 use Rattle.std.proofs.lemmas.Map.Text.{text_cmp, is_eq-slice_cmp}
 use Rattle.hg_base.specs.Within.{is_above}
 use Rattle.hg_base.proofs.Within.{equal_bytes, same_bytes}
 use Rattle.hg_image.specs.Rows.{Row}
 use Rattle.hg_image.specs.View.{dir_of, rows_in}
 use Rattle.hg_image.specs.declared.opened.List.{List as NodeList}
-use Rattle.hg_mixed.specs.Lent.{AreByDir, IsLentPut, as_dir, covers, lent_at, lists_of}
-use Rattle.hg_mixed.specs.Lists.{or_root}
+use Rattle.hg_mixed.specs.Lent.{AreByDir, IsLentPut, as_dir, covers, lent_at, lists_of, with_root}
+use Rattle.hg_nodes.specs.Lists.{or_root}
 
 -- ---- what a list that is lent has
 
@@ -84,14 +84,19 @@ choose : {A : Type 0} (P : A → Type 0) (b : Bool) (x y : A) → (b ≡ true �
 choose P true x y t f = t refl
 choose P false x y t f = f refl
 
+other_key : (key : List ℕ) (rows : List Row) (rest : Option (List Row)) → eqb (length key) 0 ≡ false → rest ≡ None → cond (bytes_eq [] key) (Some rows) rest ≡ None
+other_key [] rows rest below none = absurd (true≢false below)
+other_key (b ∷ key) rows rest below none = none
+
 module _ {Y : Type 0} where
-  pub by_dir_insert : (key : String Y) (list : NodeList) (lists : List (String Y × NodeList)) → or_root (dir_of list) ≡ string_bytes key → AreByDir lists → AreByDir (insert_entry string_cmp lists key list)
-  by_dir_insert key list [] here fit = (here, tt)
-  by_dir_insert key list (e ∷ lists) here fit =
+  pub by_dir_insert : (key : String Y) (list : NodeList) (lists : List (String Y × NodeList)) → or_root (dir_of list) ≡ string_bytes key → eqb (length (string_bytes key)) 0 ≡ false → AreByDir lists
+      → AreByDir (insert_entry string_cmp lists key list)
+  by_dir_insert key list [] here below fit = ((here, below), tt)
+  by_dir_insert key list (e ∷ lists) here below fit =
       pick AreByDir (string_cmp key e.0) ((key, list) ∷ e ∷ lists) ((e.0, list) ∷ lists) (e ∷ insert_entry string_cmp lists key list)
-      (λ _. (here, fit))
-      (λ same. (here ∙ same_bytes (string_bytes key) (string_bytes e.0) (sym (is_eq-slice_cmp (string_bytes key) (string_bytes e.0)) ∙ ap is_eq same), fit.1))
-      (λ _. (fit.0, by_dir_insert key list lists here fit.1))
+      (λ _. ((here, below), fit))
+      (λ same. ((here ∙ same_bytes (string_bytes key) (string_bytes e.0) (sym (is_eq-slice_cmp (string_bytes key) (string_bytes e.0)) ∙ ap is_eq same), fit.0.1), fit.1))
+      (λ _. (fit.0, by_dir_insert key list lists here below fit.1))
 
   pub by_dir_remove : (test : String Y → Bool) (lists : List (String Y × NodeList)) → AreByDir lists → AreByDir (remove_entry test lists)
   by_dir_remove test [] fit = tt
@@ -122,9 +127,48 @@ module _ {Y : Type 0} where
     where
       step : (b : Bool) → is_at (text_cmp at) e.0 ≡ b → IfSome (lookup (is_at (text_cmp at)) lists) (λ list. or_root (dir_of list) ≡ at)
           → IfSome (cond b (Some e.1) (lookup (is_at (text_cmp at)) lists)) (λ list. or_root (dir_of list) ≡ at)
-      step true is more = fit.0 ∙ sym (same_bytes at (string_bytes e.0) (sym (is_eq-slice_cmp at (string_bytes e.0)) ∙ is))
+      step true is more = fit.0.0 ∙ sym (same_bytes at (string_bytes e.0) (sym (is_eq-slice_cmp at (string_bytes e.0)) ∙ is))
       step false is more = more
 
   pub none_in : (lists : List (String Y × NodeList)) (n : ℕ) (value : List (List ℕ × List Row)) → lists_of lists ≡ value → n ≡ length lists → eqb n 0 ≡ true → (at : List ℕ) → covers value at ≡ false
   none_in [] n value are len is at = ap (λ (l : List (List ℕ × List Row)). covers l at) (sym are)
   none_in (e ∷ lists) n value are len is at = let none : n ≡ 0 = eqb-true n 0 is in absurd (omega arith)
+
+  -- none of the lists below the root is that of the root
+  pub none_of_root : (lists : List (String Y × NodeList)) → AreByDir lists → lent_at (lists_of lists) [] ≡ None
+  none_of_root [] fit = refl
+  none_of_root (e ∷ lists) fit = other_key (string_bytes e.0) (rows_in e.1) (lent_at (lists_of lists) []) fit.0.1 (none_of_root lists fit.1)
+
+-- ---- the list of the root, and those below it
+
+pub empty_is : (dir : List ℕ) → eqb (length dir) 0 ≡ true → dir ≡ []
+empty_is [] none = refl
+empty_is (b ∷ dir) none = let never : length (b ∷ dir) ≡ 0 = eqb-true (length (b ∷ dir)) 0 none in absurd (omega arith)
+
+pub root_first : (root : Option NodeList) (lists : List (List ℕ × List Row)) → lent_at lists [] ≡ None → lent_at (with_root root lists) [] ≡ option_map rows_in root
+root_first None lists none = none
+root_first (Some list) lists none = refl
+
+pub below_root : (root : Option NodeList) (lists : List (List ℕ × List Row)) (dir : List ℕ) → eqb (length dir) 0 ≡ false → lent_at (with_root root lists) dir ≡ lent_at lists dir
+below_root root lists [] below = absurd (true≢false below)
+below_root None lists (b ∷ dir) below = refl
+below_root (Some list) lists (b ∷ dir) below = refl
+
+not_empty : (b : ℕ) (dir : List ℕ) → eqb (length (b ∷ dir)) 0 ≡ false
+not_empty b dir = ne_eqb (length (b ∷ dir)) 0 (λ (e : length (b ∷ dir) ≡ 0). omega (arith, e))
+
+-- another list of the root, or none
+pub root_put : (was now : Option NodeList) (lists : List (List ℕ × List Row)) → lent_at lists [] ≡ None → IsLentPut [] (option_map rows_in now) (with_root was lists) (with_root now lists)
+root_put was now lists none [] = root_first now lists none
+root_put was now lists none (b ∷ dir) = below_root now lists (b ∷ dir) (not_empty b dir) ∙ sym (below_root was lists (b ∷ dir) (not_empty b dir))
+
+-- another list below the root, or none
+pub below_put : (root : Option NodeList) (dir : List ℕ) (rows : Option (List Row)) (old new : List (List ℕ × List Row)) → eqb (length dir) 0 ≡ false → lent_at old [] ≡ None → lent_at new [] ≡ None → IsLentPut dir rows old new
+    → IsLentPut dir rows (with_root root old) (with_root root new)
+below_put root [] rows old new below none none_now put at = absurd (true≢false below)
+below_put root (b ∷ dir) rows old new below none none_now put [] = root_first root new none_now ∙ sym (root_first root old none)
+below_put root (b ∷ dir) rows old new below none none_now put (c ∷ at) =
+    below_root root new (c ∷ at) (not_empty c at) ∙ put (c ∷ at) ∙ ap (cond (bytes_eq (b ∷ dir) (c ∷ at)) rows) (sym (below_root root old (c ∷ at) (not_empty c at)))
+
+pub covers_empty : (lent : List (List ℕ × List Row)) → lent ≡ [] → (at : List ℕ) → covers lent at ≡ false
+covers_empty lent none at = ap (λ (l : List (List ℕ × List Row)). covers l at) none

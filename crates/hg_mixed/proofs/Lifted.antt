@@ -13,14 +13,15 @@ use Rattle.hg_entry.specs.Entry.{CacheData, EntryData}
 use Rattle.hg_entry.specs.Table.{Table}
 use Rattle.hg_image.specs.Reading as reading
 use Rattle.hg_image.specs.Rows.{Row}
-use Rattle.hg_mixed.specs.Edits.{IsFormed, IsSame, IsUnchanged, Marks, after_cache, after_copy, after_hash, after_ids, after_no_caches, after_set}
+use Rattle.hg_mixed.specs.Edits.{IsUnchanged}
+use Rattle.hg_nodes.specs.Edits.{IsFormed, IsSame, Marks, after_cache, after_copy, after_hash, after_ids, after_no_caches, after_set}
 use Rattle.hg_mixed.specs.Held.{Held, is_lent, merged, node_in, table}
 use Rattle.hg_mixed.specs.Lent.{covers}
-use Rattle.hg_mixed.specs.Memory.{InMemory, memory_table}
-use Rattle.hg_mixed.specs.Node.{source_text_in, text_in}
+use Rattle.hg_mixed.specs.Own.{InMemory, memory_table}
+use Rattle.hg_nodes.specs.Node.{source_text_in, text_in}
 use Rattle.hg_mixed.specs.Parted.{IsMoved, IsParted, whole}
 use Rattle.hg_mixed.proofs.Covered.{way_free}
-use Rattle.hg_mixed.proofs.Edited.{formed_copy, formed_set, same_trans}
+use Rattle.hg_nodes.proofs.Edited.{formed_copy, formed_set, same_trans}
 
 -- ---- tables that say the same
 

@@ -23,18 +23,19 @@ use Rattle.hg_image.specs.View.{dir_of, name_at, rows_in}
 use Rattle.hg_image.specs.declared.opened.List.{List as NodeList}
 use Rattle.hg_image.proofs.RowsOf.{rows_step, rows_whole}
 use Rattle.hg_image.proofs.Sound.{list_at}
-use Rattle.hg_mixed.specs.Drop.{bare}
-use Rattle.hg_mixed.specs.Edits.{IsFormed, IsSame}
+use Rattle.hg_nodes.specs.Drop.{bare}
+use Rattle.hg_nodes.specs.Edits.{IsFormed, IsSame}
 use Rattle.hg_mixed.specs.Lent.{IsLentPut, as_dir, covers, lent_at}
 use Rattle.hg_mixed.specs.Held.{is_lent_in}
-use Rattle.hg_mixed.specs.Lists.{dir_text, or_root}
-use Rattle.hg_mixed.specs.Memory.{InMemory, memory_table}
-use Rattle.hg_mixed.specs.Node.{NodeData, entry_in, node_at, source_in}
-use Rattle.hg_mixed.specs.Opened.{IsThere, node_of}
+use Rattle.hg_nodes.specs.Lists.{dir_text, or_root}
+use Rattle.hg_mixed.specs.Own.{InMemory, memory_table}
+use Rattle.hg_nodes.specs.Node.{NodeData, entry_in, node_at, source_in, IsThere}
+use Rattle.hg_mixed.specs.Opened.{node_of}
 use Rattle.hg_mixed.specs.Parted.{IsMoved, IsParted, whole}
-use Rattle.hg_mixed.specs.Taken.{AddsNodes, AddsSome, AreOthersKept, AreServed, CoversLess, IsAsBefore, IsBare, IsNotOf, IsOpen, LendsKids, path_at}
-use Rattle.hg_mixed.specs.Times.{time_at}
-use Rattle.hg_mixed.proofs.Edited.{same_trans, update_here, update_other}
+use Rattle.hg_mixed.specs.Taken.{AddsNodes, AddsSome, AreOthersKept, AreServed, CoversLess, IsBare, IsNotOf, IsOpen, LendsKids, path_at}
+use Rattle.hg_nodes.specs.Adding.{IsAsBefore}
+use Rattle.hg_nodes.specs.Times.{time_at}
+use Rattle.hg_nodes.proofs.Edited.{same_trans, update_here, update_other}
 use Rattle.hg_image.proofs.Found.{found_row, row_above, row_is_path, row_rooted}
 use Rattle.hg_mixed.proofs.Kept.{lent_same}
 use Rattle.hg_mixed.proofs.Lents.{covered_by, covers_some, same_bools}

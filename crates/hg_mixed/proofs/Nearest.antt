@@ -16,7 +16,7 @@ use Rattle.hg_image.specs.declared.opened.List.{List as NodeList}
 use Rattle.hg_image.specs.declared.opened.NodeRef.{NodeRef}
 use Rattle.hg_mixed.specs.Lent.{IsInImage, IsOver, as_dir, covers, lent_at}
 use Rattle.hg_image.specs.Found.{HasBelow}
-use Rattle.hg_mixed.specs.Lists.{or_root}
+use Rattle.hg_nodes.specs.Lists.{or_root}
 use Rattle.hg_image.proofs.Found.{parent_below}
 use Rattle.hg_mixed.proofs.Lents.{covered_by, covers_some}
 

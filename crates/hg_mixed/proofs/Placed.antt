@@ -12,16 +12,19 @@ use Rattle.hg_entry.specs.Entry.{EntryData}
 use Rattle.hg_image.specs.Reading.{row_at}
 use Rattle.hg_image.specs.Reading as reading
 use Rattle.hg_image.specs.Rows.{Row, rows_of}
-use Rattle.hg_mixed.specs.Drop.{IsPruned, PlacesDrop, after_clear}
-use Rattle.hg_mixed.specs.Edits.{ArePlacedAsBefore, IsSame, PlacesCopy, after_copy}
+use Rattle.hg_mixed.specs.Drop.{PlacesDrop}
+use Rattle.hg_nodes.specs.Drop.{IsPruned, after_clear}
+use Rattle.hg_mixed.specs.Edits.{ArePlacedAsBefore, PlacesCopy}
+use Rattle.hg_nodes.specs.Edits.{IsSame, after_copy}
 use Rattle.hg_mixed.specs.Held.{Held, node_here, node_in, table}
 use Rattle.hg_mixed.specs.Lent.{covers}
-use Rattle.hg_mixed.specs.Memory.{AreCleared, InMemory, IsSourceWritten, memory_table}
-use Rattle.hg_mixed.specs.Node.{AreSame, IsPut, NodeData, cleared, node_at, or_blank, planted, source_in, source_text_in, text_in, with_entry, with_source}
+use Rattle.hg_mixed.specs.Own.{InMemory, memory_table}
+use Rattle.hg_nodes.specs.Memory.{AreCleared, IsSourceWritten}
+use Rattle.hg_nodes.specs.Node.{AreSame, IsPut, NodeData, cleared, node_at, or_blank, planted, source_in, source_text_in, text_in, with_entry, with_source}
 use Rattle.hg_mixed.specs.Opened.{node_of, source_place}
 use Rattle.hg_mixed.specs.Parted.{ArePlaced, IsMoved, IsPlaced, whole}
 use Rattle.hg_mixed.specs.Shown.{ArePlacesOfImage}
-use Rattle.hg_mixed.proofs.Edited.{copy_stays, copy_was, same_trans}
+use Rattle.hg_nodes.proofs.Edited.{copy_stays, copy_was, same_trans}
 use Rattle.hg_mixed.proofs.Covered.{way_free}
 use Rattle.hg_mixed.proofs.Lifted.{copy_left, kept_table, own_entry, own_source, same_back, same_own}
 

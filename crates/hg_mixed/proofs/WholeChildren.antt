@@ -15,10 +15,12 @@ use Rattle.hg_entry.specs.Table.{Table}
 use Rattle.hg_image.specs.Reading.{row_at}
 use Rattle.hg_image.specs.Rows.{Row, rows_of}
 use Rattle.hg_mixed.specs.ChildOf.{has_below, lends, with_lent}
-use Rattle.hg_mixed.specs.Children.{AreChildren, AreNodesIn, ChildData, IsChild, IsNodeIn}
-use Rattle.hg_mixed.specs.Held.{Held, image_table, table, table_of}
+use Rattle.hg_mixed.specs.Children.{AreChildren, IsChild}
+use Rattle.hg_nodes.specs.Children.{AreNodesIn, ChildData, IsNodeIn}
+use Rattle.hg_mixed.specs.Held.{Held, image_table, table}
+use Rattle.hg_nodes.specs.Memory.{table_of}
 use Rattle.hg_mixed.specs.Lent.{as_dir, covers, lent_at}
-use Rattle.hg_mixed.specs.Node.{source_text_in, text_in}
+use Rattle.hg_nodes.specs.Node.{source_text_in, text_in}
 use Rattle.hg_mixed.specs.Parted.{IsOwn, IsParted}
 use Rattle.hg_mixed.proofs.Lents.{covered_by, covers_some}
 use Rattle.hg_mixed.proofs.WholeOf.{image_node, node_own, own_cache, own_entry, own_node, own_source}

@@ -14,10 +14,10 @@ use Rattle.hg_image.specs.View.{row}
 use Rattle.hg_image.specs.declared.opened.NodeRef.{NodeRef}
 use Rattle.hg_mixed.specs.Held.{Held, merged, node_in}
 use Rattle.hg_mixed.specs.Lent.{IsInImage, covers}
-use Rattle.hg_mixed.specs.Node.{node_at}
+use Rattle.hg_nodes.specs.Node.{node_at}
 use Rattle.hg_mixed.specs.Opened.{node_of}
 use Rattle.hg_mixed.specs.Parted.{IsParted, whole}
-use Rattle.hg_mixed.specs.Shown.{shown_in}
+use Rattle.hg_nodes.specs.Shown.{shown_in}
 
 pub mapped_some : {X Y : Type 0} (f : X → Y) (o : Option X) → is_some (option_map f o) ≡ is_some o
 mapped_some f None = refl

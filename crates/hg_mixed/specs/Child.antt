@@ -1,7 +1,7 @@
 -- A child as contracts see it.
 use Rattle.std.specs.Prelude.{option_map}
 use Rattle.hg_entry.specs.Entry.{cache_view, view}
-use Rattle.hg_mixed.specs.Children.{ChildData}
+use Rattle.hg_nodes.specs.Children.{ChildData}
 use Rattle.hg_mixed.specs.declared.child.Child.{Child}
 
 abbrev pub shown_child : Child → ChildData

@@ -1,35 +1,13 @@
 -- A child, read from the nodes and the times.
-use Rattle.std.specs.Prelude.{ℕ, ◌≡◌, true, not, ◌||◌, ◌==◌, List, Option, None, Some, Bool, false, map}
-use Rattle.std.specs.List.{AllByRecursion, list_any}
-use Rattle.hg_base.specs.PathText.{is_below, is_path}
-use Rattle.hg_entry.specs.Entry.{CacheData, cache_of, entry_of}
+use Rattle.std.specs.Prelude.{ℕ, not, ◌||◌, ◌==◌, List, Option, None, Some, Bool, false}
+use Rattle.std.specs.List.{list_any}
+use Rattle.hg_base.specs.PathText.{is_below}
+use Rattle.hg_entry.specs.Entry.{cache_of, entry_of}
 use Rattle.hg_image.specs.Node.{fields_of}
 use Rattle.hg_image.specs.Rows.{Row}
-use Rattle.hg_mixed.specs.Children.{ChildData}
+use Rattle.hg_nodes.specs.Children.{ChildData}
 use Rattle.hg_mixed.specs.Lent.{lent_at}
-use Rattle.hg_mixed.specs.Lists.{has_rows_in}
-use Rattle.hg_mixed.specs.Node.{NodeData}
 use Rattle.hg_mixed.specs.Opened.{source_place}
-use Rattle.hg_mixed.specs.Times.{time_at}
-
-abbrev pub child_of : List (List ℕ × NodeData) → List (List ℕ × CacheData) → List ℕ × NodeData → ChildData
-child_of rows times kid =
-    record {
-      path = kid.0;
-      entry = kid.1.entry;
-      source = kid.1.source;
-      cache = time_at times kid.0;
-      has_kids = has_rows_in rows kid.0;
-      text_at = kid.1.text_at;
-      source_at = kid.1.source_at;
-    }
-
-abbrev pub children_of : List (List ℕ × NodeData) → List (List ℕ × CacheData) → List (List ℕ × NodeData) → List ChildData
-children_of rows times kids = map (child_of rows times) kids
-
--- each stands at a path
-abbrev pub AreAtPaths : List (List ℕ × NodeData) → Type 0
-AreAtPaths kids = AllByRecursion (λ kid. is_path kid.0 ≡ true) kids
 
 -- a list that is lent has a row below a path
 abbrev pub has_below : List ℕ → Option (List Row) → Bool

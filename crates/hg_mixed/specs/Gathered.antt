@@ -8,7 +8,8 @@ use Rattle.std.specs.Cmp.Lexicographic.{slice_cmp}
 use Rattle.std.specs.Str.{bytes_eq}
 use Rattle.hg_base.specs.Within.{is_above, is_within}
 use Rattle.hg_entry.specs.Entry.{cache_view, view}
-use Rattle.hg_mixed.specs.Children.{ChildData, IsChild}
+use Rattle.hg_mixed.specs.Children.{IsChild}
+use Rattle.hg_nodes.specs.Children.{ChildData}
 use Rattle.hg_mixed.specs.Held.{Held, table}
 use Rattle.hg_mixed.specs.declared.child.Child.{Child}
 use Rattle.hg_mixed.specs.declared.line.Line.{Line}

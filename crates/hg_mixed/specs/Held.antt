@@ -1,6 +1,6 @@
 -- What a table in memory holds, as contracts see it.
 use Rattle.std.specs.Prelude.{ℕ, Bool, ◌&&◌, ◌||◌, if◌then◌else◌, List, Option, is_some}
-use Rattle.std.specs.Option.{option_and_then, option_map}
+use Rattle.std.specs.Option.{option_map}
 use Rattle.std.specs.List.{list_any}
 use Rattle.hg_base.specs.PathText.{is_same_dir, parent_of}
 use Rattle.hg_docket.specs.Docket.{Contents}
@@ -10,10 +10,10 @@ use Rattle.hg_image.specs.Reading as reading
 use Rattle.hg_image.specs.Reading.{row_at}
 use Rattle.hg_image.specs.Rows.{Row, rows_of}
 use Rattle.hg_mixed.specs.Lent.{covers, lent_at}
-use Rattle.hg_mixed.specs.Lists.{or_root}
-use Rattle.hg_mixed.specs.Node.{NodeData, node_at, source_text_in, text_in}
+use Rattle.hg_nodes.specs.Lists.{or_root}
+use Rattle.hg_nodes.specs.Memory.{table_of}
+use Rattle.hg_nodes.specs.Node.{NodeData, node_at, source_text_in, text_in}
 use Rattle.hg_mixed.specs.Opened.{node_of}
-use Rattle.hg_mixed.specs.Times.{time_at}
 
 -- the docket and the used bytes of the image that was opened; the parents and the hash; whether an edit has changed anything; the nodes
 -- and the times of cached directories that are in memory, by path; the lists of the image that aren't in memory, each by its directory (empty for the
@@ -29,19 +29,6 @@ pub record Held : Type 0 where
   pub times : List (List ℕ × CacheData)
   pub left : List (List ℕ × List Row)
   pub kept : List (List ℕ × List Row)
-
--- the table of these parts
-abbrev pub table_of : List ℕ → List ℕ → List ℕ → List (List ℕ × NodeData) → List (List ℕ × CacheData) → Table
-table_of p1 p2 hash rows times =
-    record {
-      p1 = p1;
-      p2 = p2;
-      hash = hash;
-      entries = λ path. option_and_then (λ node. node.entry) (node_at rows path);
-      sources = λ path. option_and_then (λ node. node.source) (node_at rows path);
-      nodes = λ path. is_some (node_at rows path);
-      caches = time_at times;
-    }
 
 -- at some paths what an image says, and at all others what is in memory
 abbrev pub merged : (List ℕ → Bool) → Table → Table → Table

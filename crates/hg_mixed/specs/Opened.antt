@@ -1,10 +1,10 @@
 -- What is taken from the rows of an image.
-use Rattle.std.specs.Prelude.{ℕ, ◌≡◌, true, List, Option, Some, is_some}
+use Rattle.std.specs.Prelude.{ℕ, Option, Some}
 use Rattle.std.specs.Option.{option_map}
 use Rattle.hg_entry.specs.Entry.{entry_of}
 use Rattle.hg_image.specs.Node.{fields_of}
 use Rattle.hg_image.specs.Rows.{Row}
-use Rattle.hg_mixed.specs.Node.{NodeData, node_at}
+use Rattle.hg_nodes.specs.Node.{NodeData}
 
 -- the place of the text of a row's copy source, where it has one
 abbrev pub source_place : Row → Option ℕ
@@ -19,7 +19,3 @@ node_of row =
       text_at = Some row.rec.path_start;
       source_at = source_place row;
     }
-
--- a node stands at a directory, where it isn't the root
-abbrev pub IsThere : List (List ℕ × NodeData) → Option (List ℕ) → Type 0
-IsThere rows dir = (d : List ℕ) → dir ≡ Some d → is_some (node_at rows d) ≡ true

@@ -12,11 +12,11 @@ use Rattle.hg_image.specs.Rows.{Row, rows_of}
 use Rattle.hg_image.specs.View.{dir_of, rows_in}
 use Rattle.hg_image.specs.declared.opened.Image.{Image}
 use Rattle.hg_image.specs.declared.opened.List.{List as NodeList}
-use Rattle.hg_mixed.specs.Edits.{IsFormed, IsSame}
+use Rattle.hg_nodes.specs.Edits.{IsFormed, IsSame}
 use Rattle.hg_mixed.specs.Held.{Held, has_list, is_lent_in, merged, node_here}
 use Rattle.hg_mixed.specs.Lent.{as_dir, covers, lent_at}
-use Rattle.hg_mixed.specs.Memory.{InMemory, memory_table}
-use Rattle.hg_mixed.specs.Node.{NodeData, source_in, source_text_in, text_in}
+use Rattle.hg_mixed.specs.Own.{InMemory, memory_table}
+use Rattle.hg_nodes.specs.Node.{NodeData, source_in, source_text_in, text_in}
 use Rattle.hg_mixed.specs.Opened.{node_of}
 
 -- the rows of an image, as a reading of its bytes has them

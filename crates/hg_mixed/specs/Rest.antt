@@ -3,7 +3,7 @@ use Rattle.std.specs.Prelude.{ℕ, List, [], map, Option, Some, None}
 use Rattle.hg_image.specs.Rows.{Row}
 use Rattle.hg_image.specs.declared.opened.List.{List as NodeList}
 use Rattle.hg_mixed.specs.ChildOf.{row_child, with_lent}
-use Rattle.hg_mixed.specs.Children.{ChildData}
+use Rattle.hg_nodes.specs.Children.{ChildData}
 use Rattle.hg_image.specs.Found.{level}
 
 -- those of a list of the image from a place on, where there is one

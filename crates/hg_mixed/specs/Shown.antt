@@ -2,9 +2,6 @@
 use Rattle.std.specs.Prelude.{ℕ, ◌≡◌, ◌<◌, true, false, List, Option, Some, None, is_some, option_map}
 use Rattle.std.specs.Option.{option_and_then}
 use Rattle.hg_docket.specs.Docket.{Contents}
-use Rattle.hg_entry.specs.Entry.{EntryData, view}
-use Rattle.hg_entry.specs.Table.{Table}
-use Rattle.hg_entry.specs.declared.entry.Item.{Item}
 use Rattle.hg_base.specs.PathText.{parent_of}
 use Rattle.hg_base.specs.Within.{is_above}
 use Rattle.hg_image.specs.Reading.{row_at}
@@ -12,16 +9,8 @@ use Rattle.hg_image.specs.Rows.{Row, rows_of}
 use Rattle.hg_image.specs.View.{dir_of, rows_in}
 use Rattle.hg_image.specs.declared.opened.List.{List as NodeList}
 use Rattle.hg_mixed.specs.Held.{Held, has_list, image_table, is_lent, source_at, table, text_at}
-use Rattle.hg_mixed.specs.Node.{node_at}
+use Rattle.hg_nodes.specs.Node.{node_at}
 use Rattle.hg_mixed.specs.Opened.{source_place}
-
--- an item shows an entry and its source
-abbrev pub shown_item : Item → EntryData × Option (List ℕ)
-shown_item item = (view item.entry, option_map (λ source. source.text.now) item.source)
-
--- what a table says of a path with an entry
-abbrev pub shown_in : Table → List ℕ → Option (EntryData × Option (List ℕ))
-shown_in t path = option_map (λ entry. (entry, t.sources path)) (t.entries path)
 
 -- where an image has the list of a directory: the byte place of its first node, and how many nodes there are
 abbrev pub list_place : Contents → List Row → Option (List ℕ) → Option (ℕ × ℕ)

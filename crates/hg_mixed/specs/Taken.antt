@@ -9,33 +9,22 @@ use Rattle.hg_image.specs.Rows.{Row}
 use Rattle.hg_image.specs.View.{dir_of, row, rows_below, rows_in}
 use Rattle.hg_image.specs.declared.opened.List.{List as NodeList}
 use Rattle.hg_image.specs.declared.opened.NodeRef.{NodeRef}
-use Rattle.hg_mixed.specs.Drop.{bare}
-use Rattle.hg_mixed.specs.Edits.{IsFormed}
+use Rattle.hg_nodes.specs.Adding.{Adds, IsAsBefore}
+use Rattle.hg_nodes.specs.Drop.{bare}
+use Rattle.hg_nodes.specs.Edits.{IsFormed}
 use Rattle.hg_mixed.specs.Lent.{as_dir, covers, lent_at}
-use Rattle.hg_mixed.specs.Memory.{InMemory}
-use Rattle.hg_mixed.specs.Node.{IsPut, NodeData, node_at}
+use Rattle.hg_mixed.specs.Own.{InMemory}
+use Rattle.hg_nodes.specs.Node.{NodeData, node_at}
 use Rattle.hg_mixed.specs.Opened.{node_of}
-use Rattle.hg_mixed.specs.Times.{IsTimed, time_at}
+use Rattle.hg_nodes.specs.Times.{time_at}
 
 -- the path of one of a list's nodes
 abbrev pub path_at : NodeList → ℕ → List ℕ
 path_at list i = path_of list.bytes.now (record_at list.bytes.now (list.start + 44 * i))
 
--- a path has in memory what it had
-pub record IsAsBefore (at : List ℕ) (old : List (List ℕ × NodeData)) (before : List (List ℕ × CacheData)) (new : List (List ℕ × NodeData)) (after : List (List ℕ × CacheData)) : Type 0 where
-  pub node : node_at new at ≡ node_at old at
-  pub time : time_at after at ≡ time_at before at
-
--- all paths but one have what they had
-pub record IsElsewhere (path : List ℕ) (old : List (List ℕ × NodeData)) (before : List (List ℕ × CacheData)) (new : List (List ℕ × NodeData)) (after : List (List ℕ × CacheData)) : Type 0 where
-  pub others : (at : List ℕ) → bytes_eq path at ≡ false → IsAsBefore at old before new after
-  pub formed : IsFormed (bare new after)
-
--- a node was taken, with its time
-pub record AddsOwn (own : Row) (old : List (List ℕ × NodeData)) (before : List (List ℕ × CacheData)) (new : List (List ℕ × NodeData)) (after : List (List ℕ × CacheData)) : Type 0 where
-  pub put : IsPut own.path (Some (node_of own)) old new
-  pub timed : IsTimed own.path (cache_of (fields_of own.rec)) before after
-  pub formed : IsFormed (bare new after)
+-- a node of the image was taken, with its time
+abbrev pub AddsOwn : Row → List (List ℕ × NodeData) → List (List ℕ × CacheData) → List (List ℕ × NodeData) → List (List ℕ × CacheData) → Type 0
+AddsOwn own = Adds own.path (node_of own) (cache_of (fields_of own.rec))
 
 -- a path right in a list's directory has what its row says
 pub record HasRow (list : NodeList) (at : List ℕ) (new : List (List ℕ × NodeData)) (after : List (List ℕ × CacheData)) : Type 0 where

@@ -7,10 +7,10 @@ use Rattle.hg_image.specs.Rows.{Row}
 use Rattle.hg_image.specs.View.{dir_of, rows_in}
 use Rattle.hg_image.specs.declared.opened.List.{List as NodeList}
 use Rattle.hg_mixed.specs.ChildOf.{has_below}
-use Rattle.hg_mixed.specs.Children.{ChildData}
+use Rattle.hg_nodes.specs.Children.{ChildData}
 use Rattle.hg_mixed.specs.Held.{Held}
 use Rattle.hg_mixed.specs.Lent.{as_dir, lent_at}
-use Rattle.hg_mixed.specs.Lists.{or_root}
+use Rattle.hg_nodes.specs.Lists.{or_root}
 use Rattle.hg_mixed.specs.Parted.{IsLentIn, image_of}
 use Rattle.hg_mixed.specs.Rest.{children_in}
 use Rattle.hg_mixed.specs.declared.below.Below.{Below}

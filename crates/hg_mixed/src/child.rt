@@ -2,7 +2,7 @@
 
 ghost use Rattle.std.specs.Prelude.{option_map};
 ghost use Rattle.hg_entry.specs.Entry.{cache_view, view};
-ghost use Rattle.hg_mixed.specs.Written.{AreWritten};
+ghost use Rattle.hg_nodes.specs.Written.{AreWritten};
 
 use hg_base::{PathRef, Stamp};
 use hg_entry::{Entry, Fields};

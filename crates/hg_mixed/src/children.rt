@@ -5,17 +5,17 @@ ghost use Rattle.hg_mixed.specs.Child.{shown_child};
 ghost use Rattle.hg_mixed.specs.Children.{AreChildren};
 ghost use Rattle.hg_mixed.specs.Lent.{lent_at};
 ghost use Rattle.hg_mixed.specs.Parted.{IsLentIn, IsOwn, image_of};
-ghost use Rattle.hg_mixed.specs.Kids.{Takes};
+ghost use Rattle.hg_nodes.specs.Kids.{Takes};
 ghost use Rattle.hg_mixed.specs.Walk.{IsBelow, ListsAreOf, walked};
 
 use crate::below::Below;
 use crate::child::Child;
 use crate::lent::Place;
 use crate::mixed::Mixed;
-use crate::own_children::text_of;
 use crate::walk::Walk;
 use hg_base::PathRef;
 use hg_image::List;
+use hg_nodes::text_of;
 use std::marker::Model;
 
 /// What is left of a directory's children.
@@ -26,7 +26,7 @@ pub struct Children<'t, 'a> {
 
 impl<'t, 'a> Model for Children<'t, 'a> {
     ghost use Rattle.std.specs.Prelude.{List};
-    ghost use Rattle.hg_mixed.specs.Children.{ChildData};
+    ghost use Rattle.hg_nodes.specs.Children.{ChildData};
     ghost use Rattle.hg_mixed.specs.Walk.{walked};
 
     ghost Value = { List ChildData };

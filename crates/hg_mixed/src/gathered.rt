@@ -8,7 +8,7 @@ ghost use Rattle.hg_base.specs.PathText.{is_below, parent_of};
 ghost use Rattle.hg_base.specs.Within.{is_above};
 ghost use Rattle.hg_mixed.specs.Child.{shown_child};
 ghost use Rattle.hg_mixed.specs.Children.{AreChildren, IsChild};
-ghost use Rattle.hg_mixed.specs.Edits.{IsFormed};
+ghost use Rattle.hg_nodes.specs.Edits.{IsFormed};
 ghost use Rattle.hg_mixed.specs.Gathered.{AreGathered, Gathers, line_of, path_of, paths_of};
 ghost use Rattle.hg_mixed.specs.Held.{table};
 ghost use Rattle.hg_mixed.specs.Walk.{IsBelow, ListIsOf, ListsAreOf, walked};

@@ -1,12 +1,13 @@
 //! The lists of nodes that are the image's still.
 
-ghost use Rattle.std.specs.Prelude.{◌≡◌, true, Some, None, is_some, option_map, IfSome, MatchBool, OnOk, OnErr};
+ghost use Rattle.std.specs.Prelude.{◌≡◌, ◌==◌, [], length, false, true, Some, None, is_some, option_map, IfSome, MatchBool, OnOk, OnErr};
 ghost use Rattle.hg_image.specs.View.{dir_of, rows_in};
-ghost use Rattle.hg_mixed.specs.Lent.{AreEnded, AreLentStill, CoversNone, IsLentPut, IsNoneLent, IsOver, IsPlace, covers, lent_at};
-ghost use Rattle.hg_mixed.specs.Lists.{or_root};
+ghost use Rattle.hg_mixed.specs.Lent.{AreEnded, AreEndedOver, AreLentStill, CoversNone, IsLentPut, IsNoneLent, IsOver, IsPlace, covers, lent_at};
+ghost use Rattle.hg_nodes.specs.Lists.{or_root};
 
 use hg_base::{OutOfMemory, PathRef};
 use hg_image::{List, NodeRef, node_in};
+use hg_nodes::Memory;
 use std::alloc::Global;
 use std::collections::BTreeMap;
 use std::marker::Model;
@@ -24,30 +25,58 @@ pub enum Place<'a> {
 /// that stands below its directory.
 #[derive(Drop)]
 pub struct Lent<'a> {
-    lists: BTreeMap<String, List<'a>>,
+    // (that of the root by itself, so that none but an edit takes memory)
+    root: Option<List<'a>>,
+    lists: Option<BTreeMap<String, List<'a>>>,
 }
 
 impl<'a> Model for Lent<'a> {
     ghost use Rattle.std.specs.Prelude.{List, ℕ};
     ghost use Rattle.hg_image.specs.Rows.{Row};
-    ghost use Rattle.hg_mixed.specs.Lent.{AreByDir, lists_of};
+    ghost use Rattle.hg_mixed.specs.Lent.{AreByDir, IsOfRoot, lists_of, with_root};
+    ghost use Rattle.hg_nodes.specs.Made.{entries_of};
 
     ghost Value = { List (List ℕ × List Row) };
 
-    ghost view = { λ l. lists_of l.lists.entries };
+    ghost view = { λ l. with_root l.root (lists_of (entries_of l.lists)) };
 
-    ghost invariant = { λ l. AreByDir l.lists.entries };
+    ghost invariant = { λ l. IsOfRoot l.root × AreByDir (entries_of l.lists) };
 }
 
 impl<'a> Lent<'a> {
     /// No list is lent.
-    pub fn new(alloc: Global) -> Lent<'a>
+    pub fn new() -> Lent<'a>
         ensures none { IsNoneLent result }
         ensures bare { CoversNone result }
     {
         Lent {
-            lists: BTreeMap::new(alloc),
+            root: None,
+            lists: None,
         }
+    }
+
+    /// The list of the root is lent, and no other.
+    pub fn of_root(list: List<'a>) -> Lent<'a>
+        requires { dir_of list ≡ None }
+        ensures { IsLentPut [] (Some (rows_in list.entry)) [] result }
+    {
+        Lent {
+            root: Some(list),
+            lists: None,
+        }
+    }
+
+    // Lends the list of a directory that isn't the root.
+    fn put_below(&mut self, alloc: Global, dir: &str, list: List<'a>) -> Result<(), OutOfMemory>
+        requires dir { or_root (dir_of list) ≡ dir.now }
+        requires below { (length dir.now == 0) ≡ false }
+        ensures ok { OnOk result (IsLentPut dir.now (Some (rows_in list.entry)) self.old self.new) }
+        ensures err { OnErr result (AreLentStill self.old self.new) }
+    {
+        let key = String::from_str(alloc, dir)?;
+        let lists = self.lists.get_or_insert(BTreeMap::new(alloc));
+        lists.insert(key, list)?;
+        Ok(())
     }
 
     /// Lends the list of a directory, or leaves all as it was.
@@ -56,24 +85,34 @@ impl<'a> Lent<'a> {
         ensures ok { OnOk result (IsLentPut dir.now (Some (rows_in list.entry)) self.old self.new) }
         ensures err { OnErr result (AreLentStill self.old self.new) }
     {
-        let key = String::from_str(alloc, dir)?;
-        self.lists.insert(key, list)?;
-        Ok(())
+        if dir.is_empty() {
+            self.root = Some(list);
+            return Ok(());
+        }
+        self.put_below(alloc, dir, list)
     }
 
     /// The list of a directory isn't lent any more.
     pub fn remove(&mut self, dir: &str)
         ensures { IsLentPut dir.now None self.old self.new }
     {
-        let _ = self.lists.remove(dir);
+        if dir.is_empty() {
+            self.root = None;
+            return;
+        }
+        let Some(lists) = &mut self.lists else {
+            return;
+        };
+        let _ = lists.remove(dir);
     }
 
     /// No list is lent any more.
-    pub fn clear(&mut self, alloc: Global)
+    pub fn clear(&mut self)
         ensures none { IsNoneLent self.new }
         ensures bare { CoversNone self.new }
     {
-        self.lists = BTreeMap::new(alloc);
+        self.root = None;
+        self.lists = None;
     }
 
     /// The list of a directory, where it is lent.
@@ -81,7 +120,13 @@ impl<'a> Lent<'a> {
         ensures rows { option_map rows_in result ≡ lent_at self.now dir.now }
         ensures dir { IfSome result (λ list. or_root (dir_of list) ≡ dir.now) }
     {
-        self.lists.get(dir).copied()
+        if dir.is_empty() {
+            return self.root;
+        }
+        match &self.lists {
+            None => None,
+            Some(lists) => lists.get(dir).copied(),
+        }
     }
 
     /// Whether the list of a directory is lent.
@@ -95,7 +140,13 @@ impl<'a> Lent<'a> {
     pub fn is_empty(&self) -> bool
         ensures { result ≡ true → CoversNone self.now }
     {
-        self.lists.len() == 0
+        if self.root.is_some() {
+            return false;
+        }
+        match &self.lists {
+            None => true,
+            Some(lists) => lists.len() == 0,
+        }
     }
 
     // The list of the nearest directory above a path that has one.
@@ -148,5 +199,15 @@ impl<'a> Lent<'a> {
             None => Place::Memory,
             Some(list) => Place::Image(node_in(list, path)),
         }
+    }
+}
+
+/// No list of a directory above a cached one is lent any more.
+pub fn end_over(memory: &Memory, lent: &mut Lent<'_>)
+    ensures { AreEndedOver memory.entry.now.times lent.old lent.new }
+{
+    let mut cached = memory.cached();
+    while let Some((dir, _)) = cached.next() {
+        lent.end_above(PathRef { text: dir });
     }
 }

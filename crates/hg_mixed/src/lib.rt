@@ -1,8 +1,9 @@
-//! The record of a dirstate as a table that can be changed, entry by entry.
+//! The record of a dirstate as a table that can be changed, entry by entry, over the nodes of `hg_nodes` in memory.
 //!
 //! `Mixed::open` takes what an image records: the parents, the hash of the ignore patterns, and by path the entries, their copy sources,
 //! the nodes and the times of cached directories. Nothing of it is copied then. An edit takes the lists of the directories above its path into
-//! memory, and the rest stays where it lies in the image. Each edit says what it makes of the whole table, so all that it doesn't name stays.
+//! memory, and the rest stays where it lies in the image; one that changes nothing takes nothing. Only edits are handed an allocator: whatever asks a table
+//! takes no memory. Each edit says what it makes of the whole table, so all that it doesn't name stays.
 //!
 //! | edit | what it makes of the table |
 //! |---|---|
@@ -23,8 +24,8 @@
 //! that changes something ends the lending of the lists of all directories above its path, and of no others.
 //!
 //! ```text
-//! let mut table = Mixed::open(alloc, image)?;
-//! table.set(PathRef::read("src/main.c")?, entry)?;   // Err(SetFault::Clash { other }) where `src` is tracked
+//! let mut table = Mixed::open(image);
+//! table.set(alloc, PathRef::read("src/main.c")?, entry)?;   // Err(SetFault::Clash { other }) where `src` is tracked
 //! let mut children = table.children(None);
 //! children.next();                                   // the child `src`, which has_kids
 //! ```
@@ -35,40 +36,24 @@
 
 mod below;
 mod child;
+mod child_fields;
 mod children;
-mod clash;
 mod edits;
-mod fault;
 mod gathered;
 mod image_list;
-mod kids;
-mod laws;
 mod lent;
 mod line;
-mod lists;
-mod memory;
-mod memory_edits;
 mod mixed;
 mod near;
-mod node;
-mod nodes;
 mod opening;
-mod own_children;
-mod planting;
-mod pruning;
-mod same;
-mod setting;
+mod own;
 mod taking;
-mod times;
 mod walk;
-mod written;
 
 pub use below::Below;
 pub use child::Child;
 pub use children::Children;
-pub use fault::SetFault;
 pub use gathered::gather;
-pub use laws::one_drop;
 pub use line::Line;
 pub use mixed::Mixed;
 pub use walk::Walk;

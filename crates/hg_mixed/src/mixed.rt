@@ -1,41 +1,41 @@
 //! The table, and what can be asked of it.
 
-ghost use Rattle.std.specs.Prelude.{◌≡◌, ◌||◌, IfOk, Some, false, is_some, option_map};
+ghost use Rattle.std.specs.Prelude.{◌≡◌, ◌||◌, Some, false, is_some, option_map};
 ghost use Rattle.hg_docket.specs.Docket as docket;
 ghost use Rattle.hg_entry.specs.Entry.{entry_of, cache_view};
 ghost use Rattle.hg_image.specs.Node.{fields_of};
 ghost use Rattle.hg_image.specs.Reading as reading;
 ghost use Rattle.hg_image.specs.View.{row, rows};
-ghost use Rattle.hg_mixed.specs.Edits.{IsFormed, IsSame};
+ghost use Rattle.hg_nodes.specs.Edits.{IsFormed, IsSame};
 ghost use Rattle.hg_mixed.specs.Held.{is_left_in, is_lent, source_at, table, text_at};
 ghost use Rattle.hg_mixed.specs.Lent.{lent_at};
-ghost use Rattle.hg_mixed.specs.Lists.{or_root};
+ghost use Rattle.hg_nodes.specs.Lists.{or_root};
 ghost use Rattle.hg_mixed.specs.Opened.{source_place};
-ghost use Rattle.hg_mixed.specs.Shown.{AnswersLent, AreAllLent, AreLentWhole, ArePlacesOf, ArePlacesOfImage, shown_item, shown_in};
+ghost use Rattle.hg_mixed.specs.Shown.{AnswersLent, AreAllLent, AreLentWhole, ArePlacesOf, ArePlacesOfImage};
+ghost use Rattle.hg_nodes.specs.Shown.{shown_in, shown_item};
 
 use crate::image_list::image_list;
 use crate::lent::{Lent, Place};
-use crate::memory::Memory;
 use crate::opening::source_place;
-use crate::own_children::text_of;
-use hg_base::{Id20, OutOfMemory, PathRef, Stamp};
+use crate::own::Own;
+use hg_base::{Id20, PathRef, Stamp};
 use hg_entry::Item;
 use hg_image::{Image, List, NodeRef};
-use std::alloc::Global;
+use hg_nodes::text_of;
 use std::marker::Model;
 
 /// All that a dirstate records: what an edit has touched is in memory, and the rest is read where it lies in the image.
 #[derive(Drop)]
 pub struct Mixed<'a> {
     pub(crate) image: Image<'a>,
-    pub(crate) memory: Memory<'a>,
+    pub(crate) memory: Own<'a>,
     pub(crate) left: Lent<'a>,
 }
 
 impl<'a> Model for Mixed<'a> {
     ghost use Rattle.hg_docket.specs.Docket as docket;
     ghost use Rattle.hg_mixed.specs.Held.{Held};
-    ghost use Rattle.hg_mixed.specs.Memory.{memory_table};
+    ghost use Rattle.hg_mixed.specs.Own.{memory_table};
     ghost use Rattle.hg_mixed.specs.Parted.{ArePlaced, AreWhole, IsParted, image_rows};
 
     ghost Value = { Held };
@@ -61,22 +61,20 @@ impl<'a> Model for Mixed<'a> {
 
 impl<'a> Mixed<'a> {
     /// The table that an image records, in which nothing is changed. Nothing of it is copied.
-    pub fn open(alloc: Global, image: Image<'a>) -> Result<Mixed<'a>, OutOfMemory>
-        ensures table { IfOk result (λ m. IsSame (table m) (reading.table_of (docket.view image.entry.docket) (rows image.entry))) }
-        ensures changed { IfOk result (λ m. m.changed ≡ false) }
-        ensures docket { IfOk result (λ m. m.docket ≡ docket.view image.entry.docket) }
-        ensures bytes { IfOk result (λ m. m.bytes ≡ image.entry.bytes.now) }
+    pub fn open(image: Image<'a>) -> Mixed<'a>
+        ensures table { IsSame (table result) (reading.table_of (docket.view image.entry.docket) (rows image.entry)) }
+        ensures changed { result.changed ≡ false }
+        ensures docket { result.docket ≡ docket.view image.entry.docket }
+        ensures bytes { result.bytes ≡ image.entry.bytes.now }
         // Each list is lent, and each text.
-        ensures lent { IfOk result (AreAllLent (rows image.entry)) }
-        ensures places { IfOk result (ArePlacesOf (rows image.entry)) }
+        ensures lent { AreAllLent (rows image.entry) result }
+        ensures places { ArePlacesOf (rows image.entry) result }
     {
-        let mut left = Lent::new(alloc);
-        left.put(alloc, "", image.root())?;
-        Ok(Mixed {
+        Mixed {
             image,
-            memory: Memory::new(alloc, image.docket()),
-            left,
-        })
+            memory: Own::new(image.docket()),
+            left: Lent::of_root(image.root()),
+        }
     }
 
     /// Whether an edit has changed anything since the table was opened.

@@ -1,25 +1,24 @@
 //! Nodes of an image are taken into memory.
 
-ghost use Rattle.std.specs.Prelude.{◌≡◌, ◌<◌, Some, IfOk, OnOk, OnErr, is_some, option_map};
-ghost use Rattle.std.specs.Option.{option_and_then};
+ghost use Rattle.std.specs.Prelude.{◌≡◌, ◌<◌, Some, is_some, OnOk, OnErr, option_map};
 ghost use Rattle.hg_base.specs.PathText.{parent_of};
+ghost use Rattle.hg_entry.specs.Entry.{cache_view};
+ghost use Rattle.hg_entry.specs.Entry as entries;
+ghost use Rattle.hg_image.specs.Node.{fields_of};
 ghost use Rattle.hg_image.specs.View.{dir_of, row, rows_in};
-ghost use Rattle.hg_mixed.specs.Drop.{bare};
-ghost use Rattle.hg_mixed.specs.Edits.{IsFormed};
 ghost use Rattle.hg_mixed.specs.Lent.{AreLentStill, IsLentPut, lent_at};
-ghost use Rattle.hg_mixed.specs.Lists.{or_root};
-ghost use Rattle.hg_mixed.specs.Memory.{memory_table};
-ghost use Rattle.hg_mixed.specs.Opened.{IsThere};
-ghost use Rattle.hg_mixed.specs.Taken.{AddsNodes, AddsOwn, AddsSome, AreOthersKept, IsElsewhere};
+ghost use Rattle.hg_mixed.specs.Opened.{node_of};
+ghost use Rattle.hg_mixed.specs.Taken.{AddsNodes, AddsOwn, AddsSome};
+ghost use Rattle.hg_mixed.specs.Taken as taken;
+ghost use Rattle.hg_nodes.specs.Adding.{AreOthersKept, IsElsewhere, recorded_node};
+ghost use Rattle.hg_nodes.specs.Lists.{or_root};
+ghost use Rattle.hg_nodes.specs.Node.{IsThere};
 
-use crate::memory::Memory;
-use crate::node::{Node, Source};
-use crate::nodes::Nodes;
-use crate::same::boxed;
-use crate::times::Times;
+use crate::own::Own;
 use hg_base::{OutOfMemory, PathRef};
 use hg_image::{List, NodeRef};
 use hg_node::Rec;
+use hg_nodes::{Memory, Recorded};
 use std::alloc::Global;
 
 /// Where the text of a node's copy source lies, where it has one.
@@ -32,93 +31,68 @@ pub fn source_place(source: Option<PathRef<'_>>, rec: Rec) -> Option<u32>
     }
 }
 
-// A copy of a node's copy source, where it has one, with the place of its text.
-fn lent_source(
-    alloc: Global,
-    source: Option<PathRef<'_>>,
-    rec: Rec,
-) -> Result<Option<Box<Source>>, OutOfMemory>
-    ensures path { IfOk result (λ copy. option_map (λ s. s.value.path) copy ≡ option_map (λ s. s.text.now) source.entry) }
-    ensures place { IfOk
-        result
-        (λ copy. option_and_then (λ s. s.value.at) copy ≡ option_map (λ source. rec.copy_start) (option_map (λ s. s.text.now) source.entry)) }
+// What an image records of a node.
+fn recorded(node: NodeRef<'_>) -> Recorded<'_>
+    ensures path { result.path.text.now ≡ (row node.entry).path }
+    ensures node { recorded_node result ≡ node_of (row node.entry) }
+    ensures cache { option_map cache_view result.cache ≡ entries.cache_of (fields_of (row node.entry).rec) }
 {
-    match source {
-        None => Ok(None),
-        Some(path) => Ok(Some(boxed(alloc, path, Some(rec.copy_start))?)),
+    let rec = node.rec();
+    Recorded {
+        path: node.path(),
+        entry: node.entry(),
+        source: node.source(),
+        cache: node.cache(),
+        text_at: rec.path_start,
+        source_at: rec.copy_start,
     }
 }
 
 // Takes one node. Where memory is wanting, its path alone may have another node or time, and all is formed.
-fn add_own(
-    alloc: Global,
-    nodes: &mut Nodes,
-    times: &mut Times,
-    node: NodeRef<'_>,
-) -> Result<(), OutOfMemory>
-    requires formed { IsFormed (bare nodes.old times.old) }
-    requires dir { IsThere nodes.old (parent_of (row node).path) }
-    ensures ok { OnOk result (AddsOwn (row node.entry) nodes.old times.old nodes.new times.new) }
-    ensures err { OnErr result (IsElsewhere (row node.entry).path nodes.old times.old nodes.new times.new) }
+fn add_own(alloc: Global, memory: &mut Memory, node: NodeRef<'_>) -> Result<(), OutOfMemory>
+    requires { IsThere memory.old.rows (parent_of (row node).path) }
+    ensures ok { OnOk result (AddsOwn (row node.entry) memory.old.rows memory.old.times memory.new.rows memory.new.times) }
+    ensures err { OnErr result (IsElsewhere (row node.entry).path memory.old.rows memory.old.times memory.new.rows memory.new.times) }
+    ensures others { AreOthersKept memory.old memory.new }
 {
-    let path = node.path();
-    let rec = node.rec();
-    let named = node.source();
-    let source = lent_source(alloc, named, rec)?;
-    let own = Node {
-        entry: node.entry(),
-        source,
-        text_at: Some(rec.path_start),
-    };
-    match node.cache() {
-        None => {
-            times.remove(path.text);
-            nodes.put(alloc, path, own)
-        }
-        Some(time) => {
-            nodes.put(alloc, path, own)?;
-            times.put(alloc, path.text, time)
-        }
-    }
+    memory.add(alloc, recorded(node))
 }
 
 // Takes the nodes of a list, without what stands below them.
-fn add_nodes(
-    alloc: Global,
-    nodes: &mut Nodes,
-    times: &mut Times,
-    list: List<'_>,
-) -> Result<(), OutOfMemory>
-    requires formed { IsFormed (bare nodes.old times.old) }
-    requires dir { 0 < list.count → IsThere nodes.old (dir_of list) }
-    ensures ok { OnOk result (AddsNodes list.entry list.entry.count nodes.old times.old nodes.new times.new) }
-    ensures err { OnErr result (AddsSome list.entry nodes.old times.old nodes.new times.new) }
+fn add_nodes(alloc: Global, memory: &mut Memory, list: List<'_>) -> Result<(), OutOfMemory>
+    requires { 0 < list.count → IsThere memory.old.rows (dir_of list) }
+    ensures ok { OnOk
+        result
+        (AddsNodes list.entry list.entry.count memory.old.rows memory.old.times memory.new.rows memory.new.times) }
+    ensures err { OnErr result (AddsSome list.entry memory.old.rows memory.old.times memory.new.rows memory.new.times) }
+    ensures others { AreOthersKept memory.old memory.new }
 {
+    memory.stays_formed();
     for i in 0..list.len() {
-        add_own(alloc, nodes, times, list.get(i))?;
+        add_own(alloc, memory, list.get(i))?;
     }
     Ok(())
 }
 
-impl<'a> Memory<'a> {
+impl<'a> Own<'a> {
     /// Takes the nodes that stand right in a list's directory.
-    pub fn add_kids(&mut self, list: List<'_>) -> Result<(), OutOfMemory>
+    pub fn add_kids(&mut self, alloc: Global, list: List<'_>) -> Result<(), OutOfMemory>
         requires { 0 < list.count → IsThere self.old.rows (dir_of list) }
         ensures ok { OnOk result (AddsNodes list.entry list.entry.count self.old.rows self.old.times self.new.rows self.new.times) }
         ensures err { OnErr result (AddsSome list.entry self.old.rows self.old.times self.new.rows self.new.times) }
-        ensures others { AreOthersKept self.old self.new }
+        ensures others { taken.AreOthersKept self.old self.new }
     {
-        add_nodes(self.alloc, &mut self.nodes, &mut self.times, list)
+        add_nodes(alloc, &mut self.memory, list)
     }
 
     /// Notes that a list is as the image has it, or leaves all as it was.
-    pub fn keep(&mut self, dir: &str, list: List<'a>) -> Result<(), OutOfMemory>
+    pub fn keep(&mut self, alloc: Global, dir: &str, list: List<'a>) -> Result<(), OutOfMemory>
         requires { or_root (dir_of list) ≡ dir.now }
         ensures ok { OnOk result (IsLentPut dir.now (Some (rows_in list.entry)) self.old.kept self.new.kept) }
         ensures err { OnErr result (AreLentStill self.old.kept self.new.kept) }
         ensures rest { self.new ≡ record self.old { kept = self.new.kept } }
     {
-        self.kept.put(self.alloc, dir, list)
+        self.kept.put(alloc, dir, list)
     }
 
     /// Whether the list of a directory is known to be as the image has it.
@@ -126,12 +100,5 @@ impl<'a> Memory<'a> {
         ensures { result ≡ is_some (lent_at self.now.kept dir.now) }
     {
         self.kept.has(dir)
-    }
-
-    /// The allocator.
-    pub fn alloc(&self) -> Global
-        ensures formed { IsFormed (memory_table self.now) }
-    {
-        self.alloc
     }
 }

@@ -4,13 +4,13 @@ ghost use Rattle.std.specs.Prelude.{◌≡◌, Some, false, OnOk};
 ghost use Rattle.hg_docket.specs.Docket as docket;
 ghost use Rattle.hg_image.specs.View.{dir_of, rows_in};
 ghost use Rattle.hg_mixed.specs.Lent.{CoversNone, as_dir, covers, lent_at};
-ghost use Rattle.hg_mixed.specs.Lists.{or_root};
-ghost use Rattle.hg_mixed.specs.Memory.{memory_table};
+ghost use Rattle.hg_nodes.specs.Lists.{or_root};
+ghost use Rattle.hg_mixed.specs.Own.{memory_table};
 ghost use Rattle.hg_mixed.specs.Parted.{IsFree, IsMoved, IsParted, image_rows};
 ghost use Rattle.hg_mixed.specs.Taken.{AreServed, CoversLess, IsBared, IsOpen, IsOut, IsServedKid, LendsKid, LendsKids};
 
 use crate::lent::Lent;
-use crate::memory::Memory;
+use crate::own::Own;
 use hg_base::{OutOfMemory, PathRef};
 use hg_image::{Image, List, NodeRef};
 use std::alloc::Global;
@@ -40,7 +40,8 @@ fn lend_kids<'a>(alloc: Global, left: &mut Lent<'a>, list: List<'a>) -> Result<(
 
 // Takes a list that is left in the image into memory, without what stands below its nodes, which is left there by lists of its own.
 fn take_list<'a>(
-    memory: &mut Memory<'a>,
+    alloc: Global,
+    memory: &mut Own<'a>,
     left: &mut Lent<'a>,
     image: Image<'a>,
     dir: &str,
@@ -54,16 +55,17 @@ fn take_list<'a>(
     ensures out { OnOk result (IsOut dir.now left.old left.new) }
 {
     // (It may be noted where it is left still.)
-    memory.keep(dir, list)?;
-    lend_kids(memory.alloc(), left, list)?;
-    memory.add_kids(list)?;
+    memory.keep(alloc, dir, list)?;
+    lend_kids(alloc, left, list)?;
+    memory.add_kids(alloc, list)?;
     left.remove(dir);
     Ok(())
 }
 
 // Takes the list of a directory into memory, where it is lent.
 fn take<'a>(
-    memory: &mut Memory<'a>,
+    alloc: Global,
+    memory: &mut Own<'a>,
     left: &mut Lent<'a>,
     image: Image<'a>,
     dir: &str,
@@ -75,14 +77,15 @@ fn take<'a>(
 {
     match left.get(dir) {
         None => Ok(()),
-        Some(list) => take_list(memory, left, image, dir, list),
+        Some(list) => take_list(alloc, memory, left, image, dir, list),
     }
 }
 
 // Takes the lists of all directories above a path into memory.
 #[cycle(taking)]
 fn take_above<'a>(
-    memory: &mut Memory<'a>,
+    alloc: Global,
+    memory: &mut Own<'a>,
     left: &mut Lent<'a>,
     image: Image<'a>,
     path: PathRef<'_>,
@@ -92,15 +95,16 @@ fn take_above<'a>(
     ensures free { OnOk result (covers left.new path.entry.text.now ≡ false) }
 {
     match path.parent() {
-        None => take(memory, left, image, ""),
-        Some(dir) => take_for(memory, left, image, dir),
+        None => take(alloc, memory, left, image, ""),
+        Some(dir) => take_for(alloc, memory, left, image, dir),
     }
 }
 
 /// Takes the lists of all directories above a path into memory, and that of the path itself where it is a directory.
 #[cycle(taking)]
 pub fn take_for<'a>(
-    memory: &mut Memory<'a>,
+    alloc: Global,
+    memory: &mut Own<'a>,
     left: &mut Lent<'a>,
     image: Image<'a>,
     path: PathRef<'_>,
@@ -110,13 +114,14 @@ pub fn take_for<'a>(
     ensures moved { IsMoved (docket.view image.entry.docket) (image_rows image.entry) left.old memory.old left.new memory.new }
     ensures free { OnOk result (IsFree left.new path.entry.text.now) }
 {
-    take_above(memory, left, image, path)?;
-    take(memory, left, image, path.text)
+    take_above(alloc, memory, left, image, path)?;
+    take(alloc, memory, left, image, path.text)
 }
 
 // Takes a list and all lists below it.
 fn take_whole<'a>(
-    memory: &mut Memory<'a>,
+    alloc: Global,
+    memory: &mut Own<'a>,
     left: &mut Lent<'a>,
     image: Image<'a>,
     list: List<'a>,
@@ -127,9 +132,9 @@ fn take_whole<'a>(
     ensures less { OnOk result (CoversLess left.old left.new) }
     ensures bared { OnOk result (IsBared list.entry left.new) }
 {
-    take(memory, left, image, dir_text(list))?;
+    take(alloc, memory, left, image, dir_text(list))?;
     for i in 0..list.len() {
-        take_whole(memory, left, image, list.get(i).children())?;
+        take_whole(alloc, memory, left, image, list.get(i).children())?;
     }
     Ok(())
 }
@@ -146,7 +151,8 @@ fn dir_text<'a>(list: List<'a>) -> &'a str
 
 /// Takes all lists into memory.
 pub fn take_all<'a>(
-    memory: &mut Memory<'a>,
+    alloc: Global,
+    memory: &mut Own<'a>,
     left: &mut Lent<'a>,
     image: Image<'a>,
 ) -> Result<(), OutOfMemory>
@@ -157,8 +163,9 @@ pub fn take_all<'a>(
     if left.is_empty() {
         return Ok(());
     }
-    take_whole(memory, left, image, image.root())?;
+    take_whole(alloc, memory, left, image, image.root())?;
+    memory.stays_formed();
     // (What is lent still has nothing.)
-    left.clear(memory.alloc());
+    left.clear();
     Ok(())
 }

@@ -6,17 +6,17 @@ ghost use Rattle.hg_image.specs.View.{dir_of, row, rows_below, rows_in};
 ghost use Rattle.hg_mixed.specs.Child.{shown_child};
 ghost use Rattle.hg_mixed.specs.ChildOf.{row_child, with_lent};
 ghost use Rattle.hg_mixed.specs.Held.{Held};
-ghost use Rattle.hg_mixed.specs.Kids.{Takes};
+ghost use Rattle.hg_nodes.specs.Child.{shown_own};
+ghost use Rattle.hg_nodes.specs.Kids.{Takes};
 ghost use Rattle.hg_mixed.specs.Walk.{Fills, IsLentAt, ListIsOf, ListsAreOf, walked};
 
 use crate::child::Child;
 use crate::lent::Lent;
 use crate::opening::source_place;
-use crate::own_children::OwnChildren;
-use crate::written::fields_of_node;
 use hg_entry::Fields;
 use hg_image::{List, NodeRef};
 use hg_node::Rec;
+use hg_nodes::{OwnChild, OwnChildren, fields_of_node};
 
 /// What is left of a directory's children.
 #[derive(Drop)]
@@ -43,10 +43,10 @@ fn fills(list: Option<List<'_>>) -> bool
     true
 }
 
-// A child with another list.
+// A child in memory, with a list.
 #[inline(always)]
-fn with_list<'t>(child: Child<'t>, has_kids: bool, list: Option<List<'t>>) -> Child<'t>
-    ensures shown { shown_child result ≡ record (shown_child child.entry) { has_kids = has_kids } }
+fn with_list<'t>(child: OwnChild<'t>, has_kids: bool, list: Option<List<'t>>) -> Child<'t>
+    ensures shown { shown_child result ≡ record (shown_own child.entry) { has_kids = has_kids } }
     ensures path { result.path ≡ child.entry.path }
     ensures list { result.list ≡ list.entry }
 {
@@ -64,8 +64,8 @@ fn with_list<'t>(child: Child<'t>, has_kids: bool, list: Option<List<'t>>) -> Ch
 }
 
 // A child in memory, with what the image has below it.
-fn with_lent<'t>(child: Child<'t>, left: &'t Lent<'_>) -> Child<'t>
-    ensures shown { shown_child result ≡ with_lent left.now (shown_child child.entry) }
+fn with_lent<'t>(child: OwnChild<'t>, left: &'t Lent<'_>) -> Child<'t>
+    ensures shown { shown_child result ≡ with_lent left.now (shown_own child.entry) }
     ensures list { IsLentAt left.now result.path.text.now result.list }
 {
     if child.has_kids {

@@ -4,7 +4,7 @@ use Rattle.std.specs.Prelude.{IfOk, IsTrue}
 use Rattle.hg_base.specs.PathText.{is_path}
 use Rattle.hg_base.specs.declared.stat.Stat.{Stat}
 use Rattle.hg_entry.specs.Table.{Table}
-use Rattle.hg_mixed.specs.Edits.{IsSame}
+use Rattle.hg_nodes.specs.Edits.{IsSame}
 use Rattle.hg_ops.specs.Look.{Adds, WasShown}
 use Rattle.hg_ops.specs.Step.{IsAdd, RefusesAdd, RefusesThing, added, after_add, is_tracked, thing_refusal}
 use Rattle.hg_ops.specs.declared.refusal.OpFault.{OpFault}

@@ -13,10 +13,11 @@ use Rattle.hg_base.proofs.Paths.{path_parts, path_some}
 use Rattle.hg_base.proofs.Within.{equal_bytes, same_bytes, within_below, within_itself}
 use Rattle.hg_entry.specs.Entry.{view}
 use Rattle.hg_mixed.specs.Child.{shown_child}
-use Rattle.hg_mixed.specs.Children.{AreChildren, ChildData, IsChild}
-use Rattle.hg_mixed.specs.Edits.{IsFormed}
+use Rattle.hg_mixed.specs.Children.{AreChildren, IsChild}
+use Rattle.hg_nodes.specs.Children.{ChildData}
+use Rattle.hg_nodes.specs.Edits.{IsFormed}
 use Rattle.hg_mixed.specs.Held.{Held, table}
-use Rattle.hg_mixed.specs.Lists.{or_root}
+use Rattle.hg_nodes.specs.Lists.{or_root}
 use Rattle.hg_mixed.specs.declared.child.Child.{Child}
 use Rattle.hg_ops.specs.Collected.{AreLeft, Collects, CollectsAt, is_left, path_of}
 use Rattle.hg_ops.specs.Setting.{is_among}

@@ -9,7 +9,7 @@ use Rattle.hg_base.proofs.Within.{equal_bytes, same_bytes, within_itself, within
 use Rattle.hg_base.specs.Within.{is_above, is_within}
 use Rattle.hg_entry.specs.Entry.{CacheData, EntryData}
 use Rattle.hg_entry.specs.Table.{Table}
-use Rattle.hg_mixed.specs.Drop.{IsPruned, after_clear}
+use Rattle.hg_nodes.specs.Drop.{IsPruned, after_clear}
 use Rattle.hg_mixed.specs.Held.{Held, is_lent, source_at, table, text_at}
 use Rattle.hg_ops.proofs.Collecting.{or_cases}
 use Rattle.hg_ops.proofs.Setting.{among_next, lent_off, lent_on}

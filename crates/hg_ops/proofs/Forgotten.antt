@@ -7,8 +7,9 @@ use Rattle.hg_base.specs.PathText.{is_path}
 use Rattle.hg_base.specs.Within.{is_within}
 use Rattle.hg_entry.specs.Entry.{EntryData}
 use Rattle.hg_entry.specs.Table.{Table}
-use Rattle.hg_mixed.specs.Drop.{IsPruned, after_clear}
-use Rattle.hg_mixed.specs.Edits.{IsSame, IsUnchanged, Marks, after_copy, after_set}
+use Rattle.hg_nodes.specs.Drop.{IsPruned, after_clear}
+use Rattle.hg_mixed.specs.Edits.{IsUnchanged}
+use Rattle.hg_nodes.specs.Edits.{IsSame, Marks, after_copy, after_set}
 use Rattle.hg_mixed.specs.Held.{Held, table}
 use Rattle.hg_ops.specs.Cause.{LeavesAll}
 use Rattle.hg_ops.specs.Step.{IsForget, forget_refusal, is_tracked}

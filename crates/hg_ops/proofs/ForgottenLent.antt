@@ -6,8 +6,9 @@ use Rattle.hg_base.proofs.Within.{same_bytes}
 use Rattle.hg_base.specs.Within.{is_above}
 use Rattle.hg_entry.specs.Entry.{EntryData}
 use Rattle.hg_entry.specs.Table.{Table}
-use Rattle.hg_mixed.specs.Drop.{IsPruned, after_clear}
-use Rattle.hg_mixed.specs.Edits.{ArePlacedAsBefore, EndsAbove, IsSame, Lends, PlacesCopy, after_copy, after_set}
+use Rattle.hg_nodes.specs.Drop.{IsPruned, after_clear}
+use Rattle.hg_mixed.specs.Edits.{ArePlacedAsBefore, EndsAbove, Lends, PlacesCopy}
+use Rattle.hg_nodes.specs.Edits.{IsSame, after_copy, after_set}
 use Rattle.hg_mixed.specs.Held.{Held, is_lent, table}
 use Rattle.hg_ops.proofs.Forgotten.{apart, there}
 use Rattle.hg_ops.specs.declared.refusal.OpFault.{OpFault}

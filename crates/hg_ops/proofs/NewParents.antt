@@ -11,8 +11,9 @@ use Rattle.hg_entry.specs.Table.{Table}
 use Rattle.hg_manifest.specs.Plain.{is_null}
 use Rattle.hg_manifest.specs.Rows.{Rows}
 use Rattle.hg_manifest.specs.declared.row.FileRow.{FileRow}
-use Rattle.hg_mixed.specs.Clash.{is_tracked_entry}
-use Rattle.hg_mixed.specs.Edits.{ArePlacedAsBefore, IsFormed, IsSame, Marks, after_ids}
+use Rattle.hg_nodes.specs.Clash.{is_tracked_entry}
+use Rattle.hg_mixed.specs.Edits.{ArePlacedAsBefore}
+use Rattle.hg_nodes.specs.Edits.{IsFormed, IsSame, Marks, after_ids}
 use Rattle.hg_mixed.specs.Held.{Held, is_lent, source_at, table}
 use Rattle.hg_ops.proofs.Setting.{wanted_again, wanted_now}
 use Rattle.hg_ops.specs.Dropping.{AreDropping, LeadsTo}

@@ -12,8 +12,9 @@ use Rattle.hg_base.proofs.Within.{equal_bytes, same_bytes}
 use Rattle.hg_base.specs.Within.{is_above, is_within}
 use Rattle.hg_entry.specs.Entry.{EntryData}
 use Rattle.hg_manifest.specs.Rows.{Rows}
-use Rattle.hg_mixed.specs.Clash.{is_tracked_entry}
-use Rattle.hg_mixed.specs.Edits.{ArePlacedAsBefore, IsOfSameImage, IsSame, Lends, Marks, after_set}
+use Rattle.hg_nodes.specs.Clash.{is_tracked_entry}
+use Rattle.hg_mixed.specs.Edits.{ArePlacedAsBefore, IsOfSameImage, Lends}
+use Rattle.hg_nodes.specs.Edits.{IsSame, Marks, after_set}
 use Rattle.hg_mixed.specs.Held.{Held, is_lent, source_at, table}
 use Rattle.hg_ops.proofs.Added.{same_table}
 use Rattle.hg_ops.proofs.Collecting.{or_cases}

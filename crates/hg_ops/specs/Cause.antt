@@ -6,7 +6,7 @@ use Rattle.hg_compare.specs.declared.fault.CompareFault.TheVariants as a_compare
 use Rattle.hg_entry.specs.Table.{Table}
 use Rattle.hg_manifest.specs.declared.fault.ManifestFault.{ManifestFault}
 use Rattle.hg_manifest.specs.declared.fault.ManifestFault.TheVariants as a_manifest_fault
-use Rattle.hg_mixed.specs.Edits.{IsSame, after_copy}
+use Rattle.hg_nodes.specs.Edits.{IsSame, after_copy}
 use Rattle.hg_ops.specs.declared.refusal.OpFault.{OpFault}
 use Rattle.hg_ops.specs.declared.refusal.OpFault.TheVariants as a_fault
 

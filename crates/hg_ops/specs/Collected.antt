@@ -2,7 +2,8 @@
 use Rattle.std.specs.Prelude.{ℕ, ◌≡◌, Bool, true, ◌⊎◌, List, Option, is_some}
 use Rattle.std.specs.List.{AllByRecursion, list_any}
 use Rattle.hg_base.specs.Within.{is_above, is_within}
-use Rattle.hg_mixed.specs.Children.{ChildData, IsChild}
+use Rattle.hg_mixed.specs.Children.{IsChild}
+use Rattle.hg_nodes.specs.Children.{ChildData}
 use Rattle.hg_mixed.specs.Held.{Held, table}
 use Rattle.hg_mixed.specs.declared.child.Child.{Child}
 use Rattle.hg_ops.specs.Setting.{is_among}

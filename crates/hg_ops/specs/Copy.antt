@@ -6,8 +6,9 @@ use Rattle.hg_base.specs.declared.stat.Stat.{Stat}
 use Rattle.hg_compare.specs.Same.{Reads}
 use Rattle.hg_entry.specs.Entry.{EntryData}
 use Rattle.hg_entry.specs.Table.{Table}
-use Rattle.hg_mixed.specs.Clash.{IsLeast, clashes}
-use Rattle.hg_mixed.specs.Edits.{ArePlacedAsBefore, IsSame, PlacesCopy, after_copy}
+use Rattle.hg_nodes.specs.Clash.{IsLeast, clashes}
+use Rattle.hg_mixed.specs.Edits.{ArePlacedAsBefore, PlacesCopy}
+use Rattle.hg_nodes.specs.Edits.{IsSame, after_copy}
 use Rattle.hg_mixed.specs.Held.{Held, table}
 use Rattle.hg_ops.specs.Parts.{HasCopy, PutsAll, PutsSome}
 use Rattle.hg_ops.specs.Seen.{At, During, IsTaken, IsVacant, Known, WasStat}

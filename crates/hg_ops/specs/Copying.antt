@@ -3,7 +3,8 @@ use Rattle.std.specs.Prelude.{ℕ, ◌≡◌, true, IsTrue, List, Option, Some, 
 use Rattle.hg_entry.specs.Entry.{EntryData}
 use Rattle.hg_entry.specs.Steps.{is_file}
 use Rattle.hg_entry.specs.Table.{Table}
-use Rattle.hg_mixed.specs.Edits.{IsSame, IsUnchanged, Lends, Marks}
+use Rattle.hg_mixed.specs.Edits.{IsUnchanged, Lends}
+use Rattle.hg_nodes.specs.Edits.{IsSame, Marks}
 use Rattle.hg_mixed.specs.Held.{Held, table}
 use Rattle.hg_ops.specs.Copy.{Comes, IsExact, LeavesOrAdds, Looked, PlacesCopied, Works, copied, origin}
 use Rattle.hg_ops.specs.Seen.{WasStat}

@@ -4,7 +4,8 @@ use Rattle.hg_base.specs.PathText.{parent_of}
 use Rattle.hg_base.specs.Within.{is_above, is_within}
 use Rattle.hg_entry.specs.Entry.{EntryData}
 use Rattle.hg_entry.specs.Table.{Table}
-use Rattle.hg_mixed.specs.Drop.{IsPruned, PlacesDrop, after_clear}
+use Rattle.hg_mixed.specs.Drop.{PlacesDrop}
+use Rattle.hg_nodes.specs.Drop.{IsPruned, after_clear}
 use Rattle.hg_mixed.specs.Edits.{EndsAbove}
 use Rattle.hg_mixed.specs.Held.{Held, is_lent, source_at, table, text_at}
 use Rattle.hg_ops.specs.Setting.{Wanted}

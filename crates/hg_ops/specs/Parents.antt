@@ -9,7 +9,7 @@ use Rattle.hg_entry.specs.Table.{Table}
 use Rattle.hg_manifest.specs.Plain.{is_null}
 use Rattle.hg_manifest.specs.Rows.{Rows}
 use Rattle.hg_manifest.specs.declared.row.FileRow.{FileRow}
-use Rattle.hg_mixed.specs.Clash.{is_tracked_entry}
+use Rattle.hg_nodes.specs.Clash.{is_tracked_entry}
 use Rattle.hg_mixed.specs.Held.{Held, is_lent, source_at, table, text_at}
 
 -- what a manifest says of a path

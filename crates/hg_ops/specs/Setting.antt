@@ -6,7 +6,8 @@ use Rattle.std.specs.Str.{bytes_eq}
 use Rattle.hg_base.specs.Within.{is_above, is_within}
 use Rattle.hg_entry.specs.Entry.{EntryData}
 use Rattle.hg_entry.specs.Table.{Table}
-use Rattle.hg_mixed.specs.Edits.{ArePlacedAsBefore, EndsAbove, IsSame, after_copy, after_set}
+use Rattle.hg_mixed.specs.Edits.{ArePlacedAsBefore, EndsAbove}
+use Rattle.hg_nodes.specs.Edits.{IsSame, after_copy, after_set}
 use Rattle.hg_mixed.specs.Held.{Held, is_lent, source_at, table, text_at}
 
 -- a path is among some

@@ -5,9 +5,9 @@ use Rattle.hg_base.specs.declared.stat.Stat.{Stat}
 use Rattle.hg_entry.specs.Entry.{EntryData}
 use Rattle.hg_entry.specs.Steps.{is_file, tracked, untracked}
 use Rattle.hg_entry.specs.Table.{Table}
-use Rattle.hg_mixed.specs.Clash.{IsLeast, clashes, is_tracked_entry}
-use Rattle.hg_mixed.specs.Drop.{IsPruned, after_clear}
-use Rattle.hg_mixed.specs.Edits.{IsSame, after_copy, after_set}
+use Rattle.hg_nodes.specs.Clash.{IsLeast, clashes, is_tracked_entry}
+use Rattle.hg_nodes.specs.Drop.{IsPruned, after_clear}
+use Rattle.hg_nodes.specs.Edits.{IsSame, after_copy, after_set}
 use Rattle.hg_ops.specs.declared.refusal.Refusal.{Refusal}
 use Rattle.hg_ops.specs.declared.refusal.Refusal.TheVariants as a_refusal
 

@@ -1,7 +1,8 @@
 //! `add`: what stands at a path is tracked.
 
 ghost use Rattle.std.specs.Prelude.{◌≡◌, false, IfErr, IfOk, IfSome, OnErr, OnOk};
-ghost use Rattle.hg_mixed.specs.Edits.{ArePlacedAsBefore, IsOfSameImage, IsSame, IsUnchanged, Lends, Marks};
+ghost use Rattle.hg_mixed.specs.Edits.{ArePlacedAsBefore, IsOfSameImage, IsUnchanged, Lends};
+ghost use Rattle.hg_nodes.specs.Edits.{IsSame, Marks};
 ghost use Rattle.hg_mixed.specs.Held.{table};
 ghost use Rattle.hg_ops.specs.Cause.{HasOpCause};
 ghost use Rattle.hg_ops.specs.Copy.{IsCopyFault};
@@ -12,13 +13,16 @@ ghost use Rattle.hg_ops.specs.Step.{IsAdd, RefusesBeside, added, is_tracked, thi
 use crate::entries::{entry_added, entry_at, is_tracked};
 use crate::refusal::{OpFault, Refusal};
 use hg_base::{Kind, PathRef, Stat};
-use hg_mixed::{Mixed, SetFault};
+use hg_mixed::Mixed;
+use hg_nodes::SetFault;
 use hg_tree::Tree;
+use std::alloc::Global;
 
 /// Tracks the file or link at a path; a path that is tracked already stays as it is, whatever stands there.
 ///
 /// An entry that is there keeps what is recorded of the file, but for its time. A copy source that is there stays.
 pub fn add<T: Tree>(
+    alloc: Global,
     mixed: &mut Mixed<'_>,
     tree: &mut T,
     word: &str,
@@ -36,12 +40,13 @@ pub fn add<T: Tree>(
 {
     match PathRef::read(word) {
         Err(_) => Ok(Some(Refusal::BadPath)),
-        Ok(path) => add_path(mixed, tree, path),
+        Ok(path) => add_path(alloc, mixed, tree, path),
     }
 }
 
 // The same of a word that is a path.
 fn add_path<T: Tree>(
+    alloc: Global,
     mixed: &mut Mixed<'_>,
     tree: &mut T,
     path: PathRef<'_>,
@@ -62,7 +67,7 @@ fn add_path<T: Tree>(
     }
     match tree.stat(path) {
         Err(_) => Err(OpFault::TreeFailed),
-        Ok(shown) => add_shown(mixed, path, shown),
+        Ok(shown) => add_shown(alloc, mixed, path, shown),
     }
 }
 
@@ -81,6 +86,7 @@ fn thing_refused(shown: Option<Stat>) -> Option<Refusal>
 
 // The same of a path that isn't tracked, by what a look shows there.
 fn add_shown(
+    alloc: Global,
     mixed: &mut Mixed<'_>,
     path: PathRef<'_>,
     shown: Option<Stat>,
@@ -97,12 +103,16 @@ fn add_shown(
 {
     match thing_refused(shown) {
         Some(refusal) => Ok(Some(refusal)),
-        None => track(mixed, path),
+        None => track(alloc, mixed, path),
     }
 }
 
 /// A path that isn't tracked is tracked, whatever stands there.
-pub(crate) fn track(mixed: &mut Mixed<'_>, path: PathRef<'_>) -> Result<Option<Refusal>, OpFault>
+pub(crate) fn track(
+    alloc: Global,
+    mixed: &mut Mixed<'_>,
+    path: PathRef<'_>,
+) -> Result<Option<Refusal>, OpFault>
     requires { is_tracked (table mixed.old) path.text.now ≡ false }
     ensures refused { IfOk result (RefusesBeside path.entry.text.now (table mixed.old)) }
     ensures table { IfOk result (λ refused. IsSame (table mixed.new) (added path.entry.text.now refused (table mixed.old))) }
@@ -115,7 +125,7 @@ pub(crate) fn track(mixed: &mut Mixed<'_>, path: PathRef<'_>) -> Result<Option<R
     ensures memory { IfErr result (λ fault. fault ≡ a_fault.OutOfMemory) }
 {
     let entry = entry_added(entry_at(mixed, path));
-    match mixed.set(path, entry) {
+    match mixed.set(alloc, path, entry) {
         Ok(()) => Ok(None),
         Err(SetFault::OutOfMemory) => Err(OpFault::OutOfMemory),
         Err(SetFault::Clash { other }) => Ok(Some(Refusal::Clash { other })),

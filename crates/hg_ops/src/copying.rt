@@ -3,7 +3,8 @@
 ghost use Rattle.std.specs.Prelude.{◌≡◌, false, true, ℕ, List, None, Some, length, option_map, is_some, IfErr, IfOk, IfSome, IsTrue, OnErr, OnOk};
 ghost use Rattle.hg_entry.specs.Entry.{view};
 ghost use Rattle.hg_entry.specs.Steps.{is_file};
-ghost use Rattle.hg_mixed.specs.Edits.{IsOfSameImage, IsSame, IsUnchanged, Lends, Marks};
+ghost use Rattle.hg_mixed.specs.Edits.{IsOfSameImage, IsUnchanged, Lends};
+ghost use Rattle.hg_nodes.specs.Edits.{IsSame, Marks};
 ghost use Rattle.hg_mixed.specs.Held.{table};
 ghost use Rattle.hg_mixed.specs.Shown.{shown_item};
 ghost use Rattle.hg_ops.specs.Cause.{HasOpCause};
@@ -76,7 +77,7 @@ fn copy_paths<T: Tree>(
     ensures cause { HasOpCause (T.faults tree.old) (T.faults tree.new) result }
     ensures kind { IfErr result IsCopyFault }
 {
-    match look_at_both(mixed, tree, from, to) {
+    match look_at_both(alloc, mixed, tree, from, to) {
         Err(fault) => Err(fault),
         Ok(Look::Refused(refusal)) => Ok(Some(refusal)),
         Ok(Look::Free(stat)) => copy_free(alloc, mixed, tree, from, to, &stat),
@@ -94,6 +95,7 @@ pub(crate) enum Look {
 
 // Looks at the source and at the target.
 fn look_at_both<T: Tree>(
+    alloc: Global,
     mixed: &mut Mixed<'_>,
     tree: &mut T,
     from: PathRef<'_>,
@@ -117,7 +119,7 @@ fn look_at_both<T: Tree>(
             if !is_file(stat.kind) {
                 return Ok(Look::Refused(CopyRefusal::Source(Refusal::Special)));
             }
-            match target_refused(mixed, tree, to) {
+            match target_refused(alloc, mixed, tree, to) {
                 Err(fault) => Err(fault),
                 Ok(Some(refusal)) => Ok(Look::Refused(CopyRefusal::Target(refusal))),
                 Ok(None) => Ok(Look::Free(stat)),
@@ -138,6 +140,7 @@ fn is_file(kind: Kind) -> bool
 
 // Why the target is refused.
 fn target_refused<T: Tree>(
+    alloc: Global,
     mixed: &mut Mixed<'_>,
     tree: &mut T,
     to: PathRef<'_>,
@@ -156,7 +159,7 @@ fn target_refused<T: Tree>(
     match is_vacant(tree, to) {
         Err(fault) => Err(fault),
         Ok(false) => Ok(Some(Refusal::Exists)),
-        Ok(true) => match mixed.clash(to) {
+        Ok(true) => match mixed.clash(alloc, to) {
             Err(_) => Err(OpFault::OutOfMemory),
             Ok(None) => Ok(None),
             Ok(Some(other)) => Ok(Some(Refusal::Clash { other })),
@@ -188,7 +191,7 @@ fn copy_free<T: Tree>(
             match put_bytes(tree, from, to, stat, room.bytes.as_mut_slice()) {
                 Err(fault) => Err(fault),
                 Ok(Some(refusal)) => Ok(Some(refusal)),
-                Ok(None) => track_copy(mixed, to, &room.source),
+                Ok(None) => track_copy(alloc, mixed, to, &room.source),
             }
         }
     }
@@ -278,6 +281,7 @@ fn is_added(entry: &Entry) -> bool
 
 // The target is tracked as a copy.
 fn track_copy(
+    alloc: Global,
     mixed: &mut Mixed<'_>,
     to: PathRef<'_>,
     source: &Option<Path>,
@@ -288,11 +292,11 @@ fn track_copy(
     ensures image { IsOfSameImage mixed.old mixed.new }
     ensures kind { IfErr result (λ fault. fault ≡ a_fault.OutOfMemory) }
 {
-    match track(mixed, to) {
+    match track(alloc, mixed, to) {
         Err(fault) => Err(fault),
         // (it clashes with nothing)
         Ok(Some(_)) => Err(OpFault::OutOfMemory),
-        Ok(None) => match mixed.copy_from(to, source_ref(source)) {
+        Ok(None) => match mixed.copy_from(alloc, to, source_ref(source)) {
             Err(_) => Err(OpFault::OutOfMemory),
             Ok(()) => Ok(None),
         },

@@ -2,7 +2,8 @@
 
 ghost use Rattle.std.specs.Prelude.{◌≡◌, None, Some, false, true, IfErr, IfOk, IfSome, OnErr, OnOk};
 ghost use Rattle.hg_entry.specs.Entry.{view};
-ghost use Rattle.hg_mixed.specs.Edits.{ArePlacedAsBefore, IsOfSameImage, IsSame, IsUnchanged, Lends, Marks, PlacesCopy, after_set, after_copy};
+ghost use Rattle.hg_mixed.specs.Edits.{ArePlacedAsBefore, IsOfSameImage, IsUnchanged, Lends, PlacesCopy};
+ghost use Rattle.hg_nodes.specs.Edits.{IsSame, Marks, after_set, after_copy};
 ghost use Rattle.hg_mixed.specs.Held.{table};
 ghost use Rattle.hg_ops.specs.Cause.{LeavesAll};
 ghost use Rattle.hg_ops.specs.Step.{IsForget, IsUntracked};
@@ -13,12 +14,14 @@ use crate::entries::entry_at;
 use crate::refusal::{OpFault, Refusal};
 use hg_base::PathRef;
 use hg_entry::Entry;
-use hg_mixed::{Mixed, SetFault};
+use hg_mixed::Mixed;
+use hg_nodes::SetFault;
+use std::alloc::Global;
 
 /// A path isn't tracked any more, and has no copy source. Where a parent has it an entry is left that says so.
 ///
 /// The working copy isn't asked, and needs no file there.
-pub fn forget(mixed: &mut Mixed<'_>, word: &str) -> Result<Option<Refusal>, OpFault>
+pub fn forget(alloc: Global, mixed: &mut Mixed<'_>, word: &str) -> Result<Option<Refusal>, OpFault>
     ensures stepped { IfOk result (λ refused. IsForget word.now (table mixed.old) refused (table mixed.new)) }
     ensures unchanged { IfOk result (λ refused. IfSome refused (λ r. IsUnchanged mixed.old mixed.new)) }
     ensures changed { OnOk result (Marks (IsSame (table mixed.new) (table mixed.old)) mixed.old.changed mixed.new.changed) }
@@ -30,12 +33,16 @@ pub fn forget(mixed: &mut Mixed<'_>, word: &str) -> Result<Option<Refusal>, OpFa
 {
     match PathRef::read(word) {
         Err(_) => Ok(Some(Refusal::BadPath)),
-        Ok(path) => forget_path(mixed, path),
+        Ok(path) => forget_path(alloc, mixed, path),
     }
 }
 
 // The same of a word that is a path.
-fn forget_path(mixed: &mut Mixed<'_>, path: PathRef<'_>) -> Result<Option<Refusal>, OpFault>
+fn forget_path(
+    alloc: Global,
+    mixed: &mut Mixed<'_>,
+    path: PathRef<'_>,
+) -> Result<Option<Refusal>, OpFault>
     ensures stepped { IfOk result (λ refused. IsForget path.entry.text.now (table mixed.old) refused (table mixed.new)) }
     ensures unchanged { IfOk result (λ refused. IfSome refused (λ r. IsUnchanged mixed.old mixed.new)) }
     ensures changed { OnOk result (Marks (IsSame (table mixed.new) (table mixed.old)) mixed.old.changed mixed.new.changed) }
@@ -51,7 +58,7 @@ fn forget_path(mixed: &mut Mixed<'_>, path: PathRef<'_>) -> Result<Option<Refusa
             if !entry.w {
                 return Ok(Some(Refusal::NotTracked));
             }
-            match untrack(mixed, path, entry) {
+            match untrack(alloc, mixed, path, entry) {
                 Err(fault) => Err(fault),
                 Ok(()) => Ok(None),
             }
@@ -60,7 +67,12 @@ fn forget_path(mixed: &mut Mixed<'_>, path: PathRef<'_>) -> Result<Option<Refusa
 }
 
 // A tracked path isn't tracked any more.
-pub(crate) fn untrack(mixed: &mut Mixed<'_>, path: PathRef<'_>, entry: Entry) -> Result<(), OpFault>
+pub(crate) fn untrack(
+    alloc: Global,
+    mixed: &mut Mixed<'_>,
+    path: PathRef<'_>,
+    entry: Entry,
+) -> Result<(), OpFault>
     requires entry { (table mixed.old).entries path.text.now ≡ Some (view entry) }
     requires tracked { entry.w ≡ true }
     ensures untracked { OnOk result (IsUntracked path.entry.text.now (Some (view entry)) (table mixed.old) (table mixed.new)) }
@@ -73,16 +85,22 @@ pub(crate) fn untrack(mixed: &mut Mixed<'_>, path: PathRef<'_>, entry: Entry) ->
 {
     let mut left = entry;
     if left.set_untracked() {
-        return leave(mixed, path, entry, left);
+        return leave(alloc, mixed, path, entry, left);
     }
-    match mixed.drop_entry(path) {
+    match mixed.drop_entry(alloc, path) {
         Err(_) => Err(OpFault::OutOfMemory),
         Ok(()) => Ok(()),
     }
 }
 
 // What is left of the entry of a path that a parent has.
-fn leave(mixed: &mut Mixed<'_>, path: PathRef<'_>, was: Entry, left: Entry) -> Result<(), OpFault>
+fn leave(
+    alloc: Global,
+    mixed: &mut Mixed<'_>,
+    path: PathRef<'_>,
+    was: Entry,
+    left: Entry,
+) -> Result<(), OpFault>
     requires entry { (table mixed.old).entries path.text.now ≡ Some (view was) }
     requires tracked { was.w ≡ true }
     requires untracked { left.w ≡ false }
@@ -94,14 +112,19 @@ fn leave(mixed: &mut Mixed<'_>, path: PathRef<'_>, was: Entry, left: Entry) -> R
     ensures err { OnErr result (LeavesAll path.entry.text.now (table mixed.old) (table mixed.new)) }
     ensures cause { IfErr result (λ fault. fault ≡ a_fault.OutOfMemory) }
 {
-    match mixed.copy_from(path, None) {
+    match mixed.copy_from(alloc, path, None) {
         Err(_) => Err(OpFault::OutOfMemory),
-        Ok(()) => set_left(mixed, path, left),
+        Ok(()) => set_left(alloc, mixed, path, left),
     }
 }
 
 // Sets an entry that isn't tracked.
-fn set_left(mixed: &mut Mixed<'_>, path: PathRef<'_>, left: Entry) -> Result<(), OpFault>
+fn set_left(
+    alloc: Global,
+    mixed: &mut Mixed<'_>,
+    path: PathRef<'_>,
+    left: Entry,
+) -> Result<(), OpFault>
     requires { left.w ≡ false }
     ensures table { OnOk result (IsSame (table mixed.new) (after_set path.entry.text.now (view left) (table mixed.old))) }
     ensures changed { OnOk result (Marks (IsSame (table mixed.new) (table mixed.old)) mixed.old.changed mixed.new.changed) }
@@ -111,7 +134,7 @@ fn set_left(mixed: &mut Mixed<'_>, path: PathRef<'_>, left: Entry) -> Result<(),
     ensures err { OnErr result (IsUnchanged mixed.old mixed.new) }
     ensures cause { IfErr result (λ fault. fault ≡ a_fault.OutOfMemory) }
 {
-    match mixed.set(path, left) {
+    match mixed.set(alloc, path, left) {
         Ok(()) => Ok(()),
         Err(SetFault::OutOfMemory) => Err(OpFault::OutOfMemory),
         // (what isn't tracked clashes with nothing)

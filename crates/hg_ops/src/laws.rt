@@ -4,7 +4,7 @@ ghost use Rattle.std.specs.Prelude.{◌≡◌, ℕ, List, Option};
 ghost use Rattle.hg_base.specs.declared.stat.Stat.{Stat};
 ghost use Rattle.hg_entry.specs.Table.{Table};
 ghost use Rattle.hg_manifest.specs.Rows.{Rows};
-ghost use Rattle.hg_mixed.specs.Edits.{IsSame};
+ghost use Rattle.hg_nodes.specs.Edits.{IsSame};
 ghost use Rattle.hg_ops.specs.Parents.{HasParents};
 ghost use Rattle.hg_ops.specs.Step.{IsAdd, IsForget};
 ghost use Rattle.hg_ops.specs.declared.refusal.Refusal.{Refusal};

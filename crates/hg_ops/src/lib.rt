@@ -19,7 +19,7 @@
 //! `set_parents` makes of a table one with other parents, by their manifests: each path has an entry exactly where it is tracked or a parent has it.
 //!
 //! ```text
-//! let mut table = Mixed::open(alloc, image)?;
+//! let mut table = Mixed::open(image);
 //! add(&mut table, &mut tree, "src/main.c")?;   // None: tracked
 //! add(&mut table, &mut tree, "src")?;          // Some(Refusal::Special): a directory
 //! forget(&mut table, "src/main.c")?;           // None

@@ -4,7 +4,8 @@ ghost use Rattle.std.specs.Prelude.{◌≡◌, true, false, not, ◌&&◌, Some,
 ghost use Rattle.std.specs.Map.{keys_of};
 ghost use Rattle.hg_entry.specs.Entry.{view};
 ghost use Rattle.hg_manifest.specs.Plain.{is_null};
-ghost use Rattle.hg_mixed.specs.Edits.{IsFormed, IsOfSameImage, IsSame, Marks};
+ghost use Rattle.hg_mixed.specs.Edits.{IsOfSameImage};
+ghost use Rattle.hg_nodes.specs.Edits.{IsFormed, IsSame, Marks};
 ghost use Rattle.hg_mixed.specs.Held.{Held, table};
 ghost use Rattle.hg_ops.specs.Parents.{HasParents, LendsParents, PlacesParents, entry_by};
 ghost use Rattle.hg_ops.specs.Dropping.{AreDropping, Drops};
@@ -40,21 +41,26 @@ fn has_source(mixed: &Mixed<'_>, path: PathRef<'_>) -> bool
 }
 
 // A path gets an entry, which is tracked only where the path's own was: so it clashes with nothing.
-fn set_to(mixed: &mut Mixed<'_>, path: PathRef<'_>, entry: Entry) -> Result<(), OutOfMemory>
+fn set_to(
+    alloc: Global,
+    mixed: &mut Mixed<'_>,
+    path: PathRef<'_>,
+    entry: Entry,
+) -> Result<(), OutOfMemory>
     ensures set { OnOk result (SetsTo path.entry.text.now (view entry) mixed.old mixed.new) }
     ensures image { IsOfSameImage mixed.old mixed.new }
 {
     if has_entry(mixed, path, entry) {
         return Ok(());
     }
-    match mixed.set(path, entry) {
+    match mixed.set(alloc, path, entry) {
         Ok(()) => Ok(()),
         Err(_) => Err(OutOfMemory),
     }
 }
 
 // A path has no copy source any more.
-fn clear_source(mixed: &mut Mixed<'_>, path: PathRef<'_>) -> Result<(), OutOfMemory>
+fn clear_source(alloc: Global, mixed: &mut Mixed<'_>, path: PathRef<'_>) -> Result<(), OutOfMemory>
     requires { is_some ((table mixed.old).entries path.text.now) ≡ true }
     ensures cleared { OnOk result (ClearsSource path.entry.text.now mixed.old mixed.new) }
     ensures image { IsOfSameImage mixed.old mixed.new }
@@ -62,20 +68,26 @@ fn clear_source(mixed: &mut Mixed<'_>, path: PathRef<'_>) -> Result<(), OutOfMem
     if !has_source(mixed, path) {
         return Ok(());
     }
-    mixed.copy_from(path, None)
+    mixed.copy_from(alloc, path, None)
 }
 
 // A path gets an entry, and has no copy source.
-fn set_bare(mixed: &mut Mixed<'_>, path: PathRef<'_>, entry: Entry) -> Result<(), OutOfMemory>
+fn set_bare(
+    alloc: Global,
+    mixed: &mut Mixed<'_>,
+    path: PathRef<'_>,
+    entry: Entry,
+) -> Result<(), OutOfMemory>
     ensures settled { OnOk result (Settles path.entry.text.now (Some (view entry)) mixed.old mixed.new) }
     ensures image { IsOfSameImage mixed.old mixed.new }
 {
-    set_to(mixed, path, entry)?;
-    clear_source(mixed, path)
+    set_to(alloc, mixed, path, entry)?;
+    clear_source(alloc, mixed, path)
 }
 
 // A path that stays gets the entry that the parents want, and has no copy source.
 fn settle(
+    alloc: Global,
     mixed: &mut Mixed<'_>,
     merged: bool,
     m1: &Manifest,
@@ -87,12 +99,13 @@ fn settle(
 {
     match entry_by(merged, m1, m2, path, entry_at(mixed, path)) {
         None => Ok(()),
-        Some(entry) => set_bare(mixed, path, entry),
+        Some(entry) => set_bare(alloc, mixed, path, entry),
     }
 }
 
 // Each path of a manifest that stays gets the entry that the parents want.
 fn settle_rows(
+    alloc: Global,
     mixed: &mut Mixed<'_>,
     merged: bool,
     m1: &Manifest,
@@ -107,13 +120,14 @@ fn settle_rows(
     ensures image { IsOfSameImage mixed.old mixed.new }
 {
     for i in 0..rows.len() {
-        settle(mixed, merged, m1, m2, rows.at(i).0)?;
+        settle(alloc, mixed, merged, m1, m2, rows.at(i).0)?;
     }
     Ok(())
 }
 
 // The same of some paths.
 fn settle_paths(
+    alloc: Global,
     mixed: &mut Mixed<'_>,
     merged: bool,
     m1: &Manifest,
@@ -129,7 +143,7 @@ fn settle_paths(
     ensures image { IsOfSameImage mixed.old mixed.new }
 {
     for i in 0..paths.len() {
-        settle(mixed, merged, m1, m2, paths[i].as_ref())?;
+        settle(alloc, mixed, merged, m1, m2, paths[i].as_ref())?;
     }
     let _ = mixed.parents();
     Ok(())
@@ -137,6 +151,7 @@ fn settle_paths(
 
 // The entry of a path goes where the parents want none.
 fn drop_lost(
+    alloc: Global,
     mixed: &mut Mixed<'_>,
     merged: bool,
     m1: &Manifest,
@@ -150,11 +165,12 @@ fn drop_lost(
     if was.is_none() | entry_by(merged, m1, m2, path, was).is_some() {
         return Ok(());
     }
-    mixed.drop_entry(path)
+    mixed.drop_entry(alloc, path)
 }
 
 // So do those of some paths.
 fn drop_paths(
+    alloc: Global,
     mixed: &mut Mixed<'_>,
     merged: bool,
     m1: &Manifest,
@@ -165,7 +181,7 @@ fn drop_paths(
     ensures image { IsOfSameImage mixed.old mixed.new }
 {
     for i in 0..paths.len() {
-        drop_lost(mixed, merged, m1, m2, paths[i].as_ref())?;
+        drop_lost(alloc, mixed, merged, m1, m2, paths[i].as_ref())?;
     }
     Ok(())
 }
@@ -190,10 +206,10 @@ pub fn set_parents(
 {
     let merged = !is_null(&p2);
     let paths = paths_with_entry(alloc, mixed)?;
-    settle_rows(mixed, merged, m1, m2, m1)?;
-    settle_rows(mixed, merged, m1, m2, m2)?;
-    settle_paths(mixed, merged, m1, m2, paths.as_slice())?;
-    drop_paths(mixed, merged, m1, m2, paths.as_slice())?;
+    settle_rows(alloc, mixed, merged, m1, m2, m1)?;
+    settle_rows(alloc, mixed, merged, m1, m2, m2)?;
+    settle_paths(alloc, mixed, merged, m1, m2, paths.as_slice())?;
+    drop_paths(alloc, mixed, merged, m1, m2, paths.as_slice())?;
     mixed.set_ids(p1, p2);
     let _ = mixed.parents();
     Ok(())

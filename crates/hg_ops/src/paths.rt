@@ -5,7 +5,7 @@ ghost use Rattle.hg_base.specs.PathText.{is_below, parent_of};
 ghost use Rattle.hg_base.specs.Within.{is_above};
 ghost use Rattle.hg_mixed.specs.Child.{shown_child};
 ghost use Rattle.hg_mixed.specs.Children.{IsChild};
-ghost use Rattle.hg_mixed.specs.Edits.{IsFormed};
+ghost use Rattle.hg_nodes.specs.Edits.{IsFormed};
 ghost use Rattle.hg_mixed.specs.Held.{table};
 ghost use Rattle.hg_ops.specs.Collected.{Collects, CollectsAt, path_of};
 ghost use Rattle.hg_ops.specs.Setting.{AreAll};

@@ -2,7 +2,7 @@
 
 ghost use Rattle.std.specs.Prelude.{◌≡◌, ℕ, Bool, List, Option, true};
 ghost use Rattle.hg_entry.specs.Table.{Table};
-ghost use Rattle.hg_mixed.specs.Edits.{IsSame};
+ghost use Rattle.hg_nodes.specs.Edits.{IsSame};
 ghost use Rattle.hg_ops.specs.Parent.{KeepsRow, Span, parent_rows, upto};
 ghost use Rattle.hg_ops.specs.Remove.{OthersLeave, Removes, needs_row, remove_refusal};
 ghost use Rattle.hg_ops.specs.declared.refusal.Refusal.{Refusal};

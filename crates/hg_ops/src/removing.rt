@@ -2,7 +2,8 @@
 
 ghost use Rattle.std.specs.Prelude.{◌≡◌, ◌∷◌, ◌⊎◌, [], true, false, None, Some, Ok, is_some, IfErr, IfOk, IfSome, IsTrue, OnErr, OnOk};
 ghost use Rattle.hg_entry.specs.Entry.{view};
-ghost use Rattle.hg_mixed.specs.Edits.{IsOfSameImage, IsSame, IsUnchanged, Lends, Marks};
+ghost use Rattle.hg_mixed.specs.Edits.{IsOfSameImage, IsUnchanged, Lends};
+ghost use Rattle.hg_nodes.specs.Edits.{IsSame, Marks};
 ghost use Rattle.hg_mixed.specs.Held.{table};
 ghost use Rattle.hg_ops.specs.Cause.{HasOpCause, LeavesAll};
 ghost use Rattle.hg_ops.specs.Finding.{TakesFound, refusal_of};
@@ -276,7 +277,7 @@ fn remove_tracked<T: Tree, S: Shelf>(
     let needs = needs_row(mixed, path, entry, after);
     match find(alloc, tree, shelf, parent, path, after, needs) {
         Err(fault) => Err(fault),
-        Ok(found) => finish(mixed, tree, path, entry, found),
+        Ok(found) => finish(alloc, mixed, tree, path, entry, found),
     }
 }
 
@@ -300,6 +301,7 @@ fn needs_row(mixed: &Mixed<'_>, path: PathRef<'_>, entry: Entry, after: bool) ->
 
 // Does what was found to be done: a file is taken away where it is unchanged, and the path isn't tracked any more where it isn't refused.
 fn finish<T: Tree>(
+    alloc: Global,
     mixed: &mut Mixed<'_>,
     tree: &mut T,
     path: PathRef<'_>,
@@ -327,10 +329,10 @@ fn finish<T: Tree>(
     match found {
         Found::StillThere => Ok(Some(Refusal::StillThere)),
         Found::Changed => Ok(Some(Refusal::Changed)),
-        Found::Nothing => drop_tracked(mixed, path, entry),
+        Found::Nothing => drop_tracked(alloc, mixed, path, entry),
         Found::Unchanged => match take(tree, path) {
             Err(fault) => Err(fault),
-            Ok(()) => drop_tracked(mixed, path, entry),
+            Ok(()) => drop_tracked(alloc, mixed, path, entry),
         },
     }
 }
@@ -353,6 +355,7 @@ fn take<T: Tree>(tree: &mut T, path: PathRef<'_>) -> Result<(), OpFault>
 
 // A tracked path isn't tracked any more, and isn't refused.
 fn drop_tracked(
+    alloc: Global,
     mixed: &mut Mixed<'_>,
     path: PathRef<'_>,
     entry: Entry,
@@ -368,7 +371,7 @@ fn drop_tracked(
     ensures err { OnErr result (LeavesAll path.entry.text.now (table mixed.old) (table mixed.new)) }
     ensures kind { IfErr result (λ fault. fault ≡ a_fault.OutOfMemory) }
 {
-    match untrack(mixed, path, entry) {
+    match untrack(alloc, mixed, path, entry) {
         Err(fault) => Err(fault),
         Ok(()) => Ok(None),
     }

@@ -3,7 +3,7 @@
 ghost use Rattle.std.specs.Prelude.{◌≡◌, ◌&&◌, ◌||◌, ◌<◌, Some, MatchBool, is_some, option_map};
 ghost use Rattle.hg_entry.specs.Entry.{stamp_view, view};
 ghost use Rattle.hg_manifest.specs.Plain.{is_null};
-ghost use Rattle.hg_mixed.specs.Clash.{is_tracked_entry};
+ghost use Rattle.hg_nodes.specs.Clash.{is_tracked_entry};
 ghost use Rattle.hg_ops.specs.Parents.{entry_by, entry_of_parents, equal_bools, fallback_in, is_other_file, is_same_file};
 
 use hg_base::{Id20, PathRef, Stamp};

@@ -13,7 +13,7 @@ use Rattle.std.proofs.lemmas.List.Kept.{IsStrictlySortedBy-filter}
 use Rattle.hg_base.specs.Within.{is_above}
 use Rattle.hg_base.proofs.Within.{same_bytes}
 use Rattle.hg_entry.specs.Entry.{CacheData, EntryData}
-use Rattle.hg_mixed.specs.Edits.{IsFormed}
+use Rattle.hg_nodes.specs.Edits.{IsFormed}
 use Rattle.hg_mixed.specs.Gathered.{AreGathered, Shows, path_of, paths_of}
 use Rattle.hg_mixed.specs.Held.{Held, table}
 use Rattle.hg_mixed.specs.declared.line.Line.{Line}

@@ -13,7 +13,7 @@ use Rattle.hg_docket.specs.Number.{next_name}
 use Rattle.hg_entry.specs.Table.{Table}
 use Rattle.hg_image.specs.Reading.{reading_of}
 use Rattle.hg_image.specs.Rows.{rows_of}
-use Rattle.hg_mixed.specs.Edits.{IsSame}
+use Rattle.hg_nodes.specs.Edits.{IsSame}
 use Rattle.hg_mixed.specs.Held.{Held, is_lent, table}
 use Rattle.hg_mixed.specs.Shown.{AreLentWhole, ArePlacesOfImage, list_place}
 use Rattle.hg_save.specs.declared.publish_fault.PublishFault.{PublishFault}

@@ -2,7 +2,7 @@
 use Rattle.std.proofs.Common.{ℕ, ◌≡◌, Bool, false, List, [], ◌∷◌, ◌++◌, map, Option, Some, None, refl, sym, ap, ◌∙◌, subst}
 use Rattle.std.proofs.lemmas.List.{append_assoc, append-nil}
 use Rattle.hg_entry.specs.Table.{Table}
-use Rattle.hg_mixed.specs.Edits.{IsSame}
+use Rattle.hg_nodes.specs.Edits.{IsSame}
 use Rattle.hg_ops.specs.declared.refusal.Refusal.{Refusal}
 use Rattle.hg_ops.proofs.Added.{same_table}
 use Rattle.hg_report.specs.Refusal.{refusal_line}

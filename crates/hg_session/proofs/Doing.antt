@@ -6,7 +6,8 @@ use Rattle.hg_base.specs.Fault.{HasCause, Rose}
 use Rattle.hg_base.specs.declared.id.Id20.{Id20}
 use Rattle.hg_entry.specs.Table.{Table}
 use Rattle.hg_manifest.specs.Load.{asks_of}
-use Rattle.hg_mixed.specs.Edits.{IsOfSameImage, IsSame}
+use Rattle.hg_mixed.specs.Edits.{IsOfSameImage}
+use Rattle.hg_nodes.specs.Edits.{IsSame}
 use Rattle.hg_mixed.specs.Held.{Held, table}
 use Rattle.hg_ops.specs.Cause.{HasOpCause}
 use Rattle.hg_ops.specs.Copy.{IsCopyFault, Works}

@@ -14,7 +14,7 @@ use Rattle.hg_manifest.specs.Plain.{is_null, most, plain_name}
 use Rattle.hg_manifest.specs.Rows.{Rows, manifest_of}
 use Rattle.hg_manifest.specs.declared.fault.ManifestFault.{ManifestFault}
 use Rattle.hg_manifest.specs.declared.fault.ManifestFault.TheVariants as a_fault
-use Rattle.hg_mixed.specs.Clash.{is_tracked_entry}
+use Rattle.hg_nodes.specs.Clash.{is_tracked_entry}
 use Rattle.hg_ops.specs.Parents.{HasParents, entry_of_parents, fallback_in, is_other_file, row_at}
 use Rattle.hg_session.specs.Call.{Watched}
 use Rattle.hg_session.specs.Good.{IsGoodIn}

@@ -13,8 +13,8 @@ use Rattle.hg_entry.specs.Table.{Table}
 use Rattle.hg_flat.specs.Parent.{manifest_at, parent_rows}
 use Rattle.hg_manifest.specs.Plain.{is_null}
 use Rattle.hg_mixed.proofs.Lifted.{same_back}
-use Rattle.hg_mixed.specs.Drop.{IsPruned, after_clear}
-use Rattle.hg_mixed.specs.Edits.{IsSame, after_copy, after_set}
+use Rattle.hg_nodes.specs.Drop.{IsPruned, after_clear}
+use Rattle.hg_nodes.specs.Edits.{IsSame, after_copy, after_set}
 use Rattle.hg_ops.specs.Copy.{copied, copy_source}
 use Rattle.hg_ops.specs.Step.{IsForgotten, IsUntracked, added, after_add, after_untracked, entry_added, is_tracked}
 use Rattle.hg_ops.specs.declared.copy_refusal.CopyRefusal.{CopyRefusal}

@@ -12,9 +12,10 @@ use Rattle.hg_base.specs.Within.{is_above}
 use Rattle.hg_entry.specs.Entry.{EntryData}
 use Rattle.hg_entry.specs.Steps.{unseen, untracked}
 use Rattle.hg_entry.specs.Table.{Table}
-use Rattle.hg_mixed.specs.Clash.{is_tracked_entry}
-use Rattle.hg_mixed.specs.Drop.{IsPruned, after_clear}
-use Rattle.hg_mixed.specs.Edits.{IsSame, Lends}
+use Rattle.hg_nodes.specs.Clash.{is_tracked_entry}
+use Rattle.hg_nodes.specs.Drop.{IsPruned, after_clear}
+use Rattle.hg_mixed.specs.Edits.{Lends}
+use Rattle.hg_nodes.specs.Edits.{IsSame}
 use Rattle.hg_mixed.specs.Held.{Held, is_lent, table}
 use Rattle.hg_ops.proofs.ExactlyRefused.{early_none}
 use Rattle.hg_ops.specs.Copy.{Copies, RefusesThings, words_refusal}

@@ -9,8 +9,10 @@ use Rattle.hg_base.proofs.Within.{equal_bytes, same_bytes, within_split}
 use Rattle.hg_base.specs.Within.{is_within}
 use Rattle.hg_entry.specs.Entry.{EntryData}
 use Rattle.hg_entry.specs.Table.{Table}
-use Rattle.hg_mixed.specs.Drop.{IsPruned, PlacesDrop, after_clear}
-use Rattle.hg_mixed.specs.Edits.{ArePlacedAsBefore, IsFormed, IsSame, PlacesCopy}
+use Rattle.hg_mixed.specs.Drop.{PlacesDrop}
+use Rattle.hg_nodes.specs.Drop.{IsPruned, after_clear}
+use Rattle.hg_mixed.specs.Edits.{ArePlacedAsBefore, PlacesCopy}
+use Rattle.hg_nodes.specs.Edits.{IsFormed, IsSame}
 use Rattle.hg_mixed.specs.Held.{Held, source_at, table, text_at}
 use Rattle.hg_ops.specs.Copy.{PlacesCopied, copied, copy_source}
 use Rattle.hg_ops.specs.Parents.{PlacesParents}

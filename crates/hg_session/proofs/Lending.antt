@@ -10,7 +10,7 @@ use Rattle.hg_image.specs.Rows.{Row, list_rows, rows_of}
 use Rattle.hg_image.specs.View.{rows}
 use Rattle.hg_image.specs.Walk.{levels}
 use Rattle.hg_image.specs.declared.opened.Image.{Image}
-use Rattle.hg_mixed.specs.Edits.{IsSame}
+use Rattle.hg_nodes.specs.Edits.{IsSame}
 use Rattle.hg_mixed.specs.Held.{Held, has_list, image_table, is_lent, table}
 use Rattle.hg_mixed.specs.Opened.{source_place}
 use Rattle.hg_mixed.specs.Shown.{AreLentWhole, ArePlacesOf}

@@ -9,7 +9,8 @@ use Rattle.hg_base.specs.Within.{is_above}
 use Rattle.hg_entry.specs.Entry.{EntryData}
 use Rattle.hg_entry.specs.Steps.{seen_clean}
 use Rattle.hg_entry.specs.Table.{Table}
-use Rattle.hg_mixed.specs.Edits.{ArePlacedAsBefore, IsSame}
+use Rattle.hg_mixed.specs.Edits.{ArePlacedAsBefore}
+use Rattle.hg_nodes.specs.Edits.{IsSame}
 use Rattle.hg_mixed.specs.Held.{Held, table}
 use Rattle.hg_mtime.proofs.Tests.{noted_vouch}
 use Rattle.hg_mtime.specs.Vouching.{vouches}

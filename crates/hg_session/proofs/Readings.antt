@@ -9,7 +9,7 @@ use Rattle.hg_docket.specs.declared.fault.DocketFault.{DocketFault}
 use Rattle.hg_entry.specs.Table.{Table}
 use Rattle.hg_image.specs.Reading.{RecordFault, data_reading, docket_reading, of_data, reading_of}
 use Rattle.hg_image.specs.declared.fault.NodeFault.{NodeFault}
-use Rattle.hg_mixed.specs.Edits.{IsSame}
+use Rattle.hg_nodes.specs.Edits.{IsSame}
 use Rattle.hg_mixed.specs.Held.{Held, table}
 use Rattle.hg_save.proofs.Loads.{found_longer, same_ids, tries_longer, unstepped_found}
 use Rattle.hg_save.specs.Loads.{Loads, Try, found_by, id_by}

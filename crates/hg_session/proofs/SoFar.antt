@@ -6,9 +6,10 @@ use Rattle.std.proofs.lemmas.Bool.{cases_Bool}
 use Rattle.std.proofs.lemmas.List.{take_more}
 use Rattle.std.proofs.lemmas.Option.{get_or_from_slice_get, slice_get_within}
 use Rattle.hg_entry.specs.Table.{Table}
-use Rattle.hg_mixed.specs.Edits.{IsOfSameImage, IsSame, Marks}
+use Rattle.hg_mixed.specs.Edits.{IsOfSameImage}
+use Rattle.hg_nodes.specs.Edits.{IsSame, Marks}
 use Rattle.hg_mixed.specs.Held.{Held, table}
-use Rattle.hg_mixed.proofs.Edited.{same_trans}
+use Rattle.hg_nodes.proofs.Edited.{same_trans}
 use Rattle.hg_ops.specs.declared.refusal.Refusal.{Refusal}
 use Rattle.hg_session.specs.Acts.{Deed, IsActed, IsStep, Stepping, refused_line}
 use Rattle.hg_session.proofs.Acted.{acted_more, acted_none}

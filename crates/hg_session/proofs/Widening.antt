@@ -28,8 +28,7 @@ use Rattle.hg_session.specs.Acts.{Makes}
 use Rattle.hg_session.specs.Call.{Watched}
 use Rattle.hg_session.specs.Change.{AsksChange, ChangesBehind, FitsFirst, IsDone, IsFirm, IsKept, IsMade, IsPublished, IsReadFirst, IsSafe, IsSafeHeld, IsUnwritten, IsToBlame, IsWritten, MetChanging, MetMade, MetStop, MetUnfit, NoneOurs, Stretch, up_to}
 use Rattle.hg_session.specs.Ways.{Fits, IsUnfit, KeepsBy, KeepsUnchanged, Stood, stood_by, stood_in}
-use Rattle.hg_session.specs.Loaded.{LoadMet, MetReading}
-use Rattle.hg_session.specs.Loaded.{IsRefused}
+use Rattle.hg_session.specs.Loaded.{LoadMet, MetReading, IsRefused}
 use Rattle.hg_session.specs.Locks.{TakenAt}
 use Rattle.hg_session.specs.declared.read_fault.ReadFault.{ReadFault}
 use Rattle.hg_session.specs.declared.read_fault.ReadFault.TheVariants as a_read

@@ -5,7 +5,8 @@ use Rattle.std.specs.declared.alloc.Global.{Global}
 use Rattle.hg_base.specs.Fault.{HasCause}
 use Rattle.hg_entry.specs.Table.{Table}
 use Rattle.hg_manifest.specs.Load.{asks_of}
-use Rattle.hg_mixed.specs.Edits.{IsOfSameImage, IsSame}
+use Rattle.hg_mixed.specs.Edits.{IsOfSameImage}
+use Rattle.hg_nodes.specs.Edits.{IsSame}
 use Rattle.hg_mixed.specs.Held.{Held, table}
 use Rattle.hg_ops.specs.Copy.{Copies, OnlyCopies}
 use Rattle.hg_ops.specs.Look.{Adds, Looks}

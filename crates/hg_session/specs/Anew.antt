@@ -7,7 +7,7 @@ use Rattle.hg_append.specs.Loss.{plan_of}
 use Rattle.hg_base.specs.Fault.{Rose}
 use Rattle.hg_docket.specs.Docket.{docket_of}
 use Rattle.hg_entry.specs.Table.{Table}
-use Rattle.hg_mixed.specs.Edits.{IsSame}
+use Rattle.hg_nodes.specs.Edits.{IsSame}
 use Rattle.hg_image.specs.Rows.{rows_of}
 use Rattle.hg_mixed.specs.Held.{Held, has_list, image_table, is_lent, table}
 use Rattle.hg_mixed.specs.Shown.{ArePlacesOf}

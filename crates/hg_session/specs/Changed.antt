@@ -4,7 +4,7 @@ use Rattle.hg_append.specs.declared.fault.EncodeFault.{EncodeFault}
 use Rattle.hg_append.specs.declared.fault.EncodeFault.TheVariants as an_encode_fault
 use Rattle.hg_base.specs.Fault.{IsSteady}
 use Rattle.hg_entry.specs.Table.{Table}
-use Rattle.hg_mixed.specs.Edits.{IsSame}
+use Rattle.hg_nodes.specs.Edits.{IsSame}
 use Rattle.hg_ops.specs.declared.refusal.OpFault.{OpFault}
 use Rattle.hg_ops.specs.declared.refusal.OpFault.TheVariants as an_op_fault
 use Rattle.hg_report.specs.declared.fault.Fault.{Fault}

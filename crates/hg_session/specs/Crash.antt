@@ -5,7 +5,7 @@ use Rattle.hg_append.specs.declared.way.Way.TheVariants as a_way
 use Rattle.hg_append.specs.Loss.{plan_of}
 use Rattle.hg_entry.specs.Table.{Table}
 use Rattle.hg_image.specs.Reading.{RecordFault}
-use Rattle.hg_mixed.specs.Edits.{IsSame}
+use Rattle.hg_nodes.specs.Edits.{IsSame}
 use Rattle.hg_report.specs.declared.fault.Fault.{Fault}
 use Rattle.hg_save.specs.Others.{KeepData, KeepsRecords, WasPublished}
 use Rattle.hg_save.specs.Record.{IsReadable, reading}

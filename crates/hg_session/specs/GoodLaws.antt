@@ -1,7 +1,7 @@
 -- The laws of good records: what each command makes of them, and that a call keeps them.
 use Rattle.std.specs.Prelude.{ℕ, Bool, List, Option, IsTrue}
 use Rattle.hg_entry.specs.Table.{Table}
-use Rattle.hg_mixed.specs.Edits.{IsSame}
+use Rattle.hg_nodes.specs.Edits.{IsSame}
 use Rattle.hg_report.specs.declared.fault.Fault.{Fault}
 use Rattle.hg_session.specs.Acts.{makes_of}
 use Rattle.hg_session.specs.Answered.{Ran}

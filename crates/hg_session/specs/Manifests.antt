@@ -6,7 +6,7 @@ use Rattle.hg_manifest.specs.Load.{Finds}
 use Rattle.hg_manifest.specs.Plain.{is_null, plain_name}
 use Rattle.hg_manifest.specs.Rows.{Rows}
 use Rattle.hg_manifest.specs.declared.fault.ManifestFault.{ManifestFault}
-use Rattle.hg_mixed.specs.Edits.{IsSame}
+use Rattle.hg_nodes.specs.Edits.{IsSame}
 use Rattle.hg_ops.specs.Cause.{of_manifest}
 use Rattle.hg_ops.specs.Parents.{HasParents}
 use Rattle.hg_ops.specs.declared.refusal.OpFault.{OpFault}

@@ -9,7 +9,7 @@ use Rattle.hg_docket.specs.Docket.{docket_of}
 use Rattle.hg_entry.specs.Table.{Table}
 use Rattle.hg_image.specs.Reading.{data_reading}
 use Rattle.hg_image.specs.Rows.{rows_of}
-use Rattle.hg_mixed.specs.Edits.{IsSame}
+use Rattle.hg_nodes.specs.Edits.{IsSame}
 use Rattle.hg_mixed.specs.Held.{Held, has_list, image_table, is_lent, table}
 use Rattle.hg_mixed.specs.Shown.{ArePlacesOf}
 use Rattle.hg_report.specs.declared.fault.Fault.{Fault}

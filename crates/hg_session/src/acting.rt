@@ -2,7 +2,8 @@
 
 ghost use Rattle.std.specs.Prelude.{◌≡◌, ◌<◌, ◌++◌, ◌⊎◌, Err, IfErr, IfOk, IsTrue, OnOk, false};
 ghost use Rattle.hg_base.specs.Fault.{HasCause};
-ghost use Rattle.hg_mixed.specs.Edits.{IsFormed, IsOfSameImage, IsSame, Lends, Marks};
+ghost use Rattle.hg_mixed.specs.Edits.{IsOfSameImage, Lends};
+ghost use Rattle.hg_nodes.specs.Edits.{IsFormed, IsSame, Marks};
 ghost use Rattle.hg_mixed.specs.Held.{table};
 ghost use Rattle.hg_ops.specs.Cause.{HasOpCause};
 ghost use Rattle.hg_ops.specs.declared.refusal.OpFault.TheVariants as an_op_fault;
@@ -63,8 +64,8 @@ fn step<T: Tree>(
     // (a table tells how it is formed where it is asked)
     let _ = mixed.parents();
     match command {
-        Changing::Add => add(mixed, tree, word),
-        Changing::Forget => forget(mixed, word),
+        Changing::Add => add(alloc, mixed, tree, word),
+        Changing::Forget => forget(alloc, mixed, word),
     }
 }
 

@@ -29,7 +29,7 @@ fn text_in(alloc: Global, loaded: &Loaded) -> Result<Vec<u8>, ReadFault>
     ensures { NodesFind IsBytesOf result (data_reading (docket_of loaded.now.docket.items) loaded.now.nodes.items) }
 {
     let image = loaded.open()?;
-    let mixed = Mixed::open(alloc, image)?;
+    let mixed = Mixed::open(image);
     let text = debug_text(alloc, &mixed)?;
     Ok(text)
 }

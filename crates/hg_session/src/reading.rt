@@ -47,6 +47,6 @@ pub(crate) fn opened<'a>(alloc: Global, loaded: &'a Loaded) -> Result<Mixed<'a>,
         (data_reading (docket_of loaded.now.docket.items) loaded.now.nodes.items) }
 {
     let image = loaded.open()?;
-    let mixed = Mixed::open(alloc, image)?;
+    let mixed = Mixed::open(image);
     Ok(mixed)
 }

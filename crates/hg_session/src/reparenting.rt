@@ -4,7 +4,8 @@ ghost use Rattle.std.specs.Prelude.{◌≡◌, ◌++◌, false, IfErr, IfOk, IsT
 ghost use Rattle.hg_base.specs.Fault.{HasCause};
 ghost use Rattle.hg_manifest.specs.Load.{asks_of};
 ghost use Rattle.hg_manifest.specs.declared.fault.ManifestFault.TheVariants as a_manifest_fault;
-ghost use Rattle.hg_mixed.specs.Edits.{IsOfSameImage, IsSame, Marks};
+ghost use Rattle.hg_mixed.specs.Edits.{IsOfSameImage};
+ghost use Rattle.hg_nodes.specs.Edits.{IsSame, Marks};
 ghost use Rattle.hg_mixed.specs.Held.{table};
 ghost use Rattle.hg_ops.specs.Parents.{HasParents, LendsParents, PlacesParents};
 ghost use Rattle.hg_ops.specs.declared.refusal.OpFault.TheVariants as an_op_fault;

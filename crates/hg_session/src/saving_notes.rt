@@ -95,7 +95,7 @@ fn save_held<S: Shelf>(
     if !same {
         return Ok(());
     }
-    apply(mixed, notes)?;
+    apply(alloc, mixed, notes)?;
     unless_unfit(save(alloc, shelf, loaded, mixed))
 }
 

@@ -4,8 +4,9 @@ use hg_case_tests::{Play, agree};
 use hg_docket::Docket;
 use hg_entry::Entry;
 use hg_image::Image;
-use hg_mixed::{Mixed, SetFault};
+use hg_mixed::Mixed;
 use hg_node::Rec;
+use hg_nodes::SetFault;
 use std::alloc::Global;
 use std::string::String;
 use std::test::Fail;
@@ -62,16 +63,16 @@ const CLEAN: Entry = Entry {
 // The table of a record.
 fn opened<'a>(alloc: Global, docket: &Docket<'a>, bytes: &'a [u8]) -> Result<Mixed<'a>, Fail> {
     let image = Image::open(docket, bytes)?;
-    Ok(Mixed::open(alloc, image)?)
+    Ok(Mixed::open(image))
 }
 
-fn set(m: &mut Mixed<'_>, path: &str, entry: Entry) -> Result<(), Fail> {
-    m.set(PathRef::read(path)?, entry)?;
+fn set(alloc: Global, m: &mut Mixed<'_>, path: &str, entry: Entry) -> Result<(), Fail> {
+    m.set(alloc, PathRef::read(path)?, entry)?;
     Ok(())
 }
 
 // (The two calls of a directory want that it has a node and no entry.)
-fn note(m: &mut Mixed<'_>, path: &str) -> Result<(), Fail> {
+fn note(alloc: Global, m: &mut Mixed<'_>, path: &str) -> Result<(), Fail> {
     let dir = PathRef::read(path)?;
     if !m.has_node(dir) {
         return Err("no node".into());
@@ -79,11 +80,11 @@ fn note(m: &mut Mixed<'_>, path: &str) -> Result<(), Fail> {
     if m.get(dir).is_some() {
         return Err("an entry".into());
     }
-    m.note_dir(dir, NOON)?;
+    m.note_dir(alloc, dir, NOON)?;
     Ok(())
 }
 
-fn forget(m: &mut Mixed<'_>, path: &str) -> Result<(), Fail> {
+fn forget(alloc: Global, m: &mut Mixed<'_>, path: &str) -> Result<(), Fail> {
     let dir = PathRef::read(path)?;
     if !m.has_node(dir) {
         return Err("no node".into());
@@ -91,30 +92,30 @@ fn forget(m: &mut Mixed<'_>, path: &str) -> Result<(), Fail> {
     if m.get(dir).is_some() {
         return Err("an entry".into());
     }
-    m.forget_dir(dir)?;
+    m.forget_dir(alloc, dir)?;
     Ok(())
 }
 
-fn drop(m: &mut Mixed<'_>, path: &str) -> Result<(), Fail> {
+fn drop(alloc: Global, m: &mut Mixed<'_>, path: &str) -> Result<(), Fail> {
     let path = PathRef::read(path)?;
     if m.get(path).is_none() {
         return Err("no entry".into());
     }
-    m.drop_entry(path)?;
+    m.drop_entry(alloc, path)?;
     Ok(())
 }
 
-fn uncache(m: &mut Mixed<'_>) -> Result<(), Fail> {
-    m.drop_caches()?;
+fn uncache(alloc: Global, m: &mut Mixed<'_>) -> Result<(), Fail> {
+    m.drop_caches(alloc)?;
     Ok(())
 }
 
-fn copy(m: &mut Mixed<'_>, path: &str, source: &str) -> Result<(), Fail> {
+fn copy(alloc: Global, m: &mut Mixed<'_>, path: &str, source: &str) -> Result<(), Fail> {
     let path = PathRef::read(path)?;
     if m.get(path).is_none() {
         return Err("no entry".into());
     }
-    m.copy_from(path, Some(PathRef::read(source)?))?;
+    m.copy_from(alloc, path, Some(PathRef::read(source)?))?;
     Ok(())
 }
 
@@ -128,25 +129,25 @@ fn set_hash(m: &mut Mixed<'_>) {
 
 // One edit. `+a`: the file is added; `!a`: it is removed; `~a`: it is clean; `-a`: its entry goes; `=a`: it was copied from `c`; `*d`: the directory was
 // seen at noon; `/d`: that is forgotten; `uncache`: so is each; `ids`: the parents are ones and twos; `hash`: the hash is threes.
-fn step(m: &mut Mixed<'_>, word: &str) -> Result<(), Fail> {
+fn step(alloc: Global, m: &mut Mixed<'_>, word: &str) -> Result<(), Fail> {
     let Some((sign, path)) = word.split_at_checked(1) else {
         return Ok(());
     };
     match sign {
-        "+" => set(m, path, ADDED),
-        "!" => set(m, path, REMOVED),
-        "~" => set(m, path, CLEAN),
-        "-" => drop(m, path),
-        "=" => copy(m, path, "c"),
-        "*" => note(m, path),
-        "/" => forget(m, path),
-        _ => whole(m, word),
+        "+" => set(alloc, m, path, ADDED),
+        "!" => set(alloc, m, path, REMOVED),
+        "~" => set(alloc, m, path, CLEAN),
+        "-" => drop(alloc, m, path),
+        "=" => copy(alloc, m, path, "c"),
+        "*" => note(alloc, m, path),
+        "/" => forget(alloc, m, path),
+        _ => whole(alloc, m, word),
     }
 }
 
-fn whole(m: &mut Mixed<'_>, word: &str) -> Result<(), Fail> {
+fn whole(alloc: Global, m: &mut Mixed<'_>, word: &str) -> Result<(), Fail> {
     match word {
-        "uncache" => uncache(m),
+        "uncache" => uncache(alloc, m),
         "ids" => {
             set_ids(m);
             Ok(())
@@ -160,9 +161,9 @@ fn whole(m: &mut Mixed<'_>, word: &str) -> Result<(), Fail> {
 }
 
 // The edits of words.
-fn steps(m: &mut Mixed<'_>, words: &str) -> Result<(), Fail> {
+fn steps(alloc: Global, m: &mut Mixed<'_>, words: &str) -> Result<(), Fail> {
     for word in words.split(' ') {
-        step(m, word)?;
+        step(alloc, m, word)?;
     }
     Ok(())
 }
@@ -206,7 +207,7 @@ impl Play for Edits {
     fn play(alloc: Global, words: &str, answer: &mut String) -> Result<(), Fail> {
         let docket = Docket::read(b"")?;
         let mut m = opened(alloc, &docket, b"")?;
-        steps(&mut m, words)?;
+        steps(alloc, &mut m, words)?;
         shown(&m, answer, "a a/b a/b/c a/b/d a/x")
     }
 }
@@ -229,16 +230,21 @@ fn edits_each_part(rt: HostRuntime) -> Result<(), Fail> {
 }
 
 // The path that clashes with a tracked file at this path.
-fn clash(m: &mut Mixed<'_>, path: &str) -> Result<Option<Path>, Fail> {
-    match m.set(PathRef::read(path)?, ADDED) {
+fn clash(alloc: Global, m: &mut Mixed<'_>, path: &str) -> Result<Option<Path>, Fail> {
+    match m.set(alloc, PathRef::read(path)?, ADDED) {
         Err(SetFault::Clash { other }) => Ok(Some(other)),
         Err(SetFault::OutOfMemory) => Err("out of memory".into()),
         Ok(()) => Ok(None),
     }
 }
 
-fn print_clash(m: &mut Mixed<'_>, path: &str, answer: &mut String) -> Result<(), Fail> {
-    match clash(m, path)? {
+fn print_clash(
+    alloc: Global,
+    m: &mut Mixed<'_>,
+    path: &str,
+    answer: &mut String,
+) -> Result<(), Fail> {
+    match clash(alloc, m, path)? {
         Some(other) => answer.push_str(other.as_str())?,
         None => answer.push_str("none")?,
     }
@@ -251,8 +257,8 @@ impl Play for Clashes {
     fn play(alloc: Global, path: &str, answer: &mut String) -> Result<(), Fail> {
         let docket = Docket::read(b"")?;
         let mut m = opened(alloc, &docket, b"")?;
-        steps(&mut m, "!d +d/b/z +d/b-c +d/e")?;
-        print_clash(&mut m, path, answer)
+        steps(alloc, &mut m, "!d +d/b/z +d/b-c +d/e")?;
+        print_clash(alloc, &mut m, path, answer)
     }
 }
 
@@ -331,7 +337,7 @@ impl Play for Lent {
     fn play(alloc: Global, words: &str, answer: &mut String) -> Result<(), Fail> {
         let bytes = bytes_of(alloc)?;
         let mut m = opened(alloc, &DOCKET, bytes.as_slice())?;
-        steps(&mut m, words)?;
+        steps(alloc, &mut m, words)?;
         shown(&m, answer, "d d/e d/f e")?;
         listed(&m, answer, None)?;
         listed(&m, answer, Some(PathRef::read("d")?))
@@ -360,7 +366,7 @@ impl Play for LentClashes {
     fn play(alloc: Global, path: &str, answer: &mut String) -> Result<(), Fail> {
         let bytes = bytes_of(alloc)?;
         let mut m = opened(alloc, &DOCKET, bytes.as_slice())?;
-        print_clash(&mut m, path, answer)
+        print_clash(alloc, &mut m, path, answer)
     }
 }
 

@@ -5,7 +5,8 @@ use Rattle.std.proofs.lemmas.List.{append-nil, append_assoc}
 use Rattle.std.proofs.lemmas.List.Elements.{Contains-append_left, Contains-append_right}
 use Rattle.hg_entry.specs.Entry.{CacheData, EntryData}
 use Rattle.hg_entry.specs.Table.{Table}
-use Rattle.hg_mixed.specs.Edits.{ArePlacedAsBefore, IsOfSameImage, IsSame, after_cache}
+use Rattle.hg_mixed.specs.Edits.{ArePlacedAsBefore, IsOfSameImage}
+use Rattle.hg_nodes.specs.Edits.{IsSame, after_cache}
 use Rattle.hg_mixed.specs.Held.{Held, table}
 use Rattle.hg_tree.specs.Moment.{is_among}
 use Rattle.hg_walk.specs.Applying.{AreKnown, IsBare, LendsNotes, MarksNotes}

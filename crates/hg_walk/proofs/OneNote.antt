@@ -7,7 +7,7 @@ use Rattle.hg_base.proofs.Within.{equal_bytes, same_bytes}
 use Rattle.hg_entry.specs.Entry.{CacheData, EntryData}
 use Rattle.hg_entry.specs.Steps.{seen_clean}
 use Rattle.hg_entry.specs.Table.{Table}
-use Rattle.hg_mixed.specs.Edits.{IsSame, after_cache}
+use Rattle.hg_nodes.specs.Edits.{IsSame, after_cache}
 use Rattle.hg_mixed.specs.Held.{Held, table}
 use Rattle.hg_tree.specs.Moment.{is_among}
 use Rattle.hg_walk.specs.Notes.{CleanNote, DirNote, clean_at, seen_at, with_clean, with_seen}

@@ -22,7 +22,7 @@ use Rattle.hg_flat.specs.Recorded.{Recorded, Records, recorded_at}
 use Rattle.hg_flat.specs.declared.kept.FlatRow.{FlatRow}
 use Rattle.hg_flat.proofs.Holding.{found_at, found_has}
 use Rattle.hg_flat.proofs.Recording.{flat_recorded}
-use Rattle.hg_mixed.specs.Edits.{IsFormed}
+use Rattle.hg_nodes.specs.Edits.{IsFormed}
 use Rattle.hg_mixed.specs.Gathered.{AreGathered, Shows, path_of, paths_of}
 use Rattle.hg_mixed.specs.Held.{Held, table}
 use Rattle.hg_mixed.specs.declared.line.Line.{Line}

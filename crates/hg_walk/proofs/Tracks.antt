@@ -21,7 +21,7 @@ use Rattle.hg_flat.specs.Passed.{AreKnown, WasNoDir}
 use Rattle.hg_flat.proofs.Leaving.{keeps_row}
 use Rattle.hg_listing.specs.declared.row.Row.{Row}
 use Rattle.hg_listing.specs.declared.row.Wanted.{Wanted}
-use Rattle.hg_mixed.specs.Edits.{IsFormed}
+use Rattle.hg_nodes.specs.Edits.{IsFormed}
 use Rattle.hg_mixed.specs.Gathered.{AreGathered, path_of}
 use Rattle.hg_mixed.specs.Held.{Held, table}
 use Rattle.hg_mixed.specs.declared.line.Line.{Line}

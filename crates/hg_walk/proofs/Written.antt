@@ -7,7 +7,8 @@ use Rattle.hg_base.specs.Within.{is_above, is_within}
 use Rattle.hg_base.proofs.Within.{same_bytes, within_split}
 use Rattle.hg_entry.specs.Entry.{CacheData, EntryData}
 use Rattle.hg_entry.specs.Table.{Table}
-use Rattle.hg_mixed.specs.Edits.{ArePlacedAsBefore, IsFormed, IsOfSameImage, IsSame, Lends, Marks, after_set}
+use Rattle.hg_mixed.specs.Edits.{ArePlacedAsBefore, IsOfSameImage, Lends}
+use Rattle.hg_nodes.specs.Edits.{IsFormed, IsSame, Marks, after_set}
 use Rattle.hg_mixed.specs.Held.{Held, is_lent, table}
 use Rattle.hg_walk.specs.Applying.{Differs}
 use Rattle.hg_walk.specs.Writing.{IsEdit, IsWritten, with_entry}

@@ -5,7 +5,7 @@ use Rattle.hg_base.specs.Within.{is_above}
 use Rattle.hg_entry.specs.Entry.{EntryData, cache_view, stamp_view}
 use Rattle.hg_entry.specs.Steps.{is_file, seen_clean}
 use Rattle.hg_entry.specs.Table.{Table}
-use Rattle.hg_mixed.specs.Edits.{IsSame}
+use Rattle.hg_nodes.specs.Edits.{IsSame}
 use Rattle.hg_mixed.specs.Held.{Held, is_lent, table}
 use Rattle.hg_walk.specs.Notes.{CleanNote, DirNote, NotesData, with_hash}
 use Rattle.hg_walk.specs.declared.clean.Clean.{Clean}

@@ -3,8 +3,8 @@ use Rattle.std.specs.Prelude.{ℕ, ◌≡◌, List, Option, None, Some, is_some}
 use Rattle.hg_compare.specs.Tracked.{ParentRow}
 use Rattle.hg_entry.specs.Entry.{EntryData, StampData}
 use Rattle.hg_entry.specs.Table.{Table}
-use Rattle.hg_mixed.specs.Drop.{IsPruned, after_clear}
-use Rattle.hg_mixed.specs.Edits.{IsSame, after_cache, after_copy, after_no_caches, after_set}
+use Rattle.hg_nodes.specs.Drop.{IsPruned, after_clear}
+use Rattle.hg_nodes.specs.Edits.{IsSame, after_cache, after_copy, after_no_caches, after_set}
 use Rattle.hg_tree.specs.History.{History}
 use Rattle.hg_walk.specs.Keeping.{IsEditAt, KeepsCaches, KeepsTimes, NoneCouldVouch}
 use Rattle.hg_walk.specs.Trust.{CouldVouch, IsTrusted}

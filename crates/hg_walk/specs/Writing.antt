@@ -7,7 +7,8 @@ use Rattle.hg_base.specs.Within.{is_above}
 use Rattle.hg_entry.specs.Entry.{EntryData}
 use Rattle.hg_entry.specs.Steps.{is_file}
 use Rattle.hg_entry.specs.Table.{Table}
-use Rattle.hg_mixed.specs.Edits.{AreLentAsBefore, ArePlacedAsBefore, IsOfSameImage, IsSame, Lends, Marks, after_hash}
+use Rattle.hg_mixed.specs.Edits.{AreLentAsBefore, ArePlacedAsBefore, IsOfSameImage, Lends}
+use Rattle.hg_nodes.specs.Edits.{IsSame, Marks, after_hash}
 use Rattle.hg_mixed.specs.Held.{Held, is_lent, table}
 use Rattle.hg_tree.specs.Moment.{is_among}
 use Rattle.hg_walk.specs.Applying.{Differs, IsBare, IsKnownClean, IsKnownGone, IsKnownSeen}

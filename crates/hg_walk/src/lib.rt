@@ -20,7 +20,7 @@
 //!
 //! ```text
 //! let walked = walk(alloc, &mixed, &mut tree, &mut shelf, &mut Builds::new(), wanted)?;
-//! apply(&mut mixed, walked.notes)?;  // behind this a second walk reads none of the files again
+//! apply(alloc, &mut mixed, walked.notes)?;  // behind this a second walk reads none of the files again
 //! find(alloc, &mut tree, &mut shelf, path, &entry, false, &stat, boundary, &mut parent)?;  // Found { letter: C, stamp: None }: its entry vouches
 //! ```
 #![tactic(auto)]

@@ -26,13 +26,13 @@ pub(crate) fn written(alloc: Global, mixed: &Mixed<'_>) -> Result<Encoded, Fail>
 }
 
 // The calls, each by itself: what they promise isn't carried through a step.
-fn track(mixed: &mut Mixed<'_>, tree: &mut MemTree, path: &str) -> Result<(), Fail> {
-    add(mixed, tree, path)?;
+fn track(alloc: Global, mixed: &mut Mixed<'_>, tree: &mut MemTree, path: &str) -> Result<(), Fail> {
+    add(alloc, mixed, tree, path)?;
     Ok(())
 }
 
-fn untrack(mixed: &mut Mixed<'_>, path: &str) -> Result<(), Fail> {
-    forget(mixed, path)?;
+fn untrack(alloc: Global, mixed: &mut Mixed<'_>, path: &str) -> Result<(), Fail> {
+    forget(alloc, mixed, path)?;
     Ok(())
 }
 
@@ -86,8 +86,8 @@ fn change(
 ) -> Result<(), Fail> {
     let path = draws.one_of(PLACES);
     match draws.below(8) {
-        0..=2 => track(mixed, tree, path),
-        3 => untrack(mixed, path),
+        0..=2 => track(alloc, mixed, tree, path),
+        3 => untrack(alloc, mixed, path),
         4 => copy_file(alloc, mixed, tree, path, draws.one_of(PLACES)),
         5 => remove_file(alloc, mixed, tree, parents, path, draws.once_in(2)),
         _ => reparent(alloc, mixed, parents, draws.below(5)),
@@ -103,7 +103,7 @@ pub(crate) fn edited(
     parents: &mut Parents,
 ) -> Result<Encoded, Fail> {
     let docket = docket_of(record)?;
-    let mut mixed = Mixed::open(alloc, Image::open(&docket, &record.bytes)?)?;
+    let mut mixed = Mixed::open(Image::open(&docket, &record.bytes)?);
     change(alloc, draws, &mut mixed, tree, parents)?;
     written(alloc, &mixed)
 }
@@ -112,7 +112,7 @@ pub(crate) fn edited(
 fn track_most(draws: &mut Draws, mixed: &mut Mixed<'_>, tree: &mut MemTree) -> Result<(), Fail> {
     for path in PLACES {
         if !draws.once_in(6) {
-            track(mixed, tree, *path)?;
+            track(alloc, mixed, tree, *path)?;
         }
     }
     Ok(())
@@ -126,7 +126,7 @@ pub(crate) fn first_record(
     parents: &Parents,
 ) -> Result<Encoded, Fail> {
     let docket = Docket::read(b"")?;
-    let mut mixed = Mixed::open(alloc, Image::open(&docket, b"")?)?;
+    let mut mixed = Mixed::open(Image::open(&docket, b"")?);
     reparent(alloc, &mut mixed, parents, 2)?;
     track_most(draws, &mut mixed, tree)?;
     written(alloc, &mixed)

@@ -93,7 +93,7 @@ fn walked(
     wanted: Wanted,
 ) -> Result<String, Fail> {
     let found = walk(alloc, mixed, tree, shelf, &mut Builds::new(), wanted)?;
-    apply(mixed, found.notes)?;
+    apply(alloc, mixed, found.notes)?;
     text_of(alloc, &found.rows, &found.warnings)
 }
 
@@ -111,7 +111,7 @@ fn listed(
     let start = tree.asked().len();
     let plain = plainly(alloc, &image, tree, shelf, wanted)?;
     let middle = tree.asked().len();
-    let mut mixed = Mixed::open(alloc, image)?;
+    let mut mixed = Mixed::open(image);
     let found = walked(alloc, &mut mixed, tree, shelf, wanted)?;
     add_reads(reads, start, middle, tree.asked().len());
     Ok(Both {

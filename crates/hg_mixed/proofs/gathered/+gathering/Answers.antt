@@ -2,7 +2,7 @@ use Rattle.std.proofs.Common.{[], ◌≡◌, ap, sym, ◌<◌, ◌≤◌, length
 use Rattle.std.specs.Option.{option_map}
 use Rattle.std.proofs.lemmas.List.{append-nil}
 use Rattle.hg_base.specs.declared.path.PathRef.{PathRef}
-use Rattle.hg_mixed.specs.Lists.{or_root}
+use Rattle.hg_nodes.specs.Lists.{or_root}
 use Rattle.hg_mixed.specs.Walk.{walked}
 use Rattle.hg_mixed.proofs.Gathering.{below_none, child_is, child_longer, child_short, left_done, left_first, left_more}
 use Rattle.hg_mixed.proofs.gathered.+gathering.Goals as goal

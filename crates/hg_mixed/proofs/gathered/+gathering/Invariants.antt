@@ -1,7 +1,7 @@
 -- What stands in a directory is longer; no path is longer than 65,535 bytes.
 use Rattle.std.proofs.Common.{◌+◌, ◌-◌, ◌*◌, length}
 use Rattle.std.specs.Option.{option_map}
-use Rattle.hg_mixed.specs.Lists.{or_root}
+use Rattle.hg_nodes.specs.Lists.{or_root}
 use Rattle.hg_mixed.specs.Gathered.{AreLeft}
 use Rattle.hg_mixed.specs.Walk.{ListsAreOf, walked}
 use Rattle.hg_mixed.proofs.gathered.+gathering.Given as goal

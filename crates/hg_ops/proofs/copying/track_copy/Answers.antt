@@ -1,5 +1,5 @@
 use Rattle.std.proofs.Common.{List, ℕ, Option, subst}
-use Rattle.hg_mixed.specs.Edits.{IsSame, after_copy}
+use Rattle.hg_nodes.specs.Edits.{IsSame, after_copy}
 use Rattle.hg_mixed.specs.Held.{table}
 use Rattle.hg_ops.proofs.Tracked.{tracked_copy, tracked_only}
 use Rattle.hg_ops.proofs.copying.track_copy.Goals as goal

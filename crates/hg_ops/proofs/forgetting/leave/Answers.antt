@@ -1,6 +1,6 @@
 use Rattle.std.proofs.Common.{None}
 use Rattle.hg_entry.specs.Entry.{view}
-use Rattle.hg_mixed.specs.Edits.{after_copy}
+use Rattle.hg_nodes.specs.Edits.{after_copy}
 use Rattle.hg_mixed.specs.Held.{table}
 use Rattle.hg_ops.proofs.Forgotten.{leave_both, set_both, source_gone}
 use Rattle.hg_ops.proofs.ForgottenLent.{leave_lends, leave_places}

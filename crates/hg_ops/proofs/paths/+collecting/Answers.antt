@@ -1,7 +1,7 @@
 use Rattle.std.proofs.Common.{◌<◌, ◌≤◌, length, arith}
 use Rattle.std.specs.Option.{option_map}
 use Rattle.hg_base.specs.declared.path.PathRef.{PathRef}
-use Rattle.hg_mixed.specs.Lists.{or_root}
+use Rattle.hg_nodes.specs.Lists.{or_root}
 use Rattle.hg_ops.specs.Collected.{path_of}
 use Rattle.hg_ops.proofs.Collecting.{below_none, child_is, child_longer, child_short, left_done, left_first, left_more}
 use Rattle.hg_ops.proofs.paths.+collecting.Goals as goal

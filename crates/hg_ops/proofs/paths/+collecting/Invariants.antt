@@ -1,7 +1,7 @@
 -- What stands in a directory is longer; no path is longer than 65,535 bytes.
 use Rattle.std.proofs.Common.{◌+◌, ◌-◌, ◌*◌, length}
 use Rattle.std.specs.Option.{option_map}
-use Rattle.hg_mixed.specs.Lists.{or_root}
+use Rattle.hg_nodes.specs.Lists.{or_root}
 use Rattle.hg_ops.specs.Collected.{AreLeft, path_of}
 use Rattle.hg_ops.proofs.paths.+collecting.Given as goal
 

@@ -1,8 +1,6 @@
-use Rattle.std.proofs.Common.{◌≡◌, ◌++◌, List, subst}
-use Rattle.std.proofs.Common.{ℕ, sym, refl, ap, arith, ◌∙◌}
-use Rattle.hg_docket.specs.Docket.{Contents, docket_of}
+use Rattle.std.proofs.Common.{◌≡◌, ◌++◌, List, subst, ℕ, sym, refl, ap, arith, ◌∙◌}
+use Rattle.hg_docket.specs.Docket.{Contents, docket_of, view}
 use Rattle.std.proofs.lemmas.Result.{err_from_is_err_and}
-use Rattle.hg_docket.specs.Docket.{view}
 use Rattle.hg_save.specs.Asked.{named_asks}
 use Rattle.hg_save.proofs.Asking.{sound_asks}
 use Rattle.hg_shelf.specs.declared.asked.Asked.{Asked}

@@ -1,5 +1,4 @@
-use Rattle.std.proofs.Common.{true, [], ◌∷◌}
-use Rattle.std.proofs.Common.{◌∙◌}
+use Rattle.std.proofs.Common.{true, [], ◌∷◌, ◌∙◌}
 use Rattle.hg_shelf.proofs.Scenes.{goes_trans}
 use Rattle.hg_save.specs.Loads.{bytes_of}
 use Rattle.hg_shelf.proofs.Asks.{answered, front_first, order_next}

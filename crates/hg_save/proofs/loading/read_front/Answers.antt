@@ -1,5 +1,4 @@
-use Rattle.std.proofs.Common.{true, false, []}
-use Rattle.std.proofs.Common.{◌∙◌, arith}
+use Rattle.std.proofs.Common.{true, false, [], ◌∙◌, arith}
 use Rattle.std.proofs.lemmas.Result.{err_from_is_err_and}
 use Rattle.hg_shelf.specs.History.{now}
 use Rattle.hg_save.specs.Record.{data_name}

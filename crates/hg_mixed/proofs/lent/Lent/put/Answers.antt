@@ -1,21 +1,14 @@
-use Rattle.std.proofs.Common.{Some, ◌∙◌, ap, List, ℕ, subst, sym}
-use Rattle.std.specs.BTreeMap.{get_by_text}
-use Rattle.std.specs.Map.{update}
-use Rattle.std.specs.Str.{bytes_eq}
-use Rattle.std.specs.String.{string_bytes}
-use Rattle.std.proofs.lemmas.Map.Text.{btree_map_updates_text}
-use Rattle.hg_mixed.specs.Lent.{AreByDir}
-use Rattle.hg_mixed.proofs.Lents.{by_dir_insert, lent_changed}
+use Rattle.std.proofs.Common.{[], ◌∙◌, List, ℕ, Some, subst, sym}
+use Rattle.hg_image.specs.Rows.{Row}
+use Rattle.hg_image.specs.View.{rows_in}
+use Rattle.hg_mixed.specs.Lent.{IsLentPut, lists_of, with_root}
+use Rattle.hg_nodes.specs.Made.{entries_of}
+use Rattle.hg_mixed.proofs.Lents.{empty_is, none_of_root, root_put}
 use Rattle.hg_mixed.proofs.lent.Lent.put.Goals as goal
 
-pub returns-clause-ok : goal.returns-clause-ok
-returns-clause-ok c =
-    lent_changed c.args.dir.now (Some c.args.list) c.self.inside.lists c.insert.new.self c.args.self.now c.self.view_is
-    (λ at.
-    btree_map_updates_text (string_bytes c.in_ok-key.key) c.self.inside.lists c.insert.new.self _ c.in_ok-insert.ensures.updates at
-    ∙ ap (λ (d : List ℕ). update bytes_eq (get_by_text c.self.inside.lists) d (Some c.args.list) at) c.in_ok-key.ensures.ok)
-
-pub invariant_of-self-2 : goal.invariant_of-self-2
-invariant_of-self-2 c =
-    subst AreByDir (sym c.in_ok-insert.ensures.entries)
-    (by_dir_insert c.in_ok-key.key c.args.list c.self.inside.lists.entries (c.requires ∙ sym c.in_ok-key.ensures.ok) c.self.invariant)
+pub returns-then-is_empty-clause-ok : goal.returns-then-is_empty-clause-ok
+returns-then-is_empty-clause-ok c =
+    subst (λ (dir : List ℕ). IsLentPut dir (Some (rows_in c.args.list)) c.args.self.now (with_root (Some c.args.list) (lists_of (entries_of c.self.inside.lists))))
+    (sym (empty_is c.args.dir.now (sym c.is_empty.ensures ∙ c.if-is_empty.true)))
+    (subst (λ (l : List (List ℕ × List Row)). IsLentPut [] (Some (rows_in c.args.list)) l (with_root (Some c.args.list) (lists_of (entries_of c.self.inside.lists)))) c.self.view_is
+    (root_put c.self.inside.root (Some c.args.list) (lists_of (entries_of c.self.inside.lists)) (none_of_root (entries_of c.self.inside.lists) c.self.invariant.1)))

@@ -1,6 +1,6 @@
 use Rattle.std.proofs.Common.{refl, ◌∙◌}
 use Rattle.std.proofs.lemmas.Result.{on_err_weaker, on_ok_weaker}
-use Rattle.hg_mixed.specs.Edits.{after_no_caches}
+use Rattle.hg_nodes.specs.Edits.{after_no_caches}
 use Rattle.hg_mixed.specs.Parted.{image_rows}
 use Rattle.hg_mixed.proofs.Lifted.{edit_of, kept_parted, kept_table, marks_of, no_caches_marks, no_caches_parted, no_caches_table, ok_both, ok_or_err, ok_three, unchanged}
 use Rattle.hg_mixed.proofs.Placed.{places_of, same_keeps, same_nodes, same_placed}

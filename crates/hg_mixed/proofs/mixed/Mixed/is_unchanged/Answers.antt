@@ -3,7 +3,7 @@ use Rattle.std.specs.Prelude.{is_some}
 use Rattle.std.specs.Option.{option_map}
 use Rattle.hg_mixed.specs.Held.{Held, is_left_in}
 use Rattle.hg_mixed.specs.Lent.{lent_at}
-use Rattle.hg_mixed.specs.Lists.{or_root}
+use Rattle.hg_nodes.specs.Lists.{or_root}
 use Rattle.hg_mixed.proofs.ImageLists.{asked_none}
 use Rattle.hg_mixed.proofs.mixed.Mixed.is_unchanged.Goals as goal
 

@@ -1,8 +1,8 @@
 use Rattle.hg_docket.specs.Docket as docket
 use Rattle.hg_image.specs.Reading as reading
-use Rattle.hg_mixed.specs.Edits.{after_ids}
+use Rattle.hg_nodes.specs.Edits.{after_ids}
 use Rattle.hg_mixed.specs.Lent.{covers}
-use Rattle.hg_mixed.specs.Memory.{memory_table}
+use Rattle.hg_mixed.specs.Own.{memory_table}
 use Rattle.hg_mixed.specs.Parted.{image_rows}
 use Rattle.hg_mixed.proofs.Lifted.{edit_of, ids_left, ids_merged, marks_merged, marks_of}
 use Rattle.hg_mixed.proofs.mixed.Mixed.set_ids.Goals as goal

@@ -1,5 +1,0 @@
-use Rattle.hg_mixed.proofs.Dropped.{pruned_one}
-use Rattle.hg_mixed.proofs.laws.one_drop.Goals as goal
-
-pub returns : goal.returns
-returns c = pruned_one

@@ -1,0 +1,5 @@
+use Rattle.hg_mixed.proofs.Ended.{ends_of}
+use Rattle.hg_mixed.proofs.own.Own.note_dir.Goals as goal
+
+pub returns-in-Ok-clause-kept : goal.returns-in-Ok-clause-kept
+returns-in-Ok-clause-kept c = ends_of c.self.inside.memory c.self.inside.kept _ c.self.view_is c.args.dir.text.now c.note_dir.new.self c.end_where.new.self c.in-Ok.differs c.in-Ok.ensures.differs c.end_where.ensures

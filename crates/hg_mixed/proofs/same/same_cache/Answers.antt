@@ -1,5 +1,0 @@
-use Rattle.hg_mixed.proofs.same.same_cache.Goals as goal
-use Rattle.hg_mixed.proofs.SameCaches.{caches_match}
-
-pub returns : goal.returns
-returns c = caches_match c.args.a c.args.b c.same_time.result c.same_time.ensures

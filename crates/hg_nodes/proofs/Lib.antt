@@ -1,0 +1,17 @@
+pub mod Added
+pub mod AsWritten
+pub mod Childless
+pub mod ChildrenOf
+pub mod Dropped
+pub mod Edited
+pub mod KidsOf
+pub mod LeftBefore
+pub mod Listed
+pub mod Made
+pub mod Planted
+pub mod Pruned
+pub mod Rows
+pub mod SameCaches
+pub mod Searched
+pub mod Sought
+pub mod Timed

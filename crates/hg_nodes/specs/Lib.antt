@@ -1,0 +1,16 @@
+pub mod Adding
+pub mod Child
+pub mod ChildOf
+pub mod Children
+pub mod Clash
+pub mod Drop
+pub mod Edits
+pub mod Kids
+pub mod Lists
+pub mod Made
+pub mod Memory
+pub mod Node
+pub mod Search
+pub mod Shown
+pub mod Times
+pub mod Written
