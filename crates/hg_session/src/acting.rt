@@ -44,6 +44,7 @@ fn name_of(command: Changing) -> &'static str
 
 // Does what a command says for one word.
 fn step<T: Tree>(
+    alloc: Global,
     command: Changing,
     word: &str,
     mixed: &mut Mixed<'_>,
@@ -124,7 +125,7 @@ fn act_words<T: Tree>(
     let mut lines = Vec::new(alloc);
     for i in 0..words.len() {
         let word = words.at(i).as_str();
-        let refused = step(command, word, mixed, tree)?;
+        let refused = step(alloc, command, word, mixed, tree)?;
         match put_refused(alloc, name_of(command), word, &refused, &mut lines) {
             Err(_) => return Err(OpFault::OutOfMemory),
             Ok(()) => {}

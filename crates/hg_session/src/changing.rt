@@ -140,7 +140,7 @@ pub(crate) fn change_locked<T: Tree, S: Shelf>(
     ensures locks { S.held shelf.new ≡ S.held shelf.old }
 {
     let loaded = read(alloc, shelf)?;
-    let mut table = opened(alloc, &loaded)?;
+    let mut table = opened(&loaded)?;
     let lines = act(alloc, command, &mut table, tree, shelf)?;
     save(alloc, shelf, &loaded, &table)?;
     Ok(lines)

@@ -82,7 +82,7 @@ pub(crate) fn status<T: Tree, S: Shelf, G: Regexps, O: Sink, E: Sink>(
         result }
 {
     let loaded = read(alloc, shelf)?;
-    let mut mixed = opened(alloc, &loaded)?;
+    let mut mixed = opened(&loaded)?;
     let notes = show(alloc, flags, &mixed, tree, shelf, regexps, out, err)?;
     save_notes(alloc, shelf, &loaded, &mut mixed, notes)?;
     Ok(())

@@ -37,7 +37,7 @@ pub(crate) fn read<S: Shelf>(alloc: Global, shelf: &mut S) -> Result<Loaded, Rea
 }
 
 /// The table of a record that was loaded.
-pub(crate) fn opened<'a>(alloc: Global, loaded: &'a Loaded) -> Result<Mixed<'a>, ReadFault>
+pub(crate) fn opened<'a>(loaded: &'a Loaded) -> Result<Mixed<'a>, ReadFault>
     requires few { length loaded.now.docket.items ≤ 512 }
     requires whole { docket_refusal loaded.now.docket.items ≡ None }
     requires most { length loaded.now.nodes.items ≤ (docket_of loaded.now.docket.items).used }
