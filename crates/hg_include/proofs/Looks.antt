@@ -3,7 +3,7 @@ use Rattle.std.proofs.Common.{◌≡◌, ◌≢◌, ℕ, ◌+◌, ◌-◌, ◌<�
 use Rattle.std.specs.Str.{IsValidUpTo, is_utf8}
 use Rattle.std.specs.Str.Lossy.{utf8_valid_len}
 use Rattle.std.proofs.Math.Seq.{take-length}
-use Rattle.std.proofs.lemmas.Bool.{le-ltb, lt-ltb}
+use Rattle.std.proofs.lemmas.Bool.{le-ltb, lt-ltb, ltb-false}
 use Rattle.std.proofs.lemmas.List.{length-take}
 use Rattle.std.proofs.lemmas.Result.{IfErr-weaker, IfOk-weaker}
 use Rattle.std.proofs.lemmas.Str.{IsUtf8-from_is_utf8, is_utf8-from_IsUtf8, utf8_valid_len-IsValidUpTo}
@@ -13,7 +13,7 @@ use Rattle.hg_base.specs.declared.stat.Stat.{Stat}
 use Rattle.hg_tree.specs.History.{Asks as Notes, History, Passes, now}
 use Rattle.hg_tree.specs.Moment.{Moment, bytes_at, stat_at}
 use Rattle.hg_tree.specs.declared.asked.Asked.TheVariants as an_ask
-use Rattle.hg_tree.specs.declared.fault.TreeFault.{TreeFault}
+use Rattle.hg_include.specs.declared.fault.IncludeFault.{IncludeFault}
 use Rattle.hg_include.specs.Asking.{AreLooks, Asks, Fails, Gives, GivesBytes, IsLook, MayRead, reads_of, reads_of_size}
 use Rattle.hg_include.specs.Look.{Look, file_size, given_by, given_bytes, given_size, given_text}
 use Rattle.hg_include.specs.Reading.{Ask}
@@ -142,7 +142,7 @@ behind_given most size path old mid new found given first second notes shown is 
   asked = λ told. read_asks most size path old mid new gives.bytes first second (notes told) (is ∙ ap file_size (shown told)) few (gives.found (first.past.told ∙ told)) (gives.asked (first.past.told ∙ told));
 }
 
-pub all_given : (most size : ℕ) (path : List ℕ) (old mid new : History) (found : Option Stat) (r : Result Given TreeFault) → Passes old mid → Passes mid new → (IsTrue old.told → Notes true [] old mid)
+pub all_given : (most size : ℕ) (path : List ℕ) (old mid new : History) (found : Option Stat) (r : Result Given IncludeFault) → Passes old mid → Passes mid new → (IsTrue old.told → Notes true [] old mid)
     → (IsTrue old.told → found ≡ stat_at (now mid) path) → Some size ≡ file_size found → size ≤ most → IfOk r (GivesBytes most path mid new) → IfOk r (Gives most path old new)
 all_given most size path old mid new found r first second notes shown is few =
     IfOk-weaker r (GivesBytes most path mid new) (Gives most path old new) (λ given gives. behind_given most size path old mid new found given first second notes shown is few gives)
@@ -172,8 +172,42 @@ behind_fails true most size path old mid new found e first second both notes sho
 behind_fails false most size path old mid new found e first second both notes shown is few may =
     none_fails most path old new both (λ told. absurd (cc (told, e)))
 
-pub all_fail : (most size : ℕ) (path : List ℕ) (old mid new : History) (found : Option Stat) (r : Result Given TreeFault) → Passes old mid → Passes mid new → Passes old new → (IsTrue old.told → Notes true [] old mid)
+pub all_fail : (most size : ℕ) (path : List ℕ) (old mid new : History) (found : Option Stat) (r : Result Given IncludeFault) → Passes old mid → Passes mid new → Passes old new → (IsTrue old.told → Notes true [] old mid)
     → (IsTrue old.told → found ≡ stat_at (now mid) path) → Some size ≡ file_size found → size ≤ most → (IsTrue mid.told → IfErr r (λ _. MayRead path mid new)) → IfErr r (λ _. Fails most path old new)
 all_fail most size path old mid new found (Ok x) first second both notes shown is few may = tt
 all_fail most size path old mid new found (Err f) first second both notes shown is few may =
     behind_fails old.told most size path old mid new found refl first second both notes shown is few may
+
+-- a text that is given is within the size, and is text
+small_text : (most : ℕ) (bytes text : List ℕ) → length bytes ≤ most → given_text bytes ≡ given.There text → (length text ≤ most) × IsUtf8 text
+small_text most bytes text few e = by_test (is_utf8 bytes) refl
+  where
+    by_test : (is : Bool) → is_utf8 bytes ≡ is → (length text ≤ most) × IsUtf8 text
+    by_test true utf8 =
+        let same : bytes ≡ text = cc (rw utf8 at e) in
+        (subst (λ (v : List ℕ). length v ≤ most) same few, subst IsUtf8 same (IsUtf8-from_is_utf8 bytes utf8))
+    by_test false utf8 = absurd (cc (rw utf8 at e))
+
+small_bytes : (most : ℕ) (stood : Option (List ℕ)) (text : List ℕ) → given_bytes most stood ≡ given.There text → (length text ≤ most) × IsUtf8 text
+small_bytes most None text e = absurd (cc e)
+small_bytes most (Some bytes) text e = by_test (nat_lt most (length bytes)) refl
+  where
+    by_test : (is : Bool) → nat_lt most (length bytes) ≡ is → (length text ≤ most) × IsUtf8 text
+    by_test true is = absurd (cc (rw is at e))
+    by_test false is = small_text most bytes text (ltb-false most (length bytes) is) (rw is at e)
+
+small_size : (most : ℕ) (size : Option ℕ) (stood : Option (List ℕ)) (text : List ℕ) → given_size most size stood ≡ given.There text → (length text ≤ most) × IsUtf8 text
+small_size most None stood text e = absurd (cc e)
+small_size most (Some size) stood text e = by_test (nat_lt most size) refl
+  where
+    by_test : (is : Bool) → nat_lt most size ≡ is → (length text ≤ most) × IsUtf8 text
+    by_test true is = absurd (cc (rw is at e))
+    by_test false is = small_bytes most stood text (rw is at e)
+
+pub small : (most : ℕ) (look : Look) (text : List ℕ) → given_by most look ≡ given.There text → (length text ≤ most) × IsUtf8 text
+unfolding given_by
+small most look text e = small_size most look.size look.bytes text e
+
+-- a look that was whole, of which nothing could be kept
+pub kept_fails : (most : ℕ) (path : List ℕ) (old new : History) (given : Given) → Gives most path old new given → Fails most path old new
+kept_fails most path old new given gives = record { asks = record { path = path; look = gives.look } ∷ []; one = inr (gives.look, refl); asked = gives.asked }

@@ -95,3 +95,9 @@ pub record GivesBytes (most : ℕ) (path : List ℕ) (old new : History) (given 
 -- or may have been asked
 abbrev pub MayRead : List ℕ → History → History → Type 0
 MayRead path old new = (new.asked ≡ old.asked) ⊎ (new.asked ≡ old.asked ++ an_ask.Read path ∷ [])
+
+-- no file is refused
+abbrev pub IsNoRefusal : IncludeFault → Type 0
+IsNoRefusal a_fault.OutOfMemory = Unit {0}
+IsNoRefusal a_fault.Failed = Unit {0}
+IsNoRefusal (a_fault.Bad file what) = ⊥

@@ -26,8 +26,10 @@ mod fault;
 mod line;
 mod look;
 mod name;
+mod opening;
 mod piece;
 mod pieces;
+mod reading;
 mod warnings;
 
 pub use fault::{Bad, IncludeFault};

@@ -3,13 +3,13 @@
 ghost use Rattle.std.specs.Prelude.{◌≡◌, ◌<◌, ◌^◌, ◌-◌, IsTrue, IfOk, IfErr, length};
 ghost use Rattle.hg_base.specs.Fault.{HasCause};
 ghost use Rattle.hg_tree.specs.History.{Passes};
-ghost use Rattle.hg_tree.specs.declared.fault.TreeFault.TheVariants as a_tree_fault;
+ghost use Rattle.hg_include.specs.declared.fault.IncludeFault.TheVariants as a_fault;
 ghost use Rattle.hg_include.specs.Look as looks;
-ghost use Rattle.hg_include.specs.Asking.{Fails, Gives, GivesBytes, MayRead};
+ghost use Rattle.hg_include.specs.Asking.{Fails, Gives, GivesBytes, IsNoRefusal, MayRead};
 
-use crate::fault::Bad;
+use crate::fault::{Bad, IncludeFault};
 use hg_base::{Got, Kind, OutOfMemory, PathRef, Stat, Text};
-use hg_tree::{Tree, TreeFault};
+use hg_tree::Tree;
 use std::alloc::Global;
 
 /// What a file gives: it isn't there, it is refused, or its text.
@@ -55,16 +55,17 @@ fn read_file<T: Tree>(
     tree: &mut T,
     most: usize,
     path: PathRef<'_>,
-) -> Result<Given, TreeFault>
+) -> Result<Given, IncludeFault>
     requires { most < 2 ^ 32 - 2 }
     ensures passes { Passes (T.history tree.old) (T.history tree.new) }
     ensures gives { IfOk result (λ given. GivesBytes most path.entry.text.now (T.history tree.old) (T.history tree.new) given) }
     ensures fails { IsTrue (T.history tree.old).told → IfErr result (λ _. MayRead path.entry.text.now (T.history tree.old) (T.history tree.new)) }
-    ensures cause { HasCause (T.faults tree.old) (T.faults tree.new) result (λ e. e ≡ a_tree_fault.Failed) }
+    ensures kind { IfErr result IsNoRefusal }
+    ensures cause { HasCause (T.faults tree.old) (T.faults tree.new) result (λ e. e ≡ a_fault.Failed) }
 {
     let mut bytes = vec![in alloc; 0u8; most + 1]?;
     match tree.read(path, 0, bytes.as_mut_slice()) {
-        Err(_) => Err(TreeFault::Failed),
+        Err(_) => Err(IncludeFault::Failed),
         Ok(Got::Absent) => Ok(Given::Missing),
         Ok(Got::Bytes(n)) => {
             if n > most {
@@ -83,15 +84,16 @@ pub fn look<T: Tree>(
     tree: &mut T,
     most: usize,
     path: PathRef<'_>,
-) -> Result<Given, TreeFault>
+) -> Result<Given, IncludeFault>
     requires { most < 2 ^ 32 - 2 }
     ensures passes { Passes (T.history tree.old) (T.history tree.new) }
     ensures gives { IfOk result (λ given. Gives most path.entry.text.now (T.history tree.old) (T.history tree.new) given) }
     ensures fails { IfErr result (λ _. Fails most path.entry.text.now (T.history tree.old) (T.history tree.new)) }
-    ensures cause { HasCause (T.faults tree.old) (T.faults tree.new) result (λ e. e ≡ a_tree_fault.Failed) }
+    ensures kind { IfErr result IsNoRefusal }
+    ensures cause { HasCause (T.faults tree.old) (T.faults tree.new) result (λ e. e ≡ a_fault.Failed) }
 {
     match tree.stat(path) {
-        Err(_) => Err(TreeFault::Failed),
+        Err(_) => Err(IncludeFault::Failed),
         Ok(found) => match file_size(found) {
             None => Ok(Given::Missing),
             Some(size) => {
