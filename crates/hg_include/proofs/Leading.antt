@@ -1,13 +1,16 @@
 -- What was read so far and the lines that are left, led on by one line, and where the reading stops.
-use Rattle.std.proofs.Common.{◌≡◌, ℕ, ◌+◌, ◌<◌, ◌≤◌, ◌⊎◌, inl, inr, Bool, true, false, IsTrue, List, [], ◌∷◌, ◌++◌, length, Option, Some, None, refl, sym, subst, ap, ◌∙◌, arith, append_assoc, append-nil, length-append, cond}
+use Rattle.std.proofs.Common.{◌≡◌, ℕ, ◌+◌, ◌<◌, ◌≤◌, ◌⊎◌, inl, inr, Bool, true, false, IsTrue, List, [], ◌∷◌, ◌++◌, length, Option, Some, None, refl, sym, subst, ap, ◌∙◌, arith, append_assoc, append-nil, length-append, cond, suc, drop, drop-cons, get_or}
 use Rattle.hg_tree.specs.History.{History, Passes}
+use Rattle.hg_tree.proofs.Spans.{passes_trans}
 use Rattle.hg_include.specs.declared.fault.Bad.{Bad}
 use Rattle.hg_include.specs.declared.fault.Bad.TheVariants as a_bad
 use Rattle.hg_include.specs.declared.fault.IncludeFault.{IncludeFault}
 use Rattle.hg_include.specs.declared.fault.IncludeFault.TheVariants as a_fault
 use Rattle.hg_include.specs.declared.look.Given.{Given}
 use Rattle.hg_include.specs.declared.look.Given.TheVariants as given
+use Rattle.hg_include.specs.declared.line.Line.{Line}
 use Rattle.hg_include.specs.declared.line.Says.{Says}
+use Rattle.hg_include.specs.declared.line.Says.TheVariants as says
 use Rattle.hg_include.specs.declared.name.Target.{Target}
 use Rattle.hg_include.specs.declared.opening.Opened.{Opened}
 use Rattle.hg_include.specs.declared.piece.Piece.{Piece}
@@ -15,10 +18,10 @@ use Rattle.hg_include.specs.Answer.{Read}
 use Rattle.hg_include.specs.Asking.{Agrees, Asks, EndsSo, Fails, Gives, IsNoRefusal, Stands, Stops, so_far}
 use Rattle.hg_include.specs.Line.{lines_of}
 use Rattle.hg_include.specs.Look.{Look, given_by}
-use Rattle.hg_include.specs.Name.{was_read}
+use Rattle.hg_include.specs.Name.{included, subincluded, was_read}
 use Rattle.hg_include.specs.Opening.{FailsToOpen, IsMade, Keeps, Opens}
 use Rattle.hg_include.specs.Reading.{Ask, Ended, Know, SoFar, Step, Task, looked, named, opened, opens, reading, reads_on, refused, refuses, skips, step, step_of, tasks_of, warned, warns}
-use Rattle.hg_include.specs.Steps.{IsRefused, LeadsOn, StopsAt, task_of, tasks_in}
+use Rattle.hg_include.specs.Steps.{IsRefused, LeadsOn, StopsAt, line_task, task_of, tasks_in}
 use Rattle.hg_include.proofs.Courses.{agrees_last, asks_more}
 use Rattle.hg_include.proofs.Looks.{kept_fails}
 use Rattle.hg_include.proofs.Readings.{GoesFrom, from_itself, goes_behind, goes_from, on_bad, on_full, on_missing, on_refused, on_skipped, on_there, on_warned}
@@ -222,3 +225,79 @@ pub stops_kept : (most limit : ℕ) (old new : History) (before : Read) (task : 
     → length before.pieces < limit → Passes old new → Gives most target.file old new look → StopsAt most limit old new before (task ∷ []) a_fault.OutOfMemory
 stops_kept most limit old new before task target name look e room second gives =
     stops_open most limit old new before task target name a_fault.OutOfMemory e room second (kept_fails most target.file old new look gives)
+
+pub stops_at_once : (most limit : ℕ) (now : History) (before : Read) (these : List Task) → StopsAt most limit now now before these a_fault.OutOfMemory
+stops_at_once most limit now before these = λ start rest passes stands. stops_short most limit start now before (these ++ rest) stands
+
+-- what a line says that names a file
+pub include_step : (pieces : List Piece) (file : List ℕ) (base : Option (List ℕ)) (what : Says) (name first second : List ℕ) (target : Option Target)
+    → what ≡ says.Include name → first ≡ name → second ≡ name → target ≡ included base first → step_of pieces file base what ≡ named pieces second target
+include_step pieces file base what name first second target e one two is =
+    ap (step_of pieces file base) e ∙ ap (λ v. named pieces name (included base v)) (sym one) ∙ ap (named pieces name) (sym is) ∙ ap (λ v. named pieces v target) (sym two)
+
+pub subinclude_step : (pieces : List Piece) (file at : List ℕ) (base : Option (List ℕ)) (what : Says) (name first second : List ℕ) (target : Option Target)
+    → what ≡ says.SubInclude name → first ≡ name → second ≡ name → at ≡ file → target ≡ subincluded at first → step_of pieces file base what ≡ named pieces second target
+subinclude_step pieces file at base what name first second target e one two same is =
+    ap (step_of pieces file base) e ∙ ap (λ v. named pieces name (subincluded file v)) (sym one) ∙ ap (λ v. named pieces name (subincluded v first)) (sym same)
+    ∙ ap (named pieces name) (sym is) ∙ ap (λ v. named pieces v target) (sym two)
+
+-- ---- lines one behind another
+
+pub leads_trans : (most limit : ℕ) (a b c : History) (x y z : Read) (these those its : List Task) → Passes a b → LeadsOn most limit a b x y these those → LeadsOn most limit b c y z those its
+    → LeadsOn most limit a c x z these its
+leads_trans most limit a b c x y z these those its passes first second = λ start rest before stands. second start rest (passes_trans start a b before passes) (first start rest before stands)
+
+pub leads_under : (most limit : ℕ) (a b : History) (x y : Read) (these those more : List Task) → LeadsOn most limit a b x y these those → LeadsOn most limit a b x y (these ++ more) (those ++ more)
+leads_under most limit a b x y these those more leads = λ start rest before stands.
+    subst (Stands most limit start b y) (sym (append_assoc those more rest))
+    (leads start (more ++ rest) before (subst (Stands most limit start a x) (append_assoc these more rest) stands))
+
+pub stops_under : (most limit : ℕ) (a b : History) (x : Read) (these more : List Task) (fault : IncludeFault) → StopsAt most limit a b x these fault → StopsAt most limit a b x (these ++ more) fault
+stops_under most limit a b x these more fault stops = λ start rest before stands.
+    stops start (more ++ rest) before (subst (Stands most limit start a x) (append_assoc these more rest) stands)
+
+pub stops_trans : (most limit : ℕ) (a b c : History) (x y : Read) (these those : List Task) (fault : IncludeFault) → Passes a b → LeadsOn most limit a b x y these those → StopsAt most limit b c y those fault
+    → StopsAt most limit a c x these fault
+stops_trans most limit a b c x y these those fault passes first stops = λ start rest before stands. stops start rest (passes_trans start a b before passes) (first start rest before stands)
+
+-- a line was read, and what comes in its place stands before the lines that follow
+pub leads_line : (most limit : ℕ) (a b c : History) (x y z : Read) (all : List Task) (target : Target) (lines more : List Line) (line : Line) (those : List Task) → Passes a b
+    → LeadsOn most limit a b x y all (tasks_of target lines) → lines ≡ line ∷ more → LeadsOn most limit b c y z (line_task target line ∷ []) those
+    → LeadsOn most limit a c x z all (those ++ tasks_of target more)
+leads_line most limit a b c x y z all target lines more line those passes first e second =
+    leads_trans most limit a b c x y z all (tasks_of target lines) (those ++ tasks_of target more) passes first
+    (subst (λ (v : List Line). LeadsOn most limit b c y z (tasks_of target v) (those ++ tasks_of target more)) (sym e)
+    (leads_under most limit b c y z (line_task target line ∷ []) those (tasks_of target more) second))
+
+pub stops_line : (most limit : ℕ) (a b c : History) (x y : Read) (all : List Task) (target : Target) (lines more : List Line) (line : Line) (fault : IncludeFault) → Passes a b
+    → LeadsOn most limit a b x y all (tasks_of target lines) → lines ≡ line ∷ more → StopsAt most limit b c y (line_task target line ∷ []) fault
+    → StopsAt most limit a c x all fault
+stops_line most limit a b c x y all target lines more line fault passes first e stops =
+    stops_trans most limit a b c x y all (tasks_of target lines) fault passes first
+    (subst (λ (v : List Line). StopsAt most limit b c y (tasks_of target v) fault) (sym e)
+    (stops_under most limit b c y (line_task target line ∷ []) (tasks_of target more) fault stops))
+
+-- the lines from a place on
+pub next_line : (lines all : List Line) (i : ℕ) (line : Line) → lines ≡ all → i < length lines → line ≡ get_or lines i line → drop i all ≡ line ∷ drop (i + 1) all
+next_line lines all i line same below is =
+    let here : get_or all i line ≡ line = ap (λ (v : List Line). get_or v i line) (sym same) ∙ sym is in
+    let within : i < length all = omega (arith, below, ap (λ (v : List Line). length v) same) in
+    let more : suc i ≡ i + 1 = omega arith in
+    drop-cons all i line within ∙ ap (λ v. v ∷ drop (suc i) all) here ∙ ap (λ n. line ∷ drop n all) more
+
+-- the file that a line named was read whole
+pub leads_deeper : (most limit : ℕ) (a b c d : History) (x y z w : Read) (all : List Task) (target : Target) (lines more : List Line) (line : Line) (those : List Task) → Passes a b → Passes b c
+    → LeadsOn most limit a b x y all (tasks_of target lines) → lines ≡ line ∷ more → LeadsOn most limit b c y z (line_task target line ∷ []) those → LeadsOn most limit c d z w those []
+    → LeadsOn most limit a d x w all (tasks_of target more)
+leads_deeper most limit a b c d x y z w all target lines more line those p q first e second third =
+    leads_trans most limit a c d x z w all (those ++ tasks_of target more) (tasks_of target more) (passes_trans a b c p q)
+    (leads_line most limit a b c x y z all target lines more line those p first e second)
+    (leads_under most limit c d z w those [] (tasks_of target more) third)
+
+pub stops_deeper : (most limit : ℕ) (a b c d : History) (x y z : Read) (all : List Task) (target : Target) (lines more : List Line) (line : Line) (those : List Task) (fault : IncludeFault) → Passes a b → Passes b c
+    → LeadsOn most limit a b x y all (tasks_of target lines) → lines ≡ line ∷ more → LeadsOn most limit b c y z (line_task target line ∷ []) those → StopsAt most limit c d z those fault
+    → StopsAt most limit a d x all fault
+stops_deeper most limit a b c d x y z all target lines more line those fault p q first e second stops =
+    stops_trans most limit a c d x z all (those ++ tasks_of target more) fault (passes_trans a b c p q)
+    (leads_line most limit a b c x y z all target lines more line those p first e second)
+    (stops_under most limit c d z those (tasks_of target more) fault stops)

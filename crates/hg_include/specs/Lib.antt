@@ -2,6 +2,7 @@ pub mod Answer
 pub mod Asking
 pub mod Line
 pub mod Look
+pub mod Moments
 pub mod Name
 pub mod Opening
 pub mod Reading

@@ -2,11 +2,11 @@
 
 ghost use Rattle.std.specs.Prelude.{◌≡◌, ◌<◌, ◌≤◌, ◌^◌, ◌-◌, ◌++◌, ◌∷◌, [], IfOk, IfErr, OnOk, length};
 ghost use Rattle.hg_base.specs.Fault.{HasCause};
-ghost use Rattle.hg_tree.specs.History.{Passes};
+ghost use Rattle.hg_tree.specs.History.{IsOurs, Passes, now};
 ghost use Rattle.hg_include.specs.declared.fault.IncludeFault.TheVariants as a_fault;
 ghost use Rattle.hg_include.specs.Asking.{IsRead, Stops};
-ghost use Rattle.hg_include.specs.Line as lines;
-ghost use Rattle.hg_include.specs.Reading.{named, step_of, tasks_of};
+ghost use Rattle.hg_include.specs.Moments.{AreTexts, AsksAll, IsAnswer, IsOfReading, known_at};
+ghost use Rattle.hg_include.specs.Reading.{named, reading, step_of, tasks_of};
 ghost use Rattle.hg_include.specs.Steps.{Grows, IsRefused, LeadsOn, StopsAt, line_task, task_of, tasks_in};
 ghost use Rattle.hg_include.specs.declared.line.Says.{Says};
 
@@ -19,6 +19,15 @@ use crate::warnings::Warning;
 use hg_base::{OutOfMemory, Path, PathRef, Text};
 use hg_tree::Tree;
 use std::alloc::Global;
+
+/// The file at which a reading begins, at the root.
+const FILE: &str = ".hgignore";
+
+/// The most bytes of a file.
+const MOST: usize = 1_048_576;
+
+/// The most pairs of a file and a base.
+const LIMIT: usize = 256;
 
 /// The fault of a line that names no file that may be read.
 fn refusal(alloc: Global, file: PathRef<'_>, line: u32) -> IncludeFault
@@ -192,4 +201,54 @@ fn read_lines<T: Tree>(
         }
     }
     Ok(())
+}
+
+/// Reads `.hgignore` and the files that its lines name: at most so many bytes of each, and so many pairs of a file and a base.
+fn read_within<T: Tree>(
+    alloc: Global,
+    tree: &mut T,
+    most: usize,
+    limit: usize,
+) -> Result<Pieces, IncludeFault>
+    requires { most < 2 ^ 32 - 2 }
+    ensures passes { Passes (T.history tree.old) (T.history tree.new) }
+    ensures read { IfOk result (λ pieces. IsRead most limit (T.history tree.old) (T.history tree.new) pieces) }
+    ensures stops { IfErr result (Stops most limit (T.history tree.old) (T.history tree.new)) }
+    ensures cause { HasCause (T.faults tree.old) (T.faults tree.new) result (λ e. e ≡ a_fault.Failed) }
+{
+    let mut pieces = Pieces::new(alloc);
+    let file = Path::of(alloc, PathRef { text: FILE })?;
+    let target = Target { file, base: None };
+    match enter(alloc, tree, most, &mut pieces, target) {
+        Err(fault) => Err(fault),
+        Ok(None) => Ok(pieces),
+        Ok(Some(opened)) => {
+            read_lines(alloc, tree, most, limit, &mut pieces, &opened)?;
+            Ok(pieces)
+        }
+    }
+}
+
+/// Reads the file `.hgignore` at the root of a working copy and the files that its lines name, each in the place of the line that names it, before the lines
+/// that follow. Each file is looked at by a stat, and read behind it where that shows a regular file of at most 1,048,576 bytes; links aren't followed. At most
+/// 256 pairs of a file and a base are read, `.hgignore` without a base being the first; a pair that was read before is skipped.
+pub fn read_pieces<T: Tree>(alloc: Global, tree: &mut T) -> Result<Pieces, IncludeFault>
+    ensures passes { Passes (T.history tree.old) (T.history tree.new) }
+
+    // the answer is the reading of what the tree gave when it was asked
+    ensures read { IfOk result (λ pieces. IsRead 1048576 256 (T.history tree.old) (T.history tree.new) pieces) }
+    ensures stops { IfErr result (Stops 1048576 256 (T.history tree.old) (T.history tree.new)) }
+    ensures faults { HasCause (T.faults tree.old) (T.faults tree.new) result (λ e. e ≡ a_fault.Failed) }
+
+    // where nobody else steps it is the reading at that moment
+    ensures still { IsOurs (T.history tree.old) (T.history tree.new)
+        → IsAnswer (reading 1048576 256 (known_at (now (T.history tree.old)))) result }
+    ensures asked_still { IsOurs (T.history tree.old) (T.history tree.new)
+        → AsksAll 1048576 (reading 1048576 256 (known_at (now (T.history tree.old)))) (T.history tree.old) (T.history tree.new) result }
+
+    // what holds of the answer whatever the tree gave
+    ensures texts { IfOk result (λ pieces. AreTexts 1048576 pieces.pieces) }
+    ensures kind { IfErr result (IsOfReading 1048576) }
+{
+    read_within(alloc, tree, MOST, LIMIT)
 }
