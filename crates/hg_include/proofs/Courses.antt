@@ -26,7 +26,7 @@ looks_more : (mid new : History) (from : ℕ) (xs ys : List Ask) → Passes mid 
 looks_more mid new from [] ys passes looks more = looks_lower new mid.last from ys looks more
 looks_more mid new from (x ∷ xs) ys passes (is, looks) more = (look_later mid new from x.path x.look passes is, looks_more mid new is.second xs ys passes looks more)
 
-reads_more : (most : ℕ) (xs ys : List Ask) → reads_of most (xs ++ ys) ≡ reads_of most xs ++ reads_of most ys
+pub reads_more : (most : ℕ) (xs ys : List Ask) → reads_of most (xs ++ ys) ≡ reads_of most xs ++ reads_of most ys
 reads_more most [] ys = refl
 reads_more most (x ∷ xs) ys =
     ap (λ v. reads_of_size most x.path x.look.size ++ v) (reads_more most xs ys) ∙ sym (append_assoc (reads_of_size most x.path x.look.size) (reads_of most xs) (reads_of most ys))

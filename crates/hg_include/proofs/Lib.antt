@@ -1,3 +1,4 @@
+pub mod Beginning
 pub mod Courses
 pub mod Leading
 pub mod Looks

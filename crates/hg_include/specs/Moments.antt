@@ -41,10 +41,10 @@ abbrev pub AreTexts : ℕ → List Piece → Type 0
 AreTexts most [] = Unit {0}
 AreTexts most (piece ∷ pieces) = (length piece.text ≤ most) × IsUtf8 piece.text × AreTexts most pieces
 
--- what a reading refuses: a size over what is taken, bytes that aren't text from within the size on, and a line that names no file
+-- what a reading refuses: a size over what is taken, bytes within it that aren't text, and a line that names no file
 abbrev pub IsRefusable : ℕ → Bad → Type 0
 IsRefusable most (a_bad.TooLarge size) = most < size
-IsRefusable most (a_bad.Text at) = at < most
+IsRefusable most (a_bad.Text at) = at ≤ most
 IsRefusable most (a_bad.Include line) = Unit {0}
 IsRefusable most bad = ⊥
 
