@@ -4,4 +4,6 @@ pub mod Leading
 pub mod Looks
 pub mod Naming
 pub mod Readings
+pub mod Sound
+pub mod Still
 pub mod Taken

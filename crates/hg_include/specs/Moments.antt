@@ -1,5 +1,5 @@
 -- What a call answers where nobody else changes the working copy.
-use Rattle.std.specs.Prelude.{ℕ, ◌≡◌, ◌<◌, ◌≤◌, List, [], ◌∷◌, ◌++◌, length, Option, Some, None, Result, Ok, Err}
+use Rattle.std.specs.Prelude.{ℕ, zero, suc, ◌≡◌, ◌<◌, ◌≤◌, List, [], ◌∷◌, ◌++◌, length, Option, Some, None, Result, Ok, Err}
 use Rattle.std.specs.Str.{IsUtf8}
 use Rattle.hg_tree.specs.History.{History}
 use Rattle.hg_tree.specs.Moment.{Moment}
@@ -10,9 +10,9 @@ use Rattle.hg_include.specs.declared.fault.IncludeFault.{IncludeFault}
 use Rattle.hg_include.specs.declared.fault.IncludeFault.TheVariants as a_fault
 use Rattle.hg_include.specs.declared.piece.Piece.{Piece}
 use Rattle.hg_include.specs.Answer.{Read}
-use Rattle.hg_include.specs.Asking.{reads_of}
-use Rattle.hg_include.specs.Look.{look_at}
-use Rattle.hg_include.specs.Reading.{Ended, Know}
+use Rattle.hg_include.specs.Asking.{Agrees, reads_of}
+use Rattle.hg_include.specs.Look.{Look, look_at}
+use Rattle.hg_include.specs.Reading.{Ask, Ended, Know}
 
 -- the way to know of one moment: each look shows what stands there then
 abbrev pub known_at : Moment → Know
@@ -52,3 +52,17 @@ abbrev pub IsOfReading : ℕ → IncludeFault → Type 0
 IsOfReading most a_fault.OutOfMemory = Unit {0}
 IsOfReading most a_fault.Failed = Unit {0}
 IsOfReading most (a_fault.Bad file what) = IsRefusable most what
+
+-- the look of that number, where there are so many
+abbrev pub look_of : List Ask → ℕ → Look
+look_of [] n = record { size = None; bytes = None }
+look_of (ask ∷ asks) zero = ask.look
+look_of (ask ∷ asks) (suc n) = look_of asks n
+
+-- a way to know that gives what looks gave
+abbrev pub known_by : List Ask → Know
+known_by asks n path = look_of asks n
+
+-- there is such a way for all looks, so what is said of each of them is said of one
+abbrev pub SomeWayAgrees : Type 0
+SomeWayAgrees = (asks : List Ask) → Agrees (known_by asks) 0 asks

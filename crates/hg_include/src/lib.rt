@@ -23,6 +23,7 @@
 #![tactic(auto)]
 
 mod fault;
+mod laws;
 mod line;
 mod look;
 mod name;
@@ -33,6 +34,7 @@ mod reading;
 mod warnings;
 
 pub use fault::{Bad, IncludeFault};
+pub use laws::some_way_agrees;
 pub use piece::Piece;
 pub use pieces::Pieces;
 pub use warnings::{Warning, Warnings};
