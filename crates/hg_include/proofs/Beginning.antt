@@ -1,7 +1,6 @@
 -- The first file of a reading.
-use Rattle.std.proofs.Common.{◌≡◌, ℕ, ◌+◌, ◌⊎◌, inl, inr, IsTrue, List, [], ◌∷◌, ◌++◌, length, Option, Some, None, refl, sym, subst, ap, ◌∙◌, append-nil}
+use Rattle.std.proofs.Common.{◌≡◌, ℕ, ◌⊎◌, inl, inr, List, [], ◌∷◌, ◌++◌, Option, Some, None, sym, subst, ap, ◌∙◌, append-nil}
 use Rattle.hg_tree.specs.History.{History, Passes}
-use Rattle.hg_include.specs.declared.fault.Bad.{Bad}
 use Rattle.hg_include.specs.declared.fault.IncludeFault.{IncludeFault}
 use Rattle.hg_include.specs.declared.fault.IncludeFault.TheVariants as a_fault
 use Rattle.hg_include.specs.declared.look.Given.{Given}
@@ -9,16 +8,14 @@ use Rattle.hg_include.specs.declared.look.Given.TheVariants as given
 use Rattle.hg_include.specs.declared.name.Target.{Target}
 use Rattle.hg_include.specs.declared.opening.Opened.{Opened}
 use Rattle.hg_include.specs.Answer.{Read}
-use Rattle.hg_include.specs.Asking.{Agrees, Asks, EndsSo, Fails, Gives, IsNoRefusal, IsRead, Stands, Stops, so_far}
+use Rattle.hg_include.specs.Asking.{Agrees, Fails, Gives, IsNoRefusal, IsRead, Stands, Stops, so_far}
 use Rattle.hg_include.specs.Line.{lines_of}
 use Rattle.hg_include.specs.Look.{Look, given_by, ignore_file}
-use Rattle.hg_include.specs.Opening.{FailsToOpen, IsMade, Keeps, Opens}
-use Rattle.hg_include.specs.Reading.{Ask, Ended, Know, SoFar, Task, begun, done, looked, nothing, opened, reading, reads_on, refused, start, tasks_of}
+use Rattle.hg_include.specs.Opening.{FailsToOpen, IsMade, Opens}
+use Rattle.hg_include.specs.Reading.{Ask, Ended, Know, SoFar, begun, done, looked, nothing, opened, reading, reads_on, refused, start, tasks_of}
 use Rattle.hg_include.specs.Steps.{LeadsOn, StopsAt}
-use Rattle.hg_include.proofs.Courses.{asks_none}
 use Rattle.hg_include.proofs.Leading.{ends_from}
 use Rattle.hg_include.proofs.Readings.{GoesFrom, from_itself, goes_from, on_none}
-use Rattle.hg_tree.proofs.Spans.{passes_same}
 
 abbrev empty : Read
 empty = record { pieces = []; warnings = [] }
@@ -65,7 +62,7 @@ there_stands most limit old new text gives = record {
   goes = λ know agrees.
       first_is most limit know (given.There text) (ap (given_by most) agrees.0 ∙ gives.gives)
       ∙ ap (λ (v : Look). reads_on most limit know (tasks_of start (lines_of text))
-        (so_far (record { pieces = record { file = ignore_file; base = None; text = text } ∷ []; warnings = [] }) (record { path = ignore_file; look = v } ∷ []))) agrees.0;
+      (so_far (record { pieces = record { file = ignore_file; base = None; text = text } ∷ []; warnings = [] }) (record { path = ignore_file; look = v } ∷ []))) agrees.0;
 }
 
 pub stands_first : (most limit : ℕ) (old new : History) (target : Target) (before after : Read) (o : Opened) → target ≡ start → before ≡ empty → Opens most target old new before after (Some o)
@@ -78,11 +75,11 @@ stands_first most limit old new target before after o same first opens =
     by_given (given.Refused what) gives made = absurd made
     by_given (given.There text) gives made =
         let tasks : tasks_of start (lines_of text) ≡ tasks_of o.target o.lines.items ++ [] =
-            sym (ap (λ t. tasks_of t (lines_of text)) (made.same ∙ same)) ∙ sym (ap (tasks_of o.target) made.lines) ∙ sym (append-nil (tasks_of o.target o.lines.items)) in
+        sym (ap (λ t. tasks_of t (lines_of text)) (made.same ∙ same)) ∙ sym (ap (tasks_of o.target) made.lines) ∙ sym (append-nil (tasks_of o.target o.lines.items)) in
         let is : record { pieces = record { file = ignore_file; base = None; text = text } ∷ []; warnings = [] } ≡ after =
-            sym (made.put
-            ∙ ap (λ (t : Target). record before { pieces = before.pieces ++ record { file = t.file; base = t.base; text = text } ∷ [] }) same
-            ∙ ap (λ (r : Read). record r { pieces = r.pieces ++ record { file = ignore_file; base = None; text = text } ∷ [] }) first) in
+        sym (made.put
+        ∙ ap (λ (t : Target). record before { pieces = before.pieces ++ record { file = t.file; base = t.base; text = text } ∷ [] }) same
+        ∙ ap (λ (r : Read). record r { pieces = r.pieces ++ record { file = ignore_file; base = None; text = text } ∷ [] }) first) in
         subst (Stands most limit old new after) tasks
         (subst (λ (r : Read). Stands most limit old new r (tasks_of start (lines_of text))) is (there_stands most limit old new text gives))
 
@@ -111,7 +108,7 @@ stops_first most limit old new target (a_fault.Bad file what) same (is, bad) =
       asked = gives.asked;
       ends = λ know agrees.
           let e = first_is most limit know (given.Refused what) (ap (given_by most) agrees.0 ∙ gives.gives)
-              ∙ ap (λ (v : Look). refused ignore_file what (so_far empty (record { path = ignore_file; look = v } ∷ []))) agrees.0 in
+          ∙ ap (λ (v : Look). refused ignore_file what (so_far empty (record { path = ignore_file; look = v } ∷ []))) agrees.0 in
           (ap (λ (v : Ended). v.so.asks) e, ap (λ (v : Ended). v.fault) e ∙ ap (λ (v : List ℕ). Some (record { file = v; what = what })) (sym (is ∙ ap (λ (t : Target). t.file) same)));
     }
 

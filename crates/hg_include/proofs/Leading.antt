@@ -1,5 +1,5 @@
 -- What was read so far and the lines that are left, led on by one line, and where the reading stops.
-use Rattle.std.proofs.Common.{◌≡◌, ℕ, ◌+◌, ◌<◌, ◌≤◌, ◌⊎◌, inl, inr, Bool, true, false, IsTrue, List, [], ◌∷◌, ◌++◌, length, Option, Some, None, refl, sym, subst, ap, ◌∙◌, arith, append_assoc, append-nil, length-append, cond, suc, drop, drop-cons, get_or}
+use Rattle.std.proofs.Common.{◌≡◌, ℕ, ◌+◌, ◌<◌, ◌≤◌, ◌⊎◌, inl, inr, true, false, List, [], ◌∷◌, ◌++◌, length, Option, Some, None, refl, sym, subst, ap, ◌∙◌, arith, append_assoc, append-nil, length-append, cond, suc, drop, drop-cons, get_or}
 use Rattle.hg_tree.specs.History.{History, Passes}
 use Rattle.hg_tree.proofs.Spans.{passes_trans}
 use Rattle.hg_include.specs.declared.fault.Bad.{Bad}
@@ -15,16 +15,16 @@ use Rattle.hg_include.specs.declared.name.Target.{Target}
 use Rattle.hg_include.specs.declared.opening.Opened.{Opened}
 use Rattle.hg_include.specs.declared.piece.Piece.{Piece}
 use Rattle.hg_include.specs.Answer.{Read}
-use Rattle.hg_include.specs.Asking.{Agrees, Asks, EndsSo, Fails, Gives, IsNoRefusal, Stands, Stops, so_far}
+use Rattle.hg_include.specs.Asking.{Agrees, EndsSo, Fails, Gives, IsNoRefusal, Stands, Stops, so_far}
 use Rattle.hg_include.specs.Line.{lines_of}
 use Rattle.hg_include.specs.Look.{Look, given_by}
 use Rattle.hg_include.specs.Name.{included, subincluded, was_read}
 use Rattle.hg_include.specs.Opening.{FailsToOpen, IsMade, Keeps, Opens}
-use Rattle.hg_include.specs.Reading.{Ask, Ended, Know, SoFar, Step, Task, looked, named, opened, opens, reading, reads_on, refused, refuses, skips, step, step_of, tasks_of, warned, warns}
-use Rattle.hg_include.specs.Steps.{IsRefused, LeadsOn, StopsAt, line_task, task_of, tasks_in}
+use Rattle.hg_include.specs.Reading.{Ask, Ended, Know, SoFar, Task, named, opened, opens, reading, reads_on, refused, refuses, skips, step, step_of, tasks_of, warns}
+use Rattle.hg_include.specs.Steps.{IsRefused, LeadsOn, StopsAt, line_task}
 use Rattle.hg_include.proofs.Courses.{agrees_last, asks_more}
 use Rattle.hg_include.proofs.Looks.{kept_fails}
-use Rattle.hg_include.proofs.Readings.{GoesFrom, from_itself, goes_behind, goes_from, on_bad, on_full, on_missing, on_refused, on_skipped, on_there, on_warned}
+use Rattle.hg_include.proofs.Readings.{GoesFrom, goes_behind, goes_from, on_bad, on_full, on_missing, on_refused, on_skipped, on_there, on_warned}
 
 -- ---- where the tree isn't asked
 
@@ -55,7 +55,7 @@ stops_short most limit start now before these =
 device_on : (most limit : ℕ) (start old new : History) (before after : Read) (these those : List Task) (path : List ℕ) (given : Given) → Passes start old → Passes old new
     → Gives most path old new given
     → ((know : Know) (asks : List Ask) → given_by most (know (length asks) path) ≡ given
-        → reads_on most limit know these (so_far before asks) ≡ reads_on most limit know those (so_far after (asks ++ record { path = path; look = know (length asks) path } ∷ [])))
+    → reads_on most limit know these (so_far before asks) ≡ reads_on most limit know those (so_far after (asks ++ record { path = path; look = know (length asks) path } ∷ [])))
     → Stands most limit start old before these → Stands most limit start new after those
 device_on most limit start old new before after these those path given first second gives same stands = record {
   asks = stands.asks ++ record { path = path; look = gives.look } ∷ [];
@@ -69,7 +69,7 @@ device_on most limit start old new before after these those path given first sec
 device_stop : (most limit : ℕ) (start old new : History) (before : Read) (these : List Task) (path : List ℕ) (given : Given) (fault : IncludeFault) → Passes start old → Passes old new
     → Gives most path old new given
     → ((know : Know) (asks : List Ask) → given_by most (know (length asks) path) ≡ given
-        → EndsSo fault (asks ++ record { path = path; look = know (length asks) path } ∷ []) (reads_on most limit know these (so_far before asks)))
+    → EndsSo fault (asks ++ record { path = path; look = know (length asks) path } ∷ []) (reads_on most limit know these (so_far before asks)))
     → Stands most limit start old before these → Stops most limit start new fault
 device_stop most limit start old new before these path given fault first second gives ends stands = record {
   asks = stands.asks ++ record { path = path; look = gives.look } ∷ [];
@@ -102,9 +102,11 @@ device_fails most limit start old new before these path fault first second fails
     by_one know asks (inr (look, e)) agrees =
         let P : List Ask → Type 0 = λ v. Agrees know 0 (stands.asks ++ v) in
         let both = agrees_last know stands.asks (record { path = path; look = look }) (subst P e agrees) in
-        let far = goes know stands.asks in
-        (far.0, ap (λ (v : Ended). v.so.asks) (stands.goes know both.0) ∙ far.1
-            ∙ ap (λ (v : Look). (stands.asks ++ record { path = path; look = v } ∷ []) ++ far.0) both.1 ∙ ap (λ v. (stands.asks ++ v) ++ far.0) (sym e))
+        let far = goes know stands.asks in (
+          far.0,
+          ap (λ (v : Ended). v.so.asks) (stands.goes know both.0) ∙ far.1
+              ∙ ap (λ (v : Look). (stands.asks ++ record { path = path; look = v } ∷ []) ++ far.0) both.1 ∙ ap (λ v. (stands.asks ++ v) ++ far.0) (sym e),
+        )
 
 -- ---- the lines of a reading
 
@@ -145,20 +147,20 @@ pub leads_missing : (most limit : ℕ) (old new : History) (before after : Read)
 leads_missing most limit old new before after task target name e room second gives is = λ start rest first stands.
     device_on most limit start old new before after (task ∷ rest) rest target.file given.Missing first second gives
     (λ know asks missing.
-        on_missing most limit know task rest (so_far before asks) target name e room missing
-        ∙ ap (λ (r : Read). reads_on most limit know rest (so_far r (asks ++ record { path = target.file; look = know (length asks) target.file } ∷ []))) (sym is)) stands
+    on_missing most limit know task rest (so_far before asks) target name e room missing
+    ∙ ap (λ (r : Read). reads_on most limit know rest (so_far r (asks ++ record { path = target.file; look = know (length asks) target.file } ∷ []))) (sym is)) stands
 
 pub leads_there : (most limit : ℕ) (old new : History) (before after : Read) (task : Task) (target : Target) (name text : List ℕ) (o : Opened) → step before.pieces task ≡ opens target name
     → length before.pieces < limit → Passes old new → Gives most target.file old new (given.There text) → Keeps target text before after o
     → LeadsOn most limit old new before after (task ∷ []) (tasks_of o.target o.lines.items)
 leads_there most limit old new before after task target name text o e room second gives keeps = λ start rest first stands.
     let tasks : tasks_of target (lines_of text) ≡ tasks_of o.target o.lines.items =
-        sym (ap (λ t. tasks_of t (lines_of text)) keeps.same) ∙ sym (ap (tasks_of o.target) keeps.lines) in
+    sym (ap (λ t. tasks_of t (lines_of text)) keeps.same) ∙ sym (ap (tasks_of o.target) keeps.lines) in
     device_on most limit start old new before after (task ∷ rest) (tasks_of o.target o.lines.items ++ rest) target.file (given.There text) first second gives
     (λ know asks there.
-        on_there most limit know task rest (so_far before asks) target name text e room there
-        ∙ ap (λ (r : Read). reads_on most limit know (tasks_of target (lines_of text) ++ rest) (so_far r (asks ++ record { path = target.file; look = know (length asks) target.file } ∷ []))) (sym keeps.put)
-        ∙ ap (λ v. reads_on most limit know (v ++ rest) (so_far after (asks ++ record { path = target.file; look = know (length asks) target.file } ∷ []))) tasks) stands
+    on_there most limit know task rest (so_far before asks) target name text e room there
+    ∙ ap (λ (r : Read). reads_on most limit know (tasks_of target (lines_of text) ++ rest) (so_far r (asks ++ record { path = target.file; look = know (length asks) target.file } ∷ []))) (sym keeps.put)
+    ∙ ap (λ v. reads_on most limit know (v ++ rest) (so_far after (asks ++ record { path = target.file; look = know (length asks) target.file } ∷ []))) tasks) stands
 
 -- a file that is refused, or whose look isn't answered
 pub stops_open : (most limit : ℕ) (old new : History) (before : Read) (task : Task) (target : Target) (name : List ℕ) (fault : IncludeFault) → step before.pieces task ≡ opens target name
@@ -170,8 +172,8 @@ stops_open most limit old new before task target name a_fault.Failed e room seco
 stops_open most limit old new before task target name (a_fault.Bad file what) e room second (same, gives) = λ start rest first stands.
     device_stop most limit start old new before (task ∷ rest) target.file (given.Refused what) (a_fault.Bad file what) first second gives
     (λ know asks bad.
-        let is = on_bad most limit know task rest (so_far before asks) target name what e room bad in
-        (ap (λ (v : Ended). v.so.asks) is, ap (λ (v : Ended). v.fault) is ∙ ap (λ (v : List ℕ). Some (record { file = v; what = what })) (sym same))) stands
+    let is = on_bad most limit know task rest (so_far before asks) target name what e room bad in
+    (ap (λ (v : Ended). v.so.asks) is, ap (λ (v : Ended). v.fault) is ∙ ap (λ (v : List ℕ). Some (record { file = v; what = what })) (sym same))) stands
 
 -- ---- what a name comes to
 

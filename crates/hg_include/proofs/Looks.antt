@@ -1,22 +1,20 @@
 -- Looks at files.
-use Rattle.std.proofs.Common.{◌≡◌, ◌≢◌, ℕ, ◌+◌, ◌-◌, ◌<◌, ◌≤◌, ◌⊎◌, inl, inr, Bool, true, false, IsTrue, List, [], ◌∷◌, ◌++◌, length, take, drop, Option, Some, None, Result, Ok, Err, IfOk, IfErr, refl, sym, subst, ap, ◌∙◌, arith, rules, append-nil, append_assoc, IsUtf8, nat_lt}
+use Rattle.std.proofs.Common.{◌≡◌, ℕ, ◌+◌, ◌<◌, ◌≤◌, inl, inr, Bool, true, false, IsTrue, List, [], ◌∷◌, ◌++◌, length, take, drop, Option, Some, None, Result, Ok, Err, IfOk, IfErr, refl, sym, subst, ap, ◌∙◌, arith, append-nil, IsUtf8, nat_lt}
 use Rattle.std.specs.Str.{IsValidUpTo, is_utf8}
-use Rattle.std.specs.Str.Lossy.{utf8_valid_len}
 use Rattle.std.proofs.Math.Seq.{take-length}
 use Rattle.std.proofs.lemmas.Bool.{le-ltb, lt-ltb, ltb-false}
 use Rattle.std.proofs.lemmas.List.{length-take}
-use Rattle.std.proofs.lemmas.Result.{IfErr-weaker, IfOk-weaker}
+use Rattle.std.proofs.lemmas.Result.{IfOk-weaker}
 use Rattle.std.proofs.lemmas.Str.{IsUtf8-from_is_utf8, is_utf8-from_IsUtf8, utf8_valid_len-IsValidUpTo}
-use Rattle.hg_base.specs.Reads.{ReadsBytes, ReadsPast}
+use Rattle.hg_base.specs.Reads.{ReadsBytes}
 use Rattle.hg_base.specs.declared.stat.Got.TheVariants as a_got
 use Rattle.hg_base.specs.declared.stat.Stat.{Stat}
 use Rattle.hg_tree.specs.History.{Asks as Notes, History, Passes, now}
-use Rattle.hg_tree.specs.Moment.{Moment, bytes_at, stat_at}
+use Rattle.hg_tree.specs.Moment.{bytes_at, stat_at}
 use Rattle.hg_tree.specs.declared.asked.Asked.TheVariants as an_ask
 use Rattle.hg_include.specs.declared.fault.IncludeFault.{IncludeFault}
-use Rattle.hg_include.specs.Asking.{AreLooks, Asks, Fails, Gives, GivesBytes, IsLook, MayRead, reads_of, reads_of_size}
+use Rattle.hg_include.specs.Asking.{Asks, Fails, Gives, GivesBytes, MayRead, reads_of_size}
 use Rattle.hg_include.specs.Look.{Look, file_size, given_by, given_bytes, given_size, given_text}
-use Rattle.hg_include.specs.Reading.{Ask}
 use Rattle.hg_include.specs.declared.fault.Bad.TheVariants as a_bad
 use Rattle.hg_include.specs.declared.look.Given.{Given}
 use Rattle.hg_include.specs.declared.look.Given.TheVariants as given
@@ -69,6 +67,7 @@ whole_read most n (Some text) old new room few read =
     let count : n ≡ length text = omega (arith, read.count, room, few) in
     let filled : new ≡ text ++ drop n old = read.filled ∙ ap (λ k. take k text ++ drop n old) count ∙ ap (λ v. v ++ drop n old) (take-length text) in
     ap Some (ap (take n) filled ∙ ap (λ k. take k (text ++ drop n old)) count ∙ take_front text (drop n old))
+
 pub few_read : (told : Bool) (most n : ℕ) (stood : Option (List ℕ)) (old new kept : List ℕ) (given : Given) → length old ≡ most + 1 → n ≤ most
     → (IsTrue told → ReadsBytes stood 0 old new (a_got.Bytes n)) → kept ≡ take n new → given ≡ given_text kept
     → (bytes : Option (List ℕ)) × (given_bytes most bytes ≡ given) × (IsTrue told → bytes ≡ stood)
@@ -123,11 +122,18 @@ read_asks : (most size : ℕ) (path : List ℕ) (old mid new : History) (bytes :
     → Some size ≡ file_size (stat_at (now mid) path) → size ≤ most → bytes ≡ bytes_at (now new) path → new.asked ≡ mid.asked ++ an_ask.Read path ∷ []
     → Asks most old new (record { path = path; look = record { size = Some size; bytes = bytes } } ∷ [])
 read_asks most size path old mid new bytes first second notes shown few found read = record {
-  looks = (record {
-    first = mid.last; second = new.last; begun = first.past.later; order = second.past.later; within = omega arith;
-    size = shown ∙ sym (ap (λ m. file_size (stat_at m path)) (second.past.stay mid.last (omega arith)));
-    bytes = found;
-  }, (omega arith));
+  looks = (
+    record {
+      first = mid.last;
+      second = new.last;
+      begun = first.past.later;
+      order = second.past.later;
+      within = omega arith;
+      size = shown ∙ sym (ap (λ m. file_size (stat_at m path)) (second.past.stay mid.last (omega arith)));
+      bytes = found;
+    },
+    (omega arith),
+  );
   reads =
       let one : reads_of_size most path (Some size) ≡ an_ask.Read path ∷ [] = rw (le-ltb most size few) in
       read ∙ ap (λ v. v ++ an_ask.Read path ∷ []) (quiet old mid notes) ∙ sym (ap (λ v. old.asked ++ (v ++ [])) one);

@@ -1,5 +1,5 @@
 -- Texts that are no paths.
-use Rattle.std.proofs.Common.{◌≡◌, ℕ, Bool, true, false, List, Option, Some, None, Result, Ok, Err, refl, sym, ◌∙◌}
+use Rattle.std.proofs.Common.{◌≡◌, ℕ, Bool, true, false, List, Some, None, Err, refl}
 use Rattle.hg_base.specs.PathText.{is_path, joined, parent_of}
 use Rattle.hg_base.specs.PathRefusal.{refusal, Makes}
 use Rattle.hg_base.specs.declared.path.PathFault.{PathFault}

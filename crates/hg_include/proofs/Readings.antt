@@ -1,5 +1,5 @@
 -- How a reading goes on by a line.
-use Rattle.std.proofs.Common.{◌≡◌, ℕ, zero, suc, ◌+◌, ◌-◌, ◌<◌, ◌≤◌, Bool, true, false, List, [], ◌∷◌, ◌++◌, length, Option, Some, None, refl, sym, ap, ◌∙◌, arith, append_assoc, append-nil, length-append}
+use Rattle.std.proofs.Common.{◌≡◌, ℕ, zero, suc, ◌-◌, ◌<◌, ◌≤◌, true, false, List, [], ◌∷◌, ◌++◌, length, Option, Some, None, refl, sym, ap, ◌∙◌, arith, append_assoc, append-nil, length-append}
 use Rattle.hg_include.specs.Line.{lines_of}
 use Rattle.hg_include.specs.Look.{given_by}
 use Rattle.hg_include.specs.Reading.{Ask, Ended, Know, SoFar, Step, Task, done, in_order, looked, on_given, on_open, on_step, opened, opens, reads, reads_on, refused, refuses, skips, step, tasks_of, warned, warns}
@@ -88,7 +88,7 @@ unfolding reads_on
 on_there most limit know task tasks so target name text e room gives =
     let left : limit - length so.pieces ≡ suc (limit - length so.pieces - 1) = omega arith in
     let fewer : limit - length so.pieces - 1 ≡ limit - length (so.pieces ++ record { file = target.file; base = target.base; text = text } ∷ []) =
-        omega (arith, length-append so.pieces (record { file = target.file; base = target.base; text = text } ∷ [])) in
+    omega (arith, length-append so.pieces (record { file = target.file; base = target.base; text = text } ∷ [])) in
     ap (λ n. reads most n know (task ∷ tasks) so) left
     ∙ on_look most (limit - length so.pieces - 1) know task tasks so target name (given.There text) e gives
     ∙ ap (λ n. reads most n know (tasks_of target (lines_of text) ++ tasks) (opened target text (looked know target.file so))) fewer
@@ -150,5 +150,5 @@ goes_behind most limit know task tasks so target name e room =
     let left : limit - length so.pieces ≡ suc n = omega arith in
     let is = ap (λ n. reads most n know (task ∷ tasks) so) left ∙ on_look most n know task tasks so target name (given_by most (know (length so.asks) target.file)) e refl in
     let goes = given_goes (reads most n know) (λ tasks so. reads_goes most n know tasks so) (λ so. reads most (suc n) know tasks so) (λ so. reads_goes most (suc n) know tasks so)
-        tasks task target name (looked know target.file so) (given_by most (know (length so.asks) target.file)) in
+    tasks task target name (looked know target.file so) (given_by most (know (length so.asks) target.file)) in
     (goes.0, ap (λ v. v.so.asks) is ∙ goes.1)

@@ -1,5 +1,5 @@
 -- Where nobody else steps, each look is of one moment.
-use Rattle.std.proofs.Common.{◌≡◌, ℕ, ◌+◌, ◌≤◌, List, [], ◌∷◌, ◌++◌, Option, None, Result, Ok, Err, IfOk, IfErr, refl, sym, ap, ◌∙◌, arith}
+use Rattle.std.proofs.Common.{◌≡◌, ℕ, ◌+◌, ◌≤◌, List, [], ◌∷◌, ◌++◌, Option, Result, Ok, Err, IfOk, IfErr, sym, ap, ◌∙◌, arith}
 use Rattle.hg_tree.specs.History.{History, IsOurs, Passes, now}
 use Rattle.hg_tree.specs.Moment.{Moment, bytes_at, stat_at}
 use Rattle.hg_tree.proofs.Spans.{ours_unstepped}

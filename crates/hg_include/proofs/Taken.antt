@@ -1,5 +1,5 @@
 -- The lines of a text, taken one after another.
-use Rattle.std.proofs.Common.{◌≡◌, ℕ, ◌+◌, false, List, [], ◌∷◌, ◌++◌, refl, sym, ap, ◌∙◌, append_assoc, append-nil}
+use Rattle.std.proofs.Common.{◌≡◌, ℕ, ◌+◌, false, List, ◌∷◌, ◌++◌, sym, ap, ◌∙◌, append_assoc, append-nil}
 use Rattle.hg_syntax.specs.Text.{has, pieces}
 use Rattle.hg_syntax.proofs.Texts.{cut_pieces, plain_pieces}
 use Rattle.hg_include.specs.Line.{line_says, lines_from, numbered}

@@ -6,7 +6,6 @@ use Rattle.hg_base.specs.declared.stat.Stat.{Stat}
 use Rattle.hg_base.specs.declared.stat.Kind.{Kind}
 use Rattle.hg_base.specs.declared.stat.Kind.TheVariants as a_kind
 use Rattle.hg_tree.specs.Moment.{Moment, bytes_at, stat_at}
-use Rattle.hg_include.specs.declared.fault.Bad.{Bad}
 use Rattle.hg_include.specs.declared.fault.Bad.TheVariants as a_bad
 use Rattle.hg_include.specs.declared.look.Given.{Given}
 use Rattle.hg_include.specs.declared.look.Given.TheVariants as given

@@ -1,7 +1,6 @@
 -- What a part of a reading comes to: it leads on from what was read so far and the lines that are left, or it stops there.
-use Rattle.std.specs.Prelude.{ℕ, ◌≡◌, ◌+◌, ◌<◌, ◌≤◌, List, [], ◌∷◌, ◌++◌, length, Option, Some, None}
+use Rattle.std.specs.Prelude.{ℕ, ◌≡◌, ◌+◌, ◌<◌, List, [], ◌++◌, length, Option, Some, None}
 use Rattle.hg_tree.specs.History.{History, Passes}
-use Rattle.hg_include.specs.declared.fault.Bad.{Bad}
 use Rattle.hg_include.specs.declared.fault.Bad.TheVariants as a_bad
 use Rattle.hg_include.specs.declared.fault.IncludeFault.{IncludeFault}
 use Rattle.hg_include.specs.declared.fault.IncludeFault.TheVariants as a_fault

@@ -37,4 +37,5 @@ pub use fault::{Bad, IncludeFault};
 pub use laws::some_way_agrees;
 pub use piece::Piece;
 pub use pieces::Pieces;
+pub use reading::read_pieces;
 pub use warnings::{Warning, Warnings};

@@ -68,7 +68,12 @@ fn line_says(alloc: Global, line: &str) -> Result<Option<Says>, OutOfMemory>
 }
 
 /// Puts what a line says.
-fn take_line(alloc: Global, taken: &mut Vec<Line>, number: u32, line: &str) -> Result<(), OutOfMemory>
+fn take_line(
+    alloc: Global,
+    taken: &mut Vec<Line>,
+    number: u32,
+    line: &str,
+) -> Result<(), OutOfMemory>
     ensures { OnOk result (taken.new.items ≡ taken.old.items ++ numbered number (line_says line.now)) }
 {
     match line_says(alloc, line)? {

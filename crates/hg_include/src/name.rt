@@ -28,7 +28,11 @@ pub fn copied(alloc: Global, path: &Option<Path>) -> Result<Option<Path>, OutOfM
 }
 
 /// What an `include:` names.
-pub fn included(alloc: Global, base: &Option<Path>, name: &str) -> Result<Option<Target>, OutOfMemory>
+pub fn included(
+    alloc: Global,
+    base: &Option<Path>,
+    name: &str,
+) -> Result<Option<Target>, OutOfMemory>
     ensures { IfOk result (λ target. target ≡ names.included base.now name.now) }
 {
     match PathRef::read(name) {
@@ -53,7 +57,11 @@ fn based(alloc: Global, file: Path) -> Result<Target, OutOfMemory>
 }
 
 /// What a `subinclude:` names.
-pub fn subincluded(alloc: Global, file: PathRef<'_>, name: &str) -> Result<Option<Target>, OutOfMemory>
+pub fn subincluded(
+    alloc: Global,
+    file: PathRef<'_>,
+    name: &str,
+) -> Result<Option<Target>, OutOfMemory>
     ensures { IfOk result (λ target. target ≡ names.subincluded file.entry.text.now name.now) }
 {
     match PathRef::read(name) {

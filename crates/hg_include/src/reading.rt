@@ -82,13 +82,13 @@ fn take_named<T: Tree>(
     ensures goes { IfOk
         result
         (λ opened. (says : Says)
-            → step_of pieces.old.pieces holder.now.file holder.now.base says ≡ named pieces.old.pieces name.now target
-            → LeadsOn most limit (T.history tree.old) (T.history tree.new) pieces.old pieces.new (task_of holder.now line says ∷ []) (tasks_in opened)) }
+        → step_of pieces.old.pieces holder.now.file holder.now.base says ≡ named pieces.old.pieces name.now target
+        → LeadsOn most limit (T.history tree.old) (T.history tree.new) pieces.old pieces.new (task_of holder.now line says ∷ []) (tasks_in opened)) }
     ensures stops { IfErr
         result
         (λ fault. (says : Says)
-            → step_of pieces.old.pieces holder.now.file holder.now.base says ≡ named pieces.old.pieces name.now target
-            → StopsAt most limit (T.history tree.old) (T.history tree.new) pieces.old (task_of holder.now line says ∷ []) fault) }
+        → step_of pieces.old.pieces holder.now.file holder.now.base says ≡ named pieces.old.pieces name.now target
+        → StopsAt most limit (T.history tree.old) (T.history tree.new) pieces.old (task_of holder.now line says ∷ []) fault) }
     ensures grows { IfOk result (Grows limit pieces.old pieces.new) }
     ensures cause { HasCause (T.faults tree.old) (T.faults tree.new) result (λ e. e ≡ a_fault.Failed) }
 {

@@ -1,4 +1,4 @@
-use Rattle.std.proofs.Common.{◌≡◌, arith, rules, IsUtf8}
+use Rattle.std.proofs.Common.{arith, rules, IsUtf8}
 use Rattle.hg_syntax.proofs.Texts.{cut_length}
 use Rattle.hg_include.specs.Line.{lines_of}
 use Rattle.hg_include.proofs.Taken.{taken_last, taken_more}

@@ -1,5 +1,4 @@
 use Rattle.std.proofs.Common.{◌≡◌, sym, ap, ◌∙◌, rules, IsUtf8}
-use Rattle.std.specs.Str.{IsValidUpTo}
 use Rattle.hg_include.specs.declared.fault.Bad.TheVariants as a_bad
 use Rattle.hg_include.specs.declared.look.Given.TheVariants as given
 use Rattle.hg_include.proofs.Looks.{text_given, refused_given}

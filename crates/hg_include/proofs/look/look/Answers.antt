@@ -1,4 +1,3 @@
-use Rattle.std.proofs.Common.{◌∙◌}
 use Rattle.hg_include.proofs.Looks.{all_fail, all_given, large_given, none_given}
 use Rattle.hg_tree.proofs.Spans.{passes_trans}
 use Rattle.hg_include.proofs.look.look.Goals as goal

@@ -1,9 +1,7 @@
-use Rattle.std.proofs.Common.{◌≡◌, ◌+◌, ◌≤◌, arith, rules, IsTrue, length, take, drop, sym, ap, ◌∙◌}
+use Rattle.std.proofs.Common.{◌≡◌, ◌+◌, arith, rules, IsTrue, length, take, drop, ◌∙◌}
 use Rattle.hg_tree.specs.History.{now}
 use Rattle.hg_tree.specs.Moment.{bytes_at}
-use Rattle.hg_base.specs.Reads.{ReadsBytes}
-use Rattle.hg_base.specs.declared.stat.Got.{Got}
-use Rattle.hg_include.proofs.Looks.{absent_read, few_read, front_kept, note_sure, over_read}
+use Rattle.hg_include.proofs.Looks.{few_read, front_kept, note_sure, over_read}
 use Rattle.hg_include.proofs.look.read_file.Goals as goal
 
 pub returns-then-n-most-clause-gives : goal.returns-then-n-most-clause-gives

@@ -1,4 +1,4 @@
-use Rattle.std.proofs.Common.{◌≡◌, false, ap, sym, ◌∙◌, ◌&&◌, List, ℕ, Option, option_map, true, Bool, rules, refl, subst}
+use Rattle.std.proofs.Common.{◌≡◌, false, ap, sym, ◌∙◌, option_map}
 use Rattle.hg_base.specs.PathText.{is_path, joined, parent_of}
 use Rattle.hg_include.proofs.Naming.{no_path, no_path_made, no_target}
 use Rattle.hg_include.proofs.name.subincluded.Goals as goal

@@ -1,7 +1,6 @@
-use Rattle.std.proofs.Common.{◌≡◌, arith, length, ◌≤◌, sym, ap, ◌∙◌, List, ℕ, subst}
+use Rattle.std.proofs.Common.{arith, ◌∙◌, List, ℕ, subst}
 use Rattle.std.proofs.lemmas.Result.{err_from_is_err_and}
-use Rattle.hg_include.specs.Asking.{Fails, Gives}
-use Rattle.hg_include.specs.declared.look.Given.{Given}
+use Rattle.hg_include.specs.Asking.{Gives}
 use Rattle.hg_include.proofs.Looks.{kept_fails, small}
 use Rattle.hg_include.proofs.opening.enter.Goals as goal
 

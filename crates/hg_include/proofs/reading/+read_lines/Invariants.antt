@@ -1,4 +1,4 @@
-use Rattle.std.proofs.Common.{◌≡◌, ◌-◌, ◌≤◌, [], drop, length}
+use Rattle.std.proofs.Common.{◌≡◌, ◌-◌, ◌≤◌, drop, length}
 use Rattle.hg_tree.specs.History.{Passes}
 use Rattle.hg_include.specs.Reading.{tasks_of}
 use Rattle.hg_include.specs.Steps.{LeadsOn}

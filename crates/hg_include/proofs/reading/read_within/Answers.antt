@@ -1,7 +1,6 @@
 use Rattle.std.proofs.Common.{◌≡◌, None, List, ℕ, ap}
 use Rattle.std.proofs.lemmas.Result.{err_from_is_err_and}
 use Rattle.hg_include.specs.Reading.{start}
-use Rattle.hg_include.specs.declared.name.Target.{Target}
 use Rattle.hg_include.proofs.Beginning.{read_all, read_none, stops_all, stops_first}
 use Rattle.hg_include.proofs.reading.read_within.Goals as goal
 

@@ -1,7 +1,7 @@
-use Rattle.std.proofs.Common.{◌≡◌, ◌++◌, ◌∷◌, [], Option, List, ℕ, true, false, sym, ap, ◌∙◌}
+use Rattle.std.proofs.Common.{◌++◌, ◌∷◌, [], List, ℕ, false, ap, ◌∙◌}
 use Rattle.std.proofs.lemmas.Result.{IfErr-weaker, IfOk-weaker, err_from_is_err_and}
 use Rattle.hg_include.specs.Reading.{step_of}
-use Rattle.hg_include.specs.Steps.{LeadsOn, StopsAt, line_task, tasks_in}
+use Rattle.hg_include.specs.Steps.{line_task}
 use Rattle.hg_include.proofs.Leading.{include_step, on_unknown, stops_at_once, subinclude_step}
 use Rattle.hg_include.proofs.reading.take.Goals as goal
 
@@ -31,17 +31,17 @@ returns-in_ok-warn-in-Unknown-clause-goes g c =
 pub returns-in_ok-target-in-Include-clause-stops : goal.returns-in_ok-target-in-Include-clause-stops
 returns-in_ok-target-in-Include-clause-stops g c =
     let e = include_step c.args.pieces.now.pieces c.args.holder.now.file c.args.holder.now.base c.args.line.now.says c.in-Include.name c.as_str-in-Include.result.now c.as_str-in-Include-2.result.now c.in_ok-target-in-Include.target
-        c.in-Include.is c.as_str-in-Include.ensures c.as_str-in-Include-2.ensures c.in_ok-target-in-Include.ensures in
+    c.in-Include.is c.as_str-in-Include.ensures c.as_str-in-Include-2.ensures c.in_ok-target-in-Include.ensures in
     IfErr-weaker c.take_named.result _ _ (λ fault h. h c.args.line.now.says e) c.take_named.ensures.stops
 
 pub returns-in_ok-target-in-SubInclude-clause-goes : goal.returns-in_ok-target-in-SubInclude-clause-goes
 returns-in_ok-target-in-SubInclude-clause-goes g c =
     let e = subinclude_step c.args.pieces.now.pieces c.args.holder.now.file c.as_ref-in-SubInclude.result.text.now c.args.holder.now.base c.args.line.now.says c.in-SubInclude.name c.as_str-in-SubInclude.result.now c.as_str-in-SubInclude-2.result.now c.in_ok-target-in-SubInclude.target
-        c.in-SubInclude.is c.as_str-in-SubInclude.ensures c.as_str-in-SubInclude-2.ensures c.as_ref-in-SubInclude.ensures c.in_ok-target-in-SubInclude.ensures in
+    c.in-SubInclude.is c.as_str-in-SubInclude.ensures c.as_str-in-SubInclude-2.ensures c.as_ref-in-SubInclude.ensures c.in_ok-target-in-SubInclude.ensures in
     IfOk-weaker c.take_named-in-SubInclude.result _ _ (λ opened h. h c.args.line.now.says e) c.take_named-in-SubInclude.ensures.goes
 
 pub returns-in_ok-target-in-SubInclude-clause-stops : goal.returns-in_ok-target-in-SubInclude-clause-stops
 returns-in_ok-target-in-SubInclude-clause-stops g c =
     let e = subinclude_step c.args.pieces.now.pieces c.args.holder.now.file c.as_ref-in-SubInclude.result.text.now c.args.holder.now.base c.args.line.now.says c.in-SubInclude.name c.as_str-in-SubInclude.result.now c.as_str-in-SubInclude-2.result.now c.in_ok-target-in-SubInclude.target
-        c.in-SubInclude.is c.as_str-in-SubInclude.ensures c.as_str-in-SubInclude-2.ensures c.as_ref-in-SubInclude.ensures c.in_ok-target-in-SubInclude.ensures in
+    c.in-SubInclude.is c.as_str-in-SubInclude.ensures c.as_str-in-SubInclude-2.ensures c.as_ref-in-SubInclude.ensures c.in_ok-target-in-SubInclude.ensures in
     IfErr-weaker c.take_named-in-SubInclude.result _ _ (λ fault h. h c.args.line.now.says e) c.take_named-in-SubInclude.ensures.stops

@@ -1,11 +1,9 @@
-use Rattle.std.proofs.Common.{◌≡◌, ◌≤◌, ◌<◌, ◌++◌, ◌∷◌, [], Option, Some, None, List, ℕ, true, false, length, arith, sym, ap, subst, ◌∙◌}
+use Rattle.std.proofs.Common.{◌≡◌, ◌≤◌, ◌<◌, ◌++◌, ◌∷◌, [], List, ℕ, true, false, length, arith, sym, ap, subst, ◌∙◌}
 use Rattle.std.proofs.lemmas.Result.{err_from_is_err_and}
 use Rattle.hg_include.specs.declared.line.Says.{Says}
 use Rattle.hg_include.specs.Name.{was_read}
-use Rattle.hg_include.specs.Opening.{Opens}
 use Rattle.hg_include.specs.Steps.{IsRefused, task_of}
-use Rattle.hg_include.specs.declared.opening.Opened.{Opened}
-use Rattle.hg_include.proofs.Leading.{leads_none, leads_some, more_kept, named_new, named_none, named_read, on_read_before, stops_full, stops_kept, stops_open, stops_refused}
+use Rattle.hg_include.proofs.Leading.{leads_none, leads_some, named_new, named_none, named_read, on_read_before, stops_full, stops_kept, stops_open, stops_refused}
 use Rattle.hg_include.proofs.reading.take_named.Goals as goal
 
 pub returns-in_default-clause-stops : goal.returns-in_default-clause-stops
