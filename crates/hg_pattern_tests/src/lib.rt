@@ -1,4 +1,4 @@
-//! Tests of globs and of ignore texts by their public calls, as far as no answer of the program shows it: texts that are no paths, where in a text its fault
+//! Tests of globs, of ignore texts and of files that name others by their public calls, as far as no answer of the program shows it: texts that are no paths, where in a text its fault
 //! is, hashes, and what matches by itself.
 //!
 //! This crate has tests alone: each of those crates is proved once where its tests stand here. What is tested is what no clause says: that memory is found,
@@ -9,3 +9,5 @@
 mod globs;
 #[cfg(test)]
 mod ignores;
+#[cfg(test)]
+mod includes;

@@ -1,0 +1,9 @@
+pub mod Beginning
+pub mod Courses
+pub mod Leading
+pub mod Looks
+pub mod Naming
+pub mod Readings
+pub mod Sound
+pub mod Still
+pub mod Taken
