@@ -1,0 +1,1 @@
+//! The entries of the file, in their order.

@@ -1,0 +1,10 @@
+//! A dirstate of the first version, read.
+#![tactic(auto)]
+
+mod fault;
+mod format;
+mod item;
+mod items;
+
+pub use fault::VoneFault;
+pub use format::is_vone;
