@@ -1,3 +1,4 @@
 pub mod Format
 pub mod Items
 pub mod View
+pub mod Refusing
