@@ -1,5 +1,5 @@
 -- The reading of the entries, as far as it has come.
-use Rattle.std.proofs.Common.{ℕ, zero, suc, ◌≡◌, ◌+◌, ◌-◌, ◌<◌, ◌≤◌, ◌||◌, Bool, true, false, cond, eqb, List, [], ◌∷◌, ◌++◌, length, take, drop, map, Option, Some, None, Result, Ok, Err, refl, sym, ap, ◌∙◌, subst, arith, leb}
+use Rattle.std.proofs.Common.{ℕ, zero, suc, ◌≡◌, ◌+◌, ◌-◌, ◌<◌, ◌≤◌, ◌||◌, Bool, true, false, cond, eqb, List, [], ◌∷◌, ◌++◌, length, take, drop, map, Option, Some, None, Result, Ok, Err, refl, sym, ap, ◌∙◌, subst, arith, not, true≢false}
 use Rattle.std.specs.List.{list_any}
 use Rattle.std.specs.Str.{bytes_eq}
 use Rattle.std.proofs.lemmas.Bool.{cond-true, cond-false}
@@ -30,43 +30,99 @@ refuses read (a_fault.V1Twice at) h = h
 refuses read (a_fault.V1TooLarge size) h = h
 
 -- nothing is left
-pub ends : (bytes : List ℕ) (at : ℕ) (items : List Item) → SoFar bytes at items → length bytes ≤ at → items_in bytes ≡ Ok items
-ends bytes at items so past = sym so.same ∙ done so.most
-  where
-    none : length (drop at bytes) ≡ 0
-    none = let n = length-drop at bytes in omega (arith, n)
-    done : (most : ℕ) → items_from most at items (drop at bytes) ≡ Ok items
-    unfolding items_from
-    done zero = refl
-    done (suc most) = rw none refl
-
--- one more is looked at
-step : (bytes : List ℕ) (at : ℕ) (items : List Item) (most : ℕ) → at < length bytes
-    → items_from (suc most) at items (drop at bytes)
-    ≡ unless (entry_fault at items (drop at bytes)) (items_from most (at + size_in (drop at bytes)) (items ++ item_in (drop at bytes) ∷ []) (drop (size_in (drop at bytes)) (drop at bytes)))
+done : (at : ℕ) (items : List Item) (rest : List ℕ) → length rest ≡ 0 → (most : ℕ) → items_from most at items rest ≡ Ok items
 unfolding items_from
-step bytes at items most inside =
+done at items rest none zero = refl
+done at items rest none (suc most) = rw none refl
+
+pub ends : (bytes : List ℕ) (at : ℕ) (items : List Item) → SoFar bytes at items → length bytes ≤ at → items_in bytes ≡ Ok items
+ends bytes at items so past =
     let n = length-drop at bytes in
-    let some : eqb (length (drop at bytes)) 0 ≡ false = grind arith in
-    cond-false (eqb (length (drop at bytes)) 0) _ _ some
+    let none : length (drop at bytes) ≡ 0 = omega (arith, n) in
+    sym so.same ∙ done at items (drop at bytes) none so.most
 
+-- an entry is looked at
+step : (at : ℕ) (items : List Item) (rest : List ℕ) (most : ℕ) → 0 < length rest
+    → items_from (suc most) at items rest
+    ≡ unless (entry_fault at items rest) (items_from most (at + size_in rest) (items ++ item_in rest ∷ []) (drop (size_in rest) rest))
+unfolding items_from
+step at items rest most inside =
+    let some : eqb (length rest) 0 ≡ false = grind arith in
+    cond-false (eqb (length rest) 0) _ _ some
+
+fails_at : (bytes : List ℕ) (at : ℕ) (items : List Item) (fault : VoneFault) (most : ℕ) → length bytes - at ≤ most → at < length bytes → entry_fault at items (drop at bytes) ≡ Some fault → items_from most at items (drop at bytes) ≡ Err fault
+fails_at bytes at items fault zero e inside h = absurd (omega arith)
+fails_at bytes at items fault (suc most) e inside h =
+    let n = length-drop at bytes in
+    step at items (drop at bytes) most (omega (arith, n)) ∙ ap (λ (o : Option VoneFault). unless o (items_from most (at + size_in (drop at bytes)) (items ++ item_in (drop at bytes) ∷ []) (drop (size_in (drop at bytes)) (drop at bytes)))) h
+
+-- an entry has a fault
 pub fails : (bytes : List ℕ) (at : ℕ) (items : List Item) (fault : VoneFault) → SoFar bytes at items → at < length bytes → entry_fault at items (drop at bytes) ≡ Some fault → Refuses (items_in bytes) fault
-fails bytes at items fault so inside h = refuses (items_in bytes) fault (sym so.same ∙ go so.most so.enough)
-  where
-    go : (most : ℕ) → length bytes - at ≤ most → items_from most at items (drop at bytes) ≡ Err fault
-    go zero e = omega arith
-    go (suc most) e = step bytes at items most inside ∙ ap (λ (o : Option VoneFault). unless o _) h
+fails bytes at items fault so inside h = refuses (items_in bytes) fault (sym so.same ∙ fails_at bytes at items fault so.most so.enough inside h)
 
-pub goes : (bytes : List ℕ) (at : ℕ) (items : List Item) → SoFar bytes at items → at < length bytes → entry_fault at items (drop at bytes) ≡ None → size_in (drop at bytes) ≤ length (drop at bytes)
-    → SoFar bytes (at + size_in (drop at bytes)) (items ++ item_in (drop at bytes) ∷ [])
-goes bytes at items so inside h room = go so.most so.enough so.same
-  where
-    go : (most : ℕ) → length bytes - at ≤ most → items_from most at items (drop at bytes) ≡ items_in bytes → SoFar bytes (at + size_in (drop at bytes)) (items ++ item_in (drop at bytes) ∷ [])
-    go zero e same = omega arith
-    go (suc most) e same =
-        let n = length-drop at bytes in record {
-          most = most;
-          enough = omega arith;
-          within = omega arith;
-          same = ?;
-        }
+-- one has none
+goes_at : (bytes : List ℕ) (at size : ℕ) (items : List Item) (item : Item) (most : ℕ) → length bytes - at ≤ most → items_from most at items (drop at bytes) ≡ items_in bytes → at < length bytes → entry_fault at items (drop at bytes) ≡ None
+    → size ≡ size_in (drop at bytes) → item ≡ item_in (drop at bytes) → size ≤ length (drop at bytes) → SoFar bytes (at + size) (items ++ item ∷ [])
+goes_at bytes at size items item zero e same inside h s i room = absurd (omega arith)
+goes_at bytes at size items item (suc most) e same inside h s i room =
+    let n = length-drop at bytes in record {
+      most = most;
+      enough = omega (arith, n, s);
+      within = omega (arith, n);
+      same =
+          rw (s, i, ← drop-drop (size_in (drop at bytes)) at bytes)
+          (sym (step at items (drop at bytes) most (omega (arith, n))
+          ∙ ap (λ (o : Option VoneFault). unless o (items_from most (at + size_in (drop at bytes)) (items ++ item_in (drop at bytes) ∷ []) (drop (size_in (drop at bytes)) (drop at bytes)))) h) ∙ same);
+    }
+
+pub goes : (bytes : List ℕ) (at size : ℕ) (items : List Item) (item : Item) → SoFar bytes at items → at < length bytes → entry_fault at items (drop at bytes) ≡ None → size ≡ size_in (drop at bytes) → item ≡ item_in (drop at bytes)
+    → size ≤ length (drop at bytes) → SoFar bytes (at + size) (items ++ item ∷ [])
+goes bytes at size items item so inside h s i room = goes_at bytes at size items item so.most so.enough so.same inside h s i room
+
+-- ---- what is wrong with an entry
+
+pub own_wrong : (at : ℕ) (items : List Item) (rest : List ℕ) (fault : VoneFault) → Some fault ≡ own_fault at rest → entry_fault at items rest ≡ Some fault
+unfolding entry_fault
+own_wrong at items rest fault h = ap (λ (o : Option VoneFault). or_twice o (has_path items (path_in rest)) at) (sym h)
+
+pub twice : (at : ℕ) (items : List Item) (rest : List ℕ) (item : Item) → None ≡ own_fault at rest → item ≡ item_in rest → has_path items item.path ≡ true → entry_fault at items rest ≡ Some (a_fault.V1Twice at)
+unfolding entry_fault item_in
+twice at items rest item h i has =
+    ap (λ (o : Option VoneFault). or_twice o (has_path items (path_in rest)) at) (sym h)
+    ∙ cond-true (has_path items (path_in rest)) (Some (a_fault.V1Twice at)) None (ap (λ (j : Item). has_path items j.path) (sym i) ∙ has)
+
+pub fine : (at : ℕ) (items : List Item) (rest : List ℕ) (item : Item) → None ≡ own_fault at rest → item ≡ item_in rest → has_path items item.path ≡ false → entry_fault at items rest ≡ None
+unfolding entry_fault item_in
+fine at items rest item h i has =
+    ap (λ (o : Option VoneFault). or_twice o (has_path items (path_in rest)) at) (sym h)
+    ∙ cond-false (has_path items (path_in rest)) (Some (a_fault.V1Twice at)) None (ap (λ (j : Item). has_path items j.path) (sym i) ∙ has)
+
+-- ---- the paths so far
+
+pub or_cond : (a b : Bool) → cond a true b ≡ (a || b)
+or_cond true b = refl
+or_cond false b = refl
+
+or_false : (a : Bool) → (a || false) ≡ a
+or_false true = refl
+or_false false = refl
+
+or_swap : (a b : Bool) → (a || b) ≡ (b || a)
+or_swap true true = refl
+or_swap true false = refl
+or_swap false true = refl
+or_swap false false = refl
+
+pub one_more : (items : List Item) (item : Item) (q : List ℕ) → (bytes_eq item.path q || has_path items q) ≡ has_path (items ++ item ∷ []) q
+one_more items item q =
+    or_swap (bytes_eq item.path q) (has_path items q)
+    ∙ ap (λ (b : Bool). has_path items q || b) (sym (or_false (bytes_eq item.path q)))
+    ∙ sym (list_any-append (λ i. bytes_eq i.path q) items (item ∷ []))
+
+pub was_there : (new there : Bool) → new ≡ not there → new ≡ false → there ≡ true
+was_there new true is h = refl
+was_there new false is h = absurd (true≢false (sym is ∙ h))
+
+pub was_new : (new there : Bool) → new ≡ not there → new ≡ true → there ≡ false
+was_new new true is h = absurd (true≢false (sym h ∙ is))
+was_new new false is h = refl
