@@ -2,3 +2,5 @@ pub mod Format
 pub mod Items
 pub mod View
 pub mod Refusing
+pub mod Table
+pub mod Agreeing

@@ -3,7 +3,8 @@
 ghost use Rattle.std.specs.Prelude.{◌≡◌, ◌≤◌, ◌||◌, ℕ, List, map, length, drop, not, IfOk, IfErr, OnOk, Ok};
 ghost use Rattle.std.specs.BTreeSet.{contains_text};
 ghost use Rattle.std.specs.Str.{bytes_eq};
-ghost use Rattle.hg_vone.specs.Items.{has_path, items_in};
+ghost use Rattle.hg_vone.specs.Agreeing.{AreThePaths};
+ghost use Rattle.hg_vone.specs.Items.{items_in};
 ghost use Rattle.hg_vone.specs.Refusing.{Refuses};
 ghost use Rattle.hg_vone.specs.View.{item};
 
@@ -37,7 +38,7 @@ pub(crate) fn read_items(alloc: Global, bytes: &[u8]) -> Result<Items<'_>, VoneF
     requires most { length bytes.now ≤ 67108864 }
     ensures fault { IfErr result (Refuses (items_in bytes.now)) }
     ensures items { IfOk result (λ i. items_in bytes.now ≡ Ok (map item i.items.items)) }
-    ensures paths { IfOk result (λ i. (q : List ℕ) → contains_text i.paths q ≡ has_path (map item i.items.items) q) }
+    ensures paths { IfOk result (λ i. AreThePaths (contains_text i.paths) (map item i.items.items)) }
 {
     let mut items = Vec::new(alloc);
     let mut paths = BTreeSet::new(alloc);

@@ -1,6 +1,7 @@
 //! A dirstate of the first version, read.
 #![tactic(auto)]
 
+mod agreeing;
 mod fault;
 mod format;
 mod item;
