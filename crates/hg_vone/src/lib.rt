@@ -6,6 +6,7 @@ mod fault;
 mod format;
 mod item;
 mod items;
+mod layout;
 
 pub use fault::VoneFault;
 pub use format::is_vone;
