@@ -23,7 +23,7 @@ use Rattle.hg_image.specs.View.{dir_of, rows_in}
 use Rattle.hg_image.specs.declared.opened.List.{List as NodeList}
 use Rattle.hg_image.proofs.Found.{row_each, row_path, row_rooted}
 use Rattle.hg_image.proofs.Sourced.{IsSourcedByEntry, list_sourced}
-use Rattle.hg_vone.specs.Agreeing.{Agrees, HasNode, flags_of, is_right}
+use Rattle.hg_vone.specs.Agreeing.{Agrees, AreThePaths, HasNode, Tells, flags_of, is_right}
 use Rattle.hg_vone.specs.Format.{marks}
 use Rattle.hg_vone.specs.Items.{Item, Reading, has_path}
 use Rattle.hg_vone.specs.Table.{IsSame, entry, is_node, item_at, table}
@@ -250,3 +250,18 @@ module _ (list : NodeList) (root : dir_of list ≡ None) (docket : Contents) (it
     nodes = λ at. nodes_same at ∙ ap (λ (all : List Item). is_node all at) (sym is);
     caches = λ at. no_cache_at at (row_at (rows_in list) at) refl;
   }
+
+-- what is seen of the nodes and of the entries tells the table
+pub tells : (list : NodeList) (rows : List Row) (docket : Contents) (items : List Item) (has : List ℕ → Bool) → dir_of list ≡ None → rows_in list ≡ rows → AreThePaths has items → list_all (is_right has) (rows_in list) ≡ true
+    → AllByRecursion (HasNode (rows_in list)) items → is_counted docket rows ≡ true → Tells docket rows items
+tells list rows docket items has root is paths right nodes counted =
+    let same : has ≡ has_path items = λ k q. paths q k in
+    let agrees : Agrees docket (rows_in list) items =
+    record {
+      right = ap (λ (test : List ℕ → Bool). list_all (is_right test) (rows_in list)) (sym same) ∙ right;
+      nodes = nodes;
+      counted = ap (is_counted docket) is ∙ counted;
+    } in record {
+      counted = counted;
+      same = λ said items_are p1 p2 hash. subst (λ (all : List Row). IsSame (reading.table_of docket all) (table said)) is (same_table list root docket items agrees said items_are p1 p2 hash);
+    }

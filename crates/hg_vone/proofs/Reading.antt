@@ -3,7 +3,7 @@ use Rattle.std.proofs.Common.{ℕ, zero, suc, ◌≡◌, ◌+◌, ◌-◌, ◌<�
 use Rattle.std.specs.List.{list_any}
 use Rattle.std.specs.Str.{bytes_eq}
 use Rattle.std.proofs.lemmas.Bool.{cond-true, cond-false}
-use Rattle.std.proofs.lemmas.List.{length-drop, drop-drop}
+use Rattle.std.proofs.lemmas.List.{length-append, length-drop, drop-drop}
 use Rattle.std.proofs.lemmas.List.Folds.{list_any-append}
 use Rattle.hg_vone.specs.Format.{own_fault, path_in, size_in}
 use Rattle.hg_vone.specs.Items.{Item, entry_fault, has_path, item_in, items_from, items_in, or_twice, unless}
@@ -16,10 +16,11 @@ pub record SoFar (bytes : List ℕ) (at : ℕ) (items : List Item) : Type 0 wher
   pub most : ℕ
   pub enough : length bytes - at ≤ most
   pub within : at ≤ length bytes
+  pub few : length items ≤ at
   pub same : items_from most at items (drop at bytes) ≡ items_in bytes
 
 pub starts : (bytes : List ℕ) → 40 ≤ length bytes → SoFar bytes 40 []
-starts bytes long = record { most = length bytes; enough = omega arith; within = long; same = refl }
+starts bytes long = record { most = length bytes; enough = omega arith; within = long; few = omega arith; same = refl }
 
 pub refuses : {T : Type 0} (read : Result T VoneFault) (fault : VoneFault) → read ≡ Err fault → Refuses read fault
 refuses read a_fault.OutOfMemory h = tt
@@ -61,14 +62,15 @@ pub fails : (bytes : List ℕ) (at : ℕ) (items : List Item) (fault : VoneFault
 fails bytes at items fault so inside h = refuses (items_in bytes) fault (sym so.same ∙ fails_at bytes at items fault so.most so.enough inside h)
 
 -- one has none
-goes_at : (bytes : List ℕ) (at size : ℕ) (items : List Item) (item : Item) (most : ℕ) → length bytes - at ≤ most → items_from most at items (drop at bytes) ≡ items_in bytes → at < length bytes → entry_fault at items (drop at bytes) ≡ None
+goes_at : (bytes : List ℕ) (at size : ℕ) (items : List Item) (item : Item) (most : ℕ) → length items ≤ at → length bytes - at ≤ most → items_from most at items (drop at bytes) ≡ items_in bytes → at < length bytes → entry_fault at items (drop at bytes) ≡ None
     → size ≡ size_in (drop at bytes) → item ≡ item_in (drop at bytes) → size ≤ length (drop at bytes) → SoFar bytes (at + size) (items ++ item ∷ [])
-goes_at bytes at size items item zero e same inside h s i room = absurd (omega arith)
-goes_at bytes at size items item (suc most) e same inside h s i room =
+goes_at bytes at size items item zero few e same inside h s i room = absurd (omega arith)
+goes_at bytes at size items item (suc most) few e same inside h s i room =
     let n = length-drop at bytes in record {
       most = most;
       enough = omega (arith, n, s);
       within = omega (arith, n);
+      few = let more = length-append items (item ∷ []) in omega (arith, more, few, s);
       same =
           rw (s, i, ← drop-drop (size_in (drop at bytes)) at bytes)
           (sym (step at items (drop at bytes) most (omega (arith, n))
@@ -77,7 +79,7 @@ goes_at bytes at size items item (suc most) e same inside h s i room =
 
 pub goes : (bytes : List ℕ) (at size : ℕ) (items : List Item) (item : Item) → SoFar bytes at items → at < length bytes → entry_fault at items (drop at bytes) ≡ None → size ≡ size_in (drop at bytes) → item ≡ item_in (drop at bytes)
     → size ≤ length (drop at bytes) → SoFar bytes (at + size) (items ++ item ∷ [])
-goes bytes at size items item so inside h s i room = goes_at bytes at size items item so.most so.enough so.same inside h s i room
+goes bytes at size items item so inside h s i room = goes_at bytes at size items item so.most so.few so.enough so.same inside h s i room
 
 -- ---- what is wrong with an entry
 

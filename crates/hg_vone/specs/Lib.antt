@@ -4,3 +4,5 @@ pub mod View
 pub mod Refusing
 pub mod Table
 pub mod Agreeing
+pub mod Shown
+pub mod Showing

@@ -5,7 +5,7 @@ ghost use Rattle.std.specs.BTreeSet.{contains_text};
 ghost use Rattle.std.specs.List.{AllByRecursion, list_all};
 ghost use Rattle.hg_docket.specs.Docket as dockets;
 ghost use Rattle.hg_image.specs.View.{row, rows, rows_in};
-ghost use Rattle.hg_vone.specs.Agreeing.{Agrees, AreThePaths, HasNode, flags_of};
+ghost use Rattle.hg_vone.specs.Agreeing.{AreThePaths, HasNode, Tells, flags_of};
 ghost use Rattle.hg_vone.specs.Agreeing as agreeing;
 ghost use Rattle.hg_vone.specs.View as view;
 ghost use Rattle.hg_vone.specs.View.{item};
@@ -105,7 +105,7 @@ fn have_nodes(root: List<'_>, items: &[Item<'_>]) -> bool
 /// Whether the image agrees with the entries, of which these are the paths.
 pub(crate) fn agrees(image: &Image<'_>, items: &[Item<'_>], paths: &BTreeSet<String>) -> bool
     requires { AreThePaths (contains_text paths.now) (map item items.now) }
-    ensures { result ≡ true → Agrees (dockets.view image.now.docket) (rows image.now) (map item items.now) }
+    ensures { result ≡ true → Tells (dockets.view image.now.docket) (rows image.now) (map item items.now) }
 {
     if !image.counted() {
         return false;

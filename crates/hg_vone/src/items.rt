@@ -38,6 +38,7 @@ pub(crate) fn read_items(alloc: Global, bytes: &[u8]) -> Result<Items<'_>, VoneF
     requires most { length bytes.now ≤ 67108864 }
     ensures fault { IfErr result (Refuses (items_in bytes.now)) }
     ensures items { IfOk result (λ i. items_in bytes.now ≡ Ok (map item i.items.items)) }
+    ensures few { IfOk result (λ i. length i.items.items ≤ length bytes.now) }
     ensures paths { IfOk result (λ i. AreThePaths (contains_text i.paths) (map item i.items.items)) }
 {
     let mut items = Vec::new(alloc);

@@ -7,6 +7,7 @@ mod format;
 mod item;
 mod items;
 mod layout;
+mod shown;
 
 pub use fault::VoneFault;
 pub use format::is_vone;
