@@ -1,5 +1,5 @@
 -- The steps in which a reading is shown.
-use Rattle.std.specs.Prelude.{ℕ, ◌≡◌, List, take, drop, None}
+use Rattle.std.specs.Prelude.{ℕ, ◌≡◌, ◌+◌, List, take, drop, None}
 use Rattle.hg_docket.specs.Docket.{Contents}
 use Rattle.hg_image.specs.Rows.{rows_of}
 use Rattle.hg_image.specs.Walk.{image_fault}
@@ -14,3 +14,7 @@ reading_with bytes items = record { p1 = take 20 bytes; p2 = take 20 (drop 20 by
 pub record IsSound (docket : Contents) (nodes : List ℕ) (items : List Item) : Type 0 where
   pub none : image_fault docket nodes ≡ None
   pub tells : Tells docket (rows_of docket nodes) items
+
+-- a docket with so many entries more
+abbrev pub with_more : Contents → ℕ → Contents
+with_more docket more = record docket { entries = docket.entries + more }

@@ -3,7 +3,7 @@
 //! The texts stay where the file has them: a node's path is that of an entry, or the beginning of the path of an entry below it. Only records are put,
 //! the lists of child nodes before the list that names them. So the data file is as long as the file read and 44 bytes for each node.
 
-ghost use Rattle.std.specs.Prelude.{◌≤◌, ◌<◌, length};
+ghost use Rattle.std.specs.Prelude.{◌≡◌, ◌≤◌, length};
 
 use crate::agreeing::flags;
 use crate::item::Item;
@@ -232,7 +232,9 @@ pub(crate) fn lay_out(
     bytes: &[u8],
     items: &[Item<'_>],
     nodes: &mut Vec<u8>,
-) -> Result<Put, OutOfMemory> {
+) -> Result<Put, OutOfMemory>
+    ensures { length items.now ≡ 0 → nodes.new.items ≡ nodes.old.items }
+{
     if items.is_empty() {
         return Ok(NO_NODES);
     }

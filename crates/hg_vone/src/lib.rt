@@ -11,3 +11,4 @@ mod shown;
 
 pub use fault::VoneFault;
 pub use format::is_vone;
+pub use shown::{Shown, read_vone};
