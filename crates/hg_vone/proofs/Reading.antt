@@ -1,11 +1,12 @@
 -- The reading of the entries, as far as it has come.
-use Rattle.std.proofs.Common.{ℕ, zero, suc, ◌≡◌, ◌+◌, ◌-◌, ◌<◌, ◌≤◌, ◌||◌, Bool, true, false, cond, eqb, List, [], ◌∷◌, ◌++◌, length, take, drop, map, Option, Some, None, Result, Ok, Err, refl, sym, ap, ◌∙◌, subst, arith, not, true≢false}
+use Rattle.std.proofs.Common.{ℕ, zero, suc, ◌≡◌, ◌+◌, ◌-◌, ◌<◌, ◌≤◌, ◌||◌, ◌&&◌, Bool, true, false, cond, eqb, List, [], ◌∷◌, ◌++◌, length, take, drop, map, Option, Some, None, Result, Ok, Err, refl, sym, ap, ◌∙◌, subst, arith, not, true≢false}
 use Rattle.std.specs.List.{list_any}
+use Rattle.std.specs.Prelude.{is_none}
 use Rattle.std.specs.Str.{bytes_eq}
 use Rattle.std.proofs.lemmas.Bool.{cond-true, cond-false}
 use Rattle.std.proofs.lemmas.List.{length-append, length-drop, drop-drop}
 use Rattle.std.proofs.lemmas.List.Folds.{list_any-append}
-use Rattle.hg_vone.specs.Format.{own_fault, path_in, size_in}
+use Rattle.hg_vone.specs.Format.{is_named, is_short, is_sourced, marks_in, own_fault, path_in, size_in, source_in}
 use Rattle.hg_vone.specs.Items.{Item, entry_fault, has_path, item_in, items_from, items_in, or_twice, unless}
 use Rattle.hg_vone.specs.Refusing.{Refuses}
 use Rattle.hg_vone.specs.declared.fault.VoneFault.{VoneFault}
@@ -22,13 +23,24 @@ pub record SoFar (bytes : List ℕ) (at : ℕ) (items : List Item) : Type 0 wher
 pub starts : (bytes : List ℕ) → 40 ≤ length bytes → SoFar bytes 40 []
 starts bytes long = record { most = length bytes; enough = omega arith; within = long; few = omega arith; same = refl }
 
-pub refuses : {T : Type 0} (read : Result T VoneFault) (fault : VoneFault) → read ≡ Err fault → Refuses read fault
-refuses read a_fault.OutOfMemory h = tt
-refuses read (a_fault.V1Short at) h = h
-refuses read (a_fault.V1State at) h = h
-refuses read (a_fault.V1Path at) h = h
-refuses read (a_fault.V1Twice at) h = h
-refuses read (a_fault.V1TooLarge size) h = h
+-- no entry is too large
+not_large_by : (short none named : Bool) (at size : ℕ) → cond short (Some (a_fault.V1Short at)) (cond none (Some (a_fault.V1State at)) (cond named None (Some (a_fault.V1Path at)))) ≡ Some (a_fault.V1TooLarge size) → ⊥
+not_large_by true none named at size h = cc
+not_large_by false true named at size h = cc
+not_large_by false false true at size h = cc
+not_large_by false false false at size h = cc
+
+not_large : (at size : ℕ) (rest : List ℕ) → own_fault at rest ≡ Some (a_fault.V1TooLarge size) → ⊥
+unfolding own_fault
+not_large at size rest h = not_large_by (is_short rest) (is_none (marks_in rest)) (is_named (path_in rest) && is_sourced (source_in rest)) at size h
+
+refuses : {T : Type 0} (read : Result T VoneFault) (fault : VoneFault) → ((size : ℕ) → fault ≡ a_fault.V1TooLarge size → ⊥) → read ≡ Err fault → Refuses read fault
+refuses read a_fault.OutOfMemory small h = tt
+refuses read (a_fault.V1Short at) small h = h
+refuses read (a_fault.V1State at) small h = h
+refuses read (a_fault.V1Path at) small h = h
+refuses read (a_fault.V1Twice at) small h = h
+refuses read (a_fault.V1TooLarge size) small h = small size refl
 
 -- nothing is left
 done : (at : ℕ) (items : List Item) (rest : List ℕ) → length rest ≡ 0 → (most : ℕ) → items_from most at items rest ≡ Ok items
@@ -58,8 +70,8 @@ fails_at bytes at items fault (suc most) e inside h =
     step at items (drop at bytes) most (omega (arith, n)) ∙ ap (λ (o : Option VoneFault). unless o (items_from most (at + size_in (drop at bytes)) (items ++ item_in (drop at bytes) ∷ []) (drop (size_in (drop at bytes)) (drop at bytes)))) h
 
 -- an entry has a fault
-pub fails : (bytes : List ℕ) (at : ℕ) (items : List Item) (fault : VoneFault) → SoFar bytes at items → at < length bytes → entry_fault at items (drop at bytes) ≡ Some fault → Refuses (items_in bytes) fault
-fails bytes at items fault so inside h = refuses (items_in bytes) fault (sym so.same ∙ fails_at bytes at items fault so.most so.enough inside h)
+pub fails : (bytes : List ℕ) (at : ℕ) (items : List Item) (fault : VoneFault) → ((size : ℕ) → fault ≡ a_fault.V1TooLarge size → ⊥) → SoFar bytes at items → at < length bytes → entry_fault at items (drop at bytes) ≡ Some fault → Refuses (items_in bytes) fault
+fails bytes at items fault small so inside h = refuses (items_in bytes) fault small (sym so.same ∙ fails_at bytes at items fault so.most so.enough inside h)
 
 -- one has none
 goes_at : (bytes : List ℕ) (at size : ℕ) (items : List Item) (item : Item) (most : ℕ) → length items ≤ at → length bytes - at ≤ most → items_from most at items (drop at bytes) ≡ items_in bytes → at < length bytes → entry_fault at items (drop at bytes) ≡ None
@@ -128,3 +140,7 @@ was_there new false is h = absurd (true≢false (sym is ∙ h))
 pub was_new : (new there : Bool) → new ≡ not there → new ≡ true → there ≡ false
 was_new new true is h = absurd (true≢false (sym h ∙ is))
 was_new new false is h = refl
+
+-- what is wrong with an entry by itself is no size
+pub small : (at : ℕ) (rest : List ℕ) (fault : VoneFault) → Some fault ≡ own_fault at rest → (size : ℕ) → fault ≡ a_fault.V1TooLarge size → ⊥
+small at rest fault h size is = not_large at size rest (sym h ∙ ap (λ (f : VoneFault). Some f) is)

@@ -57,10 +57,11 @@ module _ (d : Contents) (rows : List Row) (counted : is_counted d rows ≡ true)
   pub nodes_are : are_counted rows ≡ true
   nodes_are = (and_parts _ (are_counted rows) (and_parts _ _ counted).0).1
 
-told_of : (d : Contents) (rows : List Row) (items : List Item) (more : ℕ) → is_counted d rows ≡ true → more ≡ more_entries items → IsToldOf items (with_more d more) rows
-told_of d rows items more counted is = record {
+told_of : (d : Contents) (rows : List Row) (items : List Item) (more : ℕ) → is_counted d rows ≡ true → d.unreachable ≡ 0 → more ≡ more_entries items → IsToldOf items (with_more d more) rows
+told_of d rows items more counted waste is = record {
   entries = ap (λ (n : ℕ). n + more) (entries_are d rows counted) ∙ ap (λ (n : ℕ). count_by is_entry rows + n) is;
   copies = copies_are d rows counted;
+  unreachable = waste;
   nodes = nodes_are d rows counted;
   uncounted = λ one. false_from_ne_true (is_counted (with_more d more) rows) (λ right.
       let whole = entries_are (with_more d more) rows right in
@@ -77,9 +78,9 @@ read_by told nodes d more reads none =
     ∙ ap (λ (o : Option NodeFault). of_data (sound_reading o (table_of d (rows_of d nodes)))) none
 
 pub shown : (bytes nodes told : List ℕ) (raw : List OneItem) (d : Contents) (more n : ℕ) → n ≡ length raw → written.ReadsAs told (with_more d more) → length told ≤ 512 → IsSound d nodes (map item raw) → more ≡ cond (eqb n 0) 0 1
-    → d.p1 ≡ take 20 bytes → d.p2 ≡ take 20 (drop 20 bytes) → d.hash ≡ empty_hash → d.id ≡ cond (eqb n 0) [] (codes "v1") → d.used ≡ length nodes → (length raw ≡ 0 → nodes ≡ []) → length nodes < 2 ^ 32
+    → d.p1 ≡ take 20 bytes → d.p2 ≡ take 20 (drop 20 bytes) → d.hash ≡ empty_hash → d.unreachable ≡ 0 → d.id ≡ cond (eqb n 0) [] (codes "v1") → d.used ≡ length nodes → (length raw ≡ 0 → nodes ≡ []) → length nodes < 2 ^ 32
     → IsShown (reading_with bytes (map item raw)) told nodes
-shown bytes nodes told raw d more n count reads few sound more_of p1 p2 hash id_of_n used empty small =
+shown bytes nodes told raw d more n count reads few sound more_of p1 p2 hash waste id_of_n used empty small =
     let items : List Item = map item raw in
     let more_by : more ≡ cond {A = ℕ} (eqb (length raw) 0) 0 1 = more_of ∙ ap (λ (m : ℕ). cond {A = ℕ} (eqb m 0) 0 1) count in
     let id : d.id ≡ cond {A = List ℕ} (eqb (length raw) 0) [] (codes "v1") = id_of_n ∙ ap (λ (m : ℕ). cond {A = List ℕ} (eqb m 0) [] (codes "v1")) count in
@@ -91,7 +92,7 @@ shown bytes nodes told raw d more n count reads few sound more_of p1 p2 hash id_
         is = read_by told nodes d more reads sound.none;
         same = sound.tells.same (reading_with bytes items) refl p1 p2 hash;
       };
-      told = subst (λ (c : Contents). IsToldOf items c (rows_of c nodes)) (sym reads.same) (told_of d (rows_of d nodes) items more sound.tells.counted (more_by ∙ more_is raw));
+      told = subst (λ (c : Contents). IsToldOf items c (rows_of c nodes)) (sym reads.same) (told_of d (rows_of d nodes) items more sound.tells.counted waste (more_by ∙ more_is raw));
       id = ap (λ (c : Contents). c.id) reads.same ∙ id ∙ id_is raw;
       next = ap next_name (ap (λ (c : Contents). c.id) reads.same ∙ id ∙ id_is raw) ∙ next_is items;
       used = ap (λ (c : Contents). c.used) reads.same ∙ used;

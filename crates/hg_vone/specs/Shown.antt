@@ -19,10 +19,11 @@ abbrev pub more_entries : List Item → ℕ
 more_entries [] = 0
 more_entries (item ∷ items) = 1
 
--- a docket tells the counts of rows, but for the entries
+-- a docket tells the counts of rows, but for the entries, and no bytes to which nothing leads
 pub record IsToldOf (items : List Item) (docket : Contents) (rows : List Row) : Type 0 where
   pub entries : docket.entries ≡ count_by is_entry rows + more_entries items
   pub copies : docket.copies ≡ count_by is_copy rows
+  pub unreachable : docket.unreachable ≡ 0
   pub nodes : are_counted rows ≡ true
   pub uncounted : more_entries items ≡ 1 → is_counted docket rows ≡ false
 

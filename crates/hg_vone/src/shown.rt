@@ -56,6 +56,7 @@ fn plain_docket(bytes: &[u8], entries: usize, laid: Put, used: u32) -> Docket<'s
     ensures p2 { result.p2.0 ≡ take 20 (drop 20 bytes.now) }
     ensures hash { result.hash ≡ empty_hash }
     ensures entries { result.entries ≡ entries }
+    ensures waste { result.unreachable ≡ 0 }
     ensures used { result.used ≡ used }
     ensures id { result.id.now ≡ (if nat_eq entries 0 then [] else codes "v1") }
 {
