@@ -1,19 +1,17 @@
 -- Rows that agree with the entries give the table of these.
-use Rattle.std.proofs.Common.{ℕ, zero, suc, ◌≡◌, ◌+◌, ◌-◌, ◌<◌, ◌≤◌, ◌||◌, ◌&&◌, Bool, true, false, cond, eqb, not, List, [], ◌∷◌, ◌++◌, length, map, Option, Some, None, ◌⊎◌, inl, inr, refl, sym, ap, ◌∙◌, subst, arith, true≢false, eqb-true, eq-eqb}
-use Rattle.std.specs.Prelude.{is_some, option_map, count_by}
+use Rattle.std.proofs.Common.{ℕ, ◌≡◌, ◌+◌, ◌||◌, ◌&&◌, Bool, true, false, cond, eqb, not, List, [], ◌∷◌, Option, Some, None, ◌⊎◌, inl, inr, refl, sym, ap, ◌∙◌, subst, arith, true≢false, eqb-true, eq-eqb}
+use Rattle.std.specs.Prelude.{is_some, option_map}
 use Rattle.std.specs.Option.{option_and_then}
-use Rattle.std.specs.List.{AllByRecursion, list_all, list_any, sum_by}
+use Rattle.std.specs.List.{AllByRecursion, list_all}
 use Rattle.std.specs.Str.{bytes_eq}
 use Rattle.std.proofs.lemmas.Bool.{and_parts, both_ways, cases_Bool, cond-true, cond-false}
 use Rattle.std.proofs.lemmas.List.Sums.{sum_by-cons}
 use Rattle.hg_base.specs.PathText.{is_below}
 use Rattle.hg_base.specs.Within.{is_above, is_within}
-use Rattle.hg_base.proofs.Within.{equal_bytes, same_bytes, within_split}
+use Rattle.hg_base.proofs.Within.{same_bytes, within_split}
 use Rattle.hg_docket.specs.Docket.{Contents}
-use Rattle.hg_entry.specs.Entry.{EntryData, cache_of, entry_of, has_entry}
-use Rattle.hg_entry.specs.Flags.{flag}
-use Rattle.hg_entry.specs.Table.{Marks, Table}
-use Rattle.hg_entry.specs.declared.entry.Fields.{Fields}
+use Rattle.hg_entry.specs.Entry.{cache_of, entry_of, has_entry}
+use Rattle.hg_entry.specs.Table.{Marks}
 use Rattle.hg_image.specs.Counts.{are_counted, count_below, is_counted, is_entry, is_row_counted}
 use Rattle.hg_image.specs.Node.{fields_of}
 use Rattle.hg_image.specs.Reading as reading

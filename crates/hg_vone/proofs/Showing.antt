@@ -1,22 +1,19 @@
 -- What is shown is the reading.
-use Rattle.std.proofs.Common.{ℕ, suc, ◌++◌, append-nil, ◌≡◌, ◌+◌, ◌<◌, ◌≤◌, ◌^◌, ◌&&◌, Bool, true, false, cond, eqb, eqb-true, List, [], ◌∷◌, length, map, replicate, take, drop, Option, Some, None, Result, Ok, refl, sym, ap, ◌∙◌, subst, arith, codes}
+use Rattle.std.proofs.Common.{ℕ, suc, ◌++◌, append-nil, ◌≡◌, ◌+◌, ◌<◌, ◌≤◌, ◌^◌, true, false, cond, eqb, eqb-true, List, [], ◌∷◌, length, map, replicate, take, drop, Option, Some, None, Ok, refl, sym, ap, ◌∙◌, subst, arith, codes}
 use Rattle.std.specs.Prelude.{count_by}
 use Rattle.std.proofs.lemmas.Bool.{and_parts, cond-false, false_from_ne_true}
 use Rattle.hg_docket.specs.Docket.{Contents, docket_of, empty_hash}
 use Rattle.hg_docket.specs.Number.{hex_text, next_name}
 use Rattle.hg_docket.specs.Written as written
 use Rattle.hg_image.specs.Counts.{are_counted, is_copy, is_counted, is_entry}
-use Rattle.hg_image.specs.Node.{first_of}
 use Rattle.hg_image.specs.Reading.{data_reading, docket_reading, of_data, reading_of, sound_reading, table_of}
 use Rattle.hg_image.specs.Rows.{Row, rows_of}
 use Rattle.hg_image.specs.Walk.{image_fault}
 use Rattle.hg_image.specs.declared.fault.NodeFault.{NodeFault}
 use Rattle.hg_docket.specs.declared.fault.DocketFault.{DocketFault}
-use Rattle.hg_vone.specs.Agreeing.{Tells}
-use Rattle.hg_vone.specs.Items.{Item, Reading}
+use Rattle.hg_vone.specs.Items.{Item}
 use Rattle.hg_vone.specs.Shown.{IsShown, IsToldOf, id_of, more_entries}
 use Rattle.hg_vone.specs.Showing.{IsSound, reading_with, with_more}
-use Rattle.hg_vone.specs.Table.{ReadsAs, table}
 use Rattle.hg_vone.specs.View.{item}
 use Rattle.hg_vone.specs.declared.item.Item.{Item as OneItem}
 

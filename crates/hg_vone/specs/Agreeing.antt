@@ -1,5 +1,5 @@
 -- When the nodes of an image agree with the entries that they were laid out from.
-use Rattle.std.specs.Prelude.{ℕ, ◌≡◌, ◌+◌, Bool, true, not, ◌&&◌, if◌then◌else◌, List, Option, Some, ◌==◌}
+use Rattle.std.specs.Prelude.{ℕ, ◌≡◌, ◌+◌, Bool, true, not, ◌&&◌, if◌then◌else◌, List, Some, ◌==◌}
 use Rattle.std.specs.List.{AllByRecursion, list_all}
 use Rattle.hg_docket.specs.Docket.{Contents, empty_hash}
 use Rattle.hg_entry.specs.Entry.{has_entry}

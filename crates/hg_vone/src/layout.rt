@@ -160,9 +160,18 @@ fn with_node(sums: Put, item: Option<&Item<'_>>, under: Put) -> Put {
     Put {
         start: sums.start,
         count: sums.count.saturating_add(1),
-        entries: sums.entries.saturating_add(entries).saturating_add(under.entries),
-        tracked: sums.tracked.saturating_add(tracked).saturating_add(under.tracked),
-        copies: sums.copies.saturating_add(copies).saturating_add(under.copies),
+        entries: sums
+            .entries
+            .saturating_add(entries)
+            .saturating_add(under.entries),
+        tracked: sums
+            .tracked
+            .saturating_add(tracked)
+            .saturating_add(under.tracked),
+        copies: sums
+            .copies
+            .saturating_add(copies)
+            .saturating_add(under.copies),
     }
 }
 

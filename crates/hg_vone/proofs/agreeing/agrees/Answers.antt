@@ -1,4 +1,4 @@
-use Rattle.std.proofs.Common.{List, Option, map, option_map, ap, sym, ◌∙◌, ℕ}
+use Rattle.std.proofs.Common.{map, option_map, ap, sym, ◌∙◌}
 use Rattle.std.specs.BTreeSet.{contains_text}
 use Rattle.hg_docket.specs.Docket as docket
 use Rattle.hg_image.specs.View.{rows}

@@ -1,10 +1,8 @@
-use Rattle.std.proofs.Common.{ℕ, ◌≡◌, ◌+◌, ◌<◌, suc, List, ◌∷◌, map, drop, length, get_or, add-one, drop-cons, arith, subst, true, refl, sym, ap, ◌∙◌}
+use Rattle.std.proofs.Common.{ℕ, ◌≡◌, ◌+◌, ◌<◌, suc, List, ◌∷◌, map, drop, length, get_or, add-one, drop-cons, arith, subst, sym}
 use Rattle.std.specs.List.{AllByRecursion}
-use Rattle.std.proofs.lemmas.Grind.{common_steps}
 use Rattle.hg_image.specs.Rows.{Row}
 use Rattle.hg_image.specs.View.{rows_in}
 use Rattle.hg_vone.specs.Agreeing.{HasNode}
-use Rattle.hg_vone.specs.Items.{Item}
 use Rattle.hg_vone.specs.View.{item}
 use Rattle.hg_vone.specs.declared.item.Item.{Item as OneItem}
 use Rattle.hg_vone.proofs.agreeing.have_nodes.Goals as goal

@@ -1,4 +1,4 @@
-use Rattle.std.proofs.Common.{◌≡◌, map, drop}
+use Rattle.std.proofs.Common.{map, drop}
 use Rattle.std.specs.List.{AllByRecursion}
 use Rattle.hg_image.specs.View.{rows_in}
 use Rattle.hg_vone.specs.Agreeing.{HasNode}

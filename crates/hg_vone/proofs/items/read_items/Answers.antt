@@ -1,13 +1,11 @@
-use Rattle.std.proofs.Common.{rules, arith, ◌≡◌, ◌≤◌, ◌||◌, ℕ, List, map, length, drop, not, Ok, ◌+◌, ◌-◌, ◌<◌, Bool, true, false, [], ◌∷◌, ◌++◌, refl, sym, ap, ◌∙◌}
-use Rattle.std.specs.BTreeSet.{contains_text}
+use Rattle.std.proofs.Common.{arith, ◌≡◌, ◌||◌, List, map, drop, Bool, true, false, [], ◌∷◌, ◌++◌, sym, ap, ◌∙◌}
 use Rattle.std.specs.Str.{bytes_eq}
 use Rattle.std.proofs.lemmas.Grind.{common_steps}
 use Rattle.std.proofs.lemmas.List.{map-append}
 use Rattle.std.proofs.lemmas.Result.{err_from_is_err_and}
-use Rattle.hg_vone.specs.Items.{Item, has_path, items_in}
-use Rattle.hg_vone.specs.Refusing.{Refuses}
+use Rattle.hg_vone.specs.Items.{Item, has_path}
 use Rattle.hg_vone.specs.View.{item}
-use Rattle.hg_vone.proofs.Reading.{SoFar, ends, fails, fine, goes, one_more, own_wrong, small, starts, twice, was_new, was_there}
+use Rattle.hg_vone.proofs.Reading.{ends, fails, fine, goes, one_more, own_wrong, small, starts, twice, was_new, was_there}
 use Rattle.hg_vone.proofs.items.read_items.Goals as goal
 
 pub loop-at-init : goal.loop-at-init

@@ -1,6 +1,6 @@
-use Rattle.std.proofs.Common.{ℕ, ◌≡◌, ◌≤◌, ◌-◌, List, map, length, drop}
+use Rattle.std.proofs.Common.{ℕ, ◌≡◌, ◌-◌, List, map, length}
 use Rattle.std.specs.BTreeSet.{contains_text}
-use Rattle.hg_vone.specs.Items.{Item, has_path}
+use Rattle.hg_vone.specs.Items.{has_path}
 use Rattle.hg_vone.specs.View.{item}
 use Rattle.hg_vone.proofs.Reading.{SoFar}
 use Rattle.hg_vone.proofs.items.read_items.Given as goal

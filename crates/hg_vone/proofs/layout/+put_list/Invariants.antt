@@ -1,4 +1,4 @@
-use Rattle.std.proofs.Common.{ℕ, ◌-◌, ◌≤◌, length}
+use Rattle.std.proofs.Common.{◌-◌, ◌≤◌, length}
 use Rattle.hg_vone.proofs.layout.+put_list.Given as goal
 
 abbrev pub decreases-put_list : goal.decreases-put_list

@@ -1,4 +1,4 @@
-use Rattle.std.proofs.Common.{ℕ, ◌-◌, ◌≤◌, length}
+use Rattle.std.proofs.Common.{◌-◌, ◌≤◌, length}
 use Rattle.hg_vone.proofs.layout.members.Given as goal
 
 abbrev pub invariant-loop-n : goal.invariant-loop-n

@@ -1,4 +1,4 @@
-use Rattle.std.proofs.Common.{rules, arith, sym, ap, ◌∙◌, length, ℕ, cond, eqb, [], codes}
+use Rattle.std.proofs.Common.{rules, arith}
 use Rattle.hg_docket.specs.Docket as dockets
 use Rattle.hg_vone.proofs.Showing.{shown}
 use Rattle.hg_vone.proofs.shown.told_docket.Goals as goal
