@@ -8,6 +8,8 @@
 #[cfg(test)]
 mod crashes;
 #[cfg(test)]
+mod dirstates;
+#[cfg(test)]
 mod paths;
 #[cfg(test)]
 mod puts;

@@ -1,0 +1,4 @@
+pub mod Reading
+pub mod Agreed
+pub mod Sizes
+pub mod Showing
