@@ -11,7 +11,7 @@ use Rattle.hg_nodes.specs.Clash.{is_tracked_entry}
 use Rattle.hg_mixed.specs.Edits.{ArePlacedAsBefore, EndsAbove, IsUnchanged, Lends, PlacesCopy}
 use Rattle.hg_nodes.specs.Edits.{IsFormed, IsSame, Marks, after_copy}
 use Rattle.hg_mixed.specs.Held.{Held, is_lent, table}
-use Rattle.hg_mixed.specs.Shown.{shown_in}
+use Rattle.hg_nodes.specs.Shown.{shown_in}
 use Rattle.hg_nodes.proofs.Edited.{same_trans}
 use Rattle.hg_mixed.proofs.Lifted.{same_back}
 use Rattle.hg_ops.specs.Copy.{LeavesOrAdds, PlacesCopied, copied, copy_source, origin, unless_at}

@@ -6,7 +6,7 @@ ghost use Rattle.hg_entry.specs.Steps.{is_file};
 ghost use Rattle.hg_mixed.specs.Edits.{IsOfSameImage, IsUnchanged, Lends};
 ghost use Rattle.hg_nodes.specs.Edits.{IsSame, Marks};
 ghost use Rattle.hg_mixed.specs.Held.{table};
-ghost use Rattle.hg_mixed.specs.Shown.{shown_item};
+ghost use Rattle.hg_nodes.specs.Shown.{shown_item};
 ghost use Rattle.hg_ops.specs.Cause.{HasOpCause};
 ghost use Rattle.hg_ops.specs.Copy.{Copies, IsCopyFault, LeavesOrAdds, PlacesCopied, RefusesTarget, Works, copy_source, is_added, words_refusal};
 ghost use Rattle.hg_ops.specs.Copying.{IsCopying, Looks, Tables, origin_shown};

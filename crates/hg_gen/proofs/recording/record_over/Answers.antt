@@ -13,7 +13,7 @@ use Rattle.hg_gen.proofs.recording.record_over.Goals as goal
 pub returns-in-Ok : goal.returns-in-Ok
 returns-in-Ok c =
     let docket : c.fill.new.mixed.docket ≡ empty_docket =
-    c.in_ok-fill.ensures.head.image.docket ∙ c.set_ids.ensures.image.docket ∙ c.in_ok-mixed.ensures.docket ∙ c.requires.empty.docket in
+    c.in_ok-fill.ensures.head.image.docket ∙ c.set_ids.ensures.image.docket ∙ c.open-mixed.ensures.docket ∙ c.requires.empty.docket in
     let first : Some (codes "0000000000000000") ≡ Some c.in-Ok.encoded.id = sym first_name ∙ sym (ap (λ (d : Contents). next_name d.id) docket) ∙ (c.in-Ok.ensures.written refl).next in
     let anew = file_anew c.fill.new.mixed c.in-Ok.encoded (c.in-Ok.ensures.written refl) in
     let reads = subst (λ (file : List ℕ). ReadsAs (table c.fill.new.mixed) (reading_of c.in-Ok.encoded.docket.items file)) anew c.in-Ok.ensures.reads in
@@ -23,6 +23,6 @@ returns-in-Ok c =
       id = id;
       reads = reads.is;
       over = goes_over [] c.fill.new.mixed c.in-Ok.encoded (ap (λ (d : Contents). d.id) docket) (c.in-Ok.ensures.written refl) reads;
-      is = recorded c.args.dirs _ _ _ _ _ _ c.requires.empty.docket c.requires.empty.rows c.in_ok-mixed.ensures.table c.set_ids.ensures.table c.in_ok-fill.ensures.head.p1
+      is = recorded c.args.dirs _ _ _ _ _ _ c.requires.empty.docket c.requires.empty.rows c.open-mixed.ensures.table c.set_ids.ensures.table c.in_ok-fill.ensures.head.p1
           c.in_ok-fill.ensures.head.p2 c.in_ok-fill.ensures.head.hash c.in_ok-fill.ensures.entries reads.same;
     }

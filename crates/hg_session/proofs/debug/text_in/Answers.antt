@@ -12,11 +12,6 @@ returns-in_err-image c =
     let p = err_from_is_err_and c.from_residual.result c.from_residual.ensures.1 in
     rw (p.1, p.2) (sym c.in_err-image.ensures.read)
 
-pub returns-in_err-mixed : goal.returns-in_err-mixed
-returns-in_err-mixed c =
-    let p = err_from_is_err_and c.from_residual-in_err-mixed.result c.from_residual-in_err-mixed.ensures.1 in
-    rw (p.1, p.2) tt
-
 pub returns-in_err-text : goal.returns-in_err-text
 returns-in_err-text c =
     let p = err_from_is_err_and c.from_residual-in_err-text.result c.from_residual-in_err-text.ensures.1 in
@@ -26,5 +21,5 @@ pub returns : goal.returns
 returns c = (
   table_in c.in_ok-image.image,
   sym c.in_ok-image.ensures.read,
-  subst (λ (t : Table). IsDebugText t c.in_ok-text.text.items) (one_table (table c.in_ok-mixed.mixed) (table_in c.in_ok-image.image) c.in_ok-mixed.ensures.table) c.in_ok-text.ensures.text,
+  subst (λ (t : Table). IsDebugText t c.in_ok-text.text.items) (one_table (table c.open-mixed.result) (table_in c.in_ok-image.image) c.open-mixed.ensures.table) c.in_ok-text.ensures.text,
 )

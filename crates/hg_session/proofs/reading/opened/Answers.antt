@@ -11,23 +11,18 @@ returns-in_err-image c =
     let p = err_from_is_err_and c.from_residual.result c.from_residual.ensures.1 in
     rw (p.1, p.2) (sym c.in_err-image.ensures.read)
 
-pub returns-in_err-mixed : goal.returns-in_err-mixed
-returns-in_err-mixed c =
-    let p = err_from_is_err_and c.from_residual-in_err-mixed.result c.from_residual-in_err-mixed.ensures.1 in
-    rw (p.1, p.2) tt
-
 pub returns : goal.returns
 returns c =
     let few = few_bytes c.in_ok-image.image (docket_of c.args.loaded.now.docket.items) c.args.loaded.now.nodes.items c.in_ok-image.ensures.docket c.in_ok-image.ensures.bytes c.requires.most in (
       table_in c.in_ok-image.image,
       sym c.in_ok-image.ensures.read,
       record {
-        same = c.in_ok-mixed.ensures.table;
-        unchanged = c.in_ok-mixed.ensures.changed;
-        contents = c.in_ok-mixed.ensures.docket ∙ c.in_ok-image.ensures.docket;
-        image = image_same c.in_ok-image.image c.in_ok-mixed.mixed c.in_ok-mixed.ensures.docket c.in_ok-mixed.ensures.bytes few c.in_ok-mixed.ensures.table;
-        lent = lists_same c.in_ok-image.image c.in_ok-mixed.mixed c.in_ok-mixed.ensures.docket c.in_ok-mixed.ensures.bytes few c.in_ok-mixed.ensures.lent.lists;
-        placed = places_same c.in_ok-image.image c.in_ok-mixed.mixed c.in_ok-mixed.ensures.docket c.in_ok-mixed.ensures.bytes few c.in_ok-mixed.ensures.places;
-        nodes = c.in_ok-mixed.ensures.bytes ∙ c.in_ok-image.ensures.bytes ∙ take_all (docket_of c.args.loaded.now.docket.items).used c.args.loaded.now.nodes.items c.requires.most;
+        same = c.open-mixed.ensures.table;
+        unchanged = c.open-mixed.ensures.changed;
+        contents = c.open-mixed.ensures.docket ∙ c.in_ok-image.ensures.docket;
+        image = image_same c.in_ok-image.image c.open-mixed.result c.open-mixed.ensures.docket c.open-mixed.ensures.bytes few c.open-mixed.ensures.table;
+        lent = lists_same c.in_ok-image.image c.open-mixed.result c.open-mixed.ensures.docket c.open-mixed.ensures.bytes few c.open-mixed.ensures.lent.lists;
+        placed = places_same c.in_ok-image.image c.open-mixed.result c.open-mixed.ensures.docket c.open-mixed.ensures.bytes few c.open-mixed.ensures.places;
+        nodes = c.open-mixed.ensures.bytes ∙ c.in_ok-image.ensures.bytes ∙ take_all (docket_of c.args.loaded.now.docket.items).used c.args.loaded.now.nodes.items c.requires.most;
       },
     )
