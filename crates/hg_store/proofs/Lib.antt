@@ -1,0 +1,4 @@
+pub mod Reading
+pub mod Leading
+pub mod Laying
+pub mod Placing
