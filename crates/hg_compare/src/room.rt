@@ -34,8 +34,8 @@ impl Room {
         Ok(Room { mine, theirs })
     }
 
-    /// The first buffer, of 65,536 bytes, for whoever else copies bytes.
-    pub fn first(&mut self) -> &mut [u8]
+    /// One buffer of 65,536 bytes, for whoever else reads or compares in pieces.
+    pub fn buffer(&mut self) -> &mut [u8]
         ensures { length result.now ≡ 65536 }
     {
         self.mine.as_mut_slice()

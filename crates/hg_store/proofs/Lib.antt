@@ -2,3 +2,5 @@ pub mod Reading
 pub mod Leading
 pub mod Laying
 pub mod Placing
+pub mod Naming
+pub mod Copying

@@ -8,7 +8,10 @@ use Rattle.hg_shelf.specs.History.{Files, Passes}
 use Rattle.hg_shelf.specs.Images.{Acts, Course, Goes, Scene, last_scene, scene}
 use Rattle.hg_shelf.specs.Rules.{Changes, Perhaps, Renames, Surely, SyncsNames, moved}
 use Rattle.hg_shelf.specs.Torn.{other_name, same_name}
-use Rattle.hg_store.specs.Standing.{IsStill, is_other, standing_of}
+use Rattle.hg_base.specs.declared.id.Id20.{Id20}
+use Rattle.hg_store.specs.Standing.{Decides, IsStill, clashes, is_other, standing_of}
+use Rattle.hg_store.specs.declared.fault.StoreFault.{StoreFault}
+use Rattle.hg_store.specs.declared.fault.StoreFault.TheVariants as a_fault
 use Rattle.hg_store.specs.declared.standing.Standing.TheVariants as a_standing
 use Rattle.hg_store.specs.Storing.{ButNew, IsAlone, IsCleared, IsSure, IsStored, IsWhole, Keeps, Leads, Proceeds, new_name}
 use Rattle.hg_store.proofs.Leading.{AreSure, IsPassed, Moves, alone_first, alone_second, leads_last, leads_trans, leads_weaker, moved_leads, names_leads, names_sure, passed, passed_leads, stepped}
@@ -196,3 +199,60 @@ second_is false y q = q
 pub first_is : (x y : Bool) → x ≡ true → (x || y) ≡ true
 first_is true y q = refl
 first_is false y q = absurd (false≢true q)
+
+-- ---- behind calls on the new file alone
+
+pub laid_leads : (name text : List ℕ) (a b c : Course) → Proceeds a b → Proceeds b c → IsAlone a c → (name ≡ new_name → ⊥) → (IsAlone a b → Leads ButNew a b) → (IsAlone b c → Leads (Keeps ((last_scene b).files name) name text) b c) → Leads (Keeps ((last_scene a).files name) name text) a c
+laid_leads name text a b c p q alone apart first second =
+    let before : Option (List ℕ) = (last_scene a).files name in
+    let but : Leads ButNew a b = first (alone_first q alone) in
+    leads_trans (Keeps before name text) (keeps_trans before name text) p q (leads_weaker ButNew (Keeps before name text) (keeps_but before name text apart) but)
+    (subst (λ (f : Option (List ℕ)). Leads (Keeps f name text) b c) ((leads_last p but).others name apart) (second (alone_second p alone)))
+
+pub laid_file : (name : List ℕ) (a b : Course) → Proceeds a b → (name ≡ new_name → ⊥) → Leads ButNew a b → (last_scene b).files name ≡ (last_scene a).files name
+laid_file name a b p apart but = (leads_last p but).others name apart
+
+pub laid_stored : (name text : List ℕ) (a b c : Course) → Proceeds a b → Proceeds b c → IsAlone a c → (name ≡ new_name → ⊥) → (IsAlone a b → Leads ButNew a b) → (IsAlone b c → IsStored name text b c) → IsStored name text a c
+laid_stored name text a b c p q alone apart first second =
+    let but : Leads ButNew a b = first (alone_first q alone) in
+    let stored : IsStored name text b c = second (alone_second p alone) in
+    record {
+      shown = stored.shown;
+      left = λ whole f left.
+          stored.left
+          (λ bytes g there done. let was = but.done g done in was.2.others name apart ∙ whole bytes was.0 (sym (laid_file name a b p apart but) ∙ there) was.1) f left;
+      cleared = stored.cleared;
+      cleared_left = stored.cleared_left;
+    }
+
+-- the same of a name that was spelled
+pub text_leads : (name spelled text : List ℕ) (a b c : Course) → spelled ≡ name → Proceeds a b → Proceeds b c → IsAlone a c → (name ≡ new_name → ⊥) → (IsAlone a b → Leads ButNew a b)
+    → (IsAlone b c → (spelled ≡ new_name → ⊥) → Leads (Keeps ((last_scene b).files spelled) spelled text) b c) → Leads (Keeps ((last_scene a).files name) name text) a c
+text_leads name spelled text a b c is p q alone apart first second =
+    laid_leads name text a b c p q alone apart first (λ later. subst (λ (n : List ℕ). Leads (Keeps ((last_scene b).files n) n text) b c) is (second later (λ same. apart (sym is ∙ same))))
+
+pub text_stored : (name spelled text : List ℕ) (a b c : Course) → spelled ≡ name → Proceeds a b → Proceeds b c → IsAlone a c → (name ≡ new_name → ⊥) → (IsAlone a b → Leads ButNew a b)
+    → (IsAlone b c → (spelled ≡ new_name → ⊥) → IsStored spelled text b c) → IsStored name text a c
+text_stored name spelled text a b c is p q alone apart first second =
+    laid_stored name text a b c p q alone apart first (λ later. subst (λ (n : List ℕ). IsStored n text b c) is (second later (λ same. apart (sym is ∙ same))))
+
+pub clash_same : (name spelled text id sum : List ℕ) (a b : Course) → spelled ≡ name → id ≡ sum → Proceeds a b → (name ≡ new_name → ⊥) → Leads ButNew a b → clashes id ((last_scene b).files spelled) text ≡ clashes sum ((last_scene a).files name) text
+clash_same name spelled text id sum a b is known p apart but =
+    ap (λ (n : List ℕ). clashes id ((last_scene b).files n) text) is
+    ∙ ap (λ (i : List ℕ). clashes i ((last_scene b).files name) text) known
+    ∙ ap (λ (f : Option (List ℕ)). clashes sum f text) (laid_file name a b p apart but)
+
+abbrev id_of : List ℕ → Id20
+id_of bytes = record { 0 = bytes }
+
+decides_as : (A B : Type 0) (clash : Bool) (id : Id20) (fault : StoreFault) → Decides {A = A} clash id (Err fault) → Decides {A = B} clash id (Err fault)
+decides_as A B clash id a_fault.OutOfMemory is = is
+decides_as A B clash id (a_fault.Gone path) is = is
+decides_as A B clash id (a_fault.StoreClash named) is = is
+decides_as A B clash id (a_fault.ManifestTooLarge size) is = is
+decides_as A B clash id a_fault.TreeFailed is = is
+decides_as A B clash id a_fault.ShelfFailed is = is
+
+pub decides_err : (A B : Type 0) (fault : StoreFault) (clash settled : Bool) (id sum : List ℕ) → settled ≡ clash → id ≡ sum → Decides {A = A} settled (record { 0 = id }) (Err fault) → Decides {A = B} clash (record { 0 = sum }) (Err fault)
+decides_err A B fault clash settled id sum same known is =
+    decides_as A B clash (id_of sum) fault (subst (λ (i : List ℕ). Decides {A = A} clash (id_of i) (Err fault)) known (subst (λ (t : Bool). Decides {A = A} t (id_of id) (Err fault)) same is))

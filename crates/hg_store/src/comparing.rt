@@ -8,9 +8,12 @@ ghost use Rattle.hg_store.specs.Standing.{IsStill, standing_of};
 ghost use Rattle.hg_store.specs.Storing.{new_name};
 
 use crate::standing::Standing;
-use crate::writing::{NEW, PIECE};
+use crate::writing::NEW;
 use hg_base::{Failed, Got};
 use hg_shelf::Shelf;
+
+/// How many bytes of each of two files are compared at once.
+pub(crate) const HALF: usize = 32_768;
 
 // As many bytes of a file as there is room for; none where it is absent.
 fn read_piece<S: Shelf>(
@@ -64,8 +67,8 @@ fn same_bytes<S: Shelf>(
     mine: &mut [u8],
     theirs: &mut [u8],
 ) -> Result<bool, Failed>
-    requires mine { length mine.old ≡ 65536 }
-    requires theirs { length theirs.old ≡ 65536 }
+    requires mine { length mine.old ≡ 32768 }
+    requires theirs { length theirs.old ≡ 32768 }
     ensures passes { Passes (S.history shelf.old) (S.history shelf.new) }
     ensures kept { Goes (course (S.history shelf.old) (S.images shelf.old)) (course (S.history shelf.new) (S.images shelf.new)) }
     ensures held { S.held shelf.new ≡ S.held shelf.old }
@@ -77,7 +80,7 @@ fn same_bytes<S: Shelf>(
 {
     let mut place = 0;
     while place < size {
-        let width = (size - place).min(PIECE as u64) as usize;
+        let width = (size - place).min(HALF as u64) as usize;
         if !same_piece(shelf, name, place, &mut mine[..width], &mut theirs[..width])? {
             return Ok(false);
         }
@@ -94,8 +97,8 @@ pub(crate) fn standing<S: Shelf>(
     mine: &mut [u8],
     theirs: &mut [u8],
 ) -> Result<Standing, Failed>
-    requires mine { length mine.old ≡ 65536 }
-    requires theirs { length theirs.old ≡ 65536 }
+    requires mine { length mine.old ≡ 32768 }
+    requires theirs { length theirs.old ≡ 32768 }
     ensures passes { Passes (S.history shelf.old) (S.history shelf.new) }
     ensures kept { Goes (course (S.history shelf.old) (S.images shelf.old)) (course (S.history shelf.new) (S.images shelf.new)) }
     ensures held { S.held shelf.new ≡ S.held shelf.old }

@@ -68,8 +68,8 @@ pub(crate) fn settle<S: Shelf>(
     mine: &mut [u8],
     theirs: &mut [u8],
 ) -> Result<(), StoreFault>
-    requires mine { length mine.old ≡ 65536 }
-    requires theirs { length theirs.old ≡ 65536 }
+    requires mine { length mine.old ≡ 32768 }
+    requires theirs { length theirs.old ≡ 32768 }
     ensures leads { (text : List ℕ) → IsAlone (course (S.history shelf.old) (S.images shelf.old)) (course (S.history shelf.new) (S.images shelf.new)) → IsSure new_name text (course (S.history shelf.old) (S.images shelf.old)) → length text ≡ len → (name.now ≡ new_name → ⊥)
         → Leads (Keeps ((last_scene (course (S.history shelf.old) (S.images shelf.old))).files name.now) name.now text) (course (S.history shelf.old) (S.images shelf.old)) (course (S.history shelf.new) (S.images shelf.new)) }
     ensures decided { (text : List ℕ) → IsAlone (course (S.history shelf.old) (S.images shelf.old)) (course (S.history shelf.new) (S.images shelf.new)) → IsSure new_name text (course (S.history shelf.old) (S.images shelf.old)) → length text ≡ len → Decides (clashes id.0 ((last_scene (course (S.history shelf.old) (S.images shelf.old))).files name.now) text) id result }

@@ -16,8 +16,8 @@ invariant-loop-place g l = record {
   held : g.S.Shelf.held l.shelf ≡ g.S.Shelf.held l.initial.shelf;
   quiet : g.S.Shelf.faults l.shelf ≡ g.S.Shelf.faults l.initial.shelf;
   within : l.place ≤ l.size;
-  mine : length l.mine ≡ 65536;
-  theirs : length l.theirs ≡ 65536;
+  mine : length l.mine ≡ 32768;
+  theirs : length l.theirs ≡ 32768;
 }
 
 abbrev pub decreases-loop-place : goal.decreases-loop-place
