@@ -4,3 +4,4 @@ pub mod Laying
 pub mod Placing
 pub mod Naming
 pub mod Copying
+pub mod Filing

@@ -37,6 +37,15 @@ Decides clash id (Err (a_fault.Gone path)) = ⊥
 Decides clash id (Err (a_fault.ManifestTooLarge size)) = ⊥
 Decides clash id (Err a_fault.TreeFailed) = ⊥
 
+-- a clash of this identifier, or a failure of the shelf
+abbrev pub IsSettleFault : Id20 → StoreFault → Type 0
+IsSettleFault id (a_fault.StoreClash named) = named ≡ id
+IsSettleFault id a_fault.ShelfFailed = Unit {0}
+IsSettleFault id a_fault.OutOfMemory = ⊥
+IsSettleFault id (a_fault.Gone path) = ⊥
+IsSettleFault id (a_fault.ManifestTooLarge size) = ⊥
+IsSettleFault id a_fault.TreeFailed = ⊥
+
 -- the count of the shelf's failures rose where it is named as what failed, and stands as it stood with every other answer
 abbrev pub CountsShelf : {A : Type 0} → ℕ → ℕ → Result A StoreFault → Type 0
 CountsShelf before now (Ok answer) = now ≡ before

@@ -1,8 +1,9 @@
 -- What is taken of a path, each byte at a moment of the call. Of a working copy that tells no moments nothing is said.
-use Rattle.std.specs.Prelude.{ℕ, ◌≡◌, ◌≤◌, ◌<◌, Bool, true, false, List, [], ◌++◌, length, take, slice_get, Option, Some, None, Result, Ok, Err, IsTrue, bytes_eq, replicate}
+use Rattle.std.specs.Prelude.{ℕ, ◌≡◌, ◌≤◌, ◌<◌, ◌⊎◌, Bool, true, false, List, [], ◌++◌, length, take, slice_get, Option, Some, None, Result, Ok, Err, IsTrue, bytes_eq, replicate}
 use Rattle.sha1.specs.Sha1.{Holds, sha1}
 use Rattle.sha1.specs.declared.Sha1.{Sha1}
 use Rattle.hg_base.specs.Fault.{Rose}
+use Rattle.hg_base.specs.declared.id.Id20.{Id20}
 use Rattle.hg_base.specs.declared.stat.Kind.{Kind}
 use Rattle.hg_base.specs.declared.stat.Kind.TheVariants as a_kind
 use Rattle.hg_base.specs.declared.stat.Stat.{Stat}
@@ -81,51 +82,81 @@ WritesAll path size tree_old tree_new old new (Err fault) = Unit {0}
 
 -- ---- what storing a path answers
 
--- the row's flag is that of the look
-abbrev pub IsRowOf : FileRow → Kind → Bool → Type 0
-IsRowOf row a_kind.File exec = (row.link ≡ false) × (row.exec ≡ exec)
-IsRowOf row a_kind.Link exec = (row.link ≡ true) × (row.exec ≡ exec)
-IsRowOf row a_kind.Dir exec = ⊥
-IsRowOf row a_kind.Other exec = ⊥
+-- what stands there is a file, or a link
+abbrev pub IsFlag : Bool → Kind → Type 0
+IsFlag link kind = ((kind ≡ a_kind.File) × (link ≡ false)) ⊎ ((kind ≡ a_kind.Link) × (link ≡ true))
 
--- a look, and what was taken by its size
-pub record IsRead (path text : List ℕ) (stat : Stat) (old new : History) : Type 0 where
-  pub looked : Shows old new (λ moment. stat_at moment path ≡ Some stat)
-  pub taken : IsTaken path text stat.size old new
-
--- a path is stored: the row has the SHA-1 of what was read and the flag of the look, that SHA-1 isn't the null identifier, the bytes stand under it, and
--- no other bytes stood there
-pub record IsRow (path text : List ℕ) (tree_old tree_new : History) (old new : Course) (row : FileRow) : Type 0 where
-  pub stat : Stat
-  pub read : IsRead path text stat tree_old tree_new
-  pub flag : IsRowOf row stat.kind stat.exec
-  pub id : row.id.0 ≡ sha1 text
+-- a text is kept: it was taken, the answer is its SHA-1 and not the null identifier, the bytes stand under it, and no other bytes stood there
+pub record IsKept (path text : List ℕ) (size : ℕ) (tree_old tree_new : History) (old new : Course) (id : List ℕ) : Type 0 where
+  pub taken : IsTaken path text size tree_old tree_new
+  pub id_is : id ≡ sha1 text
   pub known : bytes_eq (sha1 text) (replicate 20 0) ≡ false
   pub stored : IsAlone old new → IsStored (contents_name (sha1 text)) text old new
   pub fits : IsAlone old new → clashes (sha1 text) ((last_scene old).files (contents_name (sha1 text))) text ≡ false
 
--- a path clashed: what was read has the SHA-1 that is named, and can't be stored under it
-pub record IsClash (path text : List ℕ) (tree_old tree_new : History) (old new : Course) (id : List ℕ) : Type 0 where
-  pub stat : Stat
-  pub read : IsRead path text stat tree_old tree_new
+-- a text is refused: it was taken, its SHA-1 is named, and it can't be stored under that
+pub record IsRefused (path text : List ℕ) (size : ℕ) (tree_old tree_new : History) (old new : Course) (id : List ℕ) : Type 0 where
+  pub taken : IsTaken path text size tree_old tree_new
   pub id_is : id ≡ sha1 text
   pub clash : IsAlone old new → clashes (sha1 text) ((last_scene old).files (contents_name (sha1 text))) text ≡ true
+
+-- a fault of a device alone
+abbrev pub IsDevice : StoreFault → Type 0
+IsDevice a_fault.TreeFailed = Unit {0}
+IsDevice a_fault.ShelfFailed = Unit {0}
+IsDevice a_fault.OutOfMemory = ⊥
+IsDevice (a_fault.Gone path) = ⊥
+IsDevice (a_fault.StoreClash id) = ⊥
+IsDevice (a_fault.ManifestTooLarge size) = ⊥
+
+-- what storing so many bytes of a path answers, by the text that was read
+abbrev pub AnswersSized : List ℕ → List ℕ → ℕ → History → History → Course → Course → Result Id20 StoreFault → Type 0
+AnswersSized path text size tree_old tree_new old new (Ok id) = IsKept path text size tree_old tree_new old new id.0
+AnswersSized path text size tree_old tree_new old new (Err a_fault.OutOfMemory) = Unit {0}
+AnswersSized path text size tree_old tree_new old new (Err (a_fault.Gone gone)) = (gone ≡ path) × SeesNone path tree_old tree_new
+AnswersSized path text size tree_old tree_new old new (Err (a_fault.StoreClash id)) = IsRefused path text size tree_old tree_new old new id.0
+AnswersSized path text size tree_old tree_new old new (Err (a_fault.ManifestTooLarge most)) = ⊥
+AnswersSized path text size tree_old tree_new old new (Err a_fault.TreeFailed) = Unit {0}
+AnswersSized path text size tree_old tree_new old new (Err a_fault.ShelfFailed) = Unit {0}
+
+-- of the files below `.hg` only the new one and the plain file of what was read were touched
+abbrev pub LeadsFile : List ℕ → Course → Course → Type 0
+LeadsFile text old new = IsAlone old new → Leads (Keeps ((last_scene old).files (contents_name (sha1 text))) (contents_name (sha1 text)) text) old new
+
+pub record StoresSized (path : List ℕ) (size : ℕ) (tree_old tree_new : History) (old new : Course) (result : Result Id20 StoreFault) : Type 0 where
+  pub text : List ℕ
+  pub answer : AnswersSized path text size tree_old tree_new old new result
+  pub leads : LeadsFile text old new
+
+-- a path is stored: the row's flag is that of a look, and as many bytes are kept as it stated
+pub record IsRow (path text : List ℕ) (tree_old tree_new : History) (old new : Course) (row : FileRow) : Type 0 where
+  pub stat : Stat
+  pub looked : Shows tree_old tree_new (λ moment. stat_at moment path ≡ Some stat)
+  pub flag : IsFlag row.link stat.kind
+  pub exec : row.exec ≡ stat.exec
+  pub kept : IsKept path text stat.size tree_old tree_new old new row.id.0
+
+-- a path clashed, by as many bytes as a look stated
+pub record IsClash (path text : List ℕ) (tree_old tree_new : History) (old new : Course) (id : List ℕ) : Type 0 where
+  pub stat : Stat
+  pub looked : Shows tree_old tree_new (λ moment. stat_at moment path ≡ Some stat)
+  pub refused : IsRefused path text stat.size tree_old tree_new old new id
 
 -- what storing a path answers, by the text that it read; want of memory and a device that failed say nothing of it
 abbrev pub Answers : List ℕ → List ℕ → History → History → Course → Course → Result FileRow StoreFault → Type 0
 Answers path text tree_old tree_new old new (Ok row) = IsRow path text tree_old tree_new old new row
 Answers path text tree_old tree_new old new (Err a_fault.OutOfMemory) = Unit {0}
-Answers path text tree_old tree_new old new (Err (a_fault.Gone gone)) = (gone ≡ path) × SeesNone path tree_old tree_new
+Answers path text tree_old tree_new old new (Err (a_fault.Gone gone)) = (gone ≡ path) × Shows tree_old tree_new (λ moment. bytes_at moment path ≡ None)
 Answers path text tree_old tree_new old new (Err (a_fault.StoreClash id)) = IsClash path text tree_old tree_new old new id.0
 Answers path text tree_old tree_new old new (Err (a_fault.ManifestTooLarge size)) = ⊥
 Answers path text tree_old tree_new old new (Err a_fault.TreeFailed) = Unit {0}
 Answers path text tree_old tree_new old new (Err a_fault.ShelfFailed) = Unit {0}
 
--- a path was stored, or wasn't: of the files below `.hg` only the new one and the plain file of what was read were touched
+-- a path was stored, or wasn't
 pub record StoresFile (path : List ℕ) (tree_old tree_new : History) (old new : Course) (result : Result FileRow StoreFault) : Type 0 where
   pub text : List ℕ
   pub answer : Answers path text tree_old tree_new old new result
-  pub leads : IsAlone old new → Leads (Keeps ((last_scene old).files (contents_name (sha1 text))) (contents_name (sha1 text)) text) old new
+  pub leads : LeadsFile text old new
 
 -- the count of the working copy's failures rose where it is named as what failed, and stands as it stood with every other answer
 abbrev pub CountsTree : {A : Type 0} → ℕ → ℕ → Result A StoreFault → Type 0

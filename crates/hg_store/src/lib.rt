@@ -3,6 +3,7 @@
 
 mod comparing;
 mod fault;
+mod file;
 mod names;
 mod settling;
 mod standing;
@@ -11,3 +12,4 @@ mod text;
 mod writing;
 
 pub use fault::StoreFault;
+pub use file::store_file;

@@ -1,11 +1,11 @@
 //! Taking a path piece by piece, and writing each piece as it is taken.
 
-ghost use Rattle.std.specs.Prelude.{◌≡◌, ◌++◌, ◌≤◌, [], ℕ, List, IsTrue, length, take, OnOk};
+ghost use Rattle.std.specs.Prelude.{◌≡◌, ◌++◌, ◌≤◌, [], ℕ, List, IsTrue, length, take, OnOk, IfErr};
 ghost use Rattle.hg_base.specs.Fault.{HasCause};
 ghost use Rattle.hg_shelf.specs.Images.{course};
 ghost use Rattle.hg_store.specs.Standing.{CountsShelf};
 ghost use Rattle.hg_store.specs.Storing.{ButNew, IsAlone, IsLaid, Leads, Proceeds};
-ghost use Rattle.hg_store.specs.Taking.{CopiesAll, CountsTree, OnTaken, TakesPiece, WritesAll};
+ghost use Rattle.hg_store.specs.Taking.{CopiesAll, CountsTree, IsDevice, OnTaken, TakesPiece, WritesAll};
 ghost use Rattle.hg_tree.specs.History.{Passes};
 ghost use Rattle.sha1.specs.Sha1.{Holds};
 
@@ -31,6 +31,7 @@ fn take_piece<T: Tree>(
     room: &mut [u8],
 ) -> Result<Option<usize>, StoreFault>
     ensures tree_passes { Passes (T.history tree.old) (T.history tree.new) }
+    ensures kind { IfErr result IsDevice }
     ensures tree_count { CountsTree (T.faults tree.old) (T.faults tree.new) result }
     ensures found { TakesPiece (T.history tree.new) path.entry.text.now place (length room.old) room.new result }
     ensures shelf_still { (faults : ℕ) → CountsShelf faults faults result }
@@ -74,6 +75,7 @@ fn copy_piece<T: Tree, S: Shelf>(
     hasher: &mut Sha1,
 ) -> Result<Option<usize>, StoreFault>
     ensures tree_passes { Passes (T.history tree.old) (T.history tree.new) }
+    ensures kind { IfErr result IsDevice }
     ensures tree_count { CountsTree (T.faults tree.old) (T.faults tree.new) result }
     ensures found { TakesPiece (T.history tree.new) path.entry.text.now place (length room.old) room.new result }
     ensures leads { IsAlone (course (S.history shelf.old) (S.images shelf.old)) (course (S.history shelf.new) (S.images shelf.new)) → Leads ButNew (course (S.history shelf.old) (S.images shelf.old)) (course (S.history shelf.new) (S.images shelf.new)) }
@@ -104,6 +106,7 @@ fn copy<T: Tree, S: Shelf>(
 ) -> Result<Option<u64>, StoreFault>
     requires { length room.old ≡ 65536 }
     ensures tree_passes { Passes (T.history tree.old) (T.history tree.new) }
+    ensures kind { IfErr result IsDevice }
     ensures tree_count { CountsTree (T.faults tree.old) (T.faults tree.new) result }
     ensures copied { CopiesAll path.entry.text.now size (T.history tree.old) (T.history tree.new) (course (S.history shelf.old) (S.images shelf.old)) (course (S.history shelf.new) (S.images shelf.new)) hasher.old hasher.new result }
     ensures leads { IsAlone (course (S.history shelf.old) (S.images shelf.old)) (course (S.history shelf.new) (S.images shelf.new)) → Leads ButNew (course (S.history shelf.old) (S.images shelf.old)) (course (S.history shelf.new) (S.images shelf.new)) }
@@ -139,6 +142,7 @@ pub(crate) fn write_file<T: Tree, S: Shelf>(
 ) -> Result<Option<Taken>, StoreFault>
     requires { length room.old ≡ 65536 }
     ensures tree_passes { Passes (T.history tree.old) (T.history tree.new) }
+    ensures kind { IfErr result IsDevice }
     ensures tree_count { CountsTree (T.faults tree.old) (T.faults tree.new) result }
     ensures written { WritesAll path.entry.text.now size (T.history tree.old) (T.history tree.new) (course (S.history shelf.old) (S.images shelf.old)) (course (S.history shelf.new) (S.images shelf.new)) result }
     ensures leads { IsAlone (course (S.history shelf.old) (S.images shelf.old)) (course (S.history shelf.new) (S.images shelf.new)) → Leads ButNew (course (S.history shelf.old) (S.images shelf.old)) (course (S.history shelf.new) (S.images shelf.new)) }
