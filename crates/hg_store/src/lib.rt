@@ -4,7 +4,9 @@
 mod comparing;
 mod fault;
 mod file;
+mod manifest;
 mod names;
+mod rows;
 mod settling;
 mod standing;
 mod taking;
@@ -13,3 +15,5 @@ mod writing;
 
 pub use fault::StoreFault;
 pub use file::store_file;
+pub use manifest::store_manifest;
+pub use rows::{NewRow, NewRows};

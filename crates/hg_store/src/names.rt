@@ -41,8 +41,8 @@ fn front_of(plain: Plain) -> [u8; 8]
     }
 }
 
-// The forty digits of an identifier.
-fn digits_of(id: &Id20) -> [u8; 40]
+/// The forty digits of an identifier.
+pub(crate) fn digits_of(id: &Id20) -> [u8; 40]
     ensures { result ≡ encode_lower id.now.0 }
 {
     let mut digits = [0; 40];
