@@ -5,3 +5,5 @@ pub mod Placing
 pub mod Naming
 pub mod Copying
 pub mod Filing
+pub mod Lines
+pub mod Manifesting

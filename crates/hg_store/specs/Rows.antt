@@ -17,7 +17,7 @@ flag_of row = if row.link then 108 ∷ [] else (if row.exec then 120 ∷ [] else
 
 -- the line of a row: its path, a NUL, the digits of its identifier, its flag and a line feed
 abbrev pub line_of : NewRow → List ℕ
-line_of row = row.path ++ 0 ∷ encode_lower row.row.id.0 ++ flag_of row.row ++ 10 ∷ []
+line_of row = row.path ++ (0 ∷ (encode_lower row.row.id.0 ++ (flag_of row.row ++ (10 ∷ []))))
 
 -- the lines, one behind another
 unfoldable pub text_of : List NewRow → List ℕ

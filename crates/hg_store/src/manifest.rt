@@ -38,7 +38,11 @@ fn flag_of(row: &FileRow) -> &'static [u8]
 fn line_len(row: &NewRow) -> u64
     ensures { result ≡ length (line_of row.now) }
 {
-    row.path.as_ref().as_str().len() as u64 + 42 + flag_of(&row.row).len() as u64
+    let digits = digits_of(&row.row.id);
+    row.path.as_ref().as_str().len() as u64
+        + digits.len() as u64
+        + flag_of(&row.row).len() as u64
+        + 2
 }
 
 // How many bytes the lines have, at most 2^64 - 1.
