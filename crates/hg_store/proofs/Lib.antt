@@ -7,3 +7,4 @@ pub mod Copying
 pub mod Filing
 pub mod Lines
 pub mod Manifesting
+pub mod ReadingBack

@@ -4,6 +4,7 @@
 mod comparing;
 mod fault;
 mod file;
+mod laws;
 mod manifest;
 mod names;
 mod rows;
@@ -15,5 +16,6 @@ mod writing;
 
 pub use fault::StoreFault;
 pub use file::store_file;
+pub use laws::what_is_written_is_read;
 pub use manifest::store_manifest;
 pub use rows::{NewRow, NewRows};
