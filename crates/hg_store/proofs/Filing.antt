@@ -1,6 +1,6 @@
 -- What storing a path answers, by what its parts answer.
-use Rattle.std.proofs.Common.{◌≡◌, ℕ, ◌+◌, ◌<◌, ◌≤◌, List, [], length, Option, Some, None, Bool, true, false, refl, sym, ap, ◌∙◌, subst, arith, inl, inr, ◌⊎◌, Result, Ok, Err}
-use Rattle.std.specs.Prelude.{IsTrue, bytes_eq, replicate, option_map}
+use Rattle.std.proofs.Common.{◌≡◌, ℕ, List, Option, Some, None, Bool, refl, sym, ap, ◌∙◌, subst, arith, inl, inr, ◌⊎◌, Result, Ok, Err}
+use Rattle.std.specs.Prelude.{IsTrue, option_map}
 use Rattle.std.specs.Option.{option_and_then}
 use Rattle.sha1.specs.Sha1.{sha1}
 use Rattle.hg_base.specs.declared.id.Id20.{Id20}
@@ -11,14 +11,13 @@ use Rattle.hg_compare.specs.Alike.{contents_name}
 use Rattle.hg_manifest.specs.declared.row.FileRow.{FileRow}
 use Rattle.hg_shelf.specs.Images.{Course, last_scene}
 use Rattle.hg_tree.specs.History.{History, Passes, now}
-use Rattle.hg_tree.specs.Moment.{Moment, bytes_at, bytes_of, kind_of, stat_at, stat_of}
+use Rattle.hg_tree.specs.Moment.{Moment, bytes_of, kind_of, stat_at, stat_of}
 use Rattle.hg_tree.specs.declared.thing.Placed.{Placed}
 use Rattle.hg_tree.specs.declared.thing.Thing.{Thing}
 use Rattle.hg_tree.specs.declared.thing.Thing.TheVariants as a_thing
-use Rattle.hg_compare.specs.Seen.{HasByte}
-use Rattle.hg_store.specs.Standing.{Decides, IsSettleFault, clashes}
-use Rattle.hg_store.specs.Storing.{ButNew, IsAlone, IsStored, Keeps, Leads, new_name}
-use Rattle.hg_store.specs.Taking.{Answers, AnswersSized, EndsAt, IsClash, IsDevice, IsFlag, IsKept, IsRefused, IsRow, IsTaken, LeadsFile, SeesNone, Shows, StoresFile, StoresSized}
+use Rattle.hg_store.specs.Standing.{Decides, IsSettleFault, OnClash, clashes}
+use Rattle.hg_store.specs.Storing.{ButNew, IsAlone, Keeps, Leads, new_name}
+use Rattle.hg_store.specs.Taking.{Answers, AnswersSized, IsDevice, IsFlag, IsTaken, LeadsFile, SeesNone, Shows, StoresFile, StoresSized}
 use Rattle.hg_store.specs.declared.fault.StoreFault.{StoreFault}
 use Rattle.hg_store.specs.declared.fault.StoreFault.TheVariants as a_fault
 use Rattle.hg_store.specs.declared.names.Plain.TheVariants as a_plain
@@ -53,14 +52,14 @@ gone_answer path text th tn a b fault (inl is) none = subst (λ (f : StoreFault)
 gone_answer path text th tn a b fault (inr is) none = subst (λ (f : StoreFault). Answers path text th tn a b (Err f)) (sym is) (refl, none)
 
 pub settled_answer : (path text : List ℕ) (size : ℕ) (th tn : History) (a b : Course) (id : Id20) (fault : StoreFault) → IsSettleFault id fault → id.0 ≡ sha1 text → IsTaken path text size th tn
-    → (IsAlone a b → Decides {A = Id20} (clashes (sha1 text) ((last_scene a).files (contents_name (sha1 text))) text) (record { 0 = sha1 text }) (Err fault)) → AnswersSized path text size th tn a b (Err fault)
-settled_answer path text size th tn a b id a_fault.OutOfMemory is known taken decides = absurd is
-settled_answer path text size th tn a b id (a_fault.Gone gone) is known taken decides = absurd is
-settled_answer path text size th tn a b id (a_fault.StoreClash named) is known taken decides =
-    record { taken = taken; id_is = ap (λ (i : Id20). i.0) is ∙ known; clash = λ alone. (decides alone).1 }
-settled_answer path text size th tn a b id (a_fault.ManifestTooLarge most) is known taken decides = absurd is
-settled_answer path text size th tn a b id a_fault.TreeFailed is known taken decides = absurd is
-settled_answer path text size th tn a b id a_fault.ShelfFailed is known taken decides = tt
+    → (IsAlone a b → Decides {A = Id20} (clashes (sha1 text) ((last_scene a).files (contents_name (sha1 text))) text) (record { 0 = sha1 text }) (Err fault)) → (IsAlone a b → OnClash {A = Id20} ((last_scene b).files new_name ≡ None) (Err fault)) → AnswersSized path text size th tn a b (Err fault)
+settled_answer path text size th tn a b id a_fault.OutOfMemory is known taken decides left = absurd is
+settled_answer path text size th tn a b id (a_fault.Gone gone) is known taken decides left = absurd is
+settled_answer path text size th tn a b id (a_fault.StoreClash named) is known taken decides left =
+    record { taken = taken; id_is = ap (λ (i : Id20). i.0) is ∙ known; clash = λ alone. (decides alone).1; cleared = left }
+settled_answer path text size th tn a b id (a_fault.ManifestTooLarge most) is known taken decides left = absurd is
+settled_answer path text size th tn a b id a_fault.TreeFailed is known taken decides left = absurd is
+settled_answer path text size th tn a b id a_fault.ShelfFailed is known taken decides left = tt
 
 -- ---- a row
 
@@ -116,7 +115,7 @@ answers_later c path text x y (Err (a_fault.Gone gone)) p is = (is.0, shows_seco
 answers_later c path text x y (Err (a_fault.StoreClash id)) p is = record {
   stat = is.stat;
   looked = shows_second _ p is.looked;
-  refused = record { taken = taken_later path text is.stat.size p is.refused.taken; id_is = is.refused.id_is; clash = is.refused.clash };
+  refused = record { taken = taken_later path text is.stat.size p is.refused.taken; id_is = is.refused.id_is; clash = is.refused.clash; cleared = is.refused.cleared };
 }
 answers_later c path text x y (Err (a_fault.ManifestTooLarge most)) p is = is
 answers_later c path text x y (Err a_fault.TreeFailed) p is = tt

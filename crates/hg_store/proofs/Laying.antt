@@ -1,15 +1,15 @@
 -- What calls on the new file alone lead to.
-use Rattle.std.proofs.Common.{◌≡◌, ◌≤◌, ℕ, ◌+◌, ◌-◌, List, [], ◌∷◌, ◌++◌, length, take, drop, replicate, Option, Some, None, Bool, true, false, cond, refl, sym, ◌∙◌, ap, subst, arith, inl, inr, ◌⊎◌, zero, suc, Result, Ok, Err}
+use Rattle.std.proofs.Common.{◌≡◌, ◌≤◌, ℕ, ◌+◌, ◌-◌, List, [], ◌++◌, length, take, drop, replicate, Option, Some, None, Bool, cond, refl, sym, ◌∙◌, ap, subst, arith, inl, inr, ◌⊎◌, Result, Ok, Err}
 use Rattle.std.specs.Result.{OnErr, OnOk}
 use Rattle.std.proofs.lemmas.List.{append-nil, take_all, drop_all}
 use Rattle.hg_shelf.specs.History.{Files, Passes}
-use Rattle.hg_shelf.specs.Images.{Acts, Course, Goes, Scene, last_scene, scene}
-use Rattle.hg_shelf.specs.Rules.{Changes, Perhaps, Removes, Surely, Syncs, Tears, TornAt, TornFile, Torn, Writes, Written, content, overwritten, without}
-use Rattle.hg_shelf.specs.Torn.{other_name, same_name, torn_over}
+use Rattle.hg_shelf.specs.Images.{Acts, Course, Scene, last_scene, scene}
+use Rattle.hg_shelf.specs.Rules.{Changes, Perhaps, Removes, Surely, Syncs, Tears, TornAt, TornFile, Writes, Written, content, overwritten, without}
+use Rattle.hg_shelf.specs.Torn.{other_name, same_name}
 use Rattle.hg_shelf.proofs.Scenes.{acts, starts, syncs}
 use Rattle.hg_store.specs.Storing.{ButNew, IsAlone, IsCleared, IsLaid, IsSure, Leads, Proceeds, new_name}
 use Rattle.hg_store.proofs.Reading.{take_piece}
-use Rattle.hg_store.proofs.Leading.{IsPassed, Moves, Shown, moved_leads, passed, passed_leads, stepped}
+use Rattle.hg_store.proofs.Leading.{Moves, Shown, moved_leads, passed, passed_leads, stepped}
 
 pub but_same : (f : Files) → ButNew f f
 but_same f = record { others = λ at apart. refl }
@@ -116,7 +116,7 @@ pub sync_sure : (text : List ℕ) (a b : Course) → IsAlone a b → Proceeds a 
 sync_sure text a b alone p own there =
     let known : (f : Files) → Shown a f → f new_name ≡ Some text = λ f is. ap (λ (g : Files). g new_name) is ∙ there in
     let carried = acts (Syncs new_name) a b (Shown a) (last_scene a).leaves (last_scene a).named (Shown a) (λ f. (last_scene a).leaves f × (f new_name ≡ Some text)) (last_scene a).named alone.ours p.ours p.goes own alone.calm.others (starts a alone.ours).knows
-        (λ k rule knows. syncs new_name text (scene b k) (scene b (k + 1)) (Shown a) (last_scene a).leaves (last_scene a).named known rule knows) in
+    (λ k rule knows. syncs new_name text (scene b k) (scene b (k + 1)) (Shown a) (last_scene a).leaves (last_scene a).named known rule knows) in
     record { shown = known (last_scene b).files carried.knows.shown; left = λ f is. (carried.knows.left f is).1 }
 
 pub write_leads : {T E : Type 0} (place : ℕ) (bytes : List ℕ) (a b : Course) → IsAlone a b → Proceeds a b → (r : Result T E) → OnOk r (Acts (Writes new_name place bytes) a b) → OnErr r (Acts (Tears new_name place bytes) a b ⊎ Passes a.history b.history) → Leads ButNew a b

@@ -1,12 +1,12 @@
 -- What a call leads to, by the steps that it makes and those of others beside them.
-use Rattle.std.proofs.Common.{◌≡◌, ◌≤◌, ℕ, ◌+◌, List, Option, Some, None, refl, sym, ◌∙◌, ap, subst, arith, inl, inr, ◌⊎◌, Result, Ok, Err}
+use Rattle.std.proofs.Common.{◌≡◌, ◌≤◌, ℕ, ◌+◌, refl, sym, ◌∙◌, subst, arith, inl, inr, ◌⊎◌, Result, Ok, Err}
 use Rattle.std.specs.Result.{OnErr, OnOk}
 use Rattle.std.proofs.lemmas.Bool.{cases_lt}
 use Rattle.hg_shelf.specs.History.{Files, Passes}
-use Rattle.hg_shelf.specs.Images.{Acts, Course, Goes, Remains, Scene, last_scene, scene}
+use Rattle.hg_shelf.specs.Images.{Acts, Course, Goes, Scene, last_scene, scene}
 use Rattle.hg_shelf.specs.Rules.{Changes, SyncsNames}
-use Rattle.hg_shelf.proofs.Scenes.{Carried, Knows, acts, changes, first_part, goes_same, goes_trans, passes, second_part, starts, syncs_names}
-use Rattle.hg_store.specs.Storing.{IsAlone, IsWhole, Leads, Proceeds}
+use Rattle.hg_shelf.proofs.Scenes.{Carried, acts, changes, first_part, goes_same, goes_trans, passes, second_part, starts, syncs_names}
+use Rattle.hg_store.specs.Storing.{IsAlone, Leads, Proceeds}
 
 -- ---- parts of a call
 
@@ -154,7 +154,7 @@ pub record AreSure (a b : Course) : Type 0 where
 pub names_sure : (a b : Course) → IsAlone a b → Proceeds a b → Acts SyncsNames a b → AreSure a b
 names_sure a b alone p own =
     let carried = acts SyncsNames a b (Shown a) (last_scene a).leaves (last_scene a).named (Shown a) (last_scene a).named (last_scene a).named alone.ours p.ours p.goes own alone.calm.others (starts a alone.ours).knows
-        (λ k rule knows. syncs_names (scene b k) (scene b (k + 1)) (Shown a) (last_scene a).leaves (last_scene a).named rule knows) in
+    (λ k rule knows. syncs_names (scene b k) (scene b (k + 1)) (Shown a) (last_scene a).leaves (last_scene a).named rule knows) in
     record { shown = carried.knows.shown; left = carried.knows.left }
 
 -- ---- answers

@@ -1,5 +1,5 @@
 -- What storing a manifest answers, by what storing its text does.
-use Rattle.std.proofs.Common.{◌≡◌, ◌≤◌, ℕ, List, length, Bool, false, true, ap, subst, Result, Ok, Err}
+use Rattle.std.proofs.Common.{◌≡◌, ◌≤◌, ℕ, List, length, Bool, false, ap, subst, Result, Ok, Err}
 use Rattle.std.specs.Prelude.{IfOk, IfErr, OnOk, bytes_eq, replicate}
 use Rattle.sha1.specs.Sha1.{sha1}
 use Rattle.hg_base.specs.declared.id.Id20.{Id20}

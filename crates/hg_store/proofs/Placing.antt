@@ -2,19 +2,19 @@
 use Rattle.std.specs.Prelude.{bytes_eq, not, ◌||◌}
 use Rattle.std.proofs.lemmas.Bool.{false≢true}
 use Rattle.std.specs.Result.{OnErr, OnOk}
-use Rattle.std.proofs.Common.{◌≡◌, ◌≤◌, ℕ, ◌+◌, List, Option, Some, None, IsSome, Bool, true, false, cond, refl, sym, ◌∙◌, ap, subst, arith, inl, inr, ◌⊎◌, Result, Ok, Err}
+use Rattle.std.proofs.Common.{◌≡◌, ℕ, List, Option, Some, None, IsSome, Bool, true, false, cond, refl, sym, ◌∙◌, ap, subst, inl, inr, ◌⊎◌, Result, Ok, Err}
 use Rattle.std.proofs.lemmas.Slice.Eq.{bytes_eq-Decides}
 use Rattle.hg_shelf.specs.History.{Files, Passes}
-use Rattle.hg_shelf.specs.Images.{Acts, Course, Goes, Scene, last_scene, scene}
-use Rattle.hg_shelf.specs.Rules.{Changes, Perhaps, Renames, Surely, SyncsNames, moved}
+use Rattle.hg_shelf.specs.Images.{Acts, Course, Goes, last_scene, scene}
+use Rattle.hg_shelf.specs.Rules.{Perhaps, Renames, Surely, SyncsNames, moved}
 use Rattle.hg_shelf.specs.Torn.{other_name, same_name}
 use Rattle.hg_base.specs.declared.id.Id20.{Id20}
 use Rattle.hg_store.specs.Standing.{Decides, IsStill, clashes, is_other, standing_of}
 use Rattle.hg_store.specs.declared.fault.StoreFault.{StoreFault}
 use Rattle.hg_store.specs.declared.fault.StoreFault.TheVariants as a_fault
 use Rattle.hg_store.specs.declared.standing.Standing.TheVariants as a_standing
-use Rattle.hg_store.specs.Storing.{ButNew, IsAlone, IsCleared, IsSure, IsStored, IsWhole, Keeps, Leads, Proceeds, new_name}
-use Rattle.hg_store.proofs.Leading.{AreSure, IsPassed, Moves, alone_first, alone_second, leads_last, leads_trans, leads_weaker, moved_leads, names_leads, names_sure, passed, passed_leads, stepped}
+use Rattle.hg_store.specs.Storing.{ButNew, IsAlone, IsCleared, IsSure, IsStored, Keeps, Leads, Proceeds, new_name}
+use Rattle.hg_store.proofs.Leading.{IsPassed, Moves, alone_first, alone_second, leads_last, leads_trans, leads_weaker, moved_leads, names_leads, names_sure, passed, passed_leads, stepped}
 
 pub keeps_same : (before : Option (List ℕ)) (name text : List ℕ) (f : Files) → Keeps before name text f f
 keeps_same before name text f = record { others = λ at apart away. refl; own = inl refl }

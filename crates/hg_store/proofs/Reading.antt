@@ -1,5 +1,5 @@
 -- What is read of a file that stays as it is.
-use Rattle.std.proofs.Common.{◌≡◌, ℕ, ◌+◌, ◌-◌, ◌<◌, ◌≤◌, min, List, [], ◌∷◌, ◌++◌, length, take, drop, Option, Some, None, Bool, true, false, refl, sym, ap, ◌∙◌, subst, arith, inl, inr, zero, suc, MatchBool, cond}
+use Rattle.std.proofs.Common.{◌≡◌, ℕ, ◌+◌, ◌-◌, ◌≤◌, List, [], ◌∷◌, ◌++◌, length, take, drop, Option, Some, None, Bool, true, false, refl, sym, ap, ◌∙◌, subst, arith, inl, inr, zero, suc, MatchBool, cond}
 use Rattle.std.proofs.lemmas.Bool.{cases_lt, false≢true, false_from_ne_true}
 use Rattle.std.proofs.Math.Seq.{take-nil}
 use Rattle.std.proofs.lemmas.List.{length-drop, length-take, take_all, take-append-le, take-take}
@@ -9,7 +9,6 @@ use Rattle.std.specs.Prelude.{IsTrue}
 use Rattle.hg_base.specs.Reads.{ReadsBytes, ReadsPast}
 use Rattle.hg_base.specs.declared.stat.Got.TheVariants as a_got
 use Rattle.hg_shelf.specs.History.{Files, History, Passes, now}
-use Rattle.hg_shelf.proofs.Histories.{passes_trans}
 use Rattle.hg_shelf.specs.Reads.{size_of}
 use Rattle.hg_store.specs.Standing.{IsStill, standing_of}
 use Rattle.hg_store.specs.declared.standing.Standing.TheVariants as a_standing

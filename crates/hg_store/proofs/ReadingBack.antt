@@ -1,18 +1,19 @@
 -- Rows that ascend are read back from their text.
 use Rattle.std.proofs.Common.{◌≡◌, ℕ, zero, suc, ◌+◌, ◌≤◌, ◌<◌, Bool, true, false, cond, List, [], ◌∷◌, ◌++◌, length, map, take, drop, Option, Some, None, Ok, refl, sym, ap, ◌∙◌, subst, arith}
-use Rattle.std.specs.Prelude.{◌||◌, ◌&&◌, ◌==◌, All, if◌then◌else◌}
-use Rattle.std.specs.List.{before_first, after_first, position_or_len}
+use Rattle.std.specs.Prelude.{◌||◌, ◌&&◌, ◌==◌, not, nat_le, codes, All}
+use Rattle.std.specs.List.{before_first, after_first, list_all, onto_first, position_or_len}
 use Rattle.std.proofs.lemmas.Bool.{false≢true}
 use Rattle.std.proofs.lemmas.List.{append_assoc, drop_at, length-append, take_at}
 use Rattle.std.proofs.lemmas.List.Elements.{All-head, All-tail}
 use Rattle.hex.specs.Hex.{encode_lower, lower_digits}
 use Rattle.hex.proofs.HexLemmas.{decode_sized-encode_lower, length-encode_with}
-use Rattle.hg_base.specs.PathText.{has_nul}
+use Rattle.hg_base.specs.PathText.{components, has_nul, has_slash, is_component, is_path, is_reserved}
+use Rattle.std.specs.Str.{bytes_eq, is_utf8}
+use Rattle.std.proofs.lemmas.Bool.Decides.{nat_tests}
 use Rattle.hg_base.specs.declared.id.Id20.{Id20}
 use Rattle.hg_manifest.specs.Line as line
-use Rattle.hg_manifest.specs.Rows.{is_before, manifest_of, rows_at, rows_from, with_row}
-use Rattle.hg_manifest.specs.declared.row.FileRow.{FileRow}
-use Rattle.hg_store.specs.Rows.{AreReadBack, IsSayable, ascend, flag_of, line_of, said, text_of}
+use Rattle.hg_manifest.specs.Rows.{is_before, rows_at, rows_from, with_row}
+use Rattle.hg_store.specs.Rows.{AreReadBack, IsSayable, ascend, flag_of, said, text_of}
 use Rattle.hg_store.specs.declared.rows.NewRow.{NewRow}
 
 or_first : (x y : Bool) → (x || y) ≡ false → x ≡ false
@@ -30,6 +31,65 @@ and_first false y h = absurd (false≢true h)
 and_second : (x y : Bool) → (x && y) ≡ true → y ≡ true
 and_second true y h = h
 and_second false y h = absurd (false≢true h)
+
+both : (x y : Bool) → x ≡ true → y ≡ true → (x && y) ≡ true
+both true y p q = q
+both false y p q = absurd (false≢true p)
+
+neither : (x y : Bool) → x ≡ false → y ≡ false → (x || y) ≡ false
+neither true y p q = absurd (false≢true (sym p))
+neither false y p q = q
+
+-- ---- a path has no NUL
+
+not_true : (x : Bool) → not x ≡ true → x ≡ false
+not_true true h = absurd (false≢true h)
+not_true false h = refl
+
+-- no piece has one
+abbrev lacks : List (List ℕ) → Bool
+lacks pieces = list_all (λ name. not (has_nul name)) pieces
+
+component_lacks : (x n s : Bool) → not (x || n || s) ≡ true → not n ≡ true
+component_lacks x false s h = refl
+component_lacks true true true h = h
+component_lacks true true false h = h
+component_lacks false true true h = h
+component_lacks false true false h = h
+
+all_lack : (pieces : List (List ℕ)) → list_all is_component pieces ≡ true → lacks pieces ≡ true
+all_lack [] h = refl
+all_lack (name ∷ pieces) h =
+    let this : not (has_nul name) ≡ true = component_lacks (length name == 0 || bytes_eq name (codes ".") || bytes_eq name (codes "..")) (has_nul name) (has_slash name) (and_first (is_component name) (list_all is_component pieces) h) in
+    both (not (has_nul name)) (lacks pieces) this (all_lack pieces (and_second (is_component name) (list_all is_component pieces) h))
+
+-- a byte in front of the first piece
+onto_lacks : (b : ℕ) (pieces : List (List ℕ)) → lacks (onto_first b pieces) ≡ true → ((b == 0) ≡ false) × (lacks pieces ≡ true)
+onto_lacks b [] h = (or_first (b == 0) false (not_true _ (and_first (not ((b == 0) || false)) true h)), refl)
+onto_lacks b (name ∷ pieces) h =
+    let front : ((b == 0) || has_nul name) ≡ false = not_true ((b == 0) || has_nul name) (and_first (not ((b == 0) || has_nul name)) (lacks pieces) h) in
+    let rest : lacks pieces ≡ true = and_second (not ((b == 0) || has_nul name)) (lacks pieces) h in
+    (or_first (b == 0) (has_nul name) front, both (not (has_nul name)) (lacks pieces) (ap not (or_second (b == 0) (has_nul name) front)) rest)
+
+split_lacks : (slash : Bool) (b : ℕ) (pieces : List (List ℕ)) → (slash ≡ true → (b == 0) ≡ false) → lacks (cond slash ([] ∷ pieces) (onto_first b pieces)) ≡ true → ((b == 0) ≡ false) × (lacks pieces ≡ true)
+split_lacks true b pieces apart h = (apart refl, h)
+split_lacks false b pieces apart h = onto_lacks b pieces h
+
+slash_apart : (b : ℕ) → (b == 47) ≡ true → (b == 0) ≡ false
+slash_apart b is = grind (arith, nat_tests, is)
+
+text_free : (text : List ℕ) → lacks (components text) ≡ true → has_nul text ≡ false
+text_free [] h = refl
+text_free (b ∷ text) h =
+    let parts = split_lacks (b == 47) b (components text) (slash_apart b) h in
+    neither (b == 0) (has_nul text) parts.0 (text_free text parts.1)
+
+path_free : (text : List ℕ) → line.is_file_path text ≡ true → has_nul text ≡ false
+path_free text is =
+    let path : is_path text ≡ true = and_second (is_utf8 text) (is_path text) is in
+    let far : (nat_le (length text) 65535 && list_all is_component (components text) && not (is_reserved (components text))) ≡ true = and_first _ (nat_le (length (components text)) 2048) path in
+    let near : (nat_le (length text) 65535 && list_all is_component (components text)) ≡ true = and_first _ (not (is_reserved (components text))) far in
+    text_free text (all_lack (components text) (and_second (nat_le (length text) 65535) (list_all is_component (components text)) near))
 
 -- the first NUL stands behind the path
 nul_at : (path rest : List ℕ) → has_nul path ≡ false → position_or_len line.is_nul (path ++ (0 ∷ rest)) ≡ length path
@@ -68,8 +128,8 @@ flag_back false false id rest one = refl
 line_back : (row : NewRow) (rest : List ℕ) → IsSayable row → line.line_of (row.path ++ (0 ∷ (encode_lower row.row.id.0 ++ (flag_of row.row ++ (10 ∷ rest))))) ≡ Some (record { path = row.path; file = row.row; rest = rest })
 line_back row rest is =
     let behind : List ℕ = encode_lower row.row.id.0 ++ (flag_of row.row ++ (10 ∷ rest)) in
-    ap (λ (p : List ℕ). line.line_behind p (after_first line.is_nul (row.path ++ (0 ∷ behind)))) (path_first row.path behind is.nul_free)
-    ∙ ap (λ (t : List ℕ). line.line_behind row.path t) (rest_after row.path behind is.nul_free)
+    ap (λ (p : List ℕ). line.line_behind p (after_first line.is_nul (row.path ++ (0 ∷ behind)))) (path_first row.path behind (path_free row.path is.path))
+    ∙ ap (λ (t : List ℕ). line.line_behind row.path t) (rest_after row.path behind (path_free row.path is.path))
     ∙ ap (λ (t : Bool). cond t (line.line_from row.path (line.id_of (take 40 behind)) (line.ending (drop 40 behind))) None) is.path
     ∙ ap (λ (i : Option Id20). line.line_from row.path i (line.ending (drop 40 behind))) (digits_back row.row.id.0 (flag_of row.row ++ (10 ∷ rest)) is.long is.bytes)
     ∙ ap (λ (t : List ℕ). line.line_from row.path (Some row.row.id) (line.ending t)) (tail_back row.row.id.0 (flag_of row.row ++ (10 ∷ rest)) is.long)

@@ -1,8 +1,7 @@
 -- The text of a manifest, as a list of rows is written.
-use Rattle.std.specs.Prelude.{ℕ, ◌≡◌, ◌≤◌, ◌<◌, ◌-◌, ◌^◌, min, Bool, true, false, not, ◌&&◌, if◌then◌else◌, List, [], ◌∷◌, ◌++◌, map, length, Result, Ok, Err, IsTrue, All, bytes_eq, replicate}
+use Rattle.std.specs.Prelude.{ℕ, ◌≡◌, ◌≤◌, ◌<◌, ◌-◌, ◌^◌, min, Bool, true, false, ◌&&◌, if◌then◌else◌, List, [], ◌∷◌, ◌++◌, map, length, Result, Ok, Err, All, bytes_eq, replicate}
 use Rattle.sha1.specs.Sha1.{sha1}
 use Rattle.hex.specs.Hex.{IsBytes, encode_lower}
-use Rattle.hg_base.specs.PathText.{has_nul}
 use Rattle.hg_base.specs.declared.id.Id20.{Id20}
 use Rattle.hg_manifest.specs.Line.{is_file_path}
 use Rattle.hg_manifest.specs.Plain.{most}
@@ -30,10 +29,9 @@ abbrev pub ascend : List ℕ → List NewRow → Bool
 ascend before [] = true
 ascend before (row ∷ rows) = is_before before row.path && ascend row.path rows
 
--- a row that a line can say: its path is one in UTF-8 and so has no NUL, its identifier has twenty bytes, and it isn't both executable and a link
+-- a row that a line can say: its path is one in UTF-8, its identifier has twenty bytes, and it isn't both executable and a link
 pub record IsSayable (row : NewRow) : Type 0 where
   pub path : is_file_path row.path ≡ true
-  pub nul_free : has_nul row.path ≡ false
   pub long : length row.row.id.0 ≡ 20
   pub bytes : IsBytes row.row.id.0
   pub flag : (row.row.exec && row.row.link) ≡ false

@@ -1,8 +1,8 @@
 -- Whether a plain file stands in the way of a text.
-use Rattle.std.specs.Prelude.{ℕ, ◌≡◌, ◌≤◌, Bool, true, false, not, ◌||◌, if◌then◌else◌, List, length, Option, Some, None, Result, Ok, Err, IsTrue, bytes_eq, replicate}
+use Rattle.std.specs.Prelude.{ℕ, ◌≡◌, ◌≤◌, Bool, true, false, not, ◌||◌, if◌then◌else◌, List, Option, Some, None, Result, Ok, Err, IsTrue, bytes_eq, replicate}
 use Rattle.hg_base.specs.Fault.{Rose}
 use Rattle.hg_base.specs.declared.id.Id20.{Id20}
-use Rattle.hg_shelf.specs.History.{Files, History, now}
+use Rattle.hg_shelf.specs.History.{History, now}
 use Rattle.hg_store.specs.declared.fault.StoreFault.{StoreFault}
 use Rattle.hg_store.specs.declared.fault.StoreFault.TheVariants as a_fault
 use Rattle.hg_store.specs.declared.standing.Standing.{Standing}
@@ -45,6 +45,16 @@ IsSettleFault id a_fault.OutOfMemory = ⊥
 IsSettleFault id (a_fault.Gone path) = ⊥
 IsSettleFault id (a_fault.ManifestTooLarge size) = ⊥
 IsSettleFault id a_fault.TreeFailed = ⊥
+
+-- a fact, where a text clashed
+abbrev pub OnClash : {A : Type 0} → Type 0 → Result A StoreFault → Type 0
+OnClash P (Ok answer) = Unit {0}
+OnClash P (Err (a_fault.StoreClash named)) = P
+OnClash P (Err a_fault.ShelfFailed) = Unit {0}
+OnClash P (Err a_fault.OutOfMemory) = Unit {0}
+OnClash P (Err (a_fault.Gone path)) = Unit {0}
+OnClash P (Err (a_fault.ManifestTooLarge size)) = Unit {0}
+OnClash P (Err a_fault.TreeFailed) = Unit {0}
 
 -- the count of the shelf's failures rose where it is named as what failed, and stands as it stood with every other answer
 abbrev pub CountsShelf : {A : Type 0} → ℕ → ℕ → Result A StoreFault → Type 0

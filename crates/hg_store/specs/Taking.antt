@@ -1,5 +1,5 @@
 -- What is taken of a path, each byte at a moment of the call. Of a working copy that tells no moments nothing is said.
-use Rattle.std.specs.Prelude.{ℕ, ◌≡◌, ◌≤◌, ◌<◌, ◌⊎◌, Bool, true, false, List, [], ◌++◌, length, take, slice_get, Option, Some, None, Result, Ok, Err, IsTrue, bytes_eq, replicate}
+use Rattle.std.specs.Prelude.{ℕ, ◌≡◌, ◌≤◌, ◌<◌, ◌⊎◌, Bool, true, false, List, [], length, take, slice_get, Option, Some, None, Result, Ok, Err, IsTrue, bytes_eq, replicate}
 use Rattle.sha1.specs.Sha1.{Holds, sha1}
 use Rattle.sha1.specs.declared.Sha1.{Sha1}
 use Rattle.hg_base.specs.Fault.{Rose}
@@ -8,7 +8,6 @@ use Rattle.hg_base.specs.declared.stat.Kind.{Kind}
 use Rattle.hg_base.specs.declared.stat.Kind.TheVariants as a_kind
 use Rattle.hg_base.specs.declared.stat.Stat.{Stat}
 use Rattle.hg_compare.specs.Alike.{contents_name}
-use Rattle.hg_compare.specs.Same.{StaysShown}
 use Rattle.hg_compare.specs.Seen.{During, HasByte, HasPiece}
 use Rattle.hg_manifest.specs.declared.row.FileRow.{FileRow}
 use Rattle.hg_shelf.specs.Images.{Course, last_scene}
@@ -94,11 +93,12 @@ pub record IsKept (path text : List ℕ) (size : ℕ) (tree_old tree_new : Histo
   pub stored : IsAlone old new → IsStored (contents_name (sha1 text)) text old new
   pub fits : IsAlone old new → clashes (sha1 text) ((last_scene old).files (contents_name (sha1 text))) text ≡ false
 
--- a text is refused: it was taken, its SHA-1 is named, and it can't be stored under that
+-- a text is refused: it was taken, its SHA-1 is named, it can't be stored under that, and no new file is left
 pub record IsRefused (path text : List ℕ) (size : ℕ) (tree_old tree_new : History) (old new : Course) (id : List ℕ) : Type 0 where
   pub taken : IsTaken path text size tree_old tree_new
   pub id_is : id ≡ sha1 text
   pub clash : IsAlone old new → clashes (sha1 text) ((last_scene old).files (contents_name (sha1 text))) text ≡ true
+  pub cleared : IsAlone old new → (last_scene new).files new_name ≡ None
 
 -- a fault of a device alone
 abbrev pub IsDevice : StoreFault → Type 0

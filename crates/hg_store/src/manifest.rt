@@ -1,11 +1,11 @@
 //! Storing a manifest.
 
-ghost use Rattle.std.specs.Prelude.{◌≡◌, ◌≤◌, ◌-◌, ◌^◌, ◌++◌, min, length, OnOk, IfOk, IfErr};
+ghost use Rattle.std.specs.Prelude.{◌≡◌, ◌≤◌, ◌-◌, ◌^◌, ◌++◌, None, min, length, OnOk, IfOk, IfErr};
 ghost use Rattle.hg_manifest.specs.Plain.{plain_name};
 ghost use Rattle.hg_shelf.specs.Images.{course, last_scene};
 ghost use Rattle.hg_store.specs.Rows.{AnswersManifest, DecidesManifest, IsBefore, flag_of, line_of, text_of};
-ghost use Rattle.hg_store.specs.Standing.{CountsShelf, clashes};
-ghost use Rattle.hg_store.specs.Storing.{IsAlone, IsStored, Keeps, Leads, Proceeds};
+ghost use Rattle.hg_store.specs.Standing.{CountsShelf, OnClash, clashes};
+ghost use Rattle.hg_store.specs.Storing.{IsAlone, IsStored, Keeps, Leads, Proceeds, new_name};
 ghost use Rattle.sha1.specs.Sha1.{sha1};
 
 use crate::fault::StoreFault;
@@ -95,6 +95,8 @@ pub fn store_manifest<S: Shelf>(
     ensures decided { IsAlone (course (S.history shelf.old) (S.images shelf.old)) (course (S.history shelf.new) (S.images shelf.new))
         → DecidesManifest (clashes (sha1 (text_of rows.now)) ((last_scene (course (S.history shelf.old) (S.images shelf.old))).files (plain_name (sha1 (text_of rows.now)))) (text_of rows.now)) result }
     ensures stored { IsAlone (course (S.history shelf.old) (S.images shelf.old)) (course (S.history shelf.new) (S.images shelf.new)) → OnOk result (IsStored (plain_name (sha1 (text_of rows.now))) (text_of rows.now) (course (S.history shelf.old) (S.images shelf.old)) (course (S.history shelf.new) (S.images shelf.new))) }
+    // A clash leaves no new file.
+    ensures cleared { IsAlone (course (S.history shelf.old) (S.images shelf.old)) (course (S.history shelf.new) (S.images shelf.new)) → OnClash ((last_scene (course (S.history shelf.new) (S.images shelf.new))).files new_name ≡ None) result }
     // Want of memory and a text that is too large are told before anything is written.
     ensures before { IfErr result (λ fault. IsBefore fault → shelf.new ≡ shelf.old) }
     ensures proceeds { Proceeds (course (S.history shelf.old) (S.images shelf.old)) (course (S.history shelf.new) (S.images shelf.new)) }

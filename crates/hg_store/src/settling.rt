@@ -3,7 +3,7 @@
 ghost use Rattle.std.specs.Prelude.{◌≡◌, ℕ, List, None, true, false, length, IfErr, OnOk, bytes_eq, replicate};
 ghost use Rattle.hg_base.specs.Fault.{HasCause};
 ghost use Rattle.hg_shelf.specs.Images.{course, last_scene};
-ghost use Rattle.hg_store.specs.Standing.{CountsShelf, Decides, IsSettleFault, clashes};
+ghost use Rattle.hg_store.specs.Standing.{CountsShelf, Decides, IsSettleFault, OnClash, clashes};
 ghost use Rattle.hg_store.specs.Storing.{ButNew, IsAlone, IsCleared, IsStored, IsSure, Keeps, Leads, Proceeds, new_name};
 
 use crate::comparing::standing;
@@ -44,6 +44,7 @@ fn let_stand<S: Shelf>(shelf: &mut S) -> Result<(), Failed>
 fn refuse<S: Shelf>(shelf: &mut S, id: Id20) -> Result<(), StoreFault>
     ensures leads { IsAlone (course (S.history shelf.old) (S.images shelf.old)) (course (S.history shelf.new) (S.images shelf.new)) → Leads ButNew (course (S.history shelf.old) (S.images shelf.old)) (course (S.history shelf.new) (S.images shelf.new)) }
     ensures decided { Decides true id result }
+    ensures cleared { IsAlone (course (S.history shelf.old) (S.images shelf.old)) (course (S.history shelf.new) (S.images shelf.new)) → OnClash ((last_scene (course (S.history shelf.new) (S.images shelf.new))).files new_name ≡ None) result }
     ensures kind { IfErr result (IsSettleFault id) }
     ensures proceeds { Proceeds (course (S.history shelf.old) (S.images shelf.old)) (course (S.history shelf.new) (S.images shelf.new)) }
     ensures held { S.held shelf.new ≡ S.held shelf.old }
@@ -76,6 +77,7 @@ pub(crate) fn settle<S: Shelf>(
     ensures decided { (text : List ℕ) → IsAlone (course (S.history shelf.old) (S.images shelf.old)) (course (S.history shelf.new) (S.images shelf.new)) → IsSure new_name text (course (S.history shelf.old) (S.images shelf.old)) → length text ≡ len → Decides (clashes id.0 ((last_scene (course (S.history shelf.old) (S.images shelf.old))).files name.now) text) id result }
     ensures stored { (text : List ℕ) → IsAlone (course (S.history shelf.old) (S.images shelf.old)) (course (S.history shelf.new) (S.images shelf.new)) → IsSure new_name text (course (S.history shelf.old) (S.images shelf.old)) → length text ≡ len → (name.now ≡ new_name → ⊥)
         → OnOk result (IsStored name.now text (course (S.history shelf.old) (S.images shelf.old)) (course (S.history shelf.new) (S.images shelf.new))) }
+    ensures cleared { IsAlone (course (S.history shelf.old) (S.images shelf.old)) (course (S.history shelf.new) (S.images shelf.new)) → OnClash ((last_scene (course (S.history shelf.new) (S.images shelf.new))).files new_name ≡ None) result }
     ensures kind { IfErr result (IsSettleFault id) }
     ensures known { OnOk result (bytes_eq id.0 (replicate 20 0) ≡ false) }
     ensures proceeds { Proceeds (course (S.history shelf.old) (S.images shelf.old)) (course (S.history shelf.new) (S.images shelf.new)) }

@@ -1,10 +1,10 @@
 //! Storing a text that is at hand.
 
-ghost use Rattle.std.specs.Prelude.{◌≡◌, ℕ, List, false, OnOk, IfOk, IfErr, bytes_eq, replicate};
+ghost use Rattle.std.specs.Prelude.{◌≡◌, ℕ, List, None, false, OnOk, IfOk, IfErr, bytes_eq, replicate};
 ghost use Rattle.hg_shelf.specs.Images.{course, last_scene};
 ghost use Rattle.hg_store.specs.Names.{plain_file};
-ghost use Rattle.hg_store.specs.Standing.{CountsShelf, Decides, IsSettleFault, clashes};
-ghost use Rattle.hg_store.specs.Storing.{IsAlone, IsStored, Keeps, Leads, Proceeds};
+ghost use Rattle.hg_store.specs.Standing.{CountsShelf, Decides, IsSettleFault, OnClash, clashes};
+ghost use Rattle.hg_store.specs.Storing.{IsAlone, IsStored, Keeps, Leads, Proceeds, new_name};
 ghost use Rattle.sha1.specs.Sha1.{sha1};
 
 use crate::comparing::HALF;
@@ -30,6 +30,7 @@ pub(crate) fn store_text<S: Shelf>(
         → Decides (clashes (sha1 text.now) ((last_scene (course (S.history shelf.old) (S.images shelf.old))).files (plain_file plain (sha1 text.now))) text.now) (record { 0 = sha1 text.now }) result }
     ensures stored { IsAlone (course (S.history shelf.old) (S.images shelf.old)) (course (S.history shelf.new) (S.images shelf.new)) → OnOk result (IsStored (plain_file plain (sha1 text.now)) text.now (course (S.history shelf.old) (S.images shelf.old)) (course (S.history shelf.new) (S.images shelf.new))) }
     ensures named { IfOk result (λ id. id.0 ≡ sha1 text.now) }
+    ensures cleared { IsAlone (course (S.history shelf.old) (S.images shelf.old)) (course (S.history shelf.new) (S.images shelf.new)) → OnClash ((last_scene (course (S.history shelf.new) (S.images shelf.new))).files new_name ≡ None) result }
     ensures kind { IfErr result (IsSettleFault (record { 0 = sha1 text.now })) }
     ensures known { OnOk result (bytes_eq (sha1 text.now) (replicate 20 0) ≡ false) }
     ensures proceeds { Proceeds (course (S.history shelf.old) (S.images shelf.old)) (course (S.history shelf.new) (S.images shelf.new)) }

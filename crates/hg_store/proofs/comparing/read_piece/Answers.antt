@@ -1,4 +1,3 @@
-use Rattle.std.proofs.Common.{rules}
 use Rattle.hg_store.proofs.Reading.{piece_absent, piece_read}
 use Rattle.hg_store.proofs.comparing.read_piece.Goals as goal
 

@@ -1,4 +1,4 @@
-use Rattle.std.proofs.Common.{ℕ, List, take, drop, ap, ◌∙◌, rules}
+use Rattle.std.proofs.Common.{◌∙◌, rules}
 use Rattle.hg_shelf.proofs.Histories.{passes_trans}
 use Rattle.hg_shelf.proofs.Scenes.{goes_trans}
 use Rattle.hg_store.specs.Storing.{new_name}

@@ -1,4 +1,4 @@
-use Rattle.std.proofs.Common.{Option, List, ℕ, ap, sym, ◌∙◌, rules}
+use Rattle.std.proofs.Common.{ap, sym, ◌∙◌, rules}
 use Rattle.hg_shelf.proofs.Scenes.{goes_trans}
 use Rattle.hg_shelf.specs.History.{Files}
 use Rattle.hg_shelf.specs.Reads.{size_of}

@@ -1,6 +1,6 @@
-use Rattle.std.proofs.Common.{[], inl, inr, refl, rules}
+use Rattle.std.proofs.Common.{[]}
 use Rattle.hg_tree.proofs.Spans.{passes_trans}
-use Rattle.hg_store.proofs.Filing.{file_same, gone_answer, looked_there, no_file_at_dir, no_file_at_other, no_link_at_dir, no_link_at_other, none_seen, other_seen, stores_later}
+use Rattle.hg_store.proofs.Filing.{file_same, gone_answer, no_file_at_dir, no_file_at_other, no_link_at_dir, no_link_at_other, none_seen, other_seen, stores_later}
 use Rattle.hg_store.proofs.file.store_file.Goals as goal
 
 pub returns-in-Err-clause-stores : goal.returns-in-Err-clause-stores
@@ -40,4 +40,3 @@ returns-in-Other-clause-stores g c = record {
       (other_seen c.args.path.text.now c.in-Ok-Some.stat c.stat.ensures.passes (rw c.in-Ok-Some.field-0-is at c.in-Ok-Some.ensures.found) (no_file_at_other _ c.in-Other.is) (no_link_at_other _ c.in-Other.is));
   leads = file_same [] _;
 }
-

@@ -1,4 +1,4 @@
-use Rattle.std.proofs.Common.{List, ℕ, [], refl, sym, subst, ap, ◌≡◌, ◌∙◌}
+use Rattle.std.proofs.Common.{List, ℕ, [], sym, subst, ap, ◌≡◌, ◌∙◌}
 use Rattle.std.specs.Prelude.{bytes_eq, replicate, false}
 use Rattle.sha1.specs.Sha1.{sha1}
 use Rattle.hg_compare.specs.Alike.{contents_name}
@@ -36,10 +36,11 @@ returns-in-Err-settle-clause-stores g c =
     record {
       text = written.0;
       answer = settled_answer c.args.path.text.now written.0 c.args.size _ _ _ _ c.in-Ok-Some.taken.id c.in-Err-settle.fault c.in-Err-settle.ensures.kind written.3 written.1
-          (λ alone. decides_err (List ℕ) (List ℕ) c.in-Err-settle.fault _ _ _ _ (clash_same (contents_name (sha1 written.0)) c.as_str.result.now written.0 _ (sha1 written.0) _ _ spelled written.3 c.write_file.ensures.proceeds (contents_apart (sha1 written.0)) (c.write_file.ensures.leads (alone_first c.settle.ensures.proceeds alone))) written.3 (c.in-Err-settle.ensures.decided written.0 (alone_second c.write_file.ensures.proceeds alone) (written.4 (alone_first c.settle.ensures.proceeds alone)) written.2));
+          (λ alone. decides_err (List ℕ) (List ℕ) c.in-Err-settle.fault _ _ _ _ (clash_same (contents_name (sha1 written.0)) c.as_str.result.now written.0 _ (sha1 written.0) _ _ spelled written.3 c.write_file.ensures.proceeds (contents_apart (sha1 written.0)) (c.write_file.ensures.leads (alone_first c.settle.ensures.proceeds alone))) written.3 (c.in-Err-settle.ensures.decided written.0 (alone_second c.write_file.ensures.proceeds alone) (written.4 (alone_first c.settle.ensures.proceeds alone)) written.2))
+          (λ alone. c.in-Err-settle.ensures.cleared (alone_second c.write_file.ensures.proceeds alone));
       leads = λ alone.
-      text_leads (contents_name (sha1 written.0)) c.as_str.result.now written.0 _ _ _ spelled c.write_file.ensures.proceeds c.settle.ensures.proceeds alone (contents_apart (sha1 written.0)) c.write_file.ensures.leads
-      (λ second apart. c.settle.ensures.leads written.0 second (written.4 (alone_first c.settle.ensures.proceeds alone)) written.2 apart);
+          text_leads (contents_name (sha1 written.0)) c.as_str.result.now written.0 _ _ _ spelled c.write_file.ensures.proceeds c.settle.ensures.proceeds alone (contents_apart (sha1 written.0)) c.write_file.ensures.leads
+          (λ second apart. c.settle.ensures.leads written.0 second (written.4 (alone_first c.settle.ensures.proceeds alone)) written.2 apart);
     }
 
 pub returns-in-Ok-clause-stores : goal.returns-in-Ok-clause-stores
@@ -58,6 +59,6 @@ returns-in-Ok-clause-stores g c =
         fits = λ alone. sym (clash_same (contents_name (sha1 written.0)) c.as_str.result.now written.0 _ (sha1 written.0) _ _ spelled written.3 c.write_file.ensures.proceeds (contents_apart (sha1 written.0)) (c.write_file.ensures.leads (alone_first c.settle.ensures.proceeds alone))) ∙ c.in-Ok.ensures.decided written.0 (alone_second c.write_file.ensures.proceeds alone) (written.4 (alone_first c.settle.ensures.proceeds alone)) written.2;
       };
       leads = λ alone.
-      text_leads (contents_name (sha1 written.0)) c.as_str.result.now written.0 _ _ _ spelled c.write_file.ensures.proceeds c.settle.ensures.proceeds alone (contents_apart (sha1 written.0)) c.write_file.ensures.leads
-      (λ second apart. c.settle.ensures.leads written.0 second (written.4 (alone_first c.settle.ensures.proceeds alone)) written.2 apart);
+          text_leads (contents_name (sha1 written.0)) c.as_str.result.now written.0 _ _ _ spelled c.write_file.ensures.proceeds c.settle.ensures.proceeds alone (contents_apart (sha1 written.0)) c.write_file.ensures.leads
+          (λ second apart. c.settle.ensures.leads written.0 second (written.4 (alone_first c.settle.ensures.proceeds alone)) written.2 apart);
     }

@@ -1,7 +1,7 @@
-use Rattle.std.proofs.Common.{◌≡◌, ◌≤◌, length, ap, sym, subst, ◌∙◌, arith, rules}
+use Rattle.std.proofs.Common.{◌≡◌, ◌≤◌, length, sym, subst, ◌∙◌, arith}
 use Rattle.hg_manifest.specs.Plain.{most, plain_name}
 use Rattle.sha1.specs.Sha1.{sha1}
-use Rattle.hg_shelf.specs.Images.{course, last_scene}
+use Rattle.hg_shelf.specs.Images.{course}
 use Rattle.hg_store.specs.Rows.{AnswersManifest, text_of}
 use Rattle.hg_store.specs.Storing.{Keeps}
 use Rattle.hg_store.proofs.Leading.{leads_same}

@@ -1,6 +1,6 @@
 use Rattle.std.proofs.Common.{refl, arith}
 use Rattle.hg_store.specs.Rows.{text_of}
-use Rattle.hg_store.proofs.Lines.{text_length, text_whole}
+use Rattle.hg_store.proofs.Lines.{text_length}
 use Rattle.hg_store.proofs.manifest.text_len.Goals as goal
 
 pub loop-i-init : goal.loop-i-init

@@ -1,5 +1,4 @@
 use Rattle.std.proofs.Common.{None, inl}
-use Rattle.hg_shelf.specs.Images.{course}
 use Rattle.hg_store.specs.Storing.{Keeps}
 use Rattle.hg_store.proofs.Leading.{alone_first, alone_second, leads_trans, on_ok, proceeds_call, proceeds_trans}
 use Rattle.hg_store.proofs.Placing.{keeps_same, keeps_trans, names_either, rename_leads, renamed_stored}

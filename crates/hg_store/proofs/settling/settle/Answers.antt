@@ -1,7 +1,7 @@
 use Rattle.std.proofs.Common.{Bool, sym, subst, ◌∙◌, rules}
 use Rattle.hg_store.specs.Standing.{Decides}
 use Rattle.hg_store.specs.Storing.{ButNew, Keeps}
-use Rattle.hg_store.proofs.Leading.{alone_first, leads_weaker, on_ok, passed, passed_leads, proceeds_trans}
+use Rattle.hg_store.proofs.Leading.{alone_first, alone_second, leads_weaker, passed, passed_leads, proceeds_trans}
 use Rattle.hg_store.proofs.Placing.{absent_fits, absent_leads, absent_stored, but_leads, keeps_but, keeps_same, neither, other_is, proceeds_passes, same_fits, same_stored, second_is, still_of}
 use Rattle.hg_store.proofs.settling.settle.Goals as goal
 
@@ -72,3 +72,6 @@ returns-in_ok-let_stand-in-Same-clause-stored g c = λ text alone sure long apar
     same_stored c.args.name.now text _ _ _ c.standing.ensures.kept c.standing.ensures.passes c.let_stand.ensures.proceeds alone
     (λ still. sym (c.in_ok-standing.ensures.found text still sure.shown long) ∙ c.in-Same.is)
     (λ second there. c.in_ok-let_stand-in-Same.ensures.stood c.args.name.now text second apart there)
+
+pub returns-in-Other-clause-cleared : goal.returns-in-Other-clause-cleared
+returns-in-Other-clause-cleared g c = λ alone. c.refuse-in-Other.ensures.cleared (alone_second (proceeds_passes c.standing.ensures.kept c.standing.ensures.passes) alone)

@@ -1,5 +1,5 @@
-use Rattle.std.proofs.Common.{ℕ, ◌≡◌, ◌+◌, None, List, length, take, refl, sym, ap, ◌∙◌, rules}
-use Rattle.hg_tree.specs.Moment.{Moment, bytes_at}
+use Rattle.std.proofs.Common.{◌≡◌, ◌+◌, None, take, refl, ◌∙◌, rules}
+use Rattle.hg_tree.specs.Moment.{bytes_at}
 use Rattle.hg_tree.proofs.Spans as trees
 use Rattle.hg_store.specs.Storing.{ButNew}
 use Rattle.hg_store.proofs.Leading.{leads_on, leads_same, proceeds_same, proceeds_trans}
@@ -25,10 +25,13 @@ pub loop-place-preserved : goal.loop-place-preserved
 loop-place-preserved g c = record {
   passes = trees.passes_trans _ _ _ c.loop-place.invariant.passes c.copy_piece.ensures.tree_passes;
   tree_still = c.in-Ok-Some.ensures.tree_count ∙ c.loop-place.invariant.tree_still;
-  copied = (_, copies_more c.args.path.text.now (c.loop-place.invariant.copied).0 (take c.in-Ok-Some.n c.copy_piece.new.room) _ c.loop-place.place c.in-Ok-Some.n c.loop-place.invariant.passes c.copy_piece.ensures.tree_passes c.loop-place.invariant.proceeds c.copy_piece.ensures.proceeds
-    (rw c.in-Ok-Some.field-0-is at c.in-Ok-Some.ensures.found).0 (search rules) (c.loop-place.invariant.copied).1 (rw c.in-Ok-Some.field-0-is at c.in-Ok-Some.ensures.found).1
-    (λ alone laid. rw c.in-Ok-Some.field-0-is at (c.in-Ok-Some.ensures.laid (c.loop-place.invariant.copied).0 alone laid (c.loop-place.invariant.copied).1.long))
-    (λ holds. rw c.in-Ok-Some.field-0-is at (c.in-Ok-Some.ensures.hashed (c.loop-place.invariant.copied).0 holds)));
+  copied = (
+    _,
+    copies_more c.args.path.text.now (c.loop-place.invariant.copied).0 (take c.in-Ok-Some.n c.copy_piece.new.room) _ c.loop-place.place c.in-Ok-Some.n c.loop-place.invariant.passes c.copy_piece.ensures.tree_passes c.loop-place.invariant.proceeds c.copy_piece.ensures.proceeds
+        (rw c.in-Ok-Some.field-0-is at c.in-Ok-Some.ensures.found).0 (search rules) (c.loop-place.invariant.copied).1 (rw c.in-Ok-Some.field-0-is at c.in-Ok-Some.ensures.found).1
+        (λ alone laid. rw c.in-Ok-Some.field-0-is at (c.in-Ok-Some.ensures.laid (c.loop-place.invariant.copied).0 alone laid (c.loop-place.invariant.copied).1.long))
+        (λ holds. rw c.in-Ok-Some.field-0-is at (c.in-Ok-Some.ensures.hashed (c.loop-place.invariant.copied).0 holds)),
+  );
   proceeds = proceeds_trans c.loop-place.invariant.proceeds c.copy_piece.ensures.proceeds;
   leads = leads_on ButNew but_trans c.loop-place.invariant.proceeds c.copy_piece.ensures.proceeds c.loop-place.invariant.leads c.copy_piece.ensures.leads;
   held = c.copy_piece.ensures.held ∙ c.loop-place.invariant.held;
@@ -73,11 +76,14 @@ returns-then-n-width-clause-copied g c =
     let more = copies_more c.args.path.text.now (c.loop-place.invariant.copied).0 (take c.in-Ok-Some.n c.copy_piece.new.room) _ c.loop-place.place c.in-Ok-Some.n c.loop-place.invariant.passes c.copy_piece.ensures.tree_passes c.loop-place.invariant.proceeds c.copy_piece.ensures.proceeds
     (rw c.in-Ok-Some.field-0-is at c.in-Ok-Some.ensures.found).0 (search rules) (c.loop-place.invariant.copied).1 (rw c.in-Ok-Some.field-0-is at c.in-Ok-Some.ensures.found).1
     (λ alone laid. rw c.in-Ok-Some.field-0-is at (c.in-Ok-Some.ensures.laid (c.loop-place.invariant.copied).0 alone laid (c.loop-place.invariant.copied).1.long))
-    (λ holds. rw c.in-Ok-Some.field-0-is at (c.in-Ok-Some.ensures.hashed (c.loop-place.invariant.copied).0 holds)) in
-    (_, more, taken_end c.args.path.text.now _ c.args.size _ (search rules) more
-    (shows_second (λ moment. EndsAt (c.loop-place.place + c.in-Ok-Some.n) (bytes_at moment c.args.path.text.now)) c.loop-place.invariant.passes
-    (shows_last (λ moment. EndsAt (c.loop-place.place + c.in-Ok-Some.n) (bytes_at moment c.args.path.text.now)) c.copy_piece.ensures.tree_passes
-    (λ told. piece_end c.loop-place.place _ c.in-Ok-Some.n _ _ (search rules) (search rules) ((rw c.in-Ok-Some.field-0-is at c.in-Ok-Some.ensures.found).1 told)))))
+    (λ holds. rw c.in-Ok-Some.field-0-is at (c.in-Ok-Some.ensures.hashed (c.loop-place.invariant.copied).0 holds)) in (
+      _,
+      more,
+      taken_end c.args.path.text.now _ c.args.size _ (search rules) more
+          (shows_second (λ moment. EndsAt (c.loop-place.place + c.in-Ok-Some.n) (bytes_at moment c.args.path.text.now)) c.loop-place.invariant.passes
+          (shows_last (λ moment. EndsAt (c.loop-place.place + c.in-Ok-Some.n) (bytes_at moment c.args.path.text.now)) c.copy_piece.ensures.tree_passes
+          (λ told. piece_end c.loop-place.place _ c.in-Ok-Some.n _ _ (search rules) (search rules) ((rw c.in-Ok-Some.field-0-is at c.in-Ok-Some.ensures.found).1 told)))),
+    )
 
 pub returns-clause-copied : goal.returns-clause-copied
 returns-clause-copied g c =

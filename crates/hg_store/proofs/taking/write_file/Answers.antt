@@ -1,4 +1,4 @@
-use Rattle.std.proofs.Common.{ap, refl, ◌∙◌}
+use Rattle.std.proofs.Common.{ap}
 use Rattle.hg_shelf.specs.Rules.{content}
 use Rattle.hg_store.specs.Storing.{ButNew}
 use Rattle.hg_store.proofs.Leading.{alone_first, alone_second, leads_on, proceeds_trans}
@@ -38,8 +38,11 @@ returns-in-Ok-clause-written g c =
     let copied = rw c.in-Ok-Some.field-0-is at c.in-Ok-Some.ensures.copied in
     let p = c.clear.ensures.proceeds in
     let q = c.copy.ensures.proceeds in
-    let r = c.finish.ensures.proceeds in
-    (
-    copied.0, copied.2, copied.1.long, c.finalize.ensures copied.0 (copied.1.hashed c.new-hasher.ensures), λ alone.
-    c.in-Ok.ensures.sure copied.0 (alone_second q (alone_second p alone)) (copied.1.laid (alone_first r (alone_second p alone)) (ap content (c.in_ok-clear.ensures.cleared (alone_first (proceeds_trans q r) alone)).shown)) copied.1.long
+    let r = c.finish.ensures.proceeds in (
+      copied.0,
+      copied.2,
+      copied.1.long,
+      c.finalize.ensures copied.0 (copied.1.hashed c.new-hasher.ensures),
+      λ alone.
+          c.in-Ok.ensures.sure copied.0 (alone_second q (alone_second p alone)) (copied.1.laid (alone_first r (alone_second p alone)) (ap content (c.in_ok-clear.ensures.cleared (alone_first (proceeds_trans q r) alone)).shown)) copied.1.long,
     )

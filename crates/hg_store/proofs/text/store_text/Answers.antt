@@ -1,10 +1,7 @@
-use Rattle.std.proofs.Common.{refl, rules, sym, subst, ap, ◌∙◌, ◌≡◌, Option, List, ℕ}
-use Rattle.hg_base.specs.declared.id.Id20.{Id20}
+use Rattle.std.proofs.Common.{refl, sym, ap, ◌∙◌, List, ℕ}
 use Rattle.sha1.specs.Sha1.{sha1}
-use Rattle.hg_shelf.specs.Images.{course, last_scene}
 use Rattle.hg_store.specs.Names.{plain_file}
-use Rattle.hg_store.specs.Standing.{Decides, clashes}
-use Rattle.hg_store.specs.Storing.{ButNew, IsStored, Keeps, Leads}
+use Rattle.hg_store.specs.Storing.{ButNew, Keeps}
 use Rattle.hg_store.proofs.Leading.{alone_first, alone_second, leads_weaker, proceeds_trans}
 use Rattle.hg_store.proofs.Naming.{name_apart}
 use Rattle.hg_store.proofs.Placing.{clash_same, decides_err, keeps_but, text_leads, text_stored}
@@ -51,3 +48,6 @@ returns-in-Ok-clause-stored g c = λ alone.
     text_stored (plain_file c.args.plain (sha1 c.args.text.now)) c.as_str.result.now c.args.text.now _ _ _ (c.as_str.ensures ∙ c.of-name.ensures ∙ ap (plain_file c.args.plain) c.digest.ensures)
     c.write_text.ensures.proceeds c.settle.ensures.proceeds alone (name_apart c.args.plain (sha1 c.args.text.now)) c.write_text.ensures.leads
     (λ second apart. c.in-Ok.ensures.stored c.args.text.now second (c.in_ok-write_text.ensures.sure (alone_first c.settle.ensures.proceeds alone)) refl apart)
+
+pub returns-in-Err-clause-cleared : goal.returns-in-Err-clause-cleared
+returns-in-Err-clause-cleared g c = λ alone. c.in-Err.ensures.cleared (alone_second c.write_text.ensures.proceeds alone)

@@ -1,6 +1,6 @@
 use Rattle.std.proofs.Common.{Some, ap, ◌∙◌, rules}
 use Rattle.std.proofs.lemmas.List.{append-nil}
-use Rattle.hg_store.proofs.Leading.{leads_same, on_ok, proceeds_same}
+use Rattle.hg_store.proofs.Leading.{leads_same, on_ok}
 use Rattle.hg_store.proofs.Laying.{but_same, there_laid}
 use Rattle.hg_store.specs.Storing.{ButNew}
 use Rattle.hg_store.proofs.writing.fill.Goals as goal

@@ -1,5 +1,5 @@
-use Rattle.std.proofs.Common.{ℕ, List, [], take, drop, length, ap, sym, subst, ◌∙◌, rules, arith, refl}
-use Rattle.std.proofs.lemmas.List.{length-take, take_all}
+use Rattle.std.proofs.Common.{take, ◌∙◌, rules, refl}
+use Rattle.std.proofs.lemmas.List.{take_all}
 use Rattle.hg_store.proofs.Leading.{alone_first, alone_second, leads_on, leads_same, proceeds_same, proceeds_trans}
 use Rattle.hg_store.proofs.Laying.{but_same, but_trans, laid_more}
 use Rattle.hg_store.specs.Storing.{ButNew}
