@@ -177,8 +177,13 @@ impl Play for Shelves {
     }
 }
 
-// A step whose answer isn't looked at stands behind `mute`.
-fn take(alloc: Global, shelf: &mut MemShelf, step: &str, answer: &mut String) -> Result<(), Fail> {
+/// Does a step; one whose answer isn't looked at stands behind `mute`.
+pub(crate) fn take(
+    alloc: Global,
+    shelf: &mut MemShelf,
+    step: &str,
+    answer: &mut String,
+) -> Result<(), Fail> {
     match step.strip_prefix("mute ") {
         Some(step) => done(alloc, shelf, step, &mut String::new(alloc)),
         None => done(alloc, shelf, step, answer),

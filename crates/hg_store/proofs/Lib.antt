@@ -1,0 +1,10 @@
+pub mod Reading
+pub mod Leading
+pub mod Laying
+pub mod Placing
+pub mod Naming
+pub mod Copying
+pub mod Filing
+pub mod Lines
+pub mod Manifesting
+pub mod ReadingBack
