@@ -72,7 +72,11 @@ fn print_nodes(list: List<'_>, answer: &mut String) -> Result<(), Fail> {
 // The numbers of a docket, its parents, and the identifier behind its own.
 fn print_docket(docket: &Docket<'_>, answer: &mut String) -> Result<(), Fail> {
     print(answer, docket.id)?;
-    write!(answer, " {} {} {}", docket.entries, docket.copies, docket.used)?;
+    write!(
+        answer,
+        " {} {} {}",
+        docket.entries, docket.copies, docket.used
+    )?;
     if docket.p1.0 != [b'1'; 20] || docket.p2.0 != [b'2'; 20] {
         write!(answer, " parents")?;
     }
