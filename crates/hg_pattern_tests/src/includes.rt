@@ -31,7 +31,7 @@ fn place_link(alloc: Global, tree: &mut MemTree, name: &str) -> Result<(), Fail>
 // So many files of which each names the next.
 fn place_chain(alloc: Global, tree: &mut MemTree, length: u64) -> Result<(), Fail> {
     place_file(alloc, tree, ".hgignore", b"include:f1")?;
-    for i in 1..length + 1 {
+    for i in 1..length.saturating_add(1) {
         let name = format!(in alloc; "f{i}")?;
         let next = format!(in alloc; "include:f{}", i.saturating_add(1))?;
         place_file(alloc, tree, name.as_str(), next.as_bytes())?;
