@@ -1,7 +1,5 @@
 //! Room for the bytes that are compared.
 
-ghost use Rattle.std.specs.Prelude.{◌≡◌, length};
-
 use hg_base::OutOfMemory;
 use std::alloc::Global;
 use std::marker::Model;
@@ -32,12 +30,5 @@ impl Room {
         let mine = vec![in alloc; 0u8; PIECE]?;
         let theirs = vec![in alloc; 0u8; PIECE]?;
         Ok(Room { mine, theirs })
-    }
-
-    /// One buffer of 65,536 bytes, for whoever else reads or compares in pieces.
-    pub fn buffer(&mut self) -> &mut [u8]
-        ensures { length result.now ≡ 65536 }
-    {
-        self.mine.as_mut_slice()
     }
 }

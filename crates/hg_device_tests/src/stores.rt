@@ -3,10 +3,9 @@ use crate::shelves::take;
 use crate::trees::{NOON, at};
 use hg_base::{Blob, Id20, Path, PathRef};
 use hg_case_tests::{Play, agree, bytes, number, word};
-use hg_compare::Room;
 use hg_manifest::FileRow;
 use hg_shelf::MemShelf;
-use hg_store::{NewRow, NewRows, StoreFault, store_file, store_manifest};
+use hg_store::{Buffer, NewRow, NewRows, StoreFault, store_file, store_manifest};
 use hg_tree::{MemTree, Thing};
 use std::alloc::Global;
 use std::string::String;
@@ -18,7 +17,7 @@ fn file(
     tree: &mut MemTree,
     shelf: &mut MemShelf,
     path: PathRef<'_>,
-    room: &mut Room,
+    room: &mut Buffer,
 ) -> Result<FileRow, StoreFault> {
     store_file(alloc, tree, shelf, path, room)
 }
@@ -27,7 +26,7 @@ fn manifest(
     alloc: Global,
     shelf: &mut MemShelf,
     rows: &NewRows,
-    room: &mut Room,
+    room: &mut Buffer,
 ) -> Result<Id20, StoreFault> {
     store_manifest(alloc, shelf, rows, room)
 }
@@ -94,7 +93,7 @@ fn stored(
     step: &str,
     answer: &mut String,
 ) -> Result<(), Fail> {
-    let mut room = Room::new(alloc)?;
+    let mut room = Buffer::new(alloc)?;
     match file(alloc, tree, shelf, PathRef::read(word(step, 1))?, &mut room) {
         Ok(row) => put_row(answer, &row),
         Err(fault) => put_fault(answer, fault),
@@ -121,7 +120,7 @@ fn manifest_of(
             row,
         })?;
     }
-    let mut room = Room::new(alloc)?;
+    let mut room = Buffer::new(alloc)?;
     match manifest(alloc, shelf, &rows, &mut room) {
         Ok(id) => put_id(answer, &id),
         Err(fault) => put_fault(answer, fault),
