@@ -109,7 +109,12 @@ pub(crate) fn edited(
 }
 
 // Tracks most of the paths.
-fn track_most(draws: &mut Draws, mixed: &mut Mixed<'_>, tree: &mut MemTree) -> Result<(), Fail> {
+fn track_most(
+    alloc: Global,
+    draws: &mut Draws,
+    mixed: &mut Mixed<'_>,
+    tree: &mut MemTree,
+) -> Result<(), Fail> {
     for path in PLACES {
         if !draws.once_in(6) {
             track(alloc, mixed, tree, *path)?;
@@ -128,6 +133,6 @@ pub(crate) fn first_record(
     let docket = Docket::read(b"")?;
     let mut mixed = Mixed::open(Image::open(&docket, b"")?);
     reparent(alloc, &mut mixed, parents, 2)?;
-    track_most(draws, &mut mixed, tree)?;
+    track_most(alloc, draws, &mut mixed, tree)?;
     written(alloc, &mixed)
 }
