@@ -65,25 +65,36 @@ fn put_row(answer: &mut String, row: &FileRow) -> Result<(), Fail> {
     Ok(())
 }
 
-// What stands at a path by its kind and its bytes.
-fn thing(alloc: Global, step: &str) -> Result<Thing, Fail> {
-    let bytes = bytes(alloc, word(step, 2))?;
-    let bytes = Blob::of(alloc, bytes.as_slice())?;
-    Ok(match word(step, 0) {
-        "file" => Thing::File { exec: false, bytes },
-        "program" => Thing::File { exec: true, bytes },
-        "many" => Thing::File {
-            exec: false,
-            bytes: many(alloc, number(step, 2)?)?,
-        },
-        _ => Thing::Dir,
-    })
-}
-
 // So many bytes `a`.
 fn many(alloc: Global, size: u64) -> Result<Blob, Fail> {
     let bytes = vec![in alloc; b'a'; size as usize]?;
     Ok(Blob::of(alloc, bytes.as_slice())?)
+}
+
+fn place_file(tree: &mut MemTree, name: &str, exec: bool, bytes: Blob) -> Result<(), Fail> {
+    tree.place(PathRef::read(name)?, Thing::File { exec, bytes }, at(1))?;
+    Ok(())
+}
+
+fn place_dir(tree: &mut MemTree, name: &str) -> Result<(), Fail> {
+    tree.place(PathRef::read(name)?, Thing::Dir, at(1))?;
+    Ok(())
+}
+
+fn blob_of(alloc: Global, step: &str) -> Result<Blob, Fail> {
+    let bytes = bytes(alloc, word(step, 2))?;
+    Ok(Blob::of(alloc, bytes.as_slice())?)
+}
+
+// Something stands at a path.
+fn place(alloc: Global, tree: &mut MemTree, step: &str) -> Result<(), Fail> {
+    let name = word(step, 1);
+    match word(step, 0) {
+        "file" => place_file(tree, name, false, blob_of(alloc, step)?),
+        "program" => place_file(tree, name, true, blob_of(alloc, step)?),
+        "many" => place_file(tree, name, false, many(alloc, number(step, 2)?)?),
+        _ => place_dir(tree, name),
+    }
 }
 
 fn stored(
@@ -136,9 +147,7 @@ impl Play for Stores {
         for step in steps.split(';') {
             let step = step.trim();
             match word(step, 0) {
-                "file" | "program" | "many" | "dir" => {
-                    tree.place(PathRef::read(word(step, 1))?, thing(alloc, step)?, at(1))?;
-                }
+                "file" | "program" | "many" | "dir" => place(alloc, &mut tree, step)?,
                 "store" => stored(alloc, &mut tree, &mut shelf, step, answer)?,
                 "manifest" => manifest_of(alloc, &mut shelf, step, answer)?,
                 _ => take(alloc, &mut shelf, step, answer)?,
