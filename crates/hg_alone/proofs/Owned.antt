@@ -55,19 +55,20 @@ module _ (old : Memory) (own : IsOwn old) where
   due_changes = ap (λ (l : List Change). old.changes ++ l) none_coming ∙ append-nil old.changes
 
   -- what leaves the changes as they were
-  pub kept : (new : Memory) → new.changes ≡ old.changes → new.due ≡ old.due → IsOwn new
-  kept new changes due = record { due = due ∙ own.due; changes = subst AreOwn (sym changes) own.changes }
+  pub kept : (new : Memory) → new.changes ≡ old.changes → new.due ≡ old.due → new.calls.failing ≡ old.calls.failing → IsOwn new
+  kept new changes due failing = record { due = due ∙ own.due; failing = failing ∙ own.failing; changes = subst AreOwn (sym changes) own.changes }
 
   lacked : (new : Memory) → Lacks old new → IsOwn new
-  lacked new h = kept new (ap (λ (m : Memory). m.changes) h.state ∙ same_changes h.some) (ap (λ (m : Memory). m.due) h.state)
+  lacked new h = kept new (ap (λ (m : Memory). m.changes) h.state ∙ same_changes h.some) (ap (λ (m : Memory). m.due) h.state) (ap (λ (m : Memory). m.calls.failing) h.state)
 
   pub failing : (new : Memory) → Fails old new → IsOwn new
-  failing new (inl due) = kept new (ap (λ (m : Memory). m.changes) due.1 ∙ due_changes) (ap (λ (m : Memory). m.due) due.1)
+  failing new (inl due) = kept new (ap (λ (m : Memory). m.changes) due.1 ∙ due_changes) (ap (λ (m : Memory). m.due) due.1) (ap (λ (m : Memory). m.calls.failing) due.1)
   failing new (inr h) = lacked new h
 
   pub did : (what : Step) (new : Memory) → new ≡ after_own what old → IsOwn new
   did what new is = record {
     due = ap (λ (m : Memory). m.due) is ∙ own.due;
+    failing = ap (λ (m : Memory). m.calls.failing) is ∙ own.failing;
     changes =
         subst AreOwn (sym (ap (λ (m : Memory). m.changes) is ∙ ap (λ (l : List Change). l ++ by_us old what ∷ []) due_changes))
         (one_more old.changes (by_us old what) refl own.changes);
@@ -81,6 +82,7 @@ module _ (old : Memory) (own : IsOwn old) where
   locked_noted : (answer : LockAnswer) (behind new : Memory) → IsOwn behind → new ≡ locking answer behind → IsOwn new
   locked_noted answer behind new was is = record {
     due = ap (λ (m : Memory). m.due) is ∙ was.due;
+    failing = ap (λ (m : Memory). m.calls.failing) is ∙ was.failing;
     changes = subst AreOwn (sym (ap (λ (m : Memory). m.changes) is)) was.changes;
   }
 
@@ -93,12 +95,12 @@ module _ (old : Memory) (own : IsOwn old) where
   pub locked : {E : Type 0} (new : Memory) (r : Result Bool E)
       → IfOk r (λ taken. new ≡ cond taken (record (locking an_answer.Taken (after_call old)) { ours = true }) (record (locking an_answer.Refused (after_call old)) { refusals = min (old.refusals + 1) (2 ^ 64 - 1) }))
       → OnErr r (FailsLocking an_answer.NotTaken old new) → IsOwn new
-  locked new (Ok true) is h = kept new (ap (λ (m : Memory). m.changes) is ∙ due_changes) (ap (λ (m : Memory). m.due) is)
-  locked new (Ok false) is h = kept new (ap (λ (m : Memory). m.changes) is ∙ due_changes) (ap (λ (m : Memory). m.due) is)
+  locked new (Ok true) is h = kept new (ap (λ (m : Memory). m.changes) is ∙ due_changes) (ap (λ (m : Memory). m.due) is) (ap (λ (m : Memory). m.calls.failing) is)
+  locked new (Ok false) is h = kept new (ap (λ (m : Memory). m.changes) is ∙ due_changes) (ap (λ (m : Memory). m.due) is) (ap (λ (m : Memory). m.calls.failing) is)
   locked new (Err e) is h = locked_failing an_answer.NotTaken new h
 
   pub unlocked : {T E : Type 0} (new : Memory) (r : Result T E) → OnOk r (new ≡ record (locking an_answer.GivenBack (after_call old)) { ours = false }) → OnErr r (FailsLocking an_answer.NotGivenBack old new) → IsOwn new
-  unlocked new (Ok x) is h = kept new (ap (λ (m : Memory). m.changes) is ∙ due_changes) (ap (λ (m : Memory). m.due) is)
+  unlocked new (Ok x) is h = kept new (ap (λ (m : Memory). m.changes) is ∙ due_changes) (ap (λ (m : Memory). m.due) is) (ap (λ (m : Memory). m.calls.failing) is)
   unlocked new (Err e) is h = locked_failing an_answer.NotGivenBack new h
 
   -- ---- the files that reads show
@@ -133,8 +135,8 @@ module _ (old : Memory) (own : IsOwn old) where
 
 -- a call that asks
 pub asked : {T E : Type 0} (old : Memory) (own : IsOwn old) (new : Memory) (ask : Asked) (r : Result T E) → OnOk r (new ≡ asking ask (after_call old)) → OnErr r (FailsAsking ask old new) → IsOwn new
-asked old own new ask (Ok x) is h = kept old own new (ap (λ (m : Memory). m.changes) is ∙ due_changes old own) (ap (λ (m : Memory). m.due) is)
-asked old own new ask (Err e) is (inl h) = failing (asking ask old) (record { due = own.due; changes = own.changes }) new h
+asked old own new ask (Ok x) is h = kept old own new (ap (λ (m : Memory). m.changes) is ∙ due_changes old own) (ap (λ (m : Memory). m.due) is) (ap (λ (m : Memory). m.calls.failing) is)
+asked old own new ask (Err e) is (inl h) = failing (asking ask old) (record { due = own.due; failing = own.failing; changes = own.changes }) new h
 asked old own new ask (Err e) is (inr h) = lacked old own new h
 
 -- a file that is put in place of another

@@ -39,9 +39,10 @@ abbrev pub all_own : List shelf_changes.Change → Bool
 all_own [] = true
 all_own (change ∷ changes) = change.by_us && all_own changes
 
--- nothing of others is due, and each change so far was the caller's own
+-- nothing of others is due, no call is to fail, and each change so far was the caller's own
 pub record IsOwn (memory : shelves.Memory) : Type 0 where
   pub due : memory.due ≡ []
+  pub failing : memory.calls.failing ≡ []
   pub changes : all_own memory.changes ≡ true
 
 -- the files that reads show

@@ -9,11 +9,12 @@ use hg_base::{Failed, Got, OutOfMemory};
 use hg_shelf::{MemShelf, Shelf};
 use std::alloc::Global;
 
-/// Files in memory that the caller alone changed, and for which no change of others is due: each of their steps is the caller's.
+/// Files in memory that the caller alone changed, for which no change of others is due and no call is to fail: each of their steps is the caller's.
 #[derive(Drop)]
 pub struct AloneShelf {
     pub shelf: MemShelf,
     ghost alone: { shelf.due ≡ [] },
+    ghost calm: { shelf.calls.failing ≡ [] },
     ghost own: { all_own shelf.changes ≡ true },
 }
 

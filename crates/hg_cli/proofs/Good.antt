@@ -7,28 +7,35 @@ use Rattle.hg_image.specs.Reading.{RecordFault}
 use Rattle.hg_save.proofs.Published.{keeps_later, published_earlier}
 use Rattle.hg_save.specs.Others.{WasPublished}
 use Rattle.hg_save.specs.Record.{docket_in, reading}
-use Rattle.hg_save.specs.Saved.{IsLatest}
-use Rattle.hg_session.proofs.GoodParts.{data_before, data_later}
-use Rattle.hg_session.proofs.GoodStays.{good_alike, good_later}
+use Rattle.hg_session.proofs.GoodStays.{good_alike}
+use Rattle.hg_session.proofs.GoodParts.{stood_later, stood_shorter}
 use Rattle.hg_session.specs.Call.{Count, Looked, Saved, Watched}
-use Rattle.hg_session.specs.Good.{IsFair, IsGoodIn, LeavesGood, StaysGood}
+use Rattle.hg_session.specs.Good.{HoldsParent, IsFair, IsGoodGround, LeavesGood, LeavesParent, StaysGood}
 use Rattle.hg_shelf.proofs.Scenes.{goes_trans, only_before, only_later}
 use Rattle.hg_shelf.specs.History as shelf
 use Rattle.hg_shelf.specs.History.{Files, others}
-use Rattle.hg_shelf.specs.Images.{Course, Goes, last_scene, scene}
+use Rattle.hg_shelf.specs.Images.{Course, Goes, Remains, Scene, last_scene, scene}
 use Rattle.hg_shelf.specs.Polite.{KeepsPlain, is_plain}
 use Rattle.hg_tree.proofs.Faces.{past_honest}
 use Rattle.hg_tree.proofs.Histories.{extends_trans}
 use Rattle.hg_tree.specs.History as tree
+use Rattle.hg_walk.specs.Walking.{first_id}
 
 -- ---- two calls
 
--- what calls keep: the moments so far, of the working copy too; that no docket which a crash might leave is ahead; and what is good
+-- what calls keep: the moments so far, of the working copy too; and a shelf that may be called upon
 pub record LeadsOn (looked : Looked) (saved : Saved) : Type 0 where
-  pub tree : tree.Extends looked.tree.old looked.tree.new
+  pub past : tree.Extends looked.tree.old looked.tree.new
   pub goes : Goes saved.old saved.new
-  pub latest : IsFair looked saved → IsLatest (last_scene saved.old) → LeavesGood looked.tree.old (last_scene saved.old) → IsLatest (last_scene saved.new)
+  pub ground : (by : tree.History) → tree.Extends looked.tree.new by → IsFair by looked saved → IsGoodGround by (last_scene saved.old) → IsGoodGround by (last_scene saved.new)
   pub good : StaysGood looked saved
+
+-- where a scene remains, a crash leaves of the plain store what it left
+parent_remains : (s t : Scene) → Remains s t → LeavesParent s → LeavesParent t
+parent_remains s t still parent = record {
+  shown = λ c table left is. subst (λ (f : Files). HoldsParent (first_id table) f c) (sym still.shown) (parent.shown c table (still.left c left) is);
+  left = λ c table left is. subst (HoldsParent (first_id table) c) (sym still.shown) (parent.left c table (still.left c left) is);
+}
 
 module _ (x y z : tree.History) (a b c : Course) (fx fy fz : ℕ) (p q r : Watched shelf.History) (m n o : Count) (first_past : tree.Extends x y) (second_past : tree.Extends y z) (goes : Goes a b) (behind : Goes b c) where
   abbrev first : Looked
@@ -73,14 +80,15 @@ module _ (x y z : tree.History) (a b c : Course) (fx fy fz : ℕ) (p q r : Watch
   }
 
   -- what a call needs its first part has
-  fair_first : IsFair whole both → IsFair first front
-  fair_first fair = record {
+  fair_first : (by : tree.History) → IsFair by whole both → IsFair by first front
+  fair_first by fair = record {
     told = fair.told;
     honest = past_honest y z second_past fair.honest;
     plain = plain_first fair.plain;
+    parent = λ k after within. parent_remains (scene c k) (scene b k) (behind.back k within) (fair.parent k after (omega (arith, within, behind.past.later)));
     calm = record { told = fair.calm.told; others = only_before b c start behind fair.calm.others };
     keep = keeps_before others b c start behind fair.keep;
-    kept = data_before b.history c.history behind.past start fair.kept;
+    kept = stood_shorter b.history c.history start behind.past fair.kept;
     published = λ t was. fair.published t (published_on (Some (Ok t)) was);
   }
 
@@ -89,8 +97,8 @@ module _ (x y z : tree.History) (a b c : Course) (fx fy fz : ℕ) (p q r : Watch
       (plain_first plain).each name is b.history.last goes.past.later (omega arith) ∙ ap (λ (f : Files). f name) (goes.past.stay start (omega arith)).shown
 
   -- and so has its second
-  fair_second : IsFair whole both → IsFair second rest
-  fair_second fair = record {
+  fair_second : (by : tree.History) → IsFair by whole both → IsFair by second rest
+  fair_second by fair = record {
     told = first_past.told ∙ fair.told;
     honest = fair.honest;
     plain = record {
@@ -98,32 +106,26 @@ module _ (x y z : tree.History) (a b c : Course) (fx fy fz : ℕ) (p q r : Watch
       each = λ name is k from upto.
           fair.plain.each name is k (omega (arith, goes.past.later, from)) upto ∙ sym (fair.plain.each name is b.history.last goes.past.later behind.past.later);
     };
+    parent = λ k after within. fair.parent k (omega (arith, goes.past.later, after)) within;
     calm = record { told = goes.past.told ∙ fair.calm.told; others = only_later c start b.history.last goes.past.later fair.calm.others };
     keep = keeps_later others c start b.history.last goes.past.later fair.keep;
-    kept = data_later c.history start b.history.last goes.past.later fair.kept;
+    kept = stood_later c.history start b.history.last goes.past.later fair.kept;
     published = λ t was.
-        good_alike (last_scene a).files (last_scene b).files (alike_mid fair.plain) t y
-        (good_later (last_scene a).files t x y first_past (fair.published t (published_earlier c start b.history.last c.history.last (Some (Ok t)) goes.past.later was)));
+        good_alike (last_scene a).files (last_scene b).files (alike_mid fair.plain) t by
+        (fair.published t (published_earlier c start b.history.last c.history.last (Some (Ok t)) goes.past.later was));
   }
 
   -- what is good in the first part still is at the end of the second
-  good_on : (k : ℕ) → k ≤ b.history.last → LeavesGood y (scene b k) → LeavesGood z (scene c k)
-  good_on k within good f left =
-      let there = good f ((behind.kept k within).left f left) in (
-        there.0,
-        there.1,
-        subst (λ (g : Files). IsGoodIn g there.0 z) (sym (behind.kept k within).shown) (good_later (scene b k).files there.0 y z second_past there.2),
-      )
+  good_on : (by : tree.History) (k : ℕ) → k ≤ b.history.last → LeavesGood by (scene b k) → LeavesGood by (scene c k)
+  good_on by k within good f left = good f ((behind.kept k within).left f left)
 
   pub leads_both : LeadsOn first front → LeadsOn second rest → LeadsOn whole both
   leads_both one two = record {
-    tree = extends_trans x y z first_past second_past;
+    past = extends_trans x y z first_past second_past;
     goes = goes_trans a b c goes behind;
-    latest = λ fair latest good.
-        two.latest (fair_second fair) (one.latest (fair_first fair) latest good) (one.good (fair_first fair) latest good b.history.last goes.past.later (omega arith));
-    good = λ fair latest good k after within. elim (cases_lt b.history.last k) [
-      | inl late ↦
-          two.good (fair_second fair) (one.latest (fair_first fair) latest good) (one.good (fair_first fair) latest good b.history.last goes.past.later (omega arith)) k (omega (arith, late)) within
-      | inr early ↦ good_on k early (one.good (fair_first fair) latest good k after early)
+    ground = λ by past fair ground. two.ground by past (fair_second by fair) (one.ground by (extends_trans y z by second_past past) (fair_first by fair) ground);
+    good = λ by past fair ground k after within. elim (cases_lt b.history.last k) [
+      | inl late ↦ two.good by past (fair_second by fair) (one.ground by (extends_trans y z by second_past past) (fair_first by fair) ground) k (omega (arith, late)) within
+      | inr early ↦ good_on by k early (one.good by (extends_trans y z by second_past past) (fair_first by fair) ground k after early)
     ];
   }

@@ -1,47 +1,70 @@
 -- A call of the program, a script too, leads from good records to good ones, and so does every list of calls.
-use Rattle.std.proofs.Common.{ℕ, ◌≤◌, Bool, true, false, List, [], ◌∷◌, Option, refl, sym, subst, arith, inl, inr}
+use Rattle.std.proofs.Common.{ℕ, ◌≤◌, Bool, true, false, List, [], ◌∷◌, Option, Some, None, refl, sym, ap, ◌∙◌, subst, arith, inl, inr}
 use Rattle.std.specs.Prelude.{IsTrue, MatchBool}
 use Rattle.std.specs.Str.{bytes_eq}
 use Rattle.hg_base.proofs.Runs.{keeps_all, says_each}
 use Rattle.hg_cli.proofs.Good.{LeadsOn, leads_both}
 use Rattle.hg_cli.specs.Calls.{Given, devices, shelf_course}
-use Rattle.hg_cli.specs.Good.{Between, CallsFairly, CallsGood, EachCallIsGood, IsGoodShelf}
+use Rattle.hg_cli.specs.Good.{Between, CallsFairly, CallsGood, EachCallIsGood, IsBegunUpon, IsGoodShelf}
 use Rattle.hg_cli.specs.Run.{Carries, IsRun}
 use Rattle.hg_cli.specs.Script.{Does, DoesWords, IsStopped, RunsWords, Views, is_script, script_name, seen}
 use Rattle.hg_lines.specs.Script.{words_of}
 use Rattle.hg_lines.specs.Turns.{Line, Refused, RunsScript, Turn}
 use Rattle.hg_report.specs.declared.fault.Fault.{Fault}
 use Rattle.hg_report.specs.declared.fault.Fault.TheVariants as a_fault
+use Rattle.hg_entry.specs.Table.{Table}
+use Rattle.hg_save.proofs.Names.{never_itself}
+use Rattle.hg_save.proofs.Solid.{sound_data}
+use Rattle.hg_save.specs.Loads.{files_at}
+use Rattle.hg_save.specs.Others.{HasData}
+use Rattle.hg_save.specs.Record.{id_in, reading}
+use Rattle.hg_save.specs.Saved.{name_after, used_in}
 use Rattle.hg_session.proofs.Crashes.{crash_unwritten}
-use Rattle.hg_session.proofs.GoodCalls.{alone_past, ran_good, unwritten_good}
-use Rattle.hg_session.proofs.GoodParts.{data_before, from_moment}
+use Rattle.hg_session.proofs.GoodCalls.{alone_past, kept_fair, ran_good, unwritten_good}
+use Rattle.hg_session.proofs.GoodParts.{there_upto}
 use Rattle.hg_session.proofs.GoodStays.{good_later}
 use Rattle.hg_session.specs.Answered.{IsAnswered, IsIdle}
 use Rattle.hg_session.specs.Call.{Call, Count, IsLeftAlone, Looked, Saved, Sink}
-use Rattle.hg_session.specs.Change.{IsUnwritten, up_to}
-use Rattle.hg_session.specs.Crash.{IsFirmGround}
-use Rattle.hg_session.specs.Good.{IsFair, KeepsGood, LeavesGood}
+use Rattle.hg_session.specs.Change.{IsUnwritten}
+use Rattle.hg_session.specs.Crash.{IsCrashSafe, IsFirmGround}
+use Rattle.hg_session.specs.Good.{IsFair, IsGoodGround, IsGoodRecord, KeepsGood, LeavesGood}
 use Rattle.hg_shelf.proofs.Scenes.{goes_same}
+use Rattle.hg_shelf.specs.History.{Files}
 use Rattle.hg_shelf.specs.Images.{Goes, Scene, last_scene, scene}
+use Rattle.hg_tree.proofs.Histories.{extends_same, extends_trans}
 use Rattle.hg_tree.specs.History as tree
 use Rattle.hg_words.specs.declared.given.Command.{Command}
 use Rattle.hg_words.specs.declared.given.Command.TheVariants as a_command
 
 -- ---- what one command does
 
+-- a call that is safe from crashes leads to a shelf that may be called upon
+ground_by : (looked : Looked) (saved : Saved) (own : Option Table) (by : tree.History) → Goes saved.old saved.new → IsFair by looked saved → IsGoodGround by (last_scene saved.old) → IsCrashSafe own saved
+    → LeavesGood by (last_scene saved.new) → IsGoodGround by (last_scene saved.new)
+ground_by looked saved own by goes fair ground crash good =
+    let start = saved.old.history.last in
+    let begun : HasData (files_at saved.new.history start) = subst HasData (sym (goes.kept start (omega arith)).shown) ground.there in
+    record {
+      latest = crash.latest;
+      there = there_upto saved.new start (goes.past.told ∙ fair.calm.told) fair.calm.others fair.kept begun crash.keeping saved.new.history.last goes.past.later (omega arith);
+      good = good;
+    }
+
 unwritten_leads : (looked : Looked) (saved : Saved) → IsLeftAlone looked.tree → Goes saved.old saved.new → IsUnwritten saved.old.history saved.new.history → LeadsOn looked saved
 unwritten_leads looked saved alone goes none = record {
-  tree = alone_past looked.tree alone;
+  past = alone_past looked.tree alone;
   goes = goes;
-  latest = λ fair latest good. (crash_unwritten saved.old saved.new goes fair.calm fair.keep none latest).latest;
-  good = unwritten_good looked saved (alone_past looked.tree alone) goes none;
+  ground = λ by past fair ground.
+      ground_by looked saved None by goes fair ground (crash_unwritten saved.old saved.new goes fair.calm fair.keep none ground.latest)
+      (unwritten_good looked saved goes none by past fair ground saved.new.history.last goes.past.later (omega arith));
+  good = unwritten_good looked saved goes none;
 }
 
 -- what is good is firm ground, where others keep the data that dockets name
-firm_by : (looked : Looked) (saved : Saved) → IsFair looked saved → LeavesGood looked.tree.old (last_scene saved.old) → IsFirmGround saved
-firm_by looked saved fair good = record {
-  sound = λ f left. let there = good f left in (there.0, there.1);
-  kept = λ k later within none. data_before (up_to k saved.new.history) saved.new.history (from_moment saved.new.history k within) saved.old.history.last fair.kept;
+firm_by : (looked : Looked) (saved : Saved) (by : tree.History) → Goes saved.old saved.new → IsFair by looked saved → IsGoodGround by (last_scene saved.old) → IsFirmGround saved
+firm_by looked saved by goes fair ground = record {
+  sound = λ f left. let there = ground.good f left in (there.0, there.1);
+  kept = kept_fair saved goes fair.calm fair.kept ground.there;
 }
 
 pub idle_leads : (looked : Looked) (saved : Saved) (locks : Count) (out : Sink) → IsIdle looked saved locks out → LeadsOn looked saved
@@ -69,7 +92,7 @@ module _ {T S G O E : Type 0} (views : Views T S G O E)
       (views.tree_faults first.0) (views.tree_faults old.0) (views.tree_faults new.0)
       (seen views first old).looked.shelf (seen views old new).looked.shelf (seen views first new).looked.shelf
       (seen views first old).looked.oversize (seen views old new).looked.oversize (seen views first new).looked.oversize
-      one.tree two.tree one.goes two.goes one two
+      one.past two.past one.goes two.goes one two
 
   abbrev Runs : List (List ℕ) → Devices → Devices → ℕ → Option Fault → Type 0
   Runs words old new code fault =
@@ -92,9 +115,12 @@ module _ {T S G O E : Type 0} (views : Views T S G O E)
       ran_good (seen views old new).looked.tree (seen views old new).looked.shelf (seen views old new).looked.oversize (seen views old new).locks (views.images old.1) (views.images new.1)
       (seen views old new).out (seen views old new).err code fault (shown new.1) command answered.ran in
       record {
-        tree = good.past;
+        past = good.past;
         goes = answered.kept;
-        latest = λ fair latest begun. (answered.crash fair.calm fair.keep latest (firm_by (seen views old new).looked (seen views old new).saved fair begun)).1.latest;
+        ground = λ by past fair ground.
+            let safe = answered.crash fair.calm fair.keep ground.latest (firm_by (seen views old new).looked (seen views old new).saved by answered.kept fair ground) in
+            ground_by (seen views old new).looked (seen views old new).saved safe.0 by answered.kept fair ground safe.1
+            (good.stays by past fair ground (shelf_course views new.1).history.last answered.kept.past.later (omega arith));
         good = good.stays;
       }
 
@@ -146,15 +172,39 @@ module _ {T S G O E : Type 0} (views : Views T S G O E)
 
   -- ---- lists of calls
 
-  since : (files : Scene) (h later : tree.History) → tree.Extends h later → LeavesGood h files → LeavesGood later files
-  since files h later past good c left = let there = good c left in (there.0, there.1, good_later files.files there.0 h later past there.2)
+  since : (files : Scene) (h later : tree.History) → tree.Extends h later → IsGoodGround h files → IsGoodGround later files
+  since files h later past ground = record {
+    latest = ground.latest;
+    there = ground.there;
+    good = λ c left. let there = ground.good c left in (there.0, there.1, good_later c there.0 h later past there.2);
+  }
+
+  -- what a crash left may be called upon
+  begun_upon : (h : tree.History) (left : Files) → IsGoodRecord left h (reading left) → (shelf : S) → IsBegunUpon views left shelf → IsGoodShelf views (shelf, h)
+  begun_upon h left good shelf begun =
+      let s : Scene = last_scene (shelf_course views shelf) in
+      record {
+        latest = record {
+          latest = λ c leaves n after. never_itself n (id_in left) (ap (λ (f : Files). name_after n (id_in f)) (sym begun.shown) ∙ after ∙ ap (λ (f : Files). Some (id_in f)) (begun.alone c leaves));
+          used = λ c leaves same. omega (arith, ap used_in (begun.alone c leaves ∙ sym begun.shown));
+        };
+        there = subst HasData (sym begun.shown) (sound_data left (good.0, good.1));
+        good = λ c leaves. subst (λ (f : Files). IsGoodRecord f h (reading f)) (sym (begun.alone c leaves)) good;
+      }
 
   each : (call : Given T G O E) (old new : Between S) → CallsFairly views call old new → Unit {0} → IsGoodShelf views old → CallsGood views call old new × IsGoodShelf views new
   each call old new does premise sound =
       let leads = call_leads call.words call.from call.to (devices call.old old.0) (devices call.new new.0) call.code call.fault does.does in
-      let begun : LeavesGood (views.tree call.old.tree) (last_scene (shelf_course views old.0)) = since (last_scene (shelf_course views old.0)) old.1 (views.tree call.old.tree) does.since sound.good in
-      let all : CallsGood views call old new = λ k after within. subst (λ (h : tree.History). LeavesGood h (scene (shelf_course views new.0) k)) (sym does.behind) (leads.good does.fair sound.latest begun k after within) in
-      (all, record { latest = leads.latest does.fair sound.latest begun; good = all (shelf_course views new.0).history.last leads.goes.past.later (omega arith) })
+      let by = views.tree call.new.tree in
+      let begun : IsGoodGround by (last_scene (shelf_course views old.0)) =
+      since (last_scene (shelf_course views old.0)) old.1 by (extends_trans old.1 (views.tree call.old.tree) by does.since leads.past) sound in
+      let same = extends_same by in (
+        λ k after within.
+            let good : LeavesGood new.1 (scene (shelf_course views new.0) k) =
+            subst (λ (h : tree.History). LeavesGood h (scene (shelf_course views new.0) k)) (sym does.behind) (leads.good by same does.fair begun k after within) in
+            (good, λ left leaves shelf upon. begun_upon new.1 left (good left leaves) shelf upon),
+        subst (λ (h : tree.History). IsGoodGround h (last_scene (shelf_course views new.0))) (sym does.behind) (leads.ground by same does.fair begun),
+      )
 
   pub each_call_is_good : EachCallIsGood views
   each_call_is_good calls first last sound runs =

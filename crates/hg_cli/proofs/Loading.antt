@@ -101,6 +101,8 @@ made_so dirs made copy stands stored given none tree_is shelf_is = record {
   copy = subst (λ (m : Memory). IsCopy dirs (tree.now (tree_alone m))) (sym tree_is) (subst (IsCopy dirs) (sym (same_now made.tree)) stands);
   unchanged = ap (λ (m : Memory). (tree_alone m).last) tree_is ∙ given_still made.tree given;
   files = subst (λ (m : shelves.Memory). IsStored dirs (files_of m)) (sym shelf_is) stored;
+  looks = ap (λ (m : Memory). m.calls.failing) tree_is ∙ given.failing;
+  saves = copy.shelf.calm;
   refusals = ap (λ (m : shelves.Memory). m.refusals) shelf_is ∙ none;
 }
 

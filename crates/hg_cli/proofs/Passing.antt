@@ -16,7 +16,7 @@ use Rattle.hg_report.specs.Status.{sign_of}
 use Rattle.hg_save.specs.Others.{HasData, KeepData}
 use Rattle.hg_save.specs.Record.{data_name, reading}
 use Rattle.hg_save.specs.Saved.{new_docket}
-use Rattle.hg_save.proofs.SpansBehind.{keep_used}
+use Rattle.hg_save.proofs.Spans.{keep_used}
 use Rattle.hg_session.proofs.Longer.{right_by_start, rows_stay}
 use Rattle.hg_session.proofs.SameTables.{one_table}
 use Rattle.hg_session.specs.Call.{Count, Looked, Saved, Sink}

@@ -3,8 +3,8 @@ use Rattle.std.specs.Prelude.{ℕ, ◌≡◌, ◌≤◌, List}
 use Rattle.hg_base.specs.Runs.{RunsEach}
 use Rattle.hg_cli.specs.Calls.{Calls, Given, devices, shelf_course}
 use Rattle.hg_cli.specs.Script.{Seen, Views, seen}
-use Rattle.hg_save.specs.Saved.{IsLatest}
-use Rattle.hg_session.specs.Good.{IsFair, LeavesGood}
+use Rattle.hg_session.specs.Good.{IsFair, IsGoodGround, LeavesGood}
+use Rattle.hg_shelf.specs.History.{Files}
 use Rattle.hg_shelf.specs.Images.{last_scene, scene}
 use Rattle.hg_tree.specs.History as tree
 
@@ -21,19 +21,25 @@ pub record CallsFairly {T S G O E : Type 0} (views : Views T S G O E) (call : Gi
   pub does : Calls views call old.0 new.0
   pub since : tree.Extends old.1 (views.tree call.old.tree)
   pub behind : new.1 ≡ views.tree call.new.tree
-  pub fair : IsFair (seen_of views call old.0 new.0).looked (seen_of views call old.0 new.0).saved
+  pub fair : IsFair (views.tree call.new.tree) (seen_of views call old.0 new.0).looked (seen_of views call old.0 new.0).saved
 
--- whatever a crash leaves at the end of a shelf's course is good by what the working copy was then, and no docket of it is ahead of the one that stands
-pub record IsGoodShelf {T S G O E : Type 0} (views : Views T S G O E) (now : Between S) : Type 0 where
-  pub latest : IsLatest (last_scene (shelf_course views now.0))
-  pub good : LeavesGood now.1 (last_scene (shelf_course views now.0))
+-- a shelf may be called upon: at its last moment whatever a crash leaves is good by what the working copy was then, no docket of it is ahead of the one that
+-- stands, and the data file that this one names is there
+abbrev pub IsGoodShelf : {T S G O E : Type 0} → Views T S G O E → Between S → Type 0
+IsGoodShelf views now = IsGoodGround now.1 (last_scene (shelf_course views now.0))
 
--- at each moment of a call whatever a crash leaves is good by what the working copy is at the call's end
+-- a shelf is begun anew after a crash: its reads show what the crash left, and another crash would leave nothing else
+pub record IsBegunUpon {T S G O E : Type 0} (views : Views T S G O E) (left : Files) (shelf : S) : Type 0 where
+  pub shown : (last_scene (shelf_course views shelf)).files ≡ left
+  pub alone : (c : Files) → (last_scene (shelf_course views shelf)).leaves c → c ≡ left
+
+-- at each moment of a call whatever a crash leaves is good by what the working copy is at the call's end, and a shelf that is begun anew upon it may be called upon
 abbrev pub CallsGood : {T S G O E : Type 0} → Views T S G O E → Given T G O E → Between S → Between S → Type 0
-CallsGood views call old new =
+CallsGood {S = S} views call old new =
     (k : ℕ) → (shelf_course views old.0).history.last ≤ k → k ≤ (shelf_course views new.0).history.last → LeavesGood new.1 (scene (shelf_course views new.0) k)
+    × ((left : Files) → (scene (shelf_course views new.0) k).leaves left → (shelf : S) → IsBegunUpon views left shelf → IsGoodShelf views (shelf, new.1))
 
--- so it is in every list of calls, each with what it needs of others, from a shelf of which whatever a crash leaves is good; and so is the last one
+-- so it is in every list of calls, each with what it needs of others, from a shelf that may be called upon; and the last one is such a one
 abbrev pub EachCallIsGood : {T S G O E : Type 0} → Views T S G O E → Type 0
 EachCallIsGood {T = T} {S = S} {G = G} {O = O} {E = E} views =
     (calls : List (Given T G O E)) (first last : Between S) → IsGoodShelf views first → RunsEach (CallsFairly views) calls first last

@@ -44,11 +44,13 @@ abbrev pub IsLoadable : Command → Type 0
 IsLoadable (a_command.DebugLoad n) = (1 ≤ n) × (n ≤ 2000)
 IsLoadable command = Unit {0}
 
--- it is the working copy of so many directories, as it was made: nothing of it was changed since, and no lock was refused
+-- it is the working copy of so many directories, as it was made: nothing of it was changed since, no call is to fail, and no lock was refused
 pub record IsMade (dirs : ℕ) (made : Alone) : Type 0 where
   pub copy : IsCopy dirs (tree.now (tree_alone made.tree.tree))
   pub unchanged : (tree_alone made.tree.tree).last ≡ 0
   pub files : IsStored dirs (files_of made.shelf.shelf)
+  pub looks : made.tree.tree.calls.failing ≡ []
+  pub saves : made.shelf.shelf.calls.failing ≡ []
   pub refusals : made.shelf.shelf.refusals ≡ 0
 
 -- a status over such a copy that asks for all letters, and meets no fault: what it leaves of the copy, and what it prints

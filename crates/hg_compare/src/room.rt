@@ -1,5 +1,7 @@
 //! Room for the bytes that are compared.
 
+ghost use Rattle.std.specs.Prelude.{◌≡◌, length};
+
 use hg_base::OutOfMemory;
 use std::alloc::Global;
 use std::marker::Model;
@@ -30,5 +32,12 @@ impl Room {
         let mine = vec![in alloc; 0u8; PIECE]?;
         let theirs = vec![in alloc; 0u8; PIECE]?;
         Ok(Room { mine, theirs })
+    }
+
+    /// One of the two buffers, for a caller that reads or compares other bytes.
+    pub fn buffer(&mut self) -> &mut [u8]
+        ensures { length result.now ≡ 65536 }
+    {
+        self.mine.as_mut_slice()
     }
 }

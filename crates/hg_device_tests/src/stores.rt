@@ -3,9 +3,10 @@ use crate::shelves::take;
 use crate::trees::{NOON, at};
 use hg_base::{Blob, Id20, Path, PathRef};
 use hg_case_tests::{Play, agree, bytes, number, word};
+use hg_compare::Room;
 use hg_manifest::FileRow;
 use hg_shelf::MemShelf;
-use hg_store::{Buffer, NewRow, NewRows, StoreFault, store_file, store_manifest};
+use hg_store::{NewRow, NewRows, StoreFault, store_file, store_manifest};
 use hg_tree::{MemTree, Thing};
 use std::alloc::Global;
 use std::string::String;
@@ -17,7 +18,7 @@ fn file(
     tree: &mut MemTree,
     shelf: &mut MemShelf,
     path: PathRef<'_>,
-    room: &mut Buffer,
+    room: &mut Room,
 ) -> Result<FileRow, StoreFault> {
     store_file(alloc, tree, shelf, path, room)
 }
@@ -26,7 +27,7 @@ fn manifest(
     alloc: Global,
     shelf: &mut MemShelf,
     rows: &NewRows,
-    room: &mut Buffer,
+    room: &mut Room,
 ) -> Result<Id20, StoreFault> {
     store_manifest(alloc, shelf, rows, room)
 }
@@ -104,7 +105,7 @@ fn stored(
     step: &str,
     answer: &mut String,
 ) -> Result<(), Fail> {
-    let mut room = Buffer::new(alloc)?;
+    let mut room = Room::new(alloc)?;
     match file(alloc, tree, shelf, PathRef::read(word(step, 1))?, &mut room) {
         Ok(row) => put_row(answer, &row),
         Err(fault) => put_fault(answer, fault),
@@ -131,7 +132,7 @@ fn manifest_of(
             row,
         })?;
     }
-    let mut room = Buffer::new(alloc)?;
+    let mut room = Room::new(alloc)?;
     match manifest(alloc, shelf, &rows, &mut room) {
         Ok(id) => put_id(answer, &id),
         Err(fault) => put_fault(answer, fault),

@@ -17,16 +17,16 @@ use Rattle.hg_tree.specs.History.{Asks, Extends, History, IsOurs, Passes, now}
 use Rattle.hg_tree.specs.Moment.{AreFit, Moment, is_among, is_dir}
 use Rattle.hg_tree.specs.declared.asked.Asked.{Asked}
 use Rattle.hg_tree.specs.declared.asked.Asked.TheVariants as an_ask
-use Rattle.hg_tree.specs.Still.{Untouched, kind_at}
+use Rattle.hg_tree.specs.Still.{Untouched, hg_in, kind_at}
 use Rattle.hg_tree.proofs.Spans.{now_same, ours_first, ours_second, ours_unstepped, passes_trans}
 use Rattle.hg_tree.proofs.Stillness.{ours_untouched}
 use Rattle.hg_compare.specs.Same.{Reads}
 use Rattle.hg_flat.specs.Asked.{AsksFor, AsksNothing, AsksReads, IsDirAmong, IsDirBelow, IsDirFrom, IsDirIn}
 use Rattle.hg_flat.specs.Listing.{HoldsFor, IsVisibleFrom, holds_repository, is_from, is_inside}
-use Rattle.hg_flat.specs.Passed.{WasKind}
+use Rattle.hg_flat.specs.Passed.{WasDir, WasKind, WasNoDir}
 use Rattle.hg_flat.proofs.Alike.{dir_seen}
 use Rattle.hg_flat.proofs.Among.{fit_of}
-use Rattle.hg_flat.proofs.Unknowns.{back, from_below, from_cases, from_same, inside_joined, same_of, visible_up}
+use Rattle.hg_flat.proofs.Unknowns.{apart_up, back, from_below, from_cases, from_same, inside_joined, same_of, visible_up}
 
 -- ---- asks behind one another
 
@@ -95,6 +95,22 @@ asks_before W a b c asks none = record { dirs = asks.dirs; asked = none ∙ asks
 
 -- ---- a path, and what stands below it
 
+dir_longer : (mid new : History) → Extends mid new → (start : ℕ) (path : List ℕ) → WasDir mid start path → WasDir new start path
+dir_longer mid new second start path was = record {
+  moment = was.moment;
+  begun = was.begun;
+  past = omega (arith, was.past, second.later);
+  is = ap (λ (m : Moment). is_dir (m.things path)) (second.stay was.moment was.past) ∙ was.is;
+}
+
+none_longer : (mid new : History) → Extends mid new → (start : ℕ) (path : List ℕ) → WasNoDir mid start path → WasNoDir new start path
+none_longer mid new second start path was = record {
+  moment = was.moment;
+  begun = was.begun;
+  past = omega (arith, was.past, second.later);
+  none = ap (λ (m : Moment). is_dir (m.things path)) (second.stay was.moment was.past) ∙ was.none;
+}
+
 -- what is asked over a span is so over a longer one
 from_longer : (E : List ℕ → Type 0) (since mid new : History) → Extends mid new → (from : List ℕ) (dir : Option (List ℕ)) → IsDirFrom E since mid from dir → IsDirFrom E since new from dir
 from_longer E since mid new second from dir d = record {
@@ -102,16 +118,28 @@ from_longer E since mid new second from dir d = record {
   is = d.is;
   entered = d.entered;
   inside = d.inside;
+  was = dir_longer mid new second since.last d.path d.was;
+  apart = λ e from_there below. none_longer mid new second since.last (hg_in e) (d.apart e from_there below);
   stands = λ ours. d.stands (ours_first since mid new second ours);
   visible = λ ours. d.visible (ours_first since mid new second ours);
 }
 
-itself_visible : (moment : Moment) (path : List ℕ) → IsVisibleFrom moment (Some path) path
-itself_visible moment path d from below =
+-- no directory is between a path and itself
+never_between : (path d : List ℕ) → is_from (Some path) d ≡ true → is_below d path ≡ true → ⊥
+never_between path d from below =
     elim (from_cases path d from) [
-      | inl same ↦ absurd (back path d (subst (λ (q : List ℕ). is_below q d ≡ true) (sym same) (subst (λ (q : List ℕ). is_below d q ≡ true) same below)) below)
-      | inr under ↦ absurd (back path d under below)
+      | inl same ↦ back path d (subst (λ (q : List ℕ). is_below q d ≡ true) (sym same) (subst (λ (q : List ℕ). is_below d q ≡ true) same below)) below
+      | inr under ↦ back path d under below
     ]
+
+itself_visible : (moment : Moment) (path : List ℕ) → IsVisibleFrom moment (Some path) path
+itself_visible moment path d from below = absurd (never_between path d from below)
+
+-- a directory stood where one was seen
+dir_there : (mid new : History) → Extends mid new → (start : ℕ) (path : List ℕ) → WasKind mid start path (Some a_kind.Dir) → WasDir new start path
+dir_there mid new second start path was =
+    dir_longer mid new second start path
+    (record { moment = was.moment; begun = was.begun; past = was.past; is = dir_seen (mid.at was.moment) path (Some a_kind.Dir) (sym was.is) })
 
 -- where nobody else steps since then, what was seen at a path since then is there still
 seen_then : (since mid : History) → Passes since mid → (path : List ℕ) → WasKind mid since.last path (Some a_kind.Dir) → IsOurs since mid → is_dir ((now since).things path) ≡ true
@@ -134,17 +162,21 @@ look_asks E since old mid new before first second path text again same too kind 
         is = at ∙ ap Some same;
         entered = here;
         inside = from_same path path refl;
-        stands = λ ours.
-            seen_then since mid (passes_trans since old mid before first) path (subst (λ (q : List ℕ). WasKind mid since.last q (Some a_kind.Dir)) too (subst (WasKind mid since.last again) is was))
-            (ours_first since mid new second ours);
+        was = dir_there mid new second since.last path seen;
+        apart = λ d from_there below. absurd (never_between path d from_there below);
+        stands = λ ours. seen_then since mid (passes_trans since old mid before first) path seen (ours_first since mid new second ours);
         visible = λ ours. itself_visible (now since) path;
       }
       | inr below ↦ in_path dir (subst (λ (t : List ℕ). IsDirBelow E since new (Some t) dir) same below)
     ])
     asks)
   where
+    seen : WasKind mid since.last path (Some a_kind.Dir)
+    seen = subst (λ (q : List ℕ). WasKind mid since.last q (Some a_kind.Dir)) too (subst (WasKind mid since.last again) is was)
+
     in_path : (dir : Option (List ℕ)) → IsDirBelow E since new (Some path) dir → IsDirFrom E since new path dir
-    in_path dir d = record { path = d.path; is = d.is; entered = d.entered; inside = from_below path d.path d.inside; stands = d.stands; visible = d.visible }
+    in_path dir d =
+        record { path = d.path; is = d.is; entered = d.entered; inside = from_below path d.path d.inside; was = d.was; apart = d.apart; stands = d.stands; visible = d.visible }
 
 -- ---- the names one by one
 
@@ -270,9 +302,9 @@ not_inside (Some dir) path inside =
     ]
 
 pub visit_asks : (E : List ℕ → Type 0) (since old mid later new : History) → Passes since old → Passes old mid → Passes mid later → Extends later new → (dir : Option (List ℕ)) (names again : List (List ℕ)) (holds : Bool) → AreFit dir names → again ≡ names
-    → HoldsFor (Untouched later mid.last) (now mid) dir holds → holds ≡ false
+    → HoldsFor (Untouched later mid.last) (now mid) dir holds → holds ≡ false → ((d : List ℕ) → dir ≡ Some d → WasNoDir later mid.last (hg_in d))
     → AsksFor (λ asked. asked ≡ dir) old mid → AsksNothing mid later → AsksFor (IsDirAmong E since new dir again) later new → AsksFor (IsDirIn E since new dir) old new
-visit_asks E since old mid later new before first second third dir names again holds fit same found never own none asks =
+visit_asks E since old mid later new before first second third dir names again holds fit same found never apart_here own none asks =
     asks_weaker (λ asked. (asked ≡ dir) ⊎ IsDirAmong E since new dir names asked) (IsDirIn E since new dir) old new
     (λ asked. elim [ inl is ↦ inl is | inr (name, among, f) ↦ inr (in_dir asked name among f) ])
     (asks_trans (λ asked. asked ≡ dir) (IsDirAmong E since new dir names) old later new apart (asks_before (λ asked. asked ≡ dir) old mid later own none)
@@ -288,6 +320,10 @@ visit_asks E since old mid later new before first second third dir names again h
         ap (λ (m : Moment). holds_repository m dir) (sym (now_same since mid past (ours_first since mid later second.past start)))
         ∙ sym (found path (ours_untouched mid later second within path) inside) ∙ never
 
+    own_none : (d : List ℕ) → dir ≡ Some d → WasNoDir new since.last (hg_in d)
+    own_none d is =
+        let was = none_longer later new third mid.last (hg_in d) (apart_here d is) in record { moment = was.moment; begun = omega (arith, past.past.later, was.begun); past = was.past; none = was.none }
+
     in_dir : (asked : Option (List ℕ)) (name : List ℕ) → is_among name names ≡ true → IsDirFrom E since new (joined dir name) asked → IsDirBelow E since new dir asked
     in_dir asked name among f =
         let inside : is_inside dir f.path ≡ true = inside_joined dir name f.path f.inside in record {
@@ -295,6 +331,8 @@ visit_asks E since old mid later new before first second third dir names again h
           is = f.is;
           entered = f.entered;
           inside = inside;
+          was = f.was;
+          apart = apart_up (λ d. WasNoDir new since.last (hg_in d)) dir name f.path (plain_of dir names name fit among) own_none f.inside f.apart;
           stands = f.stands;
           visible = λ ours. visible_up (now since) dir name f.path (plain_of dir names name fit among) (no_repository f.path inside ours) f.inside (f.visible ours);
         }

@@ -1,6 +1,7 @@
 -- What a whole status asks the tree: first the patterns, then what is compared, and then what is listed.
 use Rattle.std.proofs.Common.{ℕ, ◌≡◌, Bool, true, false, cond, List, [], ◌++◌, map, append-nil, Option, None, refl, sym, ap, ◌∙◌, subst, inl, inr, arith}
-use Rattle.hg_ignore.specs.Patterns.{reads_at}
+use Rattle.std.specs.Prelude.{IsTrue}
+use Rattle.hg_ignore.specs.Patterns.{IsGiven, reads_at}
 use Rattle.hg_ignore.specs.Source.{AsksOnce, FileDuring, has_file, the_read}
 use Rattle.hg_ignore.specs.State.{Ignore, Ignored, Piece}
 use Rattle.hg_tree.specs.History.{Extends, History, IsOurs, Passes, now}
@@ -9,7 +10,7 @@ use Rattle.hg_tree.specs.declared.asked.Asked.{Asked}
 use Rattle.hg_tree.specs.declared.asked.Asked.TheVariants as an_ask
 use Rattle.hg_tree.proofs.Histories.{extends_same, extends_trans}
 use Rattle.hg_tree.proofs.Spans.{ours_first, passes_trans}
-use Rattle.hg_flat.specs.Asked.{AsksAll, AsksBehind, AsksFor, AsksReads, IsDirIn, IsListedDir, IsPatternsRead, IsTaken, IsVisibleDir, pattern_reads}
+use Rattle.hg_flat.specs.Asked.{AsksAll, AsksBehind, AsksFor, AsksReads, IsDirIn, IsListedDir, IsPatternsRead, IsTaken, IsVisibleDir, WasTaken, WasVisible, pattern_reads}
 use Rattle.hg_flat.specs.Course.{AsksPatterns}
 use Rattle.hg_flat.specs.Listing.{IsEntered}
 use Rattle.hg_flat.specs.Parent.{Asking, WasAsked}
@@ -65,20 +66,31 @@ taken_in wanted state old new moment dir (inl is) at unwanted = subst (IsTaken m
 taken_in wanted state old new moment dir (inr d) at unwanted =
     subst (IsTaken moment) (sym d.is) (subst (λ (s : List Piece). Ignored s d.path → ⊥) at (d.entered unwanted))
 
+-- so it was at moments of the call
+was_visible_in : (E : List ℕ → Type 0) (old new : History) (dir : Option (List ℕ)) → IsDirIn E old new None dir → WasVisible new old.last dir
+was_visible_in E old new dir (inl is) = subst (WasVisible new old.last) (sym is) tt
+was_visible_in E old new dir (inr d) = subst (WasVisible new old.last) (sym d.is) (d.was, λ above under. d.apart above refl under)
+
+was_taken_in : (wanted : Wanted) (state : List Piece) (old new : History) (dir : Option (List ℕ)) → (IsTrue old.told → IsGiven old new state) → IsDirIn (IsEntered wanted state) old new None dir → wanted.i ≡ false → WasTaken old new dir
+was_taken_in wanted state old new dir given (inl is) unwanted = subst (WasTaken old new) (sym is) tt
+was_taken_in wanted state old new dir given (inr d) unwanted = subst (WasTaken old new) (sym d.is) (record { state = state; given = given; passed = d.entered unwanted })
+
 module _ (wanted : Wanted) (asks : Asking) (state : List Piece) (old mid later new : History) (first : Passes old mid) (second : Passes mid later) (third : Passes later new)
-    (still : IsOurs old mid → needs_patterns wanted ≡ true → state ≡ Ignore (now old)) where
+    (still : IsOurs old mid → needs_patterns wanted ≡ true → state ≡ Ignore (now old)) (given : needs_patterns wanted ≡ true → IsTrue old.told → IsGiven old new state) where
   -- what the listing goes into
   abbrev Entered : Option (List ℕ) → Type 0
   Entered dir = (needs_patterns wanted ≡ true) × IsDirIn (IsEntered wanted state) old new None dir
 
   listed : (dir : Option (List ℕ)) → Entered dir → IsListedDir wanted old new dir
-  listed dir (needed, within) = (
-    needed,
-    λ ours. (
+  listed dir (needed, within) = record {
+    needed = needed;
+    was = was_visible_in (IsEntered wanted state) old new dir within;
+    entered = λ unwanted. was_taken_in wanted state old new dir (given needed) within unwanted;
+    own = λ ours. (
       visible_in (IsEntered wanted state) old new dir within ours,
       λ unwanted. taken_in wanted state old new (now old) dir within (still (ours_first old mid new (passes_trans mid later new second third).past ours) needed) unwanted,
-    ),
-  )
+    );
+  }
 
   pub all_asks : AsksPatterns wanted old mid → AsksReads (WasAsked asks mid later) mid later → AsksFor Entered later new → AsksAll wanted asks (IsListedDir wanted old new) old new
   all_asks (first_asks, are, is) reads lists = (

@@ -92,6 +92,11 @@ module _ (old mid new : History) (first : Passes old mid) (second : Extends mid 
     is = inr (during_whole during, is ∙ ap (λ (m : Moment). state_of (text_at m)) (sym last_is));
   }
 
+  -- a state that was read so was read in the whole call
+  pub state_given : (wanted : Wanted) (ignore : Option (List Piece)) → IsKeptState wanted old mid ignore → needs_patterns wanted ≡ true → IsTrue old.told → IsGiven old new (pieces_of ignore)
+  state_given wanted None none needed told = absurd (cc (none, needed))
+  state_given wanted (Some state) is needed told = given_whole state (is.1.given told)
+
   were_read : (state : List Piece) → IsState old mid state → WereRead old new (warnings_in state)
   were_read state is = record {
     state = state;

@@ -21,7 +21,7 @@ use Rattle.hg_ignore.specs.State.{Ignored, Piece}
 use Rattle.hg_compare.specs.declared.letter.Letter.{Letter}
 use Rattle.hg_listing.specs.Full.{wants}
 use Rattle.hg_flat.specs.Kept.{Kept}
-use Rattle.hg_flat.specs.Listing.{Gives, GivesLetter, HoldsFor, IsUnknownAmong, IsUnknownFrom, IsUnknownIn, ListsUnknown, PutsUntracked, is_from, rows_if, untracked_row}
+use Rattle.hg_flat.specs.Listing.{Gives, GivesLetter, HoldsFor, IsUnknownAmong, IsUnknownFrom, IsUnknownIn, ListsUnknown, PutsUntracked, is_from, rows_if, shows_dir, untracked_row}
 use Rattle.hg_flat.specs.Passed.{AreKnown, Known, ListsFormed, ListsSince, WasDir, WasFormed, WasKind, WasNoDir, nothing_known}
 use Rattle.hg_listing.specs.declared.row.Row.{Row}
 use Rattle.hg_listing.specs.declared.row.Wanted.{Wanted}
@@ -49,6 +49,21 @@ was_shown old new past start begun path found kind same is = record {
   past = omega arith;
   is = same ∙ ap (option_map (λ (stat : Stat). stat.kind)) is ∙ stat_kind ((now new).things path);
 }
+
+dir_shown : (found : Option Stat) → dir_by (option_map (λ stat. stat.kind) found) ≡ shows_dir found
+dir_shown None = refl
+dir_shown (Some stat) = refl
+
+-- a stat that shows no directory
+pub seen_none : (old new : History) → Extends old new → (path at : List ℕ) → at ≡ path → (found : Option Stat) → found ≡ stat_at (now new) at → shows_dir found ≡ false → WasNoDir new old.last path
+seen_none old new past path at same found is none =
+    let kind : Option Kind = option_map (λ (stat : Stat). stat.kind) found in
+    let was : WasKind new old.last path kind = was_shown old new past old.last (omega arith) path found kind refl (is ∙ ap (stat_at (now new)) same) in record {
+      moment = was.moment;
+      begun = was.begun;
+      past = was.past;
+      none = dir_seen (new.at was.moment) path kind (sym was.is) ∙ dir_shown found ∙ none;
+    }
 
 thing_dir : (t : Thing) → is_dir_thing t ≡ true → a_kind.Dir ≡ kind_of t
 thing_dir (a_thing.File exec bytes) h = absurd (cc (h))

@@ -127,14 +127,14 @@ inside_joined (Some dir) name p from =
 
 -- ---- what is visible from where
 
-visible_by : (moment : Moment) (j path d : List ℕ) → is_from (Some j) path ≡ true → IsVisibleFrom moment (Some j) path → (is_below d j ≡ true → ⊥) → is_below d path ≡ true → is_repository moment d ≡ false
-visible_by moment j path d from visible not_above below =
+apart_by : (P : List ℕ → Type 0) (j path d : List ℕ) → is_from (Some j) path ≡ true → ((e : List ℕ) → is_from (Some j) e ≡ true → is_below e path ≡ true → P e) → (is_below d j ≡ true → ⊥) → is_below d path ≡ true → P d
+apart_by P j path d from each not_above below =
     elim (from_cases j path from) [
       | inl same ↦ absurd (not_above (subst (λ (q : List ℕ). is_below d q ≡ true) (sym same) below))
       | inr under ↦
           elim (below_compared d j path below under) [
-            | inl same ↦ visible d (from_same j d (sym same)) below
-            | inr compared ↦ elim compared [ inl above ↦ absurd (not_above above) | inr deeper ↦ visible d (from_below j d deeper) below ]
+            | inl same ↦ each d (from_same j d (sym same)) below
+            | inr compared ↦ elim compared [ inl above ↦ absurd (not_above above) | inr deeper ↦ each d (from_below j d deeper) below ]
           ]
     ]
 
@@ -145,16 +145,22 @@ not_above dir name d plain deeper above =
       | inr higher ↦ back d dir higher deeper
     ]
 
+-- what holds of each directory between a name of a directory and a path does so of each between the directory and the path, if of the directory itself
+pub apart_up : (P : List ℕ → Type 0) (dir : Option (List ℕ)) (name path : List ℕ) → has_slash name ≡ false → ((d : List ℕ) → dir ≡ Some d → P d) → is_from (Some (joined dir name)) path ≡ true
+    → ((d : List ℕ) → is_from (Some (joined dir name)) d ≡ true → is_below d path ≡ true → P d) → (d : List ℕ) → is_from dir d ≡ true → is_below d path ≡ true → P d
+apart_up P None name path plain own inside each d from below =
+    apart_by P name path d inside each (λ above. let not = below_name d name plain in absurd (cc (not, above))) below
+apart_up P (Some dir) name path plain own inside each d from below =
+    elim (from_cases dir d from) [
+      | inl same ↦ subst P same (own dir refl)
+      | inr deeper ↦ apart_by P (joined (Some dir) name) path d inside each (not_above dir name d plain deeper) below
+    ]
+
 -- what is visible from a name of a directory is so from the directory, unless that is a repository of its own
 pub visible_up : (moment : Moment) (dir : Option (List ℕ)) (name path : List ℕ) → has_slash name ≡ false → holds_repository moment dir ≡ false → is_from (Some (joined dir name)) path ≡ true
     → IsVisibleFrom moment (Some (joined dir name)) path → IsVisibleFrom moment dir path
-visible_up moment None name path plain never inside visible d from below =
-    visible_by moment name path d inside visible (λ above. let not = below_name d name plain in absurd (cc (not, above))) below
-visible_up moment (Some dir) name path plain never inside visible d from below =
-    elim (from_cases dir d from) [
-      | inl same ↦ subst (λ (q : List ℕ). is_repository moment q ≡ false) same never
-      | inr deeper ↦ visible_by moment (joined (Some dir) name) path d inside visible (not_above dir name d plain deeper) below
-    ]
+visible_up moment dir name path plain never inside visible =
+    apart_up (λ d. is_repository moment d ≡ false) dir name path plain (λ d is. sym (ap (holds_repository moment) is) ∙ never) inside visible
 
 -- ---- what stands at a path or below it
 

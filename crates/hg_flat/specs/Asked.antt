@@ -1,15 +1,18 @@
 -- What a status asks the tree: which directories it lists, and what it reads.
 use Rattle.std.specs.Prelude.{ℕ, ◌≡◌, ◌⊎◌, true, false, if◌then◌else◌, List, [], map, ◌++◌, Option, Some, None, IsTrue}
 use Rattle.std.specs.List.{Contains, IsDistinct}
-use Rattle.hg_base.specs.PathText.{is_same_dir, joined}
-use Rattle.hg_ignore.specs.Patterns.{AreReads, reads_at}
+use Rattle.hg_base.specs.PathText.{is_below, is_same_dir, joined}
+use Rattle.hg_ignore.specs.Patterns.{AreReads, IsGiven, reads_at}
+use Rattle.hg_ignore.specs.State.{Ignored, Piece}
 use Rattle.hg_tree.specs.Moment.{Moment, is_among, is_dir}
 use Rattle.hg_tree.specs.History.{History, IsOurs, now}
+use Rattle.hg_tree.specs.Still.{hg_in}
 use Rattle.hg_tree.specs.declared.asked.Asked.{Asked}
 use Rattle.hg_tree.specs.declared.asked.Asked.TheVariants as an_ask
 use Rattle.hg_listing.specs.Full.{IsVisible}
 use Rattle.hg_flat.specs.Listing.{IsVisibleFrom, is_from, is_inside}
 use Rattle.hg_flat.specs.Parent.{Asking, WasAsked}
+use Rattle.hg_flat.specs.Passed.{WasDir, WasNoDir}
 use Rattle.hg_flat.specs.Patterns.{ignored_at, needs_patterns}
 use Rattle.hg_listing.specs.declared.row.Wanted.{Wanted}
 
@@ -25,13 +28,15 @@ abbrev pub IsVisibleDir : Moment → Option (List ℕ) → Type 0
 IsVisibleDir moment None = Unit {0}
 IsVisibleDir moment (Some dir) = IsTrue (is_dir (moment.things dir)) × IsVisible moment dir
 
--- a directory at a path or below it that meets E. Where nobody else makes a step since a state of the tree it stood there then, with no repository
--- between
+-- a directory at a path or below it that meets E. Since a state of the tree it stood there once, and in each directory between there was once no directory
+-- `.hg`. Where nobody else makes a step since that state it stood there then, with no repository between
 pub record IsDirFrom (E : List ℕ → Type 0) (since new : History) (from : List ℕ) (asked : Option (List ℕ)) : Type 0 where
   pub path : List ℕ
   pub is : asked ≡ Some path
   pub entered : E path
   pub inside : IsTrue (is_from (Some from) path)
+  pub was : WasDir new since.last path
+  pub apart : (d : List ℕ) → IsTrue (is_from (Some from) d) → IsTrue (is_below d path) → WasNoDir new since.last (hg_in d)
   pub stands : IsOurs since new → IsTrue (is_dir ((now since).things path))
   pub visible : IsOurs since new → IsVisibleFrom (now since) (Some from) path
 
@@ -39,13 +44,15 @@ pub record IsDirFrom (E : List ℕ → Type 0) (since new : History) (from : Lis
 abbrev pub IsDirAmong : (List ℕ → Type 0) → History → History → Option (List ℕ) → List (List ℕ) → Option (List ℕ) → Type 0
 IsDirAmong E since new dir names asked = (name : List ℕ) × IsTrue (is_among name names) × IsDirFrom E since new (joined dir name) asked
 
--- a directory that meets E in a directory, at any depth. Where nobody else makes a step since a state of the tree it stood there then, with no
--- repository between
+-- a directory that meets E in a directory, at any depth. Since a state of the tree it stood there once, and in each directory between there was once no
+-- directory `.hg`. Where nobody else makes a step since that state it stood there then, with no repository between
 pub record IsDirBelow (E : List ℕ → Type 0) (since new : History) (dir asked : Option (List ℕ)) : Type 0 where
   pub path : List ℕ
   pub is : asked ≡ Some path
   pub entered : E path
   pub inside : IsTrue (is_inside dir path)
+  pub was : WasDir new since.last path
+  pub apart : (d : List ℕ) → IsTrue (is_from dir d) → IsTrue (is_below d path) → WasNoDir new since.last (hg_in d)
   pub stands : IsOurs since new → IsTrue (is_dir ((now since).things path))
   pub visible : IsOurs since new → IsVisibleFrom (now since) dir path
 
@@ -68,11 +75,29 @@ abbrev pub IsTaken : Moment → Option (List ℕ) → Type 0
 IsTaken moment None = Unit {0}
 IsTaken moment (Some dir) = ¬ (ignored_at moment dir)
 
--- a directory that a status may list, where letters of paths without an entry are wanted; where nobody else steps it is visible and, unless
--- ignored files are wanted, not ignored
-abbrev pub IsListedDir : Wanted → History → History → Option (List ℕ) → Type 0
-IsListedDir wanted old new dir =
-    (needs_patterns wanted ≡ true) × (IsOurs old new → IsVisibleDir (now old) dir × (wanted.i ≡ false → IsTaken (now old) dir))
+-- the root, or a directory that stood there at a moment of a call, and in each directory above it no directory `.hg` at one
+abbrev pub WasVisible : History → ℕ → Option (List ℕ) → Type 0
+WasVisible h start None = Unit {0}
+WasVisible h start (Some dir) = WasDir h start dir × ((above : List ℕ) → IsTrue (is_below above dir) → WasNoDir h start (hg_in above))
+
+-- a state of the patterns that was read in a call doesn't ignore a path
+pub record IsPassed (old new : History) (path : List ℕ) : Type 0 where
+  pub state : List Piece
+  pub given : IsTrue old.told → IsGiven old new state
+  pub passed : ¬ (Ignored state path)
+
+-- the root, or a directory that such a state doesn't ignore
+abbrev pub WasTaken : History → History → Option (List ℕ) → Type 0
+WasTaken old new None = Unit {0}
+WasTaken old new (Some dir) = IsPassed old new dir
+
+-- a directory that a status may list, where letters of paths without an entry are wanted: whoever else steps it was visible at moments of the call and,
+-- unless ignored files are wanted, not ignored by what was read; where nobody else steps it is both at the start
+pub record IsListedDir (wanted : Wanted) (old new : History) (dir : Option (List ℕ)) : Type 0 where
+  pub needed : needs_patterns wanted ≡ true
+  pub was : WasVisible new old.last dir
+  pub entered : wanted.i ≡ false → WasTaken old new dir
+  pub own : IsOurs old new → IsVisibleDir (now old) dir × (wanted.i ≡ false → IsTaken (now old) dir)
 
 -- the patterns weren't read, or, where they are needed and a file of them was seen, they were
 abbrev pub IsPatternsRead : Wanted → History → History → List Asked → Type 0

@@ -1,16 +1,16 @@
 //! Everything that stands in the working copy, directory by directory.
 
-ghost use Rattle.std.specs.Prelude.{◌≡◌, ◌↔◌, ℕ, IsTrue, IfOk, OnOk, Some, option_map, codes};
+ghost use Rattle.std.specs.Prelude.{◌≡◌, ◌↔◌, false, ℕ, List, IsTrue, IfOk, OnOk, Some, option_map, codes};
 ghost use Rattle.hg_base.specs.PathText.{is_path, joined, parent_of};
 ghost use Rattle.hg_ignore.specs.Asked.{state_asked};
 ghost use Rattle.hg_ignore.specs.Kept.{DirIgnored};
 ghost use Rattle.hg_tree.specs.History.{History, Passes, now};
-ghost use Rattle.hg_tree.specs.Still.{Untouched};
+ghost use Rattle.hg_tree.specs.Still.{Untouched, hg_in};
 ghost use Rattle.hg_tree.specs.Moment.{AreFit, AreNames, has_dir, is_among, is_dir, stat_at};
 ghost use Rattle.hg_listing.specs.Cause.{HasListingCause};
 ghost use Rattle.hg_flat.specs.Asked.{AsksFor, AsksNothing, IsDirAmong, IsDirFrom, IsDirIn};
 ghost use Rattle.hg_flat.specs.Listing.{Gives, HoldsFor, IsEntered, IsUnknownAmong, IsUnknownFrom, IsUnknownIn, holds_repository, shows_dir};
-ghost use Rattle.hg_flat.specs.Passed.{AreKnown, ListsFormed, ListsSince, WasKind};
+ghost use Rattle.hg_flat.specs.Passed.{AreKnown, ListsFormed, ListsSince, WasKind, WasNoDir};
 
 use crate::entries::Entries;
 use crate::untracked::{add_untracked, is_ignored, leaves_out};
@@ -51,6 +51,10 @@ fn holds_hg<T: Tree>(alloc: Global, tree: &mut T, dir: PathRef<'_>) -> Result<bo
     ensures found { IfOk
         result
         (HoldsFor (Untouched (T.history tree.new) (T.history tree.old).last) (now (T.history tree.old)) (Some dir.entry.text.now)) }
+    ensures apart { IsTrue (T.history tree.old).told
+        → IfOk
+        result
+        (λ holds. holds ≡ false → WasNoDir (T.history tree.new) (T.history tree.old).last (hg_in dir.entry.text.now)) }
     ensures asked { IsTrue (T.history tree.old).told → AsksNothing (T.history tree.old) (T.history tree.new) }
     ensures cause { HasListingCause (T.faults tree.old) (T.faults tree.new) result }
 {
@@ -74,6 +78,14 @@ fn is_nested<T: Tree>(
         (Untouched (T.history tree.new) (T.history tree.old).last)
         (now (T.history tree.old))
         (option_map (λ d. d.text.now) dir.entry)) }
+    ensures apart { AreNames (now (T.history tree.old)) (option_map (λ d. d.text.now) dir.entry) names.now
+        → IsTrue (T.history tree.old).told
+        → IfOk
+        result
+        (λ holds. holds ≡ false
+        → (path : List ℕ)
+        → option_map (λ d. d.text.now) dir.entry ≡ Some path
+        → WasNoDir (T.history tree.new) (T.history tree.old).last (hg_in path)) }
     ensures asked { IsTrue (T.history tree.old).told → AsksNothing (T.history tree.old) (T.history tree.new) }
     ensures cause { HasListingCause (T.faults tree.old) (T.faults tree.new) result }
 {

@@ -1,25 +1,28 @@
 -- One file more below `.hg`.
-use Rattle.std.proofs.Common.{◌≡◌, ℕ, zero, suc, ◌+◌, ◌*◌, ◌-◌, ◌^◌, ◌<◌, Bool, false, cond, List, [], ◌∷◌, ◌++◌, length, get_or, inl, inr, Some, Ok, Err, refl, sym, ap, subst, ◌∙◌, arith, le-ltb}
+use Rattle.std.proofs.Common.{◌≡◌, ℕ, zero, suc, ◌+◌, ◌*◌, ◌-◌, ◌^◌, ◌<◌, ◌≤◌, ◌⊎◌, Bool, true, false, cond, List, [], ◌∷◌, ◌++◌, length, take, get_or, inl, inr, Some, Ok, Err, refl, sym, ap, subst, ◌∙◌, arith, le-ltb}
 use Rattle.std.specs.Prelude.{codes, replicate}
 use Rattle.std.specs.Fmt.{decimal}
 use Rattle.std.specs.Str.{bytes_eq}
 use Rattle.std.proofs.lemmas.Bool.{both_ways, cases_lt, cond-true, cond-false}
 use Rattle.std.proofs.lemmas.Fmt.{decimal_injective, first_decimal}
 use Rattle.std.proofs.lemmas.List.{append-nil, append_cancel_left}
+use Rattle.hg_alone.specs.Alone.{files_of}
 use Rattle.hg_append.specs.declared.encoding.Encoded.{Encoded}
+use Rattle.hg_base.proofs.Within.{same_bytes}
 use Rattle.hg_gen.specs.Copy.{contents_of, text_of}
 use Rattle.hg_gen.specs.Manifest.{IsManifest, is_in_parent}
-use Rattle.hg_gen.specs.Recorded.{AreContents, ArePut, IsRecorded, IsStored, parent}
+use Rattle.hg_gen.specs.Recorded.{AreContents, AreOnlyContents, ArePut, IsRecorded, IsStored, parent}
 use Rattle.hex.proofs.OnLiterals.{hex_on_literals}
 use Rattle.hg_manifest.specs.Load.{manifest_in}
 use Rattle.hg_manifest.specs.Plain.{most, plain_name}
 use Rattle.hg_manifest.specs.Rows.{manifest_of}
 use Rattle.hg_manifest.specs.declared.fault.ManifestFault.TheVariants as a_fault
+use Rattle.hg_image.specs.Reading.{reading_of}
 use Rattle.hg_save.proofs.Readings.{reads_published}
 use Rattle.hg_save.specs.Record.{data_name}
 use Rattle.hg_gen.proofs.Naming.{other_bytes}
 use Rattle.hg_shelf.specs.History.{Files}
-use Rattle.hg_shelf.specs.Memory.{with_file}
+use Rattle.hg_shelf.specs.Memory.{fresh, with_file}
 use Rattle.hg_tree.proofs.Planting.{equal_bytes}
 
 -- ---- the names of contents differ
@@ -46,6 +49,31 @@ names_differ i j few_i few_j same = contents_differ i j few_i few_j (append_canc
 
 pub no_contents : (files : Files) → AreContents 0 files
 no_contents files i below = absurd (omega (arith, below))
+
+-- nothing stands in a fresh shelf
+pub none_fresh : AreOnlyContents 0 (files_of fresh)
+none_fresh name bytes has = absurd (cc has)
+
+-- what stands behind a file that was put: that file, or what stood before
+file_or : (name bytes : List ℕ) (files : Files) (at found : List ℕ) → with_file name bytes files at ≡ Some found → (at ≡ name) ⊎ (files at ≡ Some found)
+file_or name bytes files at found has = by (bytes_eq name at) refl has
+  where
+    by : (t : Bool) → bytes_eq name at ≡ t → cond t (Some bytes) (files at) ≡ Some found → (at ≡ name) ⊎ (files at ≡ Some found)
+    by true is there = inl (sym (same_bytes name at is))
+    by false is there = inr there
+
+only_longer : (i j : ℕ) (files : Files) → i ≤ j → AreOnlyContents i files → AreOnlyContents j files
+only_longer i j files order only name bytes has = let is = only name bytes has in (is.0, omega (arith, order, is.1), is.2, is.3)
+
+-- the next file isn't put, or is
+pub only_upto : (i : ℕ) (files : Files) → AreOnlyContents i files → AreOnlyContents (i + 1) files
+only_upto i files only = only_longer i (i + 1) files (omega arith) only
+
+pub only_with : (i : ℕ) (files : Files) (name bytes : List ℕ) → name ≡ contents_name i → is_in_parent i ≡ true → AreOnlyContents i files → AreOnlyContents (i + 1) (with_file name bytes files)
+only_with i files name bytes named there only at found has = elim (file_or name bytes files at found has) [
+  | inl same ↦ (i, omega arith, there, same ∙ named)
+  | inr before ↦ only_upto i files only at found before
+]
 
 module _ (i : ℕ) (was : Files) (upto : AreContents i was) (small : i < 2 ^ 32) where
   -- the parent doesn't have the next file
@@ -90,8 +118,13 @@ manifest_found dirs manifest files is there =
     ∙ ap (λ (t : Bool). cond t (Err (a_fault.ManifestTooLarge (length manifest))) (manifest_of manifest)) (le-ltb most (length manifest) is.few)
     ∙ is.reads
 
-pub stored_so : (dirs : ℕ) (e : Encoded) (manifest : List ℕ) (old new : Files) → IsRecorded dirs e → IsManifest dirs manifest → AreContents (16 * dirs) old → ArePut e manifest old new → IsStored dirs new
-stored_so dirs e manifest old new recorded is contents put = record {
+-- before a place no nodes lie, where none were loaded
+none_before : (place : ℕ) (bytes : List ℕ) → take place [] ++ bytes ≡ bytes
+none_before zero bytes = refl
+none_before (suc n) bytes = refl
+
+pub stored_so : (dirs : ℕ) (e : Encoded) (manifest : List ℕ) (old new : Files) → IsRecorded dirs e → IsManifest dirs manifest → AreContents (16 * dirs) old → AreOnlyContents (16 * dirs) old → ArePut e manifest old new → IsStored dirs new
+stored_so dirs e manifest old new recorded is contents only put = record {
   docket = e.docket.items;
   nodes = e.bytes.items;
   table = recorded.table;
@@ -100,15 +133,33 @@ stored_so dirs e manifest old new recorded is contents put = record {
   reads = recorded.reads;
   is = recorded.is;
   recorded =
-      reads_published [] e new recorded.over
+      reads_published [] [] e recorded.over new
       (record {
         docket = ([], put (codes "dirstate") ∙ ap Some (sym (append-nil e.docket.items)));
-        file = ([], ap (λ (id : List ℕ). new (data_name id)) recorded.id ∙ put (codes "dirstate.0000000000000000") ∙ ap Some (sym (append-nil e.bytes.items)));
+        file = (
+          [],
+          ap (λ (id : List ℕ). new (data_name id)) recorded.id ∙ put (codes "dirstate.0000000000000000")
+              ∙ ap Some (sym (ap (λ (bytes : List ℕ). bytes ++ []) (none_before e.place e.bytes.items) ∙ append-nil e.bytes.items)),
+        );
       })
+      ∙ ap (λ (bytes : List ℕ). Some (reading_of e.docket.items bytes)) (none_before e.place e.bytes.items)
       ∙ ap Some recorded.reads;
   rows = is.rows;
   manifest = manifest_found dirs manifest new is (put (codes "plain/m-1111111111111111111111111111111111111111"));
   named = is.named;
   plain = is.plain;
   contents = λ i below there. put (contents_name i) ∙ contents i below there;
+  only = λ name bytes has.
+      let third : Files = with_file (codes "plain/m-1111111111111111111111111111111111111111") manifest old in
+      let second : Files = with_file (codes "dirstate.0000000000000000") e.bytes.items third in
+      elim (file_or (codes "dirstate") e.docket.items second name bytes (sym (put name) ∙ has)) [
+        | inl docket ↦ inl docket
+        | inr rest ↦ elim (file_or (codes "dirstate.0000000000000000") e.bytes.items third name bytes rest) [
+          | inl nodes ↦ inr (inl nodes)
+          | inr plain ↦ elim (file_or (codes "plain/m-1111111111111111111111111111111111111111") manifest old name bytes plain) [
+            | inl rows ↦ inr (inr (inl rows))
+            | inr stored ↦ inr (inr (inr (only name bytes stored)))
+          ]
+        ]
+      ];
 }

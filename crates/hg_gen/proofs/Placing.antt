@@ -38,7 +38,7 @@ all_more [] what all = (refl, tt)
 all_more (change ∷ changes) what all = (all.0, all_more changes what all.1)
 
 pub given_more : (old new : Memory) (what : Outside) → new ≡ record old { changes = old.changes ++ by_others what ∷ [] } → IsGiven old → IsGiven new
-given_more old new what is given = subst IsGiven (sym is) (record { due = given.due; changes = all_more old.changes what given.changes })
+given_more old new what is given = subst IsGiven (sym is) (record { due = given.due; failing = given.failing; changes = all_more old.changes what given.changes })
 
 -- a working copy without files
 pub none_placed : AreFiles 0 (λ path. None)

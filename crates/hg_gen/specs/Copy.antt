@@ -72,7 +72,8 @@ pub record IsCopy (dirs : ℕ) (moment : Moment) : Type 0 where
   pub clock : moment.clock ≡ seconds 2000
   pub things : AreFiles (16 * dirs) moment.things
 
--- all that was done to a tree was done by others, and nothing more is to be
+-- all that was done to a tree was done by others, nothing more is to be, and no call is to fail
 pub record IsGiven (tree : Memory) : Type 0 where
   pub due : tree.due ≡ []
+  pub failing : tree.calls.failing ≡ []
   pub changes : AllByRecursion (λ change. maker change ≡ others) tree.changes

@@ -1,5 +1,5 @@
 -- What is recorded of the working copy of a number of directories, and what the plain store keeps of its parent.
-use Rattle.std.specs.Prelude.{ℕ, ◌≡◌, ◌<◌, ◌*◌, ◌%◌, ◌==◌, ◌||◌, Bool, true, false, not, if◌then◌else◌, List, [], ◌++◌, replicate, codes, Option, Some, None, Ok, IfSome, is_some}
+use Rattle.std.specs.Prelude.{ℕ, ◌≡◌, ◌<◌, ◌*◌, ◌%◌, ◌==◌, ◌||◌, ◌⊎◌, Bool, true, false, not, if◌then◌else◌, List, [], ◌++◌, replicate, codes, Option, Some, None, Ok, IfSome, is_some}
 use Rattle.std.specs.Map.{lookup}
 use Rattle.std.specs.Str.{bytes_eq}
 use Rattle.hg_append.specs.declared.encoding.Encoded.{Encoded}
@@ -54,6 +54,18 @@ pub record IsTable (dirs : ℕ) (t : Table) : Type 0 where
 abbrev pub AreContents : ℕ → Files → Type 0
 AreContents count files = (i : ℕ) → i < count → is_in_parent i ≡ true → files (codes "plain/f-" ++ contents_of i) ≡ Some (text_of i)
 
+-- and no others
+abbrev pub AreOnlyContents : ℕ → Files → Type 0
+AreOnlyContents count files = (name bytes : List ℕ) → files name ≡ Some bytes → (i : ℕ) × (i < count) × (is_in_parent i ≡ true) × (name ≡ codes "plain/f-" ++ contents_of i)
+
+-- the names of the files below `.hg`: those of the docket, its data file, the manifest, and the contents of the files that the parent has
+abbrev pub IsStoredName : ℕ → List ℕ → Type 0
+IsStoredName dirs name =
+    (name ≡ codes "dirstate")
+    ⊎ ((name ≡ codes "dirstate.0000000000000000")
+    ⊎ ((name ≡ codes "plain/m-1111111111111111111111111111111111111111")
+    ⊎ ((i : ℕ) × (i < 16 * dirs) × (is_in_parent i ≡ true) × (name ≡ codes "plain/f-" ++ contents_of i))))
+
 -- the files below `.hg` of a working copy of so many directories: a docket and its data file, which record the table, the manifest of the parent, and the
 -- contents of its files
 pub record IsStored (dirs : ℕ) (files : Files) : Type 0 where
@@ -70,6 +82,7 @@ pub record IsStored (dirs : ℕ) (files : Files) : Type 0 where
   pub named : AreNamed (16 * dirs) (named_in rows)
   pub plain : (at : List ℕ) → IfSome (lookup (bytes_eq at) rows) IsPlain
   pub contents : AreContents (16 * dirs) files
+  pub only : (name bytes : List ℕ) → files name ≡ Some bytes → IsStoredName dirs name
 
 -- the parents and the hash stay, and the image that a table was opened over
 pub record KeepsHead (old new : Held) : Type 0 where
@@ -89,7 +102,7 @@ pub record IsRecorded (dirs : ℕ) (e : Encoded) : Type 0 where
   pub id : e.id ≡ codes "0000000000000000"
   pub reads : reading_of e.docket.items e.bytes.items ≡ Ok table
   pub is : IsTable dirs table
-  pub over : IsOver [] e
+  pub over : IsOver [] [] e
 
 -- a manifest, a data file and a docket were put beside some files
 abbrev pub ArePut : Encoded → List ℕ → Files → Files → Type 0

@@ -3,7 +3,7 @@
 ghost use Rattle.std.specs.Prelude.{◌≡◌, ◌<◌, ◌≤◌, ◌+◌, ◌*◌, ◌++◌, [], codes, IfOk, OnOk};
 ghost use Rattle.std.specs.String.{string_bytes};
 ghost use Rattle.hg_alone.specs.Alone.{IsOwn, files_of};
-ghost use Rattle.hg_gen.specs.Recorded.{AreContents, ArePut, IsStored};
+ghost use Rattle.hg_gen.specs.Recorded.{AreContents, AreOnlyContents, ArePut, IsStored};
 
 use crate::lot::is_in_parent;
 use crate::names::{WIDTH, contents_of, text_of};
@@ -33,6 +33,7 @@ fn name_of(alloc: Global, contents: &str) -> Result<String, OutOfMemory>
 fn put_contents(alloc: Global, shelf: &mut AloneShelf, file: u32) -> Result<(), OutOfMemory>
     requires { file < 32000 }
     ensures files { OnOk result (AreContents file (files_of shelf.old.shelf) → AreContents (file + 1) (files_of shelf.new.shelf)) }
+    ensures only { OnOk result (AreOnlyContents file (files_of shelf.old.shelf) → AreOnlyContents (file + 1) (files_of shelf.new.shelf)) }
     ensures refusals { OnOk result (shelf.new.shelf.refusals ≡ shelf.old.shelf.refusals) }
 {
     if !is_in_parent(file) {
@@ -48,6 +49,7 @@ fn put_contents(alloc: Global, shelf: &mut AloneShelf, file: u32) -> Result<(), 
 fn put_all(alloc: Global, dirs: u32) -> Result<AloneShelf, OutOfMemory>
     requires { dirs ≤ 2000 }
     ensures files { IfOk result (λ shelf. AreContents (16 * dirs) (files_of shelf.shelf)) }
+    ensures only { IfOk result (λ shelf. AreOnlyContents (16 * dirs) (files_of shelf.shelf)) }
     ensures refusals { IfOk result (λ shelf. shelf.shelf.refusals ≡ 0) }
 {
     let mut shelf = AloneShelf::new(alloc)?;

@@ -132,7 +132,7 @@ module _ (held : Held) where
 
   module _ (formed : IsFormed (table held)) where
     -- what stands below a directory is at a node right in it, or below one
-    at_kid : (dir : Option (List ℕ)) (p : List ℕ) → is_above dir p ≡ true → (table held).nodes p ≡ true
+    pub at_kid : (dir : Option (List ℕ)) (p : List ℕ) → is_above dir p ≡ true → (table held).nodes p ≡ true
         → (kid : List ℕ) × (parent_of kid ≡ dir) × ((table held).nodes kid ≡ true) × (is_within kid p ≡ true)
     at_kid None p above node =
         let through = path_through p in (
@@ -207,7 +207,7 @@ module _ (held : Held) where
       ]
 
       -- what is at a child or below it stands below the directory
-      above_child : (child : ChildData) (p : List ℕ) → IsChild held dir child → is_within child.path p ≡ true → is_above dir p ≡ true
+      pub above_child : (child : ChildData) (p : List ℕ) → IsChild held dir child → is_within child.path p ≡ true → is_above dir p ≡ true
       above_child child p is within = above_by dir is.parent
         where
           above_by : (d : Option (List ℕ)) → parent_of child.path ≡ d → is_above d p ≡ true
@@ -217,7 +217,7 @@ module _ (held : Held) where
             | inr below ↦ below_trans d child.path p (below_parent d child.path e) below
           ]
 
-      any_left : (kid p : List ℕ) (children : List ChildData) → is_within kid p ≡ true → list_any (λ child. bytes_eq kid child.path) children ≡ true → is_left children p ≡ true
+      pub any_left : (kid p : List ℕ) (children : List ChildData) → is_within kid p ≡ true → list_any (λ child. bytes_eq kid child.path) children ≡ true → is_left children p ≡ true
       any_left kid p [] within any = absurd (true≢false (sym any))
       any_left kid p (child ∷ children) within any = elim (or_cases (bytes_eq kid child.path) (list_any (λ c. bytes_eq kid c.path) children) any) [
         | inl same ↦ or_left (is_within child.path p) (is_left children p) (ap (λ (q : List ℕ). is_within q p) (sym (same_bytes kid child.path same)) ∙ within)

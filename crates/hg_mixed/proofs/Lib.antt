@@ -1,4 +1,5 @@
 pub mod Adding
+pub mod Bare
 pub mod ClashWhole
 pub mod Covered
 pub mod DroppedWhole

@@ -1,14 +1,15 @@
 -- An edit that changes nothing.
-use Rattle.std.proofs.Common.{ℕ, ◌≡◌, Bool, true, false, not, ◌&&◌, List, Option, Some, None, refl, sym, subst, true≢false}
+use Rattle.std.proofs.Common.{ℕ, ◌≡◌, Bool, true, false, not, ◌&&◌, List, Option, Some, None, refl, sym, ap, ◌∙◌, subst, true≢false}
 use Rattle.std.specs.Prelude.{MatchBool, is_some}
 use Rattle.std.specs.Option.{option_map}
 use Rattle.hg_base.specs.PathText.{is_path}
 use Rattle.hg_base.specs.declared.time.Stamp.{Stamp}
 use Rattle.hg_entry.specs.Entry.{CacheData, EntryData, cache_view}
-use Rattle.hg_mixed.specs.Edits.{Lends}
+use Rattle.hg_mixed.specs.Cached.{IsAnyCached, IsNoneCached}
+use Rattle.hg_mixed.specs.Edits.{Lends, LendsUncached}
 use Rattle.hg_mixed.specs.Held.{Held, table}
 use Rattle.hg_nodes.specs.Clash.{IsClash, IsLeast, clashes, is_tracked_entry}
-use Rattle.hg_nodes.specs.Edits.{IsFormed, IsSame, Marks, after_cache, after_copy, after_set}
+use Rattle.hg_nodes.specs.Edits.{IsFormed, IsSame, Marks, after_cache, after_copy, after_no_caches, after_set}
 use Rattle.hg_nodes.proofs.Edited.{cache_stays, copy_stays, set_stays}
 use Rattle.hg_mixed.proofs.Lifted.{same_back, same_itself}
 
@@ -59,3 +60,13 @@ module _ (h : Held) where
 
   pub quiet_copy : (path : List ℕ) (source : Option (List ℕ)) → (table h).sources path ≡ source → IsSame (table h) (after_copy path source (table h))
   quiet_copy path source is = same_back _ _ (copy_stays path source (table h) (after_copy path source (table h)) (same_itself (after_copy path source (table h))) is)
+
+  -- where some directory is cached, it isn't so that none is
+  pub never_bare : IsAnyCached (table h) → IsNoneCached (table h) → ⊥
+  never_bare any none = true≢false (sym any.1 ∙ ap is_some (none any.0))
+
+  pub quiet_uncached : IsNoneCached (table h) → IsSame (table h) (after_no_caches (table h))
+  quiet_uncached none = record { p1 = refl; p2 = refl; hash = refl; entries = λ at. refl; sources = λ at. refl; nodes = λ at. refl; caches = none }
+
+  pub quiet_lends_uncached : IsNoneCached (table h) → LendsUncached h h
+  quiet_lends_uncached none = record { kept = λ dir bare. refl; ended = λ dir at cached. absurd (never_bare (at, cached) none) }

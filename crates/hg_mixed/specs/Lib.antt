@@ -1,3 +1,4 @@
+pub mod Cached
 pub mod Child
 pub mod ChildOf
 pub mod Children

@@ -3,6 +3,7 @@
 ghost use Rattle.std.specs.Prelude.{◌≡◌, true, Some, None, IfOk, OnOk, OnErr, MatchBool, is_some, option_map};
 ghost use Rattle.hg_entry.specs.Entry.{cache_view, view};
 ghost use Rattle.hg_nodes.specs.Clash.{IsLeast, Sets, clashes};
+ghost use Rattle.hg_mixed.specs.Cached.{IsNoneCached};
 ghost use Rattle.hg_mixed.specs.Drop.{PlacesDrop};
 ghost use Rattle.hg_nodes.specs.Drop.{IsPruned, after_clear};
 ghost use Rattle.hg_mixed.specs.Edits.{AreLentAsBefore, ArePlacedAsBefore, EndsAbove, IsOfSameImage, IsQuiet, IsUnchanged, Lends, LendsUncached, PlacesCopy};
@@ -69,19 +70,6 @@ impl Mixed<'_> {
         if self.says(path, &entry) {
             return Ok(());
         }
-        self.set_anew(alloc, path, entry)
-    }
-
-    // The same where something differs, as far as is known.
-    fn set_anew(&mut self, alloc: Global, path: PathRef<'_>, entry: Entry) -> Result<(), SetFault>
-        ensures clash { Sets path.entry.text.now (view entry) (table self.old) result }
-        ensures table { OnOk result (IsSame (table self.new) (after_set path.entry.text.now (view entry) (table self.old))) }
-        ensures changed { OnOk result (Marks (IsSame (table self.new) (table self.old)) self.old.changed self.new.changed) }
-        ensures lent { OnOk result (Lends path.entry.text.now (IsSame (table self.new) (table self.old)) self.old self.new) }
-        ensures places { OnOk result (ArePlacedAsBefore self.old self.new) }
-        ensures image { IsOfSameImage self.old self.new }
-        ensures err { OnErr result (IsUnchanged self.old self.new) }
-    {
         match take_near(alloc, &mut self.memory, &mut self.left, self.image, path) {
             Err(OutOfMemory) => Err(SetFault::OutOfMemory),
             Ok(()) => self.memory.set(alloc, path, entry),
@@ -109,25 +97,6 @@ impl Mixed<'_> {
         if same_cache(self.cache(dir), Some(time)) {
             return Ok(());
         }
-        self.note_dir_anew(alloc, dir, time)
-    }
-
-    // The same where something differs, as far as is known.
-    fn note_dir_anew(
-        &mut self,
-        alloc: Global,
-        dir: PathRef<'_>,
-        time: Stamp,
-    ) -> Result<(), OutOfMemory>
-        requires node { (table self.old).nodes dir.text.now ≡ true }
-        requires no_entry { (table self.old).entries dir.text.now ≡ None }
-        ensures table { OnOk result (IsSame (table self.new) (after_cache dir.entry.text.now (Some (cache_view time)) (table self.old))) }
-        ensures changed { OnOk result (Marks (IsSame (table self.new) (table self.old)) self.old.changed self.new.changed) }
-        ensures lent { OnOk result (Lends dir.entry.text.now (IsSame (table self.new) (table self.old)) self.old self.new) }
-        ensures places { OnOk result (ArePlacedAsBefore self.old self.new) }
-        ensures image { IsOfSameImage self.old self.new }
-        ensures err { OnErr result (IsUnchanged self.old self.new) }
-    {
         match take_for(alloc, &mut self.memory, &mut self.left, self.image, dir) {
             Err(fault) => Err(fault),
             Ok(()) => self.memory.note_dir(alloc, dir, time),
@@ -150,20 +119,6 @@ impl Mixed<'_> {
         if self.cache(dir).is_none() {
             return Ok(());
         }
-        self.forget_dir_anew(alloc, dir)
-    }
-
-    // The same where something differs, as far as is known.
-    fn forget_dir_anew(&mut self, alloc: Global, dir: PathRef<'_>) -> Result<(), OutOfMemory>
-        requires node { (table self.old).nodes dir.text.now ≡ true }
-        requires no_entry { (table self.old).entries dir.text.now ≡ None }
-        ensures table { OnOk result (IsSame (table self.new) (after_cache dir.entry.text.now None (table self.old))) }
-        ensures changed { OnOk result (Marks (IsSame (table self.new) (table self.old)) self.old.changed self.new.changed) }
-        ensures lent { OnOk result (Lends dir.entry.text.now (IsSame (table self.new) (table self.old)) self.old self.new) }
-        ensures places { OnOk result (ArePlacedAsBefore self.old self.new) }
-        ensures image { IsOfSameImage self.old self.new }
-        ensures err { OnErr result (IsUnchanged self.old self.new) }
-    {
         match take_for(alloc, &mut self.memory, &mut self.left, self.image, dir) {
             Err(fault) => Err(fault),
             Ok(()) => self.memory.forget_dir(dir),
@@ -178,7 +133,12 @@ impl Mixed<'_> {
         ensures places { OnOk result (ArePlacedAsBefore self.old self.new) }
         ensures image { IsOfSameImage self.old self.new }
         ensures err { OnErr result (IsUnchanged self.old self.new) }
+        // Where nothing is cached, no list is taken into memory.
+        ensures quiet { IsNoneCached (table self.old) → IsQuiet result self.old self.new }
     {
+        if !self.has_caches() {
+            return Ok(());
+        }
         match take_all(alloc, &mut self.memory, &mut self.left, self.image) {
             Err(fault) => Err(fault),
             Ok(()) => self.memory.drop_caches(),
@@ -207,26 +167,6 @@ impl Mixed<'_> {
         if self.has_source(path, source) {
             return Ok(());
         }
-        self.copy_from_anew(alloc, path, source)
-    }
-
-    // The same where something differs, as far as is known.
-    fn copy_from_anew(
-        &mut self,
-        alloc: Global,
-        path: PathRef<'_>,
-        source: Option<PathRef<'_>>,
-    ) -> Result<(), OutOfMemory>
-        requires { is_some ((table self.old).entries path.text.now) ≡ true }
-        ensures table { OnOk
-            result
-            (IsSame (table self.new) (after_copy path.entry.text.now (option_map (λ s. s.text.now) source.entry) (table self.old))) }
-        ensures changed { OnOk result (Marks (IsSame (table self.new) (table self.old)) self.old.changed self.new.changed) }
-        ensures lent { OnOk result (Lends path.entry.text.now (IsSame (table self.new) (table self.old)) self.old self.new) }
-        ensures places { OnOk result (PlacesCopy path.entry.text.now (IsSame (table self.new) (table self.old)) self.old self.new) }
-        ensures image { IsOfSameImage self.old self.new }
-        ensures err { OnErr result (IsUnchanged self.old self.new) }
-    {
         match take_for(alloc, &mut self.memory, &mut self.left, self.image, path) {
             Err(fault) => Err(fault),
             Ok(()) => self.memory.copy_from(alloc, path, source),

@@ -35,6 +35,7 @@
 #![tactic(auto)]
 
 mod below;
+mod cached;
 mod child;
 mod child_fields;
 mod children;

@@ -20,10 +20,10 @@
 //!
 //! ```text
 //! let mut table = Mixed::open(image);
-//! add(&mut table, &mut tree, "src/main.c")?;   // None: tracked
-//! add(&mut table, &mut tree, "src")?;          // Some(Refusal::Special): a directory
-//! forget(&mut table, "src/main.c")?;           // None
-//! forget(&mut table, "src/main.c")?;           // Some(Refusal::NotTracked)
+//! add(alloc, &mut table, &mut tree, "src/main.c")?;   // None: tracked
+//! add(alloc, &mut table, &mut tree, "src")?;          // Some(Refusal::Special): a directory
+//! forget(alloc, &mut table, "src/main.c")?;           // None
+//! forget(alloc, &mut table, "src/main.c")?;           // Some(Refusal::NotTracked)
 //!
 //! let mut parent = Parent::of(p1);
 //! remove(alloc, &mut table, &mut tree, &mut shelf, &mut parent, "README", false)?;  // None: gone

@@ -7,7 +7,7 @@ use Rattle.hg_save.specs.Loads.{files_at}
 use Rattle.hg_save.specs.Others.{HasFront, IsFrontOf, KeepData, KeepsFront, UsesData, WasLoaded, named_file}
 use Rattle.hg_save.specs.Record.{docket_in}
 use Rattle.hg_save.specs.declared.loaded.Loaded.{Loaded}
-use Rattle.hg_save.proofs.ReadingsBehind.{file_in}
+use Rattle.hg_save.proofs.Readings.{file_in}
 
 front_stays : (used : ℕ) (nodes : List ℕ) (old now : Option (List ℕ)) → KeepsFront used old now → HasFront used now → IsFrontOf old used nodes → IsFrontOf now used nodes
 front_stays used nodes old None keeps has front = absurd has

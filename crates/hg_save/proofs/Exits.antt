@@ -1,147 +1,163 @@
--- Where a publication may end: what has been led to there.
-use Rattle.std.proofs.Common.{◌≡◌, ◌∙◌, ℕ, List, ap, sym, IsSome, is_some, codes}
+-- Where a publication may end: what it has led to there, with its own steps.
+use Rattle.std.proofs.Common.{◌≡◌, ◌∙◌, ℕ, ◌≤◌, List, length, codes, IsSome, IsTrue, Some, Result, Ok, Err}
+use Rattle.std.specs.Result.{OnOk}
 use Rattle.hg_append.specs.declared.encoding.Encoded.{Encoded}
 use Rattle.hg_docket.specs.Docket.{docket_of}
-use Rattle.hg_docket.specs.Number.{next_name}
-use Rattle.hg_shelf.specs.Images.{Course, Goes, last_scene}
+use Rattle.hg_shelf.specs.History.{Files}
+use Rattle.hg_shelf.specs.Images.{Course, Goes, last_scene, scene}
 use Rattle.hg_shelf.specs.Polite.{Undisturbed}
-use Rattle.hg_shelf.specs.Rules.{Perhaps, moved, without}
+use Rattle.hg_shelf.specs.Rules.{Perhaps, TornAt, content, moved, overwritten}
 use Rattle.hg_shelf.proofs.Scenes.{first_part, goes_trans, second_part}
-use Rattle.hg_save.specs.Leads.{ButFor, Clears, IsDone, IsWhole, Leads}
-use Rattle.hg_save.specs.Record.{data_name, id_in}
-use Rattle.hg_save.specs.Saved.{HoldsExactly, IsFree, IsLatest, IsOver, KeepsOthers, LeavesOnly, Records, ShowsOnly, Stands, new_docket, published}
-use Rattle.hg_save.proofs.Exact.{holds_exactly}
-use Rattle.hg_save.proofs.Kept.{KeepsOld, leads_gone, old_one, old_three, old_two, only_four, only_old}
-use Rattle.hg_save.proofs.Names.{never_itself}
-use Rattle.hg_save.proofs.Stages.{Puts, cleared_records, done_left, done_shown, latest_cleared, latest_spared, latest_swapped, only_cleared, only_spared, only_swapped, ready_left, ready_shown, shown_one, shown_two, shows_cleared, shows_spared, shows_swapped, spared_one, spared_two}
+use Rattle.hg_save.specs.Leads.{Clears, IsDone, IsSure, IsWhole, Leads, OnceBy, OwnSteps, StepBy}
+use Rattle.hg_save.specs.Others.{IsOrderly}
+use Rattle.hg_save.specs.Over.{IsPut}
+use Rattle.hg_save.specs.Record.{IsReadable, data_name, id_in}
+use Rattle.hg_save.specs.Saved.{HoldsExactly, IsOver, Stands, name_after, new_docket, published}
+use Rattle.hg_save.specs.Behind.{IsFree}
+use Rattle.hg_save.specs.declared.loaded.Loaded.{Loaded}
+use Rattle.hg_save.proofs.Ends.{Led, anew_by, behind_by, crash_by, has_place, intact_by, latest_by, latest_near, led_before, led_behind, led_cleared, names_by, not_after_new, shown_by, solid_by, torn_by}
+use Rattle.hg_save.proofs.Keeping.{Keeping, keep_cleared, keep_data_file, keep_docket, keep_moved, keeping_along, keeps}
+use Rattle.hg_save.proofs.Orderly.{clear_steps, data_steps, docket_steps, orderly_along, orderly_keeps, set_at, swap_steps}
+use Rattle.hg_save.proofs.Own.{steps_on}
+use Rattle.hg_save.proofs.Readings.{HasPlace}
+use Rattle.hg_save.proofs.Stages.{IsWritten, exact_done, holds_exactly, is_written, prepares_one, prepares_two}
 
--- ---- a call in parts
+-- ---- what the parts say
 
-module _ (loaded : List ℕ) (new : Encoded) (over : IsOver loaded new) (a b : Course) (first : Goes a b) where
-  -- the next identifier is another one
-  apart : (docket_of loaded).id ≡ new.id → ⊥
-  apart same = never_itself 0 new.id (ap next_name (sym same) ∙ over.next)
+-- a file is written, and made sure or not
+pub record Puts (name : List ℕ) (place : ℕ) (bytes : List ℕ) (a b : Course) : Type 0 where
+  pub goes : Goes a b
+  pub leads : Undisturbed a b → Leads (TornAt name place (length bytes)) a b
+  pub steps : Undisturbed a b → OwnSteps (StepBy (TornAt name place (length bytes))) a b
 
+-- the docket takes its place, or not
+pub record Swaps (c d : Course) : Type 0 where
+  pub goes : Goes c d
+  pub leads : Undisturbed c d → IsSome ((last_scene c).files new_docket) → Leads (Perhaps (moved new_docket (codes "dirstate"))) c d
+  pub whole : Undisturbed c d → IsSome ((last_scene c).files new_docket) → IsWhole (moved new_docket (codes "dirstate")) c d
+  pub steps : Undisturbed c d → IsSome ((last_scene c).files new_docket) → OwnSteps (OnceBy (last_scene c) (moved new_docket (codes "dirstate"))) c d
+
+-- the old data file goes, or not
+pub record Ceases (id next : List ℕ) (d z : Course) : Type 0 where
+  pub goes : Goes d z
+  pub leads : Undisturbed d z → Leads (Clears id next) d z
+  pub steps : Undisturbed d z → OwnSteps (StepBy (Clears id next)) d z
+
+-- ---- what they have led to
+
+-- no docket that a crash may leave names an identifier that comes after this one
+abbrev IsLast : List ℕ → Course → Type 0
+IsLast id a = (d : Files) → (last_scene a).leaves d → (n : ℕ) → name_after n id ≡ Some (id_in d) → ⊥
+
+pub record Ended (loaded nodes : List ℕ) (new : Encoded) (a z : Course) : Type 0 where
+  pub led : Led loaded new a z
+  pub keeping : Stands loaded (last_scene a) → HasPlace nodes new (last_scene a).files → OwnSteps Keeping a z
+  pub orderly : IsFree new (last_scene a) → IsLast new.id a → HasPlace nodes new (last_scene a).files → IsReadable (published nodes new) → OwnSteps IsOrderly a z
+
+module _ (loaded nodes : List ℕ) (new : Encoded) (over : IsOver loaded nodes new) (a b : Course) (one : Puts (data_name new.id) new.place new.bytes.items a b) where
   -- the data file is written
-  module _ (one : Undisturbed a b → Leads (ButFor (data_name new.id)) a b) where
-    pub crash_one : Undisturbed a b → IsFree new.id (last_scene a) → LeavesOnly a b (published new)
-    crash_one calm free = only_spared loaded new over a free b (spared_one loaded new over a b (one calm))
-
-    pub others_one : Undisturbed a b → Leads (KeepsOthers (docket_of loaded).id new.id) a b
-    others_one calm = only_old (docket_of loaded).id new.id apart a b (old_one (docket_of loaded).id new.id apart a b (one calm))
-
-    pub latest_one : Undisturbed a b → Stands loaded (last_scene a) → IsLatest (last_scene a) → IsLatest (last_scene b)
-    latest_one calm stands latest = latest_spared loaded new over a stands latest b first.past.later (shown_one loaded new over a b (one calm)) (spared_one loaded new over a b (one calm))
-
-    pub left_one : Undisturbed a b → (id_in (last_scene a).files ≡ new.id → ⊥) → ShowsOnly a b (published new)
-    left_one calm unnamed = shows_spared loaded new over a unnamed b (shown_one loaded new over a b (one calm))
+  pub ended_one : Undisturbed a b → Ended loaded nodes new a b
+  ended_one calm =
+      let prepares = prepares_one new a b one.goes (one.leads calm) in
+      record {
+        led = led_before loaded new a b one.goes.past.later prepares;
+        keeping = λ stands front. keep_data_file loaded nodes new over a stands front b prepares (one.steps calm);
+        orderly = λ free none front sound. data_steps loaded nodes new over a front free b prepares (one.steps calm);
+      }
 
   -- and the docket beside the old one
-  module _ (c : Course) (second : Goes b c) (one : Undisturbed a b → Leads (ButFor (data_name new.id)) a b) (two : Undisturbed b c → Leads (ButFor new_docket) b c) where
-    pub crash_two : Undisturbed a c → IsFree new.id (last_scene a) → LeavesOnly a c (published new)
-    crash_two calm free = only_spared loaded new over a free c (spared_two loaded new over a b c first second (one (first_part a b c second calm)) (two (second_part a b c first calm)))
+  module _ (c : Course) (two : Puts new_docket 0 new.docket.items b c) where
+    start : Goes a c
+    start = goes_trans a b c one.goes two.goes
 
-    pub others_two : Undisturbed a c → Leads (KeepsOthers (docket_of loaded).id new.id) a c
-    others_two calm = only_old (docket_of loaded).id new.id apart a c (old_two (docket_of loaded).id new.id apart a b c first second (one (first_part a b c second calm)) (two (second_part a b c first calm)))
+    pub ended_two : Undisturbed a c → Ended loaded nodes new a c
+    ended_two calm =
+        let first : Undisturbed a b = first_part a b c two.goes calm in
+        let second : Undisturbed b c = second_part a b c one.goes calm in
+        let before = ended_one first in
+        record {
+          led = led_before loaded new a c start.past.later (prepares_two new a b one.goes c two.goes (one.leads first) (two.leads second));
+          keeping = λ stands front. steps_on Keeping a b c keeping_along (before.keeping stands front) two.goes (keep_docket (length new.docket.items) b c (two.steps second));
+          orderly = λ free none front sound. steps_on IsOrderly a b c orderly_along (before.orderly free none front sound) two.goes (docket_steps (length new.docket.items) b c (two.steps second));
+        }
 
-    pub latest_two : Undisturbed a c → Stands loaded (last_scene a) → IsLatest (last_scene a) → IsLatest (last_scene c)
-    latest_two calm stands latest =
-        latest_spared loaded new over a stands latest c (goes_trans a b c first second).past.later
-        (shown_two loaded new over a b c first second (one (first_part a b c second calm)) (two (second_part a b c first calm)))
-        (spared_two loaded new over a b c first second (one (first_part a b c second calm)) (two (second_part a b c first calm)))
+    -- and both are sure
+    module _ (data_sure : Undisturbed a b → IsSure (data_name new.id) (overwritten (content ((last_scene a).files (data_name new.id))) new.place new.bytes.items) b)
+        (docket_sure : Undisturbed b c → IsSure new_docket (overwritten (content ((last_scene b).files new_docket)) 0 new.docket.items) c) where
+      written : Undisturbed a c → IsWritten new a c
+      written calm =
+          let first : Undisturbed a b = first_part a b c two.goes calm in
+          let second : Undisturbed b c = second_part a b c one.goes calm in
+          is_written new a b c one.goes two.goes (one.leads first) (two.leads second) (data_sure first) (docket_sure second)
 
-    pub left_two : Undisturbed a c → (id_in (last_scene a).files ≡ new.id → ⊥) → ShowsOnly a c (published new)
-    left_two calm unnamed = shows_spared loaded new over a unnamed c (shown_two loaded new over a b c first second (one (first_part a b c second calm)) (two (second_part a b c first calm)))
+      module _ (d : Course) (three : Swaps c d) (there : (k : ℕ) → k ≤ d.history.last → IsTrue d.history.told → (scene d k).leaves (scene d k).files) where
+        pub ended_three : Undisturbed a d → Ended loaded nodes new a d
+        ended_three calm =
+            let first : Undisturbed a c = first_part a c d three.goes calm in
+            let second : Undisturbed c d = second_part a c d start calm in
+            let wrote = written first in
+            let before = ended_two first in
+            let told : IsTrue d.history.told = three.goes.past.told ∙ start.past.told ∙ calm.told in
+            record {
+              led = led_behind loaded nodes new over a c d start three.goes wrote (three.leads second wrote.there) (three.whole second wrote.there);
+              keeping = λ stands front. steps_on Keeping a c d keeping_along (before.keeping stands front) three.goes (keep_moved loaded nodes new over a stands front c d start wrote (three.steps second wrote.there));
+              orderly = λ free none front sound.
+                  steps_on IsOrderly a c d orderly_along (before.orderly free none front sound) three.goes
+                  (swap_steps loaded nodes new over a front c d (λ k within. there k within told) (set_at loaded nodes new over a front c start free none wrote) sound (three.steps second wrote.there));
+            }
 
-  -- and both are sure
-  module _ (c : Course) (second : Goes b c) (one : Undisturbed a b → Puts (data_name new.id) new.place new.bytes.items a b) (two : Undisturbed b c → Puts new_docket 0 new.docket.items b c) (d : Course) (third : Goes c d) where
-    calm_one : Undisturbed a d → Undisturbed a b
-    calm_one calm = first_part a b d (goes_trans b c d second third) calm
+        -- and the docket has its place
+        module _ (done : Undisturbed c d → IsSome ((last_scene c).files new_docket) → IsDone (moved new_docket (codes "dirstate")) c d) (z : Course) (four : Ceases (docket_of loaded).id new.id d z) where
+          front_goes : Goes a d
+          front_goes = goes_trans a c d start three.goes
 
-    calm_two : Undisturbed a d → Undisturbed b c
-    calm_two calm = first_part b c d third (second_part a b d first calm)
+          is_done : Undisturbed a d → IsDone (moved new_docket (codes "dirstate")) c d
+          is_done calm = done (second_part a c d start calm) (written (first_part a c d three.goes calm)).there
 
-    calm_three : Undisturbed a d → Undisturbed c d
-    calm_three calm = second_part b c d second (second_part a b d first calm)
+          exact_at : Undisturbed a d → HoldsExactly new a d
+          exact_at calm = exact_done loaded nodes new over a c d start three.goes (written (first_part a c d three.goes calm)) (is_done calm)
 
-    there : Undisturbed a d → IsSome ((last_scene c).files new_docket)
-    there calm = ap is_some (two (calm_two calm)).sure.shown
+          pub ended_four : Undisturbed a z → Ended loaded nodes new a z
+          ended_four calm =
+              let first : Undisturbed a d = first_part a d z four.goes calm in
+              let second : Undisturbed d z = second_part a d z front_goes calm in
+              let before = ended_three first in
+              let exact = exact_at first in
+              record {
+                led = led_cleared loaded nodes new over a d z front_goes four.goes before.led exact (four.leads second);
+                keeping = λ stands front. steps_on Keeping a d z keeping_along (before.keeping stands front) four.goes (keep_cleared loaded nodes new over (last_scene a).files d z exact.shown (four.leads second) (four.steps second));
+                orderly = λ free none front sound.
+                    steps_on IsOrderly a d z orderly_along (before.orderly free none front sound) four.goes (clear_steps loaded nodes new over a front d z exact.left (four.leads second) (four.steps second));
+              }
 
-    pub crash_three : (Undisturbed c d → IsSome ((last_scene c).files new_docket) → Leads (Perhaps (moved new_docket (codes "dirstate"))) c d) → Undisturbed a d → IsFree new.id (last_scene a) → LeavesOnly a d (published new)
-    crash_three three calm free =
-        only_swapped loaded new over a free c d (goes_trans a b c first second) third (spared_two loaded new over a b c first second (one (calm_one calm)).leads (two (calm_two calm)).leads)
-        (ready_left loaded new over a b c second (one (calm_one calm)) (two (calm_two calm))) (three (calm_three calm) (there calm))
+          pub exact_four : Undisturbed a z → HoldsExactly new a z
+          exact_four calm =
+              let first : Undisturbed a d = first_part a d z four.goes calm in
+              holds_exactly loaded nodes new over a d z four.goes (exact_at first) (four.leads (second_part a d z front_goes calm))
 
-    pub left_three : (Undisturbed c d → IsSome ((last_scene c).files new_docket) → Leads (Perhaps (moved new_docket (codes "dirstate"))) c d) → Undisturbed a d → (id_in (last_scene a).files ≡ new.id → ⊥) → ShowsOnly a d (published new)
-    left_three three calm unnamed =
-        shows_swapped loaded new over a unnamed c d (goes_trans a b c first second) third (shown_two loaded new over a b c first second (one (calm_one calm)).leads (two (calm_two calm)).leads)
-        (ready_shown loaded new over a b c second (one (calm_one calm)) (two (calm_two calm))) (three (calm_three calm) (there calm))
+-- ---- what that says of the whole
 
-    pub latest_three : (Undisturbed c d → IsSome ((last_scene c).files new_docket) → Leads (Perhaps (moved new_docket (codes "dirstate"))) c d) → (Undisturbed c d → IsSome ((last_scene c).files new_docket) → IsWhole (moved new_docket (codes "dirstate")) c d)
-        → Undisturbed a d → Stands loaded (last_scene a) → IsLatest (last_scene a) → IsLatest (last_scene d)
-    latest_three three wholly calm stands latest =
-        latest_swapped loaded new over a stands latest c d (goes_trans a b c first second) third
-        (shown_two loaded new over a b c first second (one (calm_one calm)).leads (two (calm_two calm)).leads)
-        (spared_two loaded new over a b c first second (one (calm_one calm)).leads (two (calm_two calm)).leads)
-        (ready_left loaded new over a b c second (one (calm_one calm)) (two (calm_two calm)))
-        (ready_shown loaded new over a b c second (one (calm_one calm)) (two (calm_two calm)))
-        (three (calm_three calm) (there calm)) (wholly (calm_three calm) (there calm))
+module _ (loaded : Loaded) (new : Encoded) (over : IsOver loaded.docket.items loaded.nodes.items new) (a z : Course) (there : (last_scene a).leaves (last_scene a).files) (ended : Ended loaded.docket.items loaded.nodes.items new a z) where
+  pub is_put : IsPut loaded new a z
+  is_put =
+      let docket : List ℕ = loaded.docket.items in
+      let nodes : List ℕ = loaded.nodes.items in
+      let led = ended.led in
+      record {
+        crash = λ free has. crash_by docket nodes new over a z led free (has_place loaded new over (last_scene a) has);
+        shown = λ free has. shown_by docket nodes new over a z led free (has_place loaded new over (last_scene a) has);
+        torn = torn_by docket nodes new over a z led;
+        named = names_by docket nodes new over a z led there;
+        anew = anew_by docket nodes new over a z led;
+        behind = behind_by docket nodes new over a z led;
+        latest = λ stands latest. latest_by docket nodes new over a z led (not_after_new loaded new over (last_scene a) stands latest) (latest_near loaded new over (last_scene a) stands latest) latest;
+        intact = intact_by docket nodes new over a z led;
+        solid = solid_by docket nodes new over a z led;
+        orderly = λ base sound. orderly_keeps a z (ended.orderly base.free (not_after_new loaded new over (last_scene a) base.stands base.latest) (has_place loaded new over (last_scene a) base.nodes) sound);
+        keeping = λ stands has. keeps a z (ended.keeping stands (has_place loaded new over (last_scene a) has));
+      }
 
-    old_kept : (Undisturbed c d → IsSome ((last_scene c).files new_docket) → Leads (Perhaps (moved new_docket (codes "dirstate"))) c d) → Undisturbed a d → Leads (KeepsOld (docket_of loaded).id new.id) a d
-    old_kept three calm =
-        old_three (docket_of loaded).id new.id apart a c d (goes_trans a b c first second) third
-        (old_two (docket_of loaded).id new.id apart a b c first second (one (calm_one calm)).leads (two (calm_two calm)).leads) (three (calm_three calm) (there calm))
-
-    pub others_three : (Undisturbed c d → IsSome ((last_scene c).files new_docket) → Leads (Perhaps (moved new_docket (codes "dirstate"))) c d) → Undisturbed a d → Leads (KeepsOthers (docket_of loaded).id new.id) a d
-    others_three three calm = only_old (docket_of loaded).id new.id apart a d (old_kept three calm)
-
-    -- the docket has its place, and the old data file goes
-    module _ (three : Undisturbed c d → IsSome ((last_scene c).files new_docket) → Leads (Perhaps (moved new_docket (codes "dirstate"))) c d)
-        (done : Undisturbed c d → IsSome ((last_scene c).files new_docket) → IsDone (moved new_docket (codes "dirstate")) c d)
-        (z : Course) (fourth : Goes d z) (gone : Undisturbed d z → Leads (Clears (docket_of loaded).id) d z) where
-      four : Undisturbed d z → Leads (Perhaps (without (data_name (docket_of loaded).id))) d z
-      four calm = leads_gone (docket_of loaded).id d z (gone calm)
-
-      calm_front : Undisturbed a z → Undisturbed a d
-      calm_front calm = first_part a d z fourth calm
-
-      calm_four : Undisturbed a z → Undisturbed d z
-      calm_four calm = second_part a d z (goes_trans a c d (goes_trans a b c first second) third) calm
-
-      is_done : Undisturbed a d → IsDone (moved new_docket (codes "dirstate")) c d
-      is_done calm = done (calm_three calm) (there calm)
-
-      pub crash_four : Undisturbed a z → IsFree new.id (last_scene a) → LeavesOnly a z (published new)
-      crash_four calm free =
-          only_cleared loaded new over a free d z fourth (crash_three three (calm_front calm) free)
-          (done_left loaded new over a c d (ready_left loaded new over a b c second (one (calm_one (calm_front calm))) (two (calm_two (calm_front calm)))) (is_done (calm_front calm))) (four (calm_four calm))
-
-      pub records_four : Undisturbed a z → Records z (published new)
-      records_four calm =
-          cleared_records loaded new over a d z fourth
-          (done_left loaded new over a c d (ready_left loaded new over a b c second (one (calm_one (calm_front calm))) (two (calm_two (calm_front calm)))) (is_done (calm_front calm)))
-          (done_shown loaded new over a c d (ready_shown loaded new over a b c second (one (calm_one (calm_front calm))) (two (calm_two (calm_front calm)))) (is_done (calm_front calm))) (four (calm_four calm))
-
-      pub exact_four : Undisturbed a z → HoldsExactly new a z
-      exact_four calm =
-          holds_exactly loaded new over a b c first second (one (calm_one (calm_front calm))) (two (calm_two (calm_front calm))) d z fourth (is_done (calm_front calm)) (four (calm_four calm))
-
-      pub left_four : Undisturbed a z → (id_in (last_scene a).files ≡ new.id → ⊥) → ShowsOnly a z (published new)
-      left_four calm unnamed =
-          shows_cleared loaded new over a unnamed d z fourth (left_three three (calm_front calm) unnamed)
-          (done_shown loaded new over a c d (ready_shown loaded new over a b c second (one (calm_one (calm_front calm))) (two (calm_two (calm_front calm)))) (is_done (calm_front calm))) (four (calm_four calm))
-
-      pub others_four : Undisturbed a z → Leads (KeepsOthers (docket_of loaded).id new.id) a z
-      others_four calm =
-          only_four loaded new over apart a d z (goes_trans a c d (goes_trans a b c first second) third) fourth (old_kept three (calm_front calm))
-          (done_left loaded new over a c d (ready_left loaded new over a b c second (one (calm_one (calm_front calm))) (two (calm_two (calm_front calm)))) (is_done (calm_front calm)))
-          (done_shown loaded new over a c d (ready_shown loaded new over a b c second (one (calm_one (calm_front calm))) (two (calm_two (calm_front calm)))) (is_done (calm_front calm))) (gone (calm_four calm))
-
-      pub latest_four : Undisturbed a z → Stands loaded (last_scene a) → IsLatest (last_scene a) → IsLatest (last_scene z)
-      latest_four calm stands latest =
-          latest_cleared loaded new over a stands latest d z fourth
-          (done_left loaded new over a c d (ready_left loaded new over a b c second (one (calm_one (calm_front calm))) (two (calm_two (calm_front calm)))) (is_done (calm_front calm)))
-          (done_shown loaded new over a c d (ready_shown loaded new over a b c second (one (calm_one (calm_front calm))) (two (calm_two (calm_front calm)))) (is_done (calm_front calm))) (four (calm_four calm))
-
-      pub goes_four : Goes a z
-      goes_four = goes_trans a d z (goes_trans a c d (goes_trans a b c first second) third) fourth
+-- where something holds in any case
+pub on_ok : {T E P : Type 0} (r : Result T E) → P → OnOk r P
+on_ok (Ok x) is = is
+on_ok (Err e) is = tt

@@ -5,6 +5,7 @@ use Rattle.std.specs.Option.{option_and_then}
 use Rattle.std.specs.Str.{bytes_eq}
 use Rattle.std.proofs.Math.Nat.{pow-le-pow_right}
 use Rattle.std.proofs.lemmas.Bool.{false_from_ne_true, leb-true}
+use Rattle.std.proofs.lemmas.Slice.Eq.{bytes_eq-Decides}
 use Rattle.hg_base.proofs.Within.{same_bytes}
 use Rattle.hg_docket.specs.Number.{hex_text, hex_value, is_digit, is_number, next_name, number_after, number_of}
 use Rattle.hg_docket.specs.Name.{is_name}
@@ -13,7 +14,7 @@ use Rattle.hg_docket.proofs.Hex.{hex_bound, text_len, text_number}
 use Rattle.hg_docket.specs.Docket.{docket_of}
 use Rattle.hg_shelf.specs.Images.{Scene}
 use Rattle.hg_save.specs.Record.{data_name}
-use Rattle.hg_save.specs.Saved.{IsFree, IsLatest, Stands, name_after, new_docket}
+use Rattle.hg_save.specs.Saved.{IsLatest, IsUnnamed, Stands, name_after, new_docket}
 
 -- ---- names
 
@@ -107,7 +108,7 @@ pub later_still : (n : ℕ) (id next other : List ℕ) → next_name id ≡ Some
 later_still n id next other is after = ap (option_and_then (name_after n)) is ∙ after
 
 -- where no docket names an identifier ahead of the one that stands, the next one is free
-pub next_free : (loaded : List ℕ) (s : Scene) (id : List ℕ) → Stands loaded s → IsLatest s → next_name (docket_of loaded).id ≡ Some id → IsFree id s
+pub next_free : (loaded : List ℕ) (s : Scene) (id : List ℕ) → Stands loaded s → IsLatest s → next_name (docket_of loaded).id ≡ Some id → IsUnnamed id s
 next_free loaded s id stands latest next = record {
   free = λ c is names. latest.latest c is 0 (ap (λ (bytes : List ℕ). next_name (docket_of bytes).id) stands ∙ next ∙ ap (λ (i : List ℕ). Some i) (sym names));
 }
@@ -126,3 +127,11 @@ some_id bytes t is test none = cc (sym test ∙ is ∙ ap (λ (l : List ℕ). le
 pub empty_id : (bytes : List ℕ) (t : Bool) → t ≡ (length bytes == 0) → t ≡ true → bytes ≡ []
 empty_id [] t is test = refl
 empty_id (b ∷ bytes) t is test = absurd (cc (sym test ∙ is ∙ not_zero (length (b ∷ bytes)) (omega arith)))
+
+-- ---- bytes that are compared
+
+pub one_bytes : (a b : List ℕ) (t : Bool) → t ≡ bytes_eq a b → t ≡ true → a ≡ b
+one_bytes a b t is test = same_bytes a b (sym is ∙ test)
+
+pub other_bytes : (a b : List ℕ) (t : Bool) → t ≡ bytes_eq a b → t ≡ false → a ≡ b → ⊥
+other_bytes a b t is test same = let all : bytes_eq a b ≡ true = (bytes_eq-Decides a b).1 same in cc (sym test ∙ is ∙ all)

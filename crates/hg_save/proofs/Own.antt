@@ -1,12 +1,13 @@
 -- What each step of the caller's own does in a part of a publication.
-use Rattle.std.proofs.Common.{◌≡◌, ℕ, ◌+◌, ◌<◌, ◌≤◌, Bool, true, List, IsSome, refl, sym, ap, ◌∙◌, subst, arith, inl, inr, ◌⊎◌}
+use Rattle.std.proofs.Common.{◌≡◌, ℕ, ◌+◌, ◌<◌, ◌≤◌, Bool, true, List, length, IsSome, refl, sym, ◌∙◌, subst, arith, inl, inr, ◌⊎◌}
 use Rattle.std.proofs.lemmas.Bool.{cases_lt}
 use Rattle.hg_shelf.specs.History.{By, Files, Passes, label, readers, us}
 use Rattle.hg_shelf.specs.Images.{Acts, Course, Goes, Remains, Scene, last_scene, scene}
 use Rattle.hg_shelf.specs.Polite.{Undisturbed}
-use Rattle.hg_shelf.specs.Rules.{Perhaps, Removes, Renames, Surely, Syncs, SyncsNames, Tears, Writes, moved, without}
+use Rattle.hg_shelf.specs.Rules.{Perhaps, Removes, Renames, Surely, Syncs, SyncsNames, Tears, TornAt, Writes, moved, without}
 use Rattle.hg_shelf.proofs.Scenes.{Knows, first_part, knows_later, remains_trans, stays_until}
-use Rattle.hg_save.specs.Leads.{ButFor, OnceBy, OwnSteps, StepBy}
+use Rattle.hg_save.specs.Leads.{OnceBy, OwnSteps, StepBy}
+use Rattle.hg_save.proofs.Parts.{torn_by_write, torn_itself}
 
 -- ---- the steps of one call
 
@@ -55,6 +56,14 @@ steps_on rule a b c along first goes second = record {
   ];
 }
 
+-- what each step does, said more weakly
+pub steps_weaker : (change weak : Files → Files → Type 0) → ((c d : Files) → change c d → weak c d) → (a b : Course) → OwnSteps (StepBy change) a b → OwnSteps (StepBy weak) a b
+steps_weaker change weak weaken a b steps = record {
+  each = λ k after before is.
+      let step = steps.each k after before is in
+      record { shown = weaken (scene b k).files (scene b (k + 1)).files step.shown; left = λ f is. let was = step.left f is in (was.0, was.1, weaken was.0 f was.2) };
+}
+
 step_along : (change : Files → Files → Type 0) (x y u v : Scene) → Remains x u → Remains u x → Remains y v → StepBy change x y → StepBy change u v
 step_along change x y u v there back behind step = record {
   shown = subst (λ (f : Files). change f v.files) (sym there.shown) (subst (change x.files) (sym behind.shown) step.shown);
@@ -73,32 +82,38 @@ once_along start change x y u v there back behind (inr first) =
 
 -- ---- a write that is made sure
 
-still_step : (name : List ℕ) (x y : Scene) → Remains x y → StepBy (ButFor name) x y
-still_step name x y still = record { shown = λ at apart. ap (λ (f : Files). f at) still.shown; left = λ c is. (c, still.left c is, λ at apart. refl) }
+still_step : (name : List ℕ) (place n : ℕ) (x y : Scene) → Remains x y → StepBy (TornAt name place n) x y
+still_step name place n x y still = record {
+  shown = subst (TornAt name place n x.files) (sym still.shown) (torn_itself name place n x.files);
+  left = λ c is. (c, still.left c is, torn_itself name place n c);
+}
 
-torn_step : (name : List ℕ) (place : ℕ) (bytes : List ℕ) (x y : Scene) → Tears name place bytes x y → StepBy (ButFor name) x y
-torn_step name place bytes x y step = record { shown = step.shown.elsewhere; left = λ c is. let was = step.left c is in (was.0, was.1, was.2.elsewhere) }
+torn_step : (name : List ℕ) (place : ℕ) (bytes : List ℕ) (x y : Scene) → Tears name place bytes x y → StepBy (TornAt name place (length bytes)) x y
+torn_step name place bytes x y step = record { shown = step.shown; left = step.left }
 
-write_step : (name : List ℕ) (place : ℕ) (bytes : List ℕ) (x y : Scene) → Writes name place bytes x y → StepBy (ButFor name) x y
-write_step name place bytes x y step = record { shown = step.shown.elsewhere; left = λ c is. let was = step.left c is in (was.0, was.1, was.2.elsewhere) }
+write_step : (name : List ℕ) (place : ℕ) (bytes : List ℕ) (x y : Scene) → Writes name place bytes x y → StepBy (TornAt name place (length bytes)) x y
+write_step name place bytes x y step = record { shown = torn_by_write name place bytes x.files y.files step.shown; left = step.left }
 
 module _ (name : List ℕ) (place : ℕ) (bytes : List ℕ) (a b : Course) (ours : a.history.ours ≡ true) where
-  pub write_failed_steps : Acts (Tears name place bytes) a b ⊎ Passes a.history b.history → OwnSteps (StepBy (ButFor name)) a b
-  write_failed_steps did =
-      perhaps_step (Tears name place bytes) (StepBy (ButFor name)) a b ours did (λ own. torn_step name place bytes (scene b own.place) (scene b (own.place + 1)) own.step)
+  -- what each step does
+  abbrev Tearing : Scene → Scene → Type 0
+  Tearing = StepBy (TornAt name place (length bytes))
 
-  wrote_steps : Acts (Writes name place bytes) a b → OwnSteps (StepBy (ButFor name)) a b
-  wrote_steps own = one_step (Writes name place bytes) (StepBy (ButFor name)) a b ours own (write_step name place bytes (scene b own.place) (scene b (own.place + 1)) own.step)
+  pub tears_failed : Acts (Tears name place bytes) a b ⊎ Passes a.history b.history → OwnSteps Tearing a b
+  tears_failed (inl own) = one_step (Tears name place bytes) Tearing a b ours own (torn_step name place bytes (scene b own.place) (scene b (own.place + 1)) own.step)
+  tears_failed (inr none) = no_step Tearing a b ours none
+
+  wrote_steps : Acts (Writes name place bytes) a b → OwnSteps Tearing a b
+  wrote_steps own = one_step (Writes name place bytes) Tearing a b ours own (write_step name place bytes (scene b own.place) (scene b (own.place + 1)) own.step)
 
   module _ (c : Course) (still : b.history.ours ≡ a.history.ours) (second : Goes b c) (own : Acts (Writes name place bytes) a b) where
-    pub sync_failed_steps : Passes b.history c.history → OwnSteps (StepBy (ButFor name)) a c
-    sync_failed_steps none =
-        steps_on (StepBy (ButFor name)) a b c (step_along (ButFor name)) (wrote_steps own) second (no_step (StepBy (ButFor name)) b c (still ∙ ours) none)
+    pub tears_unsynced : Passes b.history c.history → OwnSteps Tearing a c
+    tears_unsynced none = steps_on Tearing a b c (step_along (TornAt name place (length bytes))) (wrote_steps own) second (no_step Tearing b c (still ∙ ours) none)
 
-    pub put_steps : Acts (Syncs name) b c → OwnSteps (StepBy (ButFor name)) a c
-    put_steps sure =
-        steps_on (StepBy (ButFor name)) a b c (step_along (ButFor name)) (wrote_steps own) second
-        (one_step (Syncs name) (StepBy (ButFor name)) b c (still ∙ ours) sure (still_step name (scene c sure.place) (scene c (sure.place + 1)) sure.step.same))
+    pub tears_synced : Acts (Syncs name) b c → OwnSteps Tearing a c
+    tears_synced sure =
+        steps_on Tearing a b c (step_along (TornAt name place (length bytes))) (wrote_steps own) second
+        (one_step (Syncs name) Tearing b c (still ∙ ours) sure (still_step name place (length bytes) (scene c sure.place) (scene c (sure.place + 1)) sure.step.same))
 
 -- ---- a rename that is made sure
 

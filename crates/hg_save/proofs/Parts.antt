@@ -82,11 +82,11 @@ torn_nowhere place n (Some bytes) = record {
   no_longer = omega arith;
 }
 
-torn_itself : (name : List ℕ) (place n : ℕ) (f : Files) → TornAt name place n f f
+pub torn_itself : (name : List ℕ) (place n : ℕ) (f : Files) → TornAt name place n f f
 torn_itself name place n f = record { elsewhere = λ at apart. refl; here = torn_nowhere place n (f name) }
 
 -- a write that came through whole
-torn_by_write : (name : List ℕ) (place : ℕ) (bytes : List ℕ) (c d : Files) → Written name place bytes c d → TornAt name place (length bytes) c d
+pub torn_by_write : (name : List ℕ) (place : ℕ) (bytes : List ℕ) (c d : Files) → Written name place bytes c d → TornAt name place (length bytes) c d
 torn_by_write name place bytes c d is = record {
   elsewhere = is.elsewhere;
   here = subst (λ (file : Option (List ℕ)). TornFile place (length bytes) (c name) file) (sym is.here) (torn_over (content (c name)) place bytes);

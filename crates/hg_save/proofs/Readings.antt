@@ -1,17 +1,32 @@
 -- Which files a reading depends on, and what a published record reads as.
-use Rattle.std.proofs.Common.{◌≡◌, ℕ, ◌+◌, ◌-◌, ◌<◌, ◌≤◌, ◌==◌, Bool, cond, List, [], ◌∷◌, ◌++◌, length, take, drop, codes, refl, sym, ap, ◌∙◌, arith, Option, Some, None, option_map, inl, inr}
+use Rattle.std.proofs.Common.{◌≡◌, ℕ, zero, suc, ◌+◌, ◌-◌, ◌<◌, ◌≤◌, ◌==◌, Bool, true, false, cond, List, [], ◌∷◌, ◌++◌, length, take, drop, replicate, codes, refl, sym, ap, ◌∙◌, subst, arith, Option, Some, None, option_map, Result, inl, inr, ◌⊎◌}
+use Rattle.std.specs.Str.{bytes_eq}
+use Rattle.std.proofs.lemmas.Bool.{cases_eq}
+use Rattle.std.proofs.lemmas.List.{append-nil, length-append, length-take, take_all}
+use Rattle.std.proofs.lemmas.Slice.Eq.{bytes_eq-Decides}
 use Rattle.std.proofs.Math.Seq.{take-append_seam, take-append-add}
 use Rattle.hg_append.specs.declared.encoding.Encoded.{Encoded}
+use Rattle.hg_base.proofs.Within.{same_bytes}
 use Rattle.hg_docket.specs.Docket.{Contents, docket_of, docket_refusal}
 use Rattle.hg_docket.specs.declared.fault.DocketFault.{DocketFault}
 use Rattle.hg_docket.proofs.Branches.{chosen, not_zero}
-use Rattle.hg_image.specs.Reading.{data_reading, docket_reading, of_data, reading_of}
+use Rattle.hg_entry.specs.Table.{Table}
+use Rattle.hg_image.specs.Reading.{RecordFault, data_reading, docket_reading, of_data, reading_of}
 use Rattle.hg_shelf.specs.History.{Files}
-use Rattle.hg_shelf.specs.Rules.{Perhaps, Surely, content, moved, without}
+use Rattle.hg_shelf.specs.Rules.{content, overwritten}
+use Rattle.hg_save.specs.Others.{HasFront, IsFrontOf, UsesData, named_file}
 use Rattle.hg_save.specs.Record.{data_in, data_name, docket_in, id_in, named_reading, needed_in, reading}
-use Rattle.hg_save.specs.Saved.{IsOver, new_docket, published, used_in}
-use Rattle.hg_save.proofs.Names.{data_not_new, docket_not_data, docket_not_new, next_len, next_other, one_data, others_apart}
-use Rattle.hg_save.proofs.Tails.{Followed, followed, front_same}
+use Rattle.hg_save.specs.Saved.{IsAnew, IsBehind, IsExact, IsOver, new_docket, published, used_in}
+use Rattle.hg_save.proofs.Names.{next_len}
+use Rattle.hg_save.proofs.Tails.{Followed, followed as is_followed, front_same}
+
+-- ---- names that are the same or aren't
+
+pub same_or_not : (a b : List ℕ) → (a ≡ b) ⊎ (a ≡ b → ⊥)
+same_or_not a b = by_test (bytes_eq a b) refl where
+  by_test : (t : Bool) → bytes_eq a b ≡ t → (a ≡ b) ⊎ (a ≡ b → ⊥)
+  by_test true is = inl (same_bytes a b is)
+  by_test false is = inr (λ same. let test : bytes_eq a b ≡ true = (bytes_eq-Decides a b).1 same in cc (sym is ∙ test))
 
 -- ---- files that read the same
 
@@ -25,38 +40,119 @@ same_reading old new docket file =
     ap (λ (bytes : Option (List ℕ)). named_reading (take 512 (content bytes)) new) docket
     ∙ ap (option_map (reading_of (docket_in old))) (needed_same (docket_refusal (docket_in old)) (docket_of (docket_in old)) old new file)
 
--- no files but a data file and a new docket are changed
-abbrev pub Spares : List ℕ → Files → Files → Type 0
-Spares id old new = (at : List ℕ) → (at ≡ data_name id → ⊥) → (at ≡ new_docket → ⊥) → new at ≡ old at
+pub same_docket : (old new : Files) → new (codes "dirstate") ≡ old (codes "dirstate") → docket_in new ≡ docket_in old
+same_docket old new same = ap (λ (file : Option (List ℕ)). take 512 (content file)) same
 
-pub spared : (id : List ℕ) (old new : Files) → Spares id old new → (id_in old ≡ id → ⊥) → reading new ≡ reading old
-spared id old new same free =
-    same_reading old new (same (codes "dirstate") (docket_not_data id) docket_not_new)
-    (same (data_name (id_in old)) (λ is. free (one_data (id_in old) id is)) (data_not_new (id_in old)))
+pub same_id : (old new : Files) → new (codes "dirstate") ≡ old (codes "dirstate") → id_in new ≡ id_in old
+same_id old new same = ap (λ (file : Option (List ℕ)). (docket_of (take 512 (content file))).id) same
+
+pub same_used : (old new : Files) → new (codes "dirstate") ≡ old (codes "dirstate") → used_in new ≡ used_in old
+same_used old new same = ap (λ (file : Option (List ℕ)). (docket_of (take 512 (content file))).used) same
+
+-- ---- files whose used bytes stay
+
+-- the used bytes of the data file that a docket names stay
+pub record StaysUsed (bytes : List ℕ) (old new : Files) : Type 0 where
+  pub was : HasFront (docket_of bytes).used (named_file bytes old)
+  pub there : HasFront (docket_of bytes).used (named_file bytes new)
+  pub same : take (docket_of bytes).used (content (named_file bytes new)) ≡ take (docket_of bytes).used (content (named_file bytes old))
+
+sound_docket : (docket bytes : List ℕ) → docket_refusal docket ≡ None → reading_of docket bytes ≡ of_data (data_reading (docket_of docket) bytes)
+sound_docket docket bytes sound = ap (λ (r : Option DocketFault). docket_reading r (data_reading (docket_of docket) bytes)) sound
+
+file_reads : (bytes : List ℕ) (old new : Option (List ℕ)) → docket_refusal bytes ≡ None → HasFront (docket_of bytes).used old → HasFront (docket_of bytes).used new
+    → take (docket_of bytes).used (content new) ≡ take (docket_of bytes).used (content old) → option_map (reading_of bytes) new ≡ option_map (reading_of bytes) old
+file_reads bytes None new sound was there same = absurd was
+file_reads bytes (Some x) None sound was there same = absurd there
+file_reads bytes (Some x) (Some y) sound was there same =
+    ap (λ (r : Result Table RecordFault). Some r) (
+    sound_docket bytes y sound
+    ∙ ap (λ r. of_data r) (sym (front_same (docket_of bytes) y) ∙ ap (data_reading (docket_of bytes)) same ∙ front_same (docket_of bytes) x)
+    ∙ sym (sound_docket bytes x sound)
+    )
+
+-- where no byte is used no file is read
+unused_in : (d : Contents) (files : Files) → d.used ≡ 0 → data_in d files ≡ Some []
+unused_in d files none = ap (λ (n : ℕ). cond (n == 0) (Some []) (files (data_name d.id))) none
+
+pub file_in : (d : Contents) (files : Files) → 0 < d.used → data_in d files ≡ files (data_name d.id)
+file_in d files some = chosen (d.used == 0) (Some []) (files (data_name d.id)) (files (data_name d.id)) (not_zero d.used some) refl
+
+data_reads : (bytes : List ℕ) (old new : Files) → docket_refusal bytes ≡ None → (UsesData bytes → StaysUsed bytes old new) → ((docket_of bytes).used ≡ 0) ⊎ ((docket_of bytes).used ≡ 0 → ⊥)
+    → option_map (reading_of bytes) (data_in (docket_of bytes) new) ≡ option_map (reading_of bytes) (data_in (docket_of bytes) old)
+data_reads bytes old new sound stays (inl none) = ap (option_map (reading_of bytes)) (unused_in (docket_of bytes) new none ∙ sym (unused_in (docket_of bytes) old none))
+data_reads bytes old new sound stays (inr some) =
+    let uses : 0 < (docket_of bytes).used = omega (arith, some) in
+    let is : StaysUsed bytes old new = stays (record { sound = sound; uses = uses }) in
+    ap (option_map (reading_of bytes)) (file_in (docket_of bytes) new uses)
+    ∙ file_reads bytes (named_file bytes old) (named_file bytes new) sound is.was is.there is.same
+    ∙ sym (ap (option_map (reading_of bytes)) (file_in (docket_of bytes) old uses))
+
+needed_reads : (bytes : List ℕ) (old new : Files) → (UsesData bytes → StaysUsed bytes old new) → (r : Option DocketFault) → docket_refusal bytes ≡ r
+    → option_map (reading_of bytes) (needed_in r (docket_of bytes) new) ≡ option_map (reading_of bytes) (needed_in r (docket_of bytes) old)
+needed_reads bytes old new stays (Some fault) is = refl
+needed_reads bytes old new stays None sound = data_reads bytes old new sound stays (cases_eq (docket_of bytes).used 0)
+
+-- a reading stays where the docket does, and the bytes of its data file that it uses
+pub stays_read : (old new : Files) → docket_in new ≡ docket_in old → (UsesData (docket_in old) → StaysUsed (docket_in old) old new) → reading new ≡ reading old
+stays_read old new docket stays =
+    ap (λ (bytes : List ℕ). named_reading bytes new) docket
+    ∙ needed_reads (docket_in old) old new stays (docket_refusal (docket_in old)) refl
 
 -- ---- what is published
 
 abbrev pub Begins : List ℕ → Option (List ℕ) → Type 0
 Begins bytes file = (rest : List ℕ) × (file ≡ Some (bytes ++ rest))
 
--- the new docket stands, and so does its data file
-pub record Holds (new : Encoded) (f : Files) : Type 0 where
-  pub docket : Begins new.docket.items (f (codes "dirstate"))
-  pub file : Begins new.bytes.items (f (data_name new.id))
+-- a file that was written at its front
+front_is : (old bytes : List ℕ) → overwritten old 0 bytes ≡ bytes ++ drop (length bytes) old
+front_is old bytes =
+    let none : 0 - length old ≡ 0 = omega arith in
+    let all : 0 + length bytes ≡ length bytes = omega arith in
+    ap (λ (n : ℕ). take 0 old ++ replicate n 0 ++ bytes ++ drop (0 + length bytes) old) none ∙ ap (λ (n : ℕ). bytes ++ drop n old) all
 
--- the new docket stands beside, and so does its data file
-pub record IsReady (new : Encoded) (f : Files) : Type 0 where
-  pub docket : Begins new.docket.items (f new_docket)
-  pub file : Begins new.bytes.items (f (data_name new.id))
+pub begins_front : (old bytes : List ℕ) (file : Option (List ℕ)) → file ≡ Some (overwritten old 0 bytes) → Begins bytes file
+begins_front old bytes file is = (drop (length bytes) old, is ∙ ap (λ (l : List ℕ). Some l) (front_is old bytes))
 
-cut_docket : (bytes rest : List ℕ) → length bytes ≤ 512 → take 512 (bytes ++ rest) ≡ bytes ++ take (512 - length bytes) rest
+-- a file that begins with nodes, once bytes are put behind them
+begins_behind : (nodes bytes : List ℕ) (used : ℕ) (file : Option (List ℕ)) → length nodes ≡ used → IsFrontOf file used nodes → Begins (nodes ++ bytes) (Some (overwritten (content file) used bytes))
+begins_behind nodes bytes used None long front = absurd front
+begins_behind nodes bytes used (Some old) long front =
+    let len = length-take used old in
+    let all : length (take used old) ≡ used = ap length (sym front) ∙ long in
+    let none : used - length old ≡ 0 = omega (arith, len, all) in (
+      drop (used + length bytes) old,
+      ap (λ (n : ℕ). Some (take used old ++ replicate n 0 ++ bytes ++ drop (used + length bytes) old)) none
+          ∙ ap (λ (l : List ℕ). Some (l ++ bytes ++ drop (used + length bytes) old)) (append-nil (take used old) ∙ sym front),
+    )
+
+-- at a place, behind the nodes before it
+pub begins_at : (nodes bytes : List ℕ) (place : ℕ) (file : Option (List ℕ)) → (0 < place → length nodes ≡ place) → (0 < place → IsFrontOf file place nodes) → Begins (take place nodes ++ bytes) (Some (overwritten (content file) place bytes))
+begins_at nodes bytes zero file long front = begins_front (content file) bytes (Some (overwritten (content file) 0 bytes)) refl
+begins_at nodes bytes (suc n) file long front =
+    let some : 0 < suc n = omega arith in
+    let all : take (suc n) nodes ≡ nodes = take_all (suc n) nodes (omega (arith, long some)) in
+    subst (λ (l : List ℕ). Begins (l ++ bytes) (Some (overwritten (content file) (suc n) bytes))) (sym all) (begins_behind nodes bytes (suc n) file (long some) (front some))
+
+front_length : (place : ℕ) (nodes : List ℕ) → (0 < place → length nodes ≡ place) → length (take place nodes) ≡ place
+front_length zero nodes long = refl
+front_length (suc n) nodes long =
+    let all : length nodes ≡ suc n = long (omega arith) in
+    let len = length-take (suc n) nodes in
+    omega (arith, all, len)
+
+pub cut_docket : (bytes rest : List ℕ) → length bytes ≤ 512 → take 512 (bytes ++ rest) ≡ bytes ++ take (512 - length bytes) rest
 cut_docket bytes rest few =
     let all : length bytes + (512 - length bytes) ≡ 512 = omega (arith, few) in
     ap (λ (n : ℕ). take n (bytes ++ rest)) (sym all) ∙ take-append-add bytes rest (512 - length bytes)
 
-some_docket : (bytes id : List ℕ) → (docket_of bytes).id ≡ id → length id ≡ 16 → 0 < length bytes
-some_docket [] id named len = let none : 0 ≡ length id = ap length named in absurd (omega (arith, none, len))
-some_docket (b ∷ bytes) id named len = omega arith
+some_named : (bytes id : List ℕ) → (docket_of bytes).id ≡ id → length id ≡ 16 → 0 < length bytes
+some_named [] id named len = let none : 0 ≡ length id = ap length named in absurd (omega (arith, none, len))
+some_named (b ∷ bytes) id named len = omega arith
+
+some_using : (bytes : List ℕ) → 0 < (docket_of bytes).used → 0 < length bytes
+some_using [] some = absurd (omega (arith, some))
+some_using (b ∷ bytes) some = omega arith
 
 -- the data file that a docket needs
 needed_by : (d : Contents) (bytes rest : List ℕ) (file : Option (List ℕ)) → d.used ≡ length bytes → file ≡ Some (bytes ++ rest)
@@ -67,9 +163,6 @@ needed_by d (b ∷ bytes) rest file used at = (
   chosen (d.used == 0) (Some []) file (Some (b ∷ bytes ++ rest)) (not_zero d.used (omega (arith, used))) at,
   sym (front_same d (b ∷ bytes ++ rest)) ∙ ap (data_reading d) (ap (λ (n : ℕ). take n (b ∷ bytes ++ rest)) used ∙ take-append_seam (b ∷ bytes) rest),
 )
-
-sound_docket : (docket bytes : List ℕ) → docket_refusal docket ≡ None → reading_of docket bytes ≡ of_data (data_reading (docket_of docket) bytes)
-sound_docket docket bytes sound = ap (λ (r : Option DocketFault). docket_reading r (data_reading (docket_of docket) bytes)) sound
 
 named_new : (docket tail bytes rest : List ℕ) (id : List ℕ) (f : Files) → docket_refusal docket ≡ None → Followed docket tail → (docket_of docket).id ≡ id → (docket_of docket).used ≡ length bytes → f (data_name id) ≡ Some (bytes ++ rest)
     → named_reading (docket ++ tail) f ≡ Some (reading_of docket bytes)
@@ -83,69 +176,74 @@ named_new docket tail bytes rest id f sound behind named used at =
     sound_docket (docket ++ tail) need.0 behind.whole ∙ ap (λ (c : Contents). of_data (data_reading c need.0)) behind.same ∙ ap (λ r. of_data r) need.2 ∙ sym (sound_docket docket bytes sound)
     )
 
--- the new docket and its data file read as the table that is published, whatever stands behind either
-pub reads_published : (loaded : List ℕ) (new : Encoded) (f : Files) → IsOver loaded new → Holds new f → reading f ≡ published new
-reads_published loaded new f over holds =
-    let docket : List ℕ = new.docket.items in
-    let tail : List ℕ = take (512 - length docket) holds.docket.0 in
-    let shown : docket_in f ≡ docket ++ tail = ap (λ (file : Option (List ℕ)). take 512 (content file)) holds.docket.1 ∙ cut_docket docket holds.docket.0 over.few in
-    let some : 0 < length docket = some_docket docket new.id over.named (next_len (docket_of loaded).id new.id over.next) in
-    ap (λ (bytes : List ℕ). named_reading bytes f) shown
-    ∙ named_new docket tail new.bytes.items holds.file.0 new.id f over.whole (followed docket tail over.whole some) over.named over.used holds.file.1
+-- where a data file is written behind loaded nodes, it begins with these
+abbrev pub HasPlace : List ℕ → Encoded → Files → Type 0
+HasPlace nodes new files = 0 < new.place → IsFrontOf (files (data_name new.id)) new.place nodes
 
--- its identifier
-pub id_published : (loaded : List ℕ) (new : Encoded) (f : Files) → IsOver loaded new → Holds new f → id_in f ≡ new.id
-id_published loaded new f over holds =
-    let docket : List ℕ = new.docket.items in
-    let tail : List ℕ = take (512 - length docket) holds.docket.0 in
-    let shown : docket_in f ≡ docket ++ tail = ap (λ (file : Option (List ℕ)). take 512 (content file)) holds.docket.1 ∙ cut_docket docket holds.docket.0 over.few in
-    let some : 0 < length docket = some_docket docket new.id over.named (next_len (docket_of loaded).id new.id over.next) in
-    ap (λ (bytes : List ℕ). (docket_of bytes).id) shown ∙ ap (λ (c : Contents). c.id) (followed docket tail over.whole some).same ∙ over.named
+-- the new docket stands, and so does its data file
+pub record Holds (nodes : List ℕ) (new : Encoded) (f : Files) : Type 0 where
+  pub docket : Begins new.docket.items (f (codes "dirstate"))
+  pub file : Begins (take new.place nodes ++ new.bytes.items) (f (data_name new.id))
 
--- the used bytes that it names
-pub used_published : (loaded : List ℕ) (new : Encoded) (f : Files) → IsOver loaded new → Holds new f → used_in f ≡ length new.bytes.items
-used_published loaded new f over holds =
-    let docket : List ℕ = new.docket.items in
-    let tail : List ℕ = take (512 - length docket) holds.docket.0 in
-    let shown : docket_in f ≡ docket ++ tail = ap (λ (file : Option (List ℕ)). take 512 (content file)) holds.docket.1 ∙ cut_docket docket holds.docket.0 over.few in
-    let some : 0 < length docket = some_docket docket new.id over.named (next_len (docket_of loaded).id new.id over.next) in
-    ap (λ (bytes : List ℕ). (docket_of bytes).used) shown ∙ ap (λ (c : Contents). c.used) (followed docket tail over.whole some).same ∙ over.used
+module _ (loaded nodes : List ℕ) (new : Encoded) (over : IsOver loaded nodes new) where
+  -- which of the two ways it is, by the place
+  pub is_behind : 0 < new.place → IsBehind loaded nodes new
+  is_behind some = elim over.by [ inl anew ↦ absurd (omega (arith, anew.place, some)) | inr behind ↦ behind ]
 
-pub same_docket : (old new : Files) → new (codes "dirstate") ≡ old (codes "dirstate") → docket_in new ≡ docket_in old
-same_docket old new same = ap (λ (file : Option (List ℕ)). take 512 (content file)) same
+  pub is_anew : new.place ≡ 0 → IsAnew loaded new
+  is_anew none = elim over.by [ inl anew ↦ anew | inr behind ↦ absurd (omega (arith, behind.place, behind.some, none)) ]
 
-pub spared_docket : (id : List ℕ) (old new : Files) → Spares id old new → docket_in new ≡ docket_in old
-spared_docket id old new same = same_docket old new (same (codes "dirstate") (docket_not_data id) docket_not_new)
+  pub long_nodes : 0 < new.place → length nodes ≡ new.place
+  long_nodes some = let behind = is_behind some in behind.long ∙ sym behind.place
 
-pub spared_id : (id : List ℕ) (old new : Files) → Spares id old new → id_in new ≡ id_in old
-spared_id id old new same = ap (λ (file : Option (List ℕ)). (docket_of (take 512 (content file))).id) (same (codes "dirstate") (docket_not_data id) docket_not_new)
+  pub some_docket : 0 < length new.docket.items
+  some_docket = elim over.by [
+    | inl anew ↦ some_named new.docket.items new.id over.named (next_len (docket_of loaded).id new.id anew.next)
+    | inr behind ↦ some_using new.docket.items (omega (arith, over.used, behind.place, behind.some))
+  ]
 
-pub same_id : (old new : Files) → new (codes "dirstate") ≡ old (codes "dirstate") → id_in new ≡ id_in old
-same_id old new same = ap (λ (file : Option (List ℕ)). (docket_of (take 512 (content file))).id) same
+  -- the docket that is read, where the new one stands
+  record Shown (f : Files) : Type 0 where
+    pub tail : List ℕ
+    pub is : docket_in f ≡ new.docket.items ++ tail
+    pub followed : Followed new.docket.items tail
 
-begins_same : (bytes : List ℕ) (file other : Option (List ℕ)) → other ≡ file → Begins bytes file → Begins bytes other
-begins_same bytes file other same begins = (begins.0, same ∙ begins.1)
+  shown : (f : Files) → Begins new.docket.items (f (codes "dirstate")) → Shown f
+  shown f begins =
+      let docket : List ℕ = new.docket.items in
+      let tail : List ℕ = take (512 - length docket) begins.0 in
+      record {
+        tail = tail;
+        is = ap (λ (file : Option (List ℕ)). take 512 (content file)) begins.1 ∙ cut_docket docket begins.0 over.few;
+        followed = is_followed docket tail over.whole some_docket;
+      }
 
--- the new docket takes its place
-pub moved_ready : (new : Encoded) (old moved_files : Files) → IsReady new old → Surely (moved new_docket (codes "dirstate")) old moved_files → Holds new moved_files
-moved_ready new old moved_files ready is = record {
-  docket = begins_same new.docket.items (old new_docket) (moved_files (codes "dirstate")) (is (codes "dirstate")) ready.docket;
-  file = begins_same new.bytes.items (old (data_name new.id)) (moved_files (data_name new.id)) (is (data_name new.id)) ready.file;
-}
+  -- the new docket and its data file read as the table that is published, whatever stands behind either
+  pub reads_published : (f : Files) → Holds nodes new f → reading f ≡ published nodes new
+  reads_published f holds =
+      let s = shown f holds.docket in
+      let all : List ℕ = take new.place nodes ++ new.bytes.items in
+      let used : (docket_of new.docket.items).used ≡ length all =
+      (let parts = length-append (take new.place nodes) new.bytes.items in let front = front_length new.place nodes long_nodes in omega (arith, parts, front, over.used)) in
+      ap (λ (bytes : List ℕ). named_reading bytes f) s.is ∙ named_new new.docket.items s.tail all holds.file.0 new.id f over.whole s.followed over.named used holds.file.1
 
--- the old data file goes
-pub without_old : (loaded : List ℕ) (new : Encoded) (old left : Files) → IsOver loaded new → Holds new old → Perhaps (without (data_name (docket_of loaded).id)) old left → Holds new left
-without_old loaded new old left over holds (inl same) = record {
-  docket = begins_same new.docket.items (old (codes "dirstate")) (left (codes "dirstate")) (same (codes "dirstate")) holds.docket;
-  file = begins_same new.bytes.items (old (data_name new.id)) (left (data_name new.id)) (same (data_name new.id)) holds.file;
-}
-without_old loaded new old left over holds (inr gone) =
-    let apart = others_apart (docket_of loaded).id new.id (next_other (docket_of loaded).id new.id over.next) in
-    record {
-      docket = begins_same new.docket.items (old (codes "dirstate")) (left (codes "dirstate")) (gone (codes "dirstate")) holds.docket;
-      file = begins_same new.bytes.items (old (data_name new.id)) (left (data_name new.id)) (gone (data_name new.id) ∙ ap (λ (t : Bool). cond t None (old (data_name new.id))) apart) holds.file;
-    }
+  -- its identifier, and the used bytes that it names
+  pub id_published : (f : Files) → Begins new.docket.items (f (codes "dirstate")) → id_in f ≡ new.id
+  id_published f begins = let s = shown f begins in ap (λ (bytes : List ℕ). (docket_of bytes).id) s.is ∙ ap (λ (c : Contents). c.id) s.followed.same ∙ over.named
 
--- bytes written at the front of a file
-pub from_front : (old bytes : List ℕ) → Begins bytes (Some (take 0 old ++ [] ++ bytes ++ drop (length bytes) old))
-from_front old bytes = (drop (length bytes) old, refl)
+  used_published : (f : Files) → Begins new.docket.items (f (codes "dirstate")) → used_in f ≡ new.place + length new.bytes.items
+  used_published f begins = let s = shown f begins in ap (λ (bytes : List ℕ). (docket_of bytes).used) s.is ∙ ap (λ (c : Contents). c.used) s.followed.same ∙ over.used
+
+  -- ---- where all is exact
+
+  module _ (start f : Files) (exact : IsExact new start f) where
+    pub exact_docket : Begins new.docket.items (f (codes "dirstate"))
+    exact_docket = begins_front (content (start new_docket)) new.docket.items (f (codes "dirstate")) exact.docket
+
+    pub exact_used : used_in f ≡ new.place + length new.bytes.items
+    exact_used = used_published f exact_docket
+
+    pub exact_reads : HasPlace nodes new start → reading f ≡ published nodes new
+    exact_reads front =
+        let begins = begins_at nodes new.bytes.items new.place (start (data_name new.id)) long_nodes front in
+        reads_published f (record { docket = exact_docket; file = (begins.0, exact.file ∙ begins.1) })

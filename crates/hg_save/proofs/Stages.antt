@@ -1,17 +1,19 @@
 -- What a publication has led to after each of its parts.
-use Rattle.std.proofs.Common.{◌≡◌, ℕ, suc, ◌+◌, ◌-◌, ◌≤◌, List, ◌++◌, length, take, drop, replicate, codes, refl, sym, ap, ◌∙◌, subst, arith, Option, Some, Result, Ok, Err, inl, inr, ◌⊎◌}
-use Rattle.std.specs.Result.{OnErr, OnOk}
+use Rattle.std.proofs.Common.{◌≡◌, ℕ, ◌≤◌, Bool, cond, List, [], length, codes, sym, ap, ◌∙◌, subst, arith, Option, Some, None, IsSome, is_some, inl, inr, ◌⊎◌}
+use Rattle.std.specs.Str.{bytes_eq}
 use Rattle.std.proofs.lemmas.Bool.{cases_lt}
 use Rattle.hg_append.specs.declared.encoding.Encoded.{Encoded}
 use Rattle.hg_docket.specs.Docket.{docket_of}
 use Rattle.hg_shelf.specs.History.{Files}
 use Rattle.hg_shelf.specs.Images.{Course, Goes, last_scene, scene}
-use Rattle.hg_shelf.specs.Rules.{Perhaps, content, moved, overwritten, without}
-use Rattle.hg_save.specs.Leads.{ButFor, IsDone, IsSure, IsWhole, Leads}
-use Rattle.hg_save.specs.Record.{data_name, docket_in, id_in, reading}
-use Rattle.hg_save.specs.Saved.{IsFree, IsLatest, IsOver, LeavesOnly, ReadsAsBeforeOr, Records, ShowsOnly, Stands, name_after, new_docket, published, used_in}
-use Rattle.hg_save.proofs.Names.{data_not_new, later_still, never_itself}
-use Rattle.hg_save.proofs.Readings.{Begins, Holds, IsReady, Spares, id_published, moved_ready, reads_published, same_id, same_reading, spared, spared_docket, spared_id, used_published, without_old}
+use Rattle.hg_shelf.specs.Rules.{Perhaps, Surely, TornAt, TornFile, content, moved, overwritten, without}
+use Rattle.hg_shelf.specs.Torn.{same_name}
+use Rattle.hg_save.specs.Leads.{Clears, IsDone, IsGone, IsSure, Leads}
+use Rattle.hg_save.specs.Record.{data_name}
+use Rattle.hg_save.specs.Saved.{HoldsExactly, IsExact, IsOver, IsUnplaced, WritesOnly, new_docket}
+use Rattle.hg_save.proofs.Names.{data_not_new, docket_not_data, docket_not_new, one_data, others_apart}
+use Rattle.hg_save.proofs.Parts.{torn_nowhere}
+use Rattle.hg_save.proofs.Readings.{begins_front, id_published, same_id, same_or_not}
 
 -- ---- moments of a call
 
@@ -35,219 +37,245 @@ shown_on a b c P first goes second = λ k after before. elim (cases_lt b.history
   | inr early ↦ subst P (sym (goes.kept k early).shown) (first k after early)
 ]
 
--- what a part leads to, said more weakly, and what two parts do
+-- what a part leads to, said more weakly
 pub leads_weaker : (a b : Course) (change weak : Files → Files → Type 0) → ((c d : Files) → change c d → weak c d) → Leads change a b → Leads weak a b
 leads_weaker a b change weak weaken leads = record {
   shown = λ k after before. weaken (last_scene a).files (scene b k).files (leads.shown k after before);
   left = λ k c after before is. let was = leads.left k c after before is in (was.0, was.1, weaken was.0 c was.2);
 }
 
-pub leads_on : (a b c : Course) (change : Files → Files → Type 0) → ((x y z : Files) → change x y → change y z → change x z) → Goes a b → Goes b c → Leads change a b → Leads change b c → Leads change a c
-leads_on a b c change both start goes first second = record {
-  shown = shown_on a b c (change (last_scene a).files) first.shown goes (λ k after before. both (last_scene a).files (last_scene b).files (scene c k).files (first.shown b.history.last start.past.later (omega arith)) (second.shown k after before));
-  left = each_on a b c (λ f. (d : Files) × (last_scene a).leaves d × change d f) first.left goes (λ k f after before is.
-      let was = second.left k f after before is in
-      let origin = first.left b.history.last was.0 start.past.later (omega arith) was.1 in
-      (origin.0, origin.1, both origin.0 was.0 f origin.2 was.2));
-}
+-- a part behind another, where something holds between the two
+module _ (one two both : Files → Files → Type 0) (Known : Files → Type 0) (weak : (x y : Files) → one x y → both x y) (join : (x y z : Files) → Known y → one x y → two y z → both x z) where
+  pub leads_then : (a b c : Course) → Goes a b → Goes b c → Known (last_scene b).files → ((f : Files) → (last_scene b).leaves f → Known f) → Leads one a b → Leads two b c → Leads both a c
+  leads_then a b c start goes shown left first second = record {
+    shown =
+        shown_on a b c (both (last_scene a).files) (λ k after before. weak (last_scene a).files (scene b k).files (first.shown k after before)) goes
+        (λ k after before. join (last_scene a).files (last_scene b).files (scene c k).files shown (first.shown b.history.last start.past.later (omega arith)) (second.shown k after before));
+    left =
+        each_on a b c (λ f. (d : Files) × (last_scene a).leaves d × both d f)
+        (λ k f after before is.
+        let was = first.left k f after before is in
+        (was.0, was.1, weak was.0 f was.2)) goes
+        (λ k f after before is.
+        let was = second.left k f after before is in
+        let origin = first.left b.history.last was.0 start.past.later (omega arith) was.1 in
+        (origin.0, origin.1, join origin.0 was.0 f (left was.0 was.1) origin.2 was.2));
+  }
 
--- ---- bytes at the front of a file
+-- ---- what the parts change
 
-front_is : (old bytes : List ℕ) → overwritten old 0 bytes ≡ bytes ++ drop (length bytes) old
-front_is old bytes =
-    let none : 0 - length old ≡ 0 = omega arith in
-    let all : 0 + length bytes ≡ length bytes = omega arith in
-    ap (λ (n : ℕ). take 0 old ++ replicate n 0 ++ bytes ++ drop (0 + length bytes) old) none ∙ ap (λ (n : ℕ). bytes ++ drop n old) all
+-- no file is changed but the docket, the one beside and a data file
+abbrev pub ButForThree : List ℕ → Files → Files → Type 0
+ButForThree id old now = (at : List ℕ) → (at ≡ codes "dirstate" → ⊥) → (at ≡ new_docket → ⊥) → (at ≡ data_name id → ⊥) → now at ≡ old at
 
-pub begins_by : (old bytes : List ℕ) (place : ℕ) (file : Option (List ℕ)) → place ≡ 0 → file ≡ Some (overwritten old place bytes) → Begins bytes file
-begins_by old bytes place file front is = (drop (length bytes) old, is ∙ ap (λ (n : ℕ). Some (overwritten old n bytes)) front ∙ ap (λ (l : List ℕ). Some l) (front_is old bytes))
+-- before the docket takes its place
+pub record Prepares (new : Encoded) (old now : Files) : Type 0 where
+  pub others : ButForThree new.id old now
+  pub file : TornFile new.place (length new.bytes.items) (old (data_name new.id)) (now (data_name new.id))
+  pub unplaced : IsUnplaced new.docket.items old now
 
--- ---- the parts
+-- the data file that the loaded docket named is gone, where it named one, once all is exact
+pub record IsCleared (loaded : List ℕ) (new : Encoded) (start now : Files) (at : List ℕ) : Type 0 where
+  pub old : at ≡ data_name (docket_of loaded).id
+  pub some : (docket_of loaded).id ≡ [] → ⊥
+  pub gone : now at ≡ None
+  pub exact : IsExact new start now
 
--- a file is written, and made sure
-pub record Puts (name : List ℕ) (place : ℕ) (bytes : List ℕ) (a b : Course) : Type 0 where
-  pub leads : Leads (ButFor name) a b
-  pub sure : IsSure name (overwritten (content ((last_scene a).files name)) place bytes) b
+-- and whether it has or not
+pub record Publishes (loaded : List ℕ) (new : Encoded) (start old now : Files) : Type 0 where
+  pub others : (at : List ℕ) → (at ≡ codes "dirstate" → ⊥) → (at ≡ new_docket → ⊥) → (at ≡ data_name new.id → ⊥) → (now at ≡ old at) ⊎ IsCleared loaded new start now at
+  pub only : WritesOnly new start old now
 
-module _ (loaded : List ℕ) (new : Encoded) (over : IsOver loaded new) (a : Course) where
-  -- an image that comes from one of the start, but for the new files
-  abbrev pub Spared : Files → Type 0
-  Spared f = (d : Files) × (last_scene a).leaves d × Spares new.id d f
+torn_same : (place n : ℕ) (old now next : Option (List ℕ)) → next ≡ now → TornFile place n old now → TornFile place n old next
+torn_same place n old now next same torn = subst (λ (file : Option (List ℕ)). TornFile place n old file) (sym same) torn
 
-  pub spared_one : (b : Course) → Leads (ButFor (data_name new.id)) a b → Each a b Spared
-  spared_one b leads = λ k f after before is. let was = leads.left k f after before is in (was.0, was.1, λ at nodes docket. was.2 at nodes)
+torn_from : (place n : ℕ) (old first now : Option (List ℕ)) → first ≡ old → TornFile place n first now → TornFile place n old now
+torn_from place n old first now same torn = subst (λ (file : Option (List ℕ)). TornFile place n file now) same torn
 
-  pub spared_two : (b c : Course) → Goes a b → Goes b c → Leads (ButFor (data_name new.id)) a b → Leads (ButFor new_docket) b c → Each a c Spared
-  spared_two b c first second one two =
-      each_on a b c Spared (spared_one b one) second (λ k f after before is.
-      let was = two.left k f after before is in
-      let start = spared_one b one b.history.last was.0 first.past.later (omega arith) was.1 in
-      (start.0, start.1, λ at nodes docket. was.2 at docket ∙ start.2 at nodes docket))
+-- both files are written, and the docket stands beside the old one
+pub record IsBeside (new : Encoded) (start files : Files) : Type 0 where
+  pub file : files (data_name new.id) ≡ Some (overwritten (content (start (data_name new.id))) new.place new.bytes.items)
+  pub docket : files new_docket ≡ Some (overwritten (content (start new_docket)) 0 new.docket.items)
 
-  pub shown_one : (b : Course) → Leads (ButFor (data_name new.id)) a b → EachShown a b (Spares new.id (last_scene a).files)
-  shown_one b one = λ k after before at nodes docket. one.shown k after before at nodes
+module _ (new : Encoded) where
+  -- the data file is written
+  pub wrote_file : (x y : Files) → TornAt (data_name new.id) new.place (length new.bytes.items) x y → Prepares new x y
+  wrote_file x y torn = record {
+    others = λ at docket beside nodes. torn.elsewhere at nodes;
+    file = torn.here;
+    unplaced = record {
+      docket = torn.elsewhere (codes "dirstate") (docket_not_data new.id);
+      beside = torn_same 0 (length new.docket.items) (x new_docket) (x new_docket) (y new_docket) (torn.elsewhere new_docket (λ is. data_not_new new.id (sym is))) (torn_nowhere 0 (length new.docket.items) (x new_docket));
+    };
+  }
 
-  pub shown_two : (b c : Course) → Goes a b → Goes b c → Leads (ButFor (data_name new.id)) a b → Leads (ButFor new_docket) b c → EachShown a c (Spares new.id (last_scene a).files)
-  shown_two b c first second one two =
-      shown_on a b c (Spares new.id (last_scene a).files) (shown_one b one) second (λ k after before at nodes docket. two.shown k after before at docket ∙ one.shown b.history.last first.past.later (omega arith) at nodes)
+  -- and the docket beside
+  wrote_docket : (x y z : Files) → Unit {0} → TornAt (data_name new.id) new.place (length new.bytes.items) x y → TornAt new_docket 0 (length new.docket.items) y z → Prepares new x z
+  wrote_docket x y z any first second = record {
+    others = λ at docket beside nodes. second.elsewhere at beside ∙ first.elsewhere at nodes;
+    file = torn_same new.place (length new.bytes.items) (x (data_name new.id)) (y (data_name new.id)) (z (data_name new.id)) (second.elsewhere (data_name new.id) (data_not_new new.id)) first.here;
+    unplaced = record {
+      docket = second.elsewhere (codes "dirstate") docket_not_new ∙ first.elsewhere (codes "dirstate") (docket_not_data new.id);
+      beside = torn_from 0 (length new.docket.items) (x new_docket) (y new_docket) (z new_docket) (first.elsewhere new_docket (λ is. data_not_new new.id (sym is))) second.here;
+    };
+  }
 
-  -- the new docket and its data file are sure
-  pub ready_left : (b c : Course) → Goes b c → Puts (data_name new.id) new.place new.bytes.items a b → Puts new_docket 0 new.docket.items b c → (f : Files) → (last_scene c).leaves f → IsReady new f
-  ready_left b c goes one two f is =
-      let was = two.leads.left c.history.last f goes.past.later (omega arith) is in
+  pub prepared : (loaded : List ℕ) (start x y : Files) → Prepares new x y → Publishes loaded new start x y
+  prepared loaded start x y is = record { others = λ at docket beside nodes. inl (is.others at docket beside nodes); only = record { file = is.file; stage = inl is.unplaced } }
+
+  -- a rename changes nothing else
+  moved_at : (y z : Files) → Surely (moved new_docket (codes "dirstate")) y z → (at : List ℕ) → (at ≡ codes "dirstate" → ⊥) → (at ≡ new_docket → ⊥) → z at ≡ y at
+  moved_at y z moves at docket beside =
+      moves at
+      ∙ ap (λ (t : Bool). cond t (y new_docket) (cond (bytes_eq new_docket at) None (y at))) (others_apart (codes "dirstate") at (λ is. docket (sym is)))
+      ∙ ap (λ (t : Bool). cond t None (y at)) (others_apart new_docket at (λ is. beside (sym is)))
+
+module _ (loaded nodes : List ℕ) (new : Encoded) (over : IsOver loaded nodes new) where
+  -- the docket takes its place
+  pub exact_moved : (start y z : Files) → IsBeside new start y → Surely (moved new_docket (codes "dirstate")) y z → IsExact new start z
+  exact_moved start y z is moves =
+      let file : z (data_name new.id) ≡ Some (overwritten (content (start (data_name new.id))) new.place new.bytes.items) = moves (data_name new.id) ∙ is.file in
+      let docket : z (codes "dirstate") ≡ Some (overwritten (content (start new_docket)) 0 new.docket.items) = moves (codes "dirstate") ∙ is.docket in
       record {
-        docket = begins_by (content ((last_scene b).files new_docket)) new.docket.items 0 (f new_docket) refl (two.sure.left f is);
-        file = begins_by (content ((last_scene a).files (data_name new.id))) new.bytes.items new.place (f (data_name new.id)) over.place (was.2 (data_name new.id) (data_not_new new.id) ∙ one.sure.left was.0 was.1);
+        file = file;
+        docket = docket;
+        beside = moves new_docket;
+        named = id_published loaded nodes new over z (begins_front (content (start new_docket)) new.docket.items (z (codes "dirstate")) docket);
       }
 
-  pub ready_shown : (b c : Course) → Goes b c → Puts (data_name new.id) new.place new.bytes.items a b → Puts new_docket 0 new.docket.items b c → IsReady new (last_scene c).files
-  ready_shown b c goes one two = record {
-    docket = begins_by (content ((last_scene b).files new_docket)) new.docket.items 0 ((last_scene c).files new_docket) refl two.sure.shown;
-    file = begins_by (content ((last_scene a).files (data_name new.id))) new.bytes.items new.place ((last_scene c).files (data_name new.id)) over.place (two.leads.shown c.history.last goes.past.later (omega arith) (data_name new.id) (data_not_new new.id) ∙ one.sure.shown);
+  took_place : (start x y z : Files) → IsBeside new start y → Prepares new x y → Perhaps (moved new_docket (codes "dirstate")) y z → Publishes loaded new start x z
+  took_place start x y z beside was (inl same) = record {
+    others = λ at docket other nodes. inl (same at ∙ was.others at docket other nodes);
+    only = record {
+      file = torn_same new.place (length new.bytes.items) (x (data_name new.id)) (y (data_name new.id)) (z (data_name new.id)) (same (data_name new.id)) was.file;
+      stage = inl (record {
+        docket = same (codes "dirstate") ∙ was.unplaced.docket;
+        beside = torn_same 0 (length new.docket.items) (x new_docket) (y new_docket) (z new_docket) (same new_docket) was.unplaced.beside;
+      });
+    };
+  }
+  took_place start x y z beside was (inr moves) = record {
+    others = λ at docket other nodes. inl (moved_at new y z moves at docket other ∙ was.others at docket other nodes);
+    only = record {
+      file = torn_same new.place (length new.bytes.items) (x (data_name new.id)) (y (data_name new.id)) (z (data_name new.id)) (moves (data_name new.id)) was.file;
+      stage = inr (exact_moved start y z beside moves);
+    };
   }
 
-  -- the new docket has its place
-  pub done_left : (c d : Course) → ((f : Files) → (last_scene c).leaves f → IsReady new f) → IsDone (moved new_docket (codes "dirstate")) c d → (f : Files) → (last_scene d).leaves f → Holds new f
-  done_left c d ready done f is = let was = done.left f is in moved_ready new was.0 f (ready was.0 was.1) was.2
+  -- the old data file goes
+  exact_kept : (start y z : Files) → IsExact new start y → z (data_name new.id) ≡ y (data_name new.id) → z (codes "dirstate") ≡ y (codes "dirstate") → z new_docket ≡ y new_docket → IsExact new start z
+  exact_kept start y z is file docket beside = record { file = file ∙ is.file; docket = docket ∙ is.docket; beside = beside ∙ is.beside; named = same_id y z docket ∙ is.named }
 
-  pub done_shown : (c d : Course) → IsReady new (last_scene c).files → IsDone (moved new_docket (codes "dirstate")) c d → Holds new (last_scene d).files
-  done_shown c d ready done = moved_ready new (last_scene c).files (last_scene d).files ready done.shown
+  stays_by : (y z : Files) → IsGone (docket_of loaded).id new.id y z → z (data_name new.id) ≡ y (data_name new.id)
+  stays_by y z gone =
+      gone.gone (data_name new.id)
+      ∙ ap (λ (t : Bool). cond t None (y (data_name new.id))) (others_apart (data_name (docket_of loaded).id) (data_name new.id) (λ is. gone.other (one_data (docket_of loaded).id new.id is)))
 
-  -- the old data file is gone
-  pub cleared_each : (d z : Course) → ((f : Files) → (last_scene d).leaves f → Holds new f) → Leads (Perhaps (without (data_name (docket_of loaded).id))) d z → Each d z (Holds new)
-  cleared_each d z holds leads = λ k f after before is. let was = leads.left k f after before is in without_old loaded new was.0 f over (holds was.0 was.1) was.2
+  pub exact_cleared : (start y z : Files) → IsExact new start y → Clears (docket_of loaded).id new.id y z → IsExact new start z
+  exact_cleared start y z is (inl same) = exact_kept start y z is (same (data_name new.id)) (same (codes "dirstate")) (same new_docket)
+  exact_cleared start y z is (inr gone) = exact_kept start y z is (stays_by y z gone) (gone.gone (codes "dirstate")) (gone.gone new_docket)
 
-  pub cleared_shown : (d z : Course) → Holds new (last_scene d).files → Leads (Perhaps (without (data_name (docket_of loaded).id))) d z → EachShown d z (Holds new)
-  cleared_shown d z holds leads = λ k after before. without_old loaded new (last_scene d).files (scene z k).files over holds (leads.shown k after before)
+  cleared_at : (start x y z : Files) → IsExact new start z → Clears (docket_of loaded).id new.id y z → (at : List ℕ) → (y at ≡ x at) ⊎ IsCleared loaded new start y at → (z at ≡ x at) ⊎ IsCleared loaded new start z at
+  cleared_at start x y z exact (inl same) at (inl was) = inl (same at ∙ was)
+  cleared_at start x y z exact (inl same) at (inr was) = inr (record { old = was.old; some = was.some; gone = same at ∙ was.gone; exact = exact })
+  cleared_at start x y z exact (inr gone) at was = elim (same_or_not at (data_name (docket_of loaded).id)) [
+    | inl here ↦ inr (record {
+      old = here;
+      some = gone.some;
+      gone = gone.gone at ∙ ap (λ (name : List ℕ). cond (bytes_eq (data_name (docket_of loaded).id) name) None (y at)) here ∙ ap (λ (t : Bool). cond t None (y at)) (same_name (data_name (docket_of loaded).id));
+      exact = exact;
+    })
+    | inr other ↦
+        let stays : z at ≡ y at = gone.gone at ∙ ap (λ (t : Bool). cond t None (y at)) (others_apart (data_name (docket_of loaded).id) at (λ is. other (sym is))) in
+        elim was [ inl was ↦ inl (stays ∙ was) | inr before ↦ absurd (other before.old) ]
+  ]
 
-  pub cleared_records : (d z : Course) → Goes d z → ((f : Files) → (last_scene d).leaves f → Holds new f) → Holds new (last_scene d).files → Leads (Perhaps (without (data_name (docket_of loaded).id))) d z → Records z (published new)
-  cleared_records d z goes holds shown leads = record {
-    shown = reads_published loaded new (last_scene z).files over (cleared_shown d z shown leads z.history.last goes.past.later (omega arith));
-    left = λ f is. reads_published loaded new f over (cleared_each d z holds leads z.history.last f goes.past.later (omega arith) is);
-  }
+  file_cleared : (y z : Files) → Clears (docket_of loaded).id new.id y z → z (data_name new.id) ≡ y (data_name new.id)
+  file_cleared y z (inl same) = same (data_name new.id)
+  file_cleared y z (inr gone) = stays_by y z gone
 
-  -- ---- where no docket that a crash leaves names the new identifier
-
-  module _ (free : IsFree new.id (last_scene a)) where
-    as_before : (f : Files) → Spared f → ReadsAsBeforeOr (last_scene a) (published new) f
-    as_before f was = inl (was.0, was.1, spared new.id was.0 f was.2 (free.free was.0 was.1))
-
-    pub only_spared : (x : Course) → Each a x Spared → LeavesOnly a x (published new)
-    only_spared x each = record { each = λ k f after before is. as_before f (each k f after before is) }
-
-    pub only_swapped : (c d : Course) → Goes a c → Goes c d → Each a c Spared → ((f : Files) → (last_scene c).leaves f → IsReady new f) → Leads (Perhaps (moved new_docket (codes "dirstate"))) c d → LeavesOnly a d (published new)
-    only_swapped c d start goes each ready leads = record {
-      each = each_on a c d (ReadsAsBeforeOr (last_scene a) (published new)) (λ k f after before is. as_before f (each k f after before is)) goes (λ k f after before is.
-          let was = leads.left k f after before is in
-          swapped_by was.0 f (each c.history.last was.0 start.past.later (omega arith) was.1) (ready was.0 was.1) was.2);
-    } where
-      swapped_by : (e f : Files) → Spared e → IsReady new e → Perhaps (moved new_docket (codes "dirstate")) e f → ReadsAsBeforeOr (last_scene a) (published new) f
-      swapped_by e f was ready (inl same) = inl (was.0, was.1, same_reading e f (same (codes "dirstate")) (same (data_name (id_in e))) ∙ spared new.id was.0 e was.2 (free.free was.0 was.1))
-      swapped_by e f was ready (inr moves) = inr (reads_published loaded new f over (moved_ready new e f ready moves))
-
-    pub only_cleared : (d z : Course) → Goes d z → LeavesOnly a d (published new) → ((f : Files) → (last_scene d).leaves f → Holds new f) → Leads (Perhaps (without (data_name (docket_of loaded).id))) d z → LeavesOnly a z (published new)
-    only_cleared d z goes only holds leads = record {
-      each = each_on a d z (ReadsAsBeforeOr (last_scene a) (published new)) only.each goes (λ k f after before is. inr (reads_published loaded new f over (cleared_each d z holds leads k f after before is)));
-    }
-
-  -- ---- what reads show
-
-  module _ (unnamed : id_in (last_scene a).files ≡ new.id → ⊥) where
-    pub shows_spared : (x : Course) → EachShown a x (Spares new.id (last_scene a).files) → ShowsOnly a x (published new)
-    shows_spared x each = record { each = λ k after before. inl (spared new.id (last_scene a).files (scene x k).files (each k after before) unnamed) }
-
-    pub shows_swapped : (c d : Course) → Goes a c → Goes c d → EachShown a c (Spares new.id (last_scene a).files) → IsReady new (last_scene c).files → Leads (Perhaps (moved new_docket (codes "dirstate"))) c d → ShowsOnly a d (published new)
-    shows_swapped c d start goes each ready leads = record {
-      each = shown_on a c d (λ f. (reading f ≡ reading (last_scene a).files) ⊎ (reading f ≡ published new)) (shows_spared c each).each goes (λ k after before. swapped_by (scene d k).files (leads.shown k after before));
-    } where
-      swapped_by : (f : Files) → Perhaps (moved new_docket (codes "dirstate")) (last_scene c).files f → (reading f ≡ reading (last_scene a).files) ⊎ (reading f ≡ published new)
-      swapped_by f (inl same) =
-          inl (same_reading (last_scene c).files f (same (codes "dirstate")) (same (data_name (id_in (last_scene c).files))) ∙ spared new.id (last_scene a).files (last_scene c).files (each c.history.last start.past.later (omega arith)) unnamed)
-      swapped_by f (inr moves) = inr (reads_published loaded new f over (moved_ready new (last_scene c).files f ready moves))
-
-    pub shows_cleared : (d z : Course) → Goes d z → ShowsOnly a d (published new) → Holds new (last_scene d).files → Leads (Perhaps (without (data_name (docket_of loaded).id))) d z → ShowsOnly a z (published new)
-    shows_cleared d z goes only holds leads = record {
-      each = shown_on a d z (λ f. (reading f ≡ reading (last_scene a).files) ⊎ (reading f ≡ published new)) only.each goes (λ k after before. inr (reads_published loaded new (scene z k).files over (cleared_shown d z holds leads k after before)));
-    }
-
--- ---- the identifiers that dockets name
-
-module _ (loaded : List ℕ) (new : Encoded) (over : IsOver loaded new) (a : Course) (stands : Stands loaded (last_scene a)) (latest : IsLatest (last_scene a)) where
-  -- an image of the start names none that comes after the loaded one, nor after the new one
-  not_after : (d : Files) → (last_scene a).leaves d → (n : ℕ) → name_after n (docket_of loaded).id ≡ Some (id_in d) → ⊥
-  not_after d is n after = latest.latest d is n (ap (λ (bytes : List ℕ). name_after n (docket_of bytes).id) stands ∙ after)
-
-  pub not_after_new : (d : Files) → (last_scene a).leaves d → (n : ℕ) → name_after n new.id ≡ Some (id_in d) → ⊥
-  not_after_new d is n after = not_after d is (suc n) (later_still n (docket_of loaded).id new.id (id_in d) over.next after)
-
-  pub latest_by : (x : Course) → docket_in (last_scene x).files ≡ loaded → ((f : Files) → (last_scene x).leaves f → (d : Files) × (last_scene a).leaves d × (docket_in f ≡ docket_in d)) → IsLatest (last_scene x)
-  latest_by x shown each =
-      let id : id_in (last_scene x).files ≡ (docket_of loaded).id = ap (λ (bytes : List ℕ). (docket_of bytes).id) shown in
+  cleared : (start x y z : Files) → IsExact new start y → Publishes loaded new start x y → Clears (docket_of loaded).id new.id y z → Publishes loaded new start x z
+  cleared start x y z exact was clears =
+      let now : IsExact new start z = exact_cleared start y z exact clears in
       record {
-        latest = λ f is n after.
-            let was = each f is in
-            not_after was.0 was.1 n (ap (name_after n) (sym id) ∙ after ∙ ap (λ (bytes : List ℕ). Some (docket_of bytes).id) was.2);
-        used = λ f is named.
-            let was = each f is in
-            let first : id_in was.0 ≡ id_in (last_scene a).files = sym (ap (λ (bytes : List ℕ). (docket_of bytes).id) was.2) ∙ named ∙ id ∙ sym (ap (λ (bytes : List ℕ). (docket_of bytes).id) stands) in
-            let most : used_in was.0 ≤ used_in (last_scene a).files = latest.used was.0 was.1 first in
-            let left : used_in f ≡ used_in was.0 = ap (λ (bytes : List ℕ). (docket_of bytes).used) was.2 in
-            let there : used_in (last_scene x).files ≡ used_in (last_scene a).files = ap (λ (bytes : List ℕ). (docket_of bytes).used) (shown ∙ sym stands) in
-            omega (arith, most, left, there);
+        others = λ at docket other nodes. cleared_at start x y z now clears at (was.others at docket other nodes);
+        only = record {
+          file = torn_same new.place (length new.bytes.items) (x (data_name new.id)) (y (data_name new.id)) (z (data_name new.id)) (file_cleared y z clears) was.only.file;
+          stage = inr now;
+        };
       }
 
-  pub latest_spared : (x : Course) → a.history.last ≤ x.history.last → EachShown a x (Spares new.id (last_scene a).files) → Each a x (λ f. (d : Files) × (last_scene a).leaves d × Spares new.id d f) → IsLatest (last_scene x)
-  latest_spared x later shown each =
-      latest_by x (spared_docket new.id (last_scene a).files (last_scene x).files (shown x.history.last later (omega arith)) ∙ stands)
-      (λ f is. let was = each x.history.last f later (omega arith) is in (was.0, was.1, spared_docket new.id was.0 f was.2))
+-- a removal of the old data file, where there is one and it is another
+pub goes_there : (id next : List ℕ) → (id ≡ [] → ⊥) → (id ≡ next → ⊥) → (old new : Files) → Perhaps (without (data_name id)) old new → Clears id next old new
+goes_there id next some other old new (inl same) = inl same
+goes_there id next some other old new (inr gone) = inr (record { some = some; other = other; gone = gone })
 
-  pub latest_swapped : (c d : Course) → Goes a c → Goes c d → EachShown a c (Spares new.id (last_scene a).files) → Each a c (λ f. (d : Files) × (last_scene a).leaves d × Spares new.id d f)
-      → ((f : Files) → (last_scene c).leaves f → IsReady new f) → IsReady new (last_scene c).files → Leads (Perhaps (moved new_docket (codes "dirstate"))) c d → IsWhole (moved new_docket (codes "dirstate")) c d → IsLatest (last_scene d)
-  latest_swapped c d start goes shown each ready ready_shown leads (inr still) =
-      latest_by d
-      (ap docket_in still.shown ∙ spared_docket new.id (last_scene a).files (last_scene c).files (shown c.history.last start.past.later (omega arith)) ∙ stands)
-      (λ f is. let was = each c.history.last f start.past.later (omega arith) (still.left f is) in (was.0, was.1, spared_docket new.id was.0 f was.2))
-  latest_swapped c d start goes shown each ready ready_shown leads (inl moves) = record {
-    latest = λ f is n after.
-        let was = leads.left d.history.last f goes.past.later (omega arith) is in
-        let now_new : id_in (last_scene d).files ≡ new.id = id_published loaded new (last_scene d).files over (moved_ready new (last_scene c).files (last_scene d).files ready_shown moves) in
-        by was.0 f was.1 was.2 n (ap (name_after n) (sym now_new) ∙ after);
-    used = λ f is named.
-        let was = leads.left d.history.last f goes.past.later (omega arith) is in
-        let holds : Holds new (last_scene d).files = moved_ready new (last_scene c).files (last_scene d).files ready_shown moves in
-        let there : used_in (last_scene d).files ≡ length new.bytes.items = used_published loaded new (last_scene d).files over holds in
-        let left : used_in f ≡ length new.bytes.items = used_by was.0 f was.1 was.2 (named ∙ id_published loaded new (last_scene d).files over holds) in
-        omega (arith, there, left);
-  } where
-    used_by : (e f : Files) → (last_scene c).leaves e → Perhaps (moved new_docket (codes "dirstate")) e f → id_in f ≡ new.id → used_in f ≡ length new.bytes.items
-    used_by e f is (inl same) named =
-        let was = each c.history.last e start.past.later (omega arith) is in
-        absurd (not_after was.0 was.1 0 (over.next ∙ ap (λ (id : List ℕ). Some id) (sym named ∙ same_id e f (same (codes "dirstate")) ∙ spared_id new.id was.0 e was.2)))
-    used_by e f is (inr done) named = used_published loaded new f over (moved_ready new e f (ready e is) done)
+-- ---- the parts of a call
 
-    by : (e f : Files) → (last_scene c).leaves e → Perhaps (moved new_docket (codes "dirstate")) e f → (n : ℕ) → name_after n new.id ≡ Some (id_in f) → ⊥
-    by e f is (inl same) n after =
-        let was = each c.history.last e start.past.later (omega arith) is in
-        not_after_new was.0 was.1 n (after ∙ ap (λ (id : List ℕ). Some id) (same_id e f (same (codes "dirstate")) ∙ spared_id new.id was.0 e was.2))
-    by e f is (inr done) n after = never_itself n new.id (after ∙ ap (λ (id : List ℕ). Some id) (id_published loaded new f over (moved_ready new e f (ready e is) done)))
+module _ (new : Encoded) (a b : Course) (first : Goes a b) where
+  pub prepares_one : Leads (TornAt (data_name new.id) new.place (length new.bytes.items)) a b → Leads (Prepares new) a b
+  prepares_one leads = leads_weaker a b (TornAt (data_name new.id) new.place (length new.bytes.items)) (Prepares new) (wrote_file new) leads
 
-  pub latest_cleared : (d z : Course) → Goes d z → ((f : Files) → (last_scene d).leaves f → Holds new f) → Holds new (last_scene d).files → Leads (Perhaps (without (data_name (docket_of loaded).id))) d z → IsLatest (last_scene z)
-  latest_cleared d z goes holds shown leads = record {
-    latest = λ f is n after.
-        let now_new : id_in (last_scene z).files ≡ new.id = id_published loaded new (last_scene z).files over (cleared_shown loaded new over a d z shown leads z.history.last goes.past.later (omega arith)) in
-        let left_new : id_in f ≡ new.id = id_published loaded new f over (cleared_each loaded new over a d z holds leads z.history.last f goes.past.later (omega arith) is) in
-        never_itself n new.id (ap (name_after n) (sym now_new) ∙ after ∙ ap (λ (id : List ℕ). Some id) left_new);
-    used = λ f is named.
-        let there : used_in (last_scene z).files ≡ length new.bytes.items = used_published loaded new (last_scene z).files over (cleared_shown loaded new over a d z shown leads z.history.last goes.past.later (omega arith)) in
-        let left : used_in f ≡ length new.bytes.items = used_published loaded new f over (cleared_each loaded new over a d z holds leads z.history.last f goes.past.later (omega arith) is) in
-        omega (arith, there, left);
+  module _ (c : Course) (second : Goes b c) where
+    pub prepares_two : Leads (TornAt (data_name new.id) new.place (length new.bytes.items)) a b → Leads (TornAt new_docket 0 (length new.docket.items)) b c → Leads (Prepares new) a c
+    prepares_two one two =
+        leads_then (TornAt (data_name new.id) new.place (length new.bytes.items)) (TornAt new_docket 0 (length new.docket.items)) (Prepares new) (λ f. Unit {0}) (wrote_file new)
+        (wrote_docket new) a b c first second tt (λ f is. tt) one two
+
+-- both files are written and sure, and the docket stands beside the old one
+pub record IsWritten (new : Encoded) (a c : Course) : Type 0 where
+  pub prepares : Leads (Prepares new) a c
+  pub shown : IsBeside new (last_scene a).files (last_scene c).files
+  pub left : (f : Files) → (last_scene c).leaves f → IsBeside new (last_scene a).files f
+  pub there : IsSome ((last_scene c).files new_docket)
+
+module _ (new : Encoded) (a b c : Course) (first : Goes a b) (second : Goes b c) (one : Leads (TornAt (data_name new.id) new.place (length new.bytes.items)) a b) (two : Leads (TornAt new_docket 0 (length new.docket.items)) b c)
+    (data_sure : IsSure (data_name new.id) (overwritten (content ((last_scene a).files (data_name new.id))) new.place new.bytes.items) b)
+    (docket_sure : IsSure new_docket (overwritten (content ((last_scene b).files new_docket)) 0 new.docket.items) c) where
+  -- what stood beside at the start was left by the first part
+  over_start : Some (overwritten (content ((last_scene b).files new_docket)) 0 new.docket.items) ≡ Some (overwritten (content ((last_scene a).files new_docket)) 0 new.docket.items)
+  over_start =
+      ap (λ (file : Option (List ℕ)). Some (overwritten (content file) 0 new.docket.items))
+      ((one.shown b.history.last first.past.later (omega arith)).elsewhere new_docket (λ is. data_not_new new.id (sym is)))
+
+  pub is_written : IsWritten new a c
+  is_written = record {
+    prepares = prepares_two new a b first c second one two;
+    shown = record {
+      file = (two.shown c.history.last second.past.later (omega arith)).elsewhere (data_name new.id) (data_not_new new.id) ∙ data_sure.shown;
+      docket = docket_sure.shown ∙ over_start;
+    };
+    left = λ f is.
+        let was = two.left c.history.last f second.past.later (omega arith) is in
+        record {
+          file = was.2.elsewhere (data_name new.id) (data_not_new new.id) ∙ data_sure.left was.0 was.1;
+          docket = docket_sure.left f is ∙ over_start;
+        };
+    there = ap is_some docket_sure.shown;
   }
 
--- where something holds in any case
-pub on_ok : {T E P : Type 0} (r : Result T E) → P → OnOk r P
-on_ok (Ok x) is = is
-on_ok (Err e) is = tt
+module _ (loaded nodes : List ℕ) (new : Encoded) (over : IsOver loaded nodes new) (a c d : Course) (start : Goes a c) (third : Goes c d) (wrote : IsWritten new a c) where
+  pub publishes_three : Leads (Perhaps (moved new_docket (codes "dirstate"))) c d → Leads (Publishes loaded new (last_scene a).files) a d
+  publishes_three three =
+      leads_then (Prepares new) (Perhaps (moved new_docket (codes "dirstate"))) (Publishes loaded new (last_scene a).files) (IsBeside new (last_scene a).files) (prepared new loaded (last_scene a).files)
+      (took_place loaded nodes new over (last_scene a).files) a c d start third wrote.shown wrote.left wrote.prepares three
 
-pub on_err : {T E P : Type 0} (r : Result T E) → P → OnErr r P
-on_err (Ok x) is = tt
-on_err (Err e) is = is
+  -- what is done holds exactly what is published
+  pub exact_done : IsDone (moved new_docket (codes "dirstate")) c d → HoldsExactly new a d
+  exact_done done = record {
+    shown = exact_moved loaded nodes new over (last_scene a).files (last_scene c).files (last_scene d).files wrote.shown done.shown;
+    left = λ f is. let was = done.left f is in exact_moved loaded nodes new over (last_scene a).files was.0 f (wrote.left was.0 was.1) was.2;
+  }
+
+-- and then the old data file may go
+module _ (loaded nodes : List ℕ) (new : Encoded) (over : IsOver loaded nodes new) (a d z : Course) where
+  pub publishes_four : Goes a d → Goes d z → HoldsExactly new a d → Leads (Publishes loaded new (last_scene a).files) a d → Leads (Clears (docket_of loaded).id new.id) d z → Leads (Publishes loaded new (last_scene a).files) a z
+  publishes_four start fourth exact publishes clears =
+      leads_then (Publishes loaded new (last_scene a).files) (Clears (docket_of loaded).id new.id) (Publishes loaded new (last_scene a).files) (IsExact new (last_scene a).files) (λ x y is. is)
+      (cleared loaded nodes new over (last_scene a).files) a d z start fourth exact.shown exact.left publishes clears
+
+  pub holds_exactly : Goes d z → HoldsExactly new a d → Leads (Clears (docket_of loaded).id new.id) d z → HoldsExactly new a z
+  holds_exactly fourth exact clears = record {
+    shown = exact_cleared loaded nodes new over (last_scene a).files (last_scene d).files (last_scene z).files exact.shown (clears.shown z.history.last fourth.past.later (omega arith));
+    left = λ f is. let was = clears.left z.history.last f fourth.past.later (omega arith) is in exact_cleared loaded nodes new over (last_scene a).files was.0 f (exact.left was.0 was.1) was.2;
+  }

@@ -1,35 +1,17 @@
--- What an append to the data file that stands leaves of the dirstate, at each moment and after a crash.
-use Rattle.std.specs.Prelude.{ℕ, ◌≡◌, ◌≤◌, ◌<◌, ◌+◌, List, ◌++◌, length, take, Option, Some, None, Result, codes}
+-- What is kept of the data that dockets name, by a publication and by its single steps.
+use Rattle.std.specs.Prelude.{ℕ, ◌≡◌, ◌≤◌, ◌<◌, ◌+◌, List, take, Option, codes}
 use Rattle.hg_append.specs.declared.encoding.Encoded.{Encoded}
-use Rattle.hg_docket.specs.Docket.{docket_of, docket_refusal}
-use Rattle.hg_entry.specs.Table.{Table}
-use Rattle.hg_image.specs.Reading.{RecordFault, reading_of}
+use Rattle.hg_docket.specs.Docket.{docket_of}
 use Rattle.hg_shelf.specs.History.{Files, History, Who}
 use Rattle.hg_shelf.specs.Images.{Course, Scene, scene}
 use Rattle.hg_shelf.specs.Rules.{content}
 use Rattle.hg_save.specs.Loads.{files_at}
 use Rattle.hg_save.specs.Others.{HasData, HasFront, IsFrontOf, IsNotAhead, StaysFront, UsesData, named_file}
 use Rattle.hg_save.specs.Record.{data_name, id_in}
-use Rattle.hg_save.specs.Saved.{Stands, new_docket, used_in}
+use Rattle.hg_save.specs.Saved.{IsLatest, Stands, new_docket, used_in}
 use Rattle.hg_save.specs.declared.loaded.Loaded.{Loaded}
 
--- a table was put behind the record that was loaded: under the identifier that its docket names, from the end of its used bytes on, all of which were
--- loaded; and the new docket, read again, names that file and as many used bytes as it has with the new ones
-pub record IsBehind (loaded : Loaded) (new : Encoded) : Type 0 where
-  pub same : (docket_of loaded.docket.items).id ≡ new.id
-  pub place : new.place ≡ (docket_of loaded.docket.items).used
-  pub some : 0 < (docket_of loaded.docket.items).used
-  pub long : length loaded.nodes.items ≡ (docket_of loaded.docket.items).used
-  pub few : length new.docket.items ≤ 512
-  pub whole : docket_refusal new.docket.items ≡ None
-  pub named : (docket_of new.docket.items).id ≡ new.id
-  pub used : (docket_of new.docket.items).used ≡ new.place + length new.bytes.items
-
--- what is recorded once it is published: the reading of the new docket, over the loaded nodes and what is put behind them
-abbrev pub published_behind : Loaded → Encoded → Option (Result Table RecordFault)
-published_behind loaded new = Some (reading_of new.docket.items (loaded.nodes.items ++ new.bytes.items))
-
--- ---- what an append is made upon
+-- ---- what is published upon
 
 -- the data file that reads show begins with the loaded nodes
 abbrev pub HasNodes : Loaded → Scene → Type 0
@@ -41,11 +23,21 @@ pub record IsSolid (s : Scene) : Type 0 where
   pub used : (c : Files) → s.leaves c → id_in c ≡ id_in s.files → used_in c ≤ used_in s.files
   pub front : (c : Files) → s.leaves c → id_in c ≡ id_in s.files → HasData c
 
--- the loaded record stands, its docket and the nodes that it uses, and what a crash may leave is solid
-pub record IsBase (loaded : Loaded) (s : Scene) : Type 0 where
+-- where files have a docket that names the identifier of what is published, it uses at most the bytes before the place, and its data file has them
+abbrev pub IsFreeIn : Encoded → Files → Type 0
+IsFreeIn new files = id_in files ≡ new.id → (used_in files ≤ new.place) × HasData files
+
+-- so it is in whatever a crash may leave: what is written is free
+pub record IsFree (new : Encoded) (s : Scene) : Type 0 where
+  pub each : (c : Files) → s.leaves c → IsFreeIn new c
+
+-- what a table is published upon: the loaded docket stands, no docket that a crash may leave is ahead of it, what is written is free, and where it is written
+-- behind loaded nodes, the data file begins with these
+pub record IsBase (loaded : Loaded) (new : Encoded) (s : Scene) : Type 0 where
   pub stands : Stands loaded.docket.items s
-  pub nodes : HasNodes loaded s
-  pub solid : IsSolid s
+  pub latest : IsLatest s
+  pub free : IsFree new s
+  pub nodes : 0 < new.place → HasNodes loaded s
 
 -- ---- what it leaves
 

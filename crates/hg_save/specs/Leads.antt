@@ -5,13 +5,15 @@ use Rattle.hg_shelf.specs.Images.{Course, Remains, Scene, last_scene, scene}
 use Rattle.hg_shelf.specs.Rules.{Perhaps, Surely, without}
 use Rattle.hg_save.specs.Record.{data_name}
 
--- no other file is changed
-abbrev pub ButFor : List ℕ → Files → Files → Type 0
-ButFor name old new = (at : List ℕ) → (at ≡ name → ⊥) → new at ≡ old at
+-- the data file with an identifier goes, where it is one, and another one than the new one
+pub record IsGone (id next : List ℕ) (old new : Files) : Type 0 where
+  pub some : id ≡ [] → ⊥
+  pub other : id ≡ next → ⊥
+  pub gone : Surely (without (data_name id)) old new
 
--- the data file with an identifier goes, where it is one, or nothing changes
-abbrev pub Clears : List ℕ → Files → Files → Type 0
-Clears id old new = ((at : List ℕ) → new at ≡ old at) ⊎ ((id ≡ [] → ⊥) × Surely (without (data_name id)) old new)
+-- it goes, or nothing changes
+abbrev pub Clears : List ℕ → List ℕ → Files → Files → Type 0
+Clears id next old new = ((at : List ℕ) → new at ≡ old at) ⊎ IsGone id next old new
 
 -- what reads show at each moment since, and what a crash leaves, comes by a change from what was there at the start
 pub record Leads (change : Files → Files → Type 0) (old new : Course) : Type 0 where

@@ -4,5 +4,6 @@ pub mod Loads
 pub mod Others
 pub mod Record
 pub mod Saved
+pub mod Whole
 pub mod Behind
 pub mod Over

@@ -6,7 +6,7 @@ use Rattle.hg_image.specs.Reading.{RecordFault}
 use Rattle.hg_shelf.specs.History.{Files, History, Who, others}
 use Rattle.hg_shelf.specs.Images.{Course, Scene, scene}
 use Rattle.hg_save.specs.Loads.{During, files_at}
-use Rattle.hg_save.specs.Record.{IsReadable, data_in, data_name, docket_in, id_in, reading}
+use Rattle.hg_save.specs.Record.{IsReadable, data_in, data_name, docket_in, reading}
 use Rattle.hg_save.specs.Saved.{IsLatest, name_after}
 use Rattle.hg_save.specs.declared.loaded.Loaded.{Loaded}
 
@@ -54,18 +54,6 @@ StaysFront used (Some old) (Some now) = used ≤ length old → (used ≤ length
 -- an identifier doesn't come after another
 abbrev pub IsNotAhead : List ℕ → List ℕ → Type 0
 IsNotAhead of id = (n : ℕ) → name_after n of ≡ Some id → ⊥
-
--- a step keeps the data that dockets name: of each that isn't ahead of the standing one the used bytes stay as long as the file is there, the
--- standing one's file is there as before, and what wasn't ahead of the standing one isn't ahead of the one that stands then
-pub record IsKeeping (before behind : Files) : Type 0 where
-  pub kept : (docket : List ℕ) → UsesData docket → IsNotAhead (id_in before) (docket_of docket).id
-      → StaysFront (docket_of docket).used (named_file docket before) (named_file docket behind)
-  pub there : HasData before → HasData behind
-  pub ahead : (id : List ℕ) → IsNotAhead (id_in before) id → IsNotAhead (id_in behind) id
-
--- from a moment on each step of one keeps the data that dockets name
-pub record KeepsFiles (by : Who) (h : History) (from : ℕ) : Type 0 where
-  pub each : (k : ℕ) → from ≤ k → k < h.last → h.who k ≡ by → IsKeeping (files_at h k) (files_at h (k + 1))
 
 -- a step keeps the data of the dockets that have stood since a moment
 pub record KeepsStood (h : History) (from k : ℕ) : Type 0 where

@@ -19,11 +19,11 @@ use Rattle.hg_mixed.specs.Shown.{AreLentWhole, ArePlacesOfImage, list_place}
 use Rattle.hg_save.specs.declared.publish_fault.PublishFault.{PublishFault}
 use Rattle.hg_save.specs.declared.publish_fault.PublishFault.TheVariants as a_fault
 use Rattle.hg_save.specs.Leads.{Leads}
-use Rattle.hg_save.specs.Others.{KeepsRecords, named_file}
-use Rattle.hg_save.specs.Record.{data_name, docket_in, id_in}
-use Rattle.hg_save.specs.Saved.{HoldsExactly, IsLatest, KeepsOthers, LeavesOnly, Records, ShowsOnly, Stands, WritesOnly}
+use Rattle.hg_save.specs.Others.{HasData, KeepsRecords, named_file}
+use Rattle.hg_save.specs.Record.{IsReadable, data_name, docket_in, id_in}
+use Rattle.hg_save.specs.Saved.{HoldsExactly, IsLatest, IsUnnamed, KeepsOthers, LeavesOnly, NamesExactly, Records, ShowsOnly, Stands, WritesOnly, published}
 use Rattle.hg_save.specs.declared.loaded.Loaded.{Loaded}
-use Rattle.hg_save.specs.Behind.{HasNodes, IsSolid, KeepsUsed, KeepsUsedBytes, LeavesData}
+use Rattle.hg_save.specs.Behind.{HasNodes, IsBase, IsFree, IsFreeIn, IsSolid, KeepsUsed, KeepsUsedBytes, LeavesData}
 use Rattle.hg_shelf.specs.History.{Files, us}
 use Rattle.hg_shelf.specs.Images.{Course, Scene, last_scene}
 use Rattle.hg_shelf.specs.Rules.{content}
@@ -65,6 +65,23 @@ pub record IsEncoded (held : Held) (new : Encoded) (found : Table) : Type 0 wher
 abbrev pub KeepsOthersBy : Way → Held → Course → Course → Type 0
 KeepsOthersBy a_way.Rewrite held old new = (id : List ℕ) × (next_name held.docket.id ≡ Some id) × Leads (KeepsOthers held.docket.id id) old new
 KeepsOthersBy a_way.Append held old new = Leads (KeepsUsedBytes held.docket.id held.docket.used) old new
+
+-- what was encoded was published over the record that was loaded, wholly or in part. At each moment reads show that record or the new one, and a crash leaves
+-- what it might have left or the new one; what is written is written at its place and past the old end, and where the docket names a new identifier all is
+-- exact; no other file is changed; no docket that a crash may leave is ahead of the one that stands, if none was; whatever a crash may leave that names an
+-- identifier has the data, if what it might have left at the start has, and it is solid, if it was; and each step keeps to what is asked of others
+pub record IsPut (loaded : Loaded) (new : Encoded) (old now : Course) : Type 0 where
+  pub crash : IsFree new (last_scene old) → (0 < new.place → HasNodes loaded (last_scene old)) → LeavesOnly old now (published loaded.nodes.items new)
+  pub shown : IsFreeIn new (last_scene old).files → (0 < new.place → HasNodes loaded (last_scene old)) → ShowsOnly old now (published loaded.nodes.items new)
+  pub torn : Leads (WritesOnly new (last_scene old).files) old now
+  pub named : IsUnnamed new.id (last_scene old) → NamesExactly new old now
+  pub anew : new.place ≡ 0 → Leads (KeepsOthers (docket_of loaded.docket.items).id new.id) old now
+  pub behind : 0 < new.place → Leads (KeepsUsedBytes new.id new.place) old now
+  pub latest : Stands loaded.docket.items (last_scene old) → IsLatest (last_scene old) → IsLatest (last_scene now)
+  pub intact : (id : List ℕ) → ((c : Files) → (last_scene old).leaves c → id_in c ≡ id → HasData c) → LeavesData id old now
+  pub solid : IsFree new (last_scene old) → IsSolid (last_scene old) → IsSolid (last_scene now)
+  pub orderly : IsBase loaded new (last_scene old) → IsReadable (published loaded.nodes.items new) → KeepsRecords us now old.history.last
+  pub keeping : Stands loaded.docket.items (last_scene old) → (0 < new.place → HasNodes loaded (last_scene old)) → KeepsUsed us now.history old.history.last
 
 -- a table was put over the record that was loaded, wholly or in part: at each moment reads show that record or the table, and a crash leaves what it might
 -- have left or the table; what is written is written at its place and past the old end; what a crash may leave of the docket that stood or of the new one has

@@ -1,5 +1,5 @@
 -- What a publication leaves of the dirstate, at each moment and after a crash.
-use Rattle.std.specs.Prelude.{ℕ, zero, suc, ◌≡◌, ◌≤◌, ◌⊎◌, List, [], length, Option, Some, None, Result, codes}
+use Rattle.std.specs.Prelude.{ℕ, zero, suc, ◌≡◌, ◌<◌, ◌≤◌, ◌+◌, ◌⊎◌, List, [], ◌++◌, length, take, Option, Some, None, Result, codes}
 use Rattle.std.specs.Option.{option_and_then}
 use Rattle.hg_append.specs.declared.encoding.Encoded.{Encoded}
 use Rattle.hg_docket.specs.Docket.{docket_of, docket_refusal}
@@ -15,22 +15,33 @@ use Rattle.hg_save.specs.Record.{data_name, docket_in, id_in, reading}
 abbrev pub new_docket : List ℕ
 new_docket = codes "dirstate-new"
 
--- a table was written anew over the record of a docket: as a data file of its own, under the next identifier and from its start; and the
--- new docket, read again, names that file and as many used bytes as it has
-pub record IsOver (loaded : List ℕ) (new : Encoded) : Type 0 where
+-- a table was written anew: as a data file of its own, under the identifier that comes after the one that the loaded docket names, and from its start
+pub record IsAnew (loaded : List ℕ) (new : Encoded) : Type 0 where
   pub next : next_name (docket_of loaded).id ≡ Some new.id
   pub place : new.place ≡ 0
+
+-- a table was put behind what was loaded: under the identifier that the loaded docket names, from the end of its used bytes on, all of which were loaded
+pub record IsBehind (loaded nodes : List ℕ) (new : Encoded) : Type 0 where
+  pub same : (docket_of loaded).id ≡ new.id
+  pub place : new.place ≡ (docket_of loaded).used
+  pub some : 0 < (docket_of loaded).used
+  pub long : length nodes ≡ (docket_of loaded).used
+
+-- a table was encoded over the record of a docket and of nodes that were loaded, by one of the two ways; and the new docket, read again, names its data file
+-- and as many used bytes as that has with the new ones
+pub record IsOver (loaded nodes : List ℕ) (new : Encoded) : Type 0 where
+  pub by : IsAnew loaded new ⊎ IsBehind loaded nodes new
   pub few : length new.docket.items ≤ 512
   pub whole : docket_refusal new.docket.items ≡ None
   pub named : (docket_of new.docket.items).id ≡ new.id
-  pub used : (docket_of new.docket.items).used ≡ length new.bytes.items
+  pub used : (docket_of new.docket.items).used ≡ new.place + length new.bytes.items
 
--- what is recorded once it is published
-abbrev pub published : Encoded → Option (Result Table RecordFault)
-published new = Some (reading_of new.docket.items new.bytes.items)
+-- what is recorded once it is published: the reading of the new docket, over the loaded nodes before the place and what is put there
+abbrev pub published : List ℕ → Encoded → Option (Result Table RecordFault)
+published nodes new = Some (reading_of new.docket.items (take new.place nodes ++ new.bytes.items))
 
 -- no docket that a crash may leave names this identifier
-pub record IsFree (id : List ℕ) (s : Scene) : Type 0 where
+pub record IsUnnamed (id : List ℕ) (s : Scene) : Type 0 where
   pub free : (c : Files) → s.leaves c → id_in c ≡ id → ⊥
 
 -- the identifier that comes after another, one step on and so many more

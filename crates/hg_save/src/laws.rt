@@ -1,6 +1,6 @@
 //! Laws of the definitions.
 
-ghost use Rattle.std.specs.Prelude.{Err, IsTrue, List, None, Ok, Result, Some, length, ℕ, ◌+◌, ◌<◌, ◌≡◌, ◌≤◌, ◌⊎◌};
+ghost use Rattle.std.specs.Prelude.{Err, IsTrue, List, None, Ok, Result, Some, length, ℕ, ◌+◌, ◌<◌, ◌≡◌, ◌≤◌};
 ghost use Rattle.hg_append.specs.Encoded.{IsWritten, ReadsAs};
 ghost use Rattle.hg_append.specs.declared.encoding.Encoded.{Encoded};
 ghost use Rattle.hg_docket.specs.Docket.{docket_of, docket_refusal};
@@ -9,15 +9,13 @@ ghost use Rattle.hg_entry.specs.Table.{Table};
 ghost use Rattle.hg_image.specs.Reading.{RecordFault, reading_of};
 ghost use Rattle.hg_mixed.specs.Held.{Held, table};
 ghost use Rattle.hg_save.specs.Loads.{IsTry, Loads, Tries, Try, files_at, found_by};
-ghost use Rattle.hg_save.specs.Others.{HasData, IsFrontOf, IsKeeping, IsNotAhead, KeepData, KeepsFiles, KeepsStood, UsesData, WasLoaded, WasRecorded, named_file};
-ghost use Rattle.hg_save.specs.Record.{docket_in, id_in};
+ghost use Rattle.hg_save.specs.Others.{HasData, IsFrontOf, KeepData, KeepsStood, UsesData, WasLoaded, WasRecorded, named_file};
+ghost use Rattle.hg_save.specs.Record.{docket_in};
 ghost use Rattle.hg_save.specs.Saved.{IsOver};
 ghost use Rattle.hg_save.specs.declared.loaded.Loaded.{Loaded};
 ghost use Rattle.hg_shelf.specs.History.{Extends, Files, History, Who};
-ghost use Rattle.hg_docket.specs.Number.{next_name};
-ghost use Rattle.hg_save.specs.Behind.{IsBehind, IsKeepingUsed, IsNotBeyond, KeepsUsed};
+ghost use Rattle.hg_save.specs.Behind.{IsKeepingUsed, IsNotBeyond, KeepsUsed};
 ghost use Rattle.hg_append.specs.Appended.{IsAppended, IsOverImage};
-ghost use Rattle.hg_append.specs.Either.{file_of};
 ghost use Rattle.hg_append.specs.Loss.{plan_of};
 ghost use Rattle.hg_image.specs.Reading as a_record_fault;
 ghost use Rattle.hg_save.specs.declared.load_fault.LoadFault.TheVariants as a_fault;
@@ -25,8 +23,8 @@ ghost use Rattle.hg_append.specs.declared.way.Way.TheVariants as a_way;
 
 /// What a table is encoded as can be published over the record that the table was opened from.
 pub fn encoded_over()
-    ensures { (loaded : List ℕ) (held : Held) (new : Encoded) → held.docket.id ≡ (docket_of loaded).id → IsWritten held new
-        → ReadsAs (table held) (reading_of new.docket.items new.bytes.items) → IsOver loaded new }
+    ensures { (loaded nodes : List ℕ) (held : Held) (new : Encoded) (file : List ℕ) → held.docket.id ≡ (docket_of loaded).id → IsWritten held new
+        → ReadsAs (table held) (reading_of new.docket.items file) → IsOver loaded nodes new }
 {}
 
 /// Where others keep the data that dockets name, a load found the record of one moment.
@@ -46,26 +44,14 @@ pub fn one_moment()
         → WasRecorded old new (Err (a_record_fault.Docket fault)) }
 {}
 
-/// Where each step keeps the data that dockets name, whoever made it, and the standing docket's is there at first, it is kept throughout: so
-/// publications beside each other keep to what is asked of others.
+/// Where each step keeps the bytes that dockets use, whoever made it, and the standing docket's are there at first, the data that dockets name is
+/// kept throughout: so publications beside each other keep to what is asked of others.
 pub fn data_kept()
-    ensures all { (h : History) (from : ℕ) → IsTrue h.told → HasData (files_at h from) → ((by : Who) → KeepsFiles by h from) → KeepData h from }
-    // It is enough that each keeps that of the dockets which have stood.
+    ensures all { (h : History) (from : ℕ) → IsTrue h.told → HasData (files_at h from) → ((by : Who) → KeepsUsed by h from) → KeepData h from }
+    // It is enough that each keeps the data of the dockets which have stood.
     ensures stood { (h : History) (from : ℕ) → IsTrue h.told → HasData (files_at h from)
         → ((k : ℕ) → from ≤ k → k < h.last → KeepsStood h from k) → KeepData h from }
-    // So does a step of this program where none of these is ahead of the one that stands.
-    ensures own { (h : History) (from k : ℕ) → IsKeeping (files_at h k) (files_at h (k + 1))
-        → ((j : ℕ) → from ≤ j → j ≤ k → IsNotAhead (id_in (files_at h k)) (id_in (files_at h j))) → KeepsStood h from k }
-{}
-
-/// Where each step keeps the bytes that dockets use, whoever made it, and the standing docket's are there at first, the data that dockets name is
-/// kept throughout.
-pub fn used_kept()
-    ensures all { (h : History) (from : ℕ) → IsTrue h.told → HasData (files_at h from) → ((by : Who) → KeepsUsed by h from) → KeepData h from }
-    // So does a step that publishes a table anew: the docket stays, or it names the next identifier.
-    ensures anew { (before behind : Files) → IsKeeping before behind → (docket_in behind ≡ docket_in before) ⊎ (next_name (id_in before) ≡ Some (id_in behind))
-        → IsKeepingUsed before behind }
-    // A step that does keeps the data of the dockets that have stood, where none of these is beyond the one that stands.
+    // So does a step of this program where none of these is beyond the one that stands.
     ensures own { (h : History) (from k : ℕ) → IsKeepingUsed (files_at h k) (files_at h (k + 1))
         → ((j : ℕ) → from ≤ j → j ≤ k → IsNotBeyond (files_at h k) (docket_in (files_at h j))) → KeepsStood h from k }
 {}
@@ -82,6 +68,6 @@ pub fn nodes_stay()
 
 /// What a table is encoded as behind its data file can be published over the record that the table was opened from.
 pub fn encoded_behind()
-    ensures { (loaded : Loaded) (held : Held) (new : Encoded) → held.docket ≡ docket_of loaded.docket.items → held.bytes ≡ loaded.nodes.items → IsOverImage held
-        → plan_of held ≡ a_way.Append → IsAppended held new → ReadsAs (table held) (reading_of new.docket.items (file_of held new)) → IsBehind loaded new }
+    ensures { (loaded nodes : List ℕ) (held : Held) (new : Encoded) (file : List ℕ) → held.docket ≡ docket_of loaded → held.bytes ≡ nodes → IsOverImage held
+        → plan_of held ≡ a_way.Append → IsAppended held new → ReadsAs (table held) (reading_of new.docket.items file) → IsOver loaded nodes new }
 {}

@@ -21,11 +21,10 @@
 //! publish_table(alloc, &mut shelf, &loaded, &table)?;      // Err(PublishFault::Failed): the dirstate is as before or as after
 //! ```
 //!
-//! `specs/Record.antt` says what the files below `.hg` record, `specs/Saved.antt` and `specs/Behind.antt` what each way leaves of it, and `specs/Over.antt` what is
-//! asked of the dirstate at the start of a publication and what one leaves by either way.
+//! `specs/Record.antt` says what the files below `.hg` record, `specs/Saved.antt` what is published and what that leaves of the files, `specs/Behind.antt` what is
+//! kept of the bytes that dockets use, and `specs/Over.antt` what is asked of the dirstate at the start of a publication and what one leaves by either way.
 #![tactic(auto)]
 
-mod appending;
 mod laws;
 mod load_fault;
 mod loaded;
@@ -36,7 +35,7 @@ mod saving;
 mod standing;
 mod steps;
 
-pub use laws::{data_kept, encoded_behind, encoded_over, nodes_stay, one_moment, used_kept};
+pub use laws::{data_kept, encoded_behind, encoded_over, nodes_stay, one_moment};
 pub use load_fault::LoadFault;
 pub use loaded::Loaded;
 pub use loading::load;

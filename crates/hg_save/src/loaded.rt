@@ -1,25 +1,25 @@
 //! A record as it was loaded.
 
-ghost use Rattle.std.specs.Prelude.{◌≡◌, ◌≤◌, length, take, None, IfOk};
+ghost use Rattle.std.specs.Prelude.{◌≡◌, take, IfOk};
 ghost use Rattle.std.specs.Result.{result_map_both};
-ghost use Rattle.hg_docket.specs.Docket.{docket_of, docket_refusal, view};
+ghost use Rattle.hg_docket.specs.Docket.{docket_of, view};
 ghost use Rattle.hg_image.specs.Reading.{data_reading, table_in};
+ghost use Rattle.hg_save.specs.Whole.{IsWhole};
 
 use hg_docket::Docket;
 use hg_image::{Image, NodeFault};
 
-/// A record as it was loaded: the bytes of its docket, at most 512, and the used bytes of its data file, fewer where the file is shorter.
+/// A record as it was loaded: the bytes of its docket, which is sound, and the used bytes of its data file, fewer where the file is shorter.
 #[derive(Drop)]
 pub struct Loaded {
     pub docket: Vec<u8>,
     pub nodes: Vec<u8>,
+    pub ghost whole: { IsWhole docket.items nodes.items },
 }
 
 impl Loaded {
     /// Reads the nodes, and answers their first fault. It takes no memory.
     pub fn open(&self) -> Result<Image<'_>, NodeFault>
-        requires few { length self.now.docket.items ≤ 512 }
-        requires whole { docket_refusal self.now.docket.items ≡ None }
         ensures docket { IfOk result (λ i. view i.docket ≡ docket_of self.now.docket.items) }
         // It looks at the used bytes alone.
         ensures bytes { IfOk result (λ i. i.bytes.now ≡ take (docket_of self.now.docket.items).used self.now.nodes.items) }

@@ -68,6 +68,7 @@ fn read_front<S: Shelf>(
     ensures found { IsTrue (S.history shelf.old).told
         → FrontFinds id want (bytes_of result) ((now (S.history shelf.new)).files (data_name id)) }
     ensures cause { HasCause (S.faults shelf.old) (S.faults shelf.new) result (λ e. e ≡ a_fault.Failed) }
+    ensures steady { IfErr result (λ e. (e ≡ a_fault.Failed → ⊥) → S.faults shelf.new ≡ S.faults shelf.old) }
     ensures most { IfOk result (λ nodes. length nodes.items ≤ want) }
 {
     let name = DataName::of(&id);
@@ -96,6 +97,7 @@ fn read_file<S: Shelf>(
     ensures found { IsTrue (S.history shelf.old).told
         → FileFindsDuring (S.history shelf.old) (S.history shelf.new) id used (bytes_of result) }
     ensures cause { HasCause (S.faults shelf.old) (S.faults shelf.new) result (λ e. e ≡ a_fault.Failed) }
+    ensures steady { IfErr result (λ e. (e ≡ a_fault.Failed → ⊥) → S.faults shelf.new ≡ S.faults shelf.old) }
     ensures most { IfOk result (λ nodes. length nodes.items ≤ used) }
 {
     match shelf.size(DataName::of(&id).as_str()) {
@@ -119,6 +121,7 @@ fn read_data<S: Shelf>(
     ensures found { IsTrue (S.history shelf.old).told
         → DataFindsDuring (S.history shelf.old) (S.history shelf.new) (view docket.now) (bytes_of result) }
     ensures cause { HasCause (S.faults shelf.old) (S.faults shelf.new) result (λ e. e ≡ a_fault.Failed) }
+    ensures steady { IfErr result (λ e. (e ≡ a_fault.Failed → ⊥) → S.faults shelf.new ≡ S.faults shelf.old) }
     ensures most { IfOk result (λ nodes. length nodes.items ≤ (view docket.now).used) }
 {
     if docket.used == 0 {
@@ -138,10 +141,8 @@ fn load_named<S: Shelf>(alloc: Global, shelf: &mut S, bytes: &[u8]) -> Result<Lo
     ensures held { S.held shelf.new ≡ S.held shelf.old }
     ensures asked { IsTrue (S.history shelf.old).told → AsksInOrder (named_asks bytes.now) (S.history shelf.old) (S.history shelf.new) result }
     ensures found { IsTrue (S.history shelf.old).told → NamedFinds (S.history shelf.old) (S.history shelf.new) bytes.now result }
-    ensures few { IfOk result (λ l. length l.docket.items ≤ 512) }
-    ensures whole { IfOk result (λ l. docket_refusal l.docket.items ≡ None) }
-    ensures most { IfOk result (λ l. length l.nodes.items ≤ (docket_of l.docket.items).used) }
     ensures cause { HasCause (S.faults shelf.old) (S.faults shelf.new) result (λ e. e ≡ a_fault.Failed) }
+    ensures steady { IfErr result (λ e. (e ≡ a_fault.Failed → ⊥) → S.faults shelf.new ≡ S.faults shelf.old) }
 {
     let docket = Docket::read(bytes)?;
     let nodes = read_data(alloc, shelf, &docket)?;
@@ -162,12 +163,9 @@ pub fn load<S: Shelf>(alloc: Global, shelf: &mut S) -> Result<Loaded, LoadFault>
     ensures held { S.held shelf.new ≡ S.held shelf.old }
     ensures asked { IsTrue (S.history shelf.old).told → AsksAsOf (S.history shelf.old) (S.history shelf.new) result }
     ensures found { IsTrue (S.history shelf.old).told → ((tried : Try) × Loads (S.history shelf.old) (S.history shelf.new) (tried ∷ []) result) }
-    // What was loaded has a sound docket.
-    ensures few { IfOk result (λ l. length l.docket.items ≤ 512) }
-    ensures whole { IfOk result (λ l. docket_refusal l.docket.items ≡ None) }
-    // And no more nodes than its docket uses.
-    ensures most { IfOk result (λ l. length l.nodes.items ≤ (docket_of l.docket.items).used) }
     ensures cause { HasCause (S.faults shelf.old) (S.faults shelf.new) result (λ e. e ≡ a_fault.Failed) }
+    // Want of memory comes only where the count stayed.
+    ensures steady { IfErr result (λ e. (e ≡ a_fault.Failed → ⊥) → S.faults shelf.new ≡ S.faults shelf.old) }
 {
     let mut buf = [0; MOST];
     let n = read_docket(shelf, &mut buf)?;

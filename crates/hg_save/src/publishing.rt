@@ -15,29 +15,21 @@ ghost use Rattle.hg_shelf.specs.Asks.{AsksNothing};
 ghost use Rattle.hg_shelf.specs.Images.{Goes, course, last_scene};
 ghost use Rattle.hg_shelf.specs.Polite.{Undisturbed};
 
-use crate::appending::publish_behind;
 use crate::loaded::Loaded;
 use crate::publish_fault::PublishFault;
 use crate::saving::publish;
-use hg_append::{Way, encode, plan};
+use hg_append::{encode, plan};
 use hg_mixed::Mixed;
 use hg_shelf::Shelf;
 use std::alloc::Global;
 
-// (a table tells what it keeps where it is asked)
+// (a table tells where it is asked what it keeps, and what lists are lent)
 fn over(table: &Mixed<'_>)
-    requires { plan_of table.now ≡ a_way.Append }
-    ensures { IsOverImage table.now }
-{
-    let _ = table.parents();
-    let _ = table.image();
-}
-
-// (so it does what lists are lent)
-fn lent(table: &Mixed<'_>)
+    ensures image { plan_of table.now ≡ a_way.Append → IsOverImage table.now }
     ensures lists { AreLentWhole table.now }
     ensures places { ArePlacesOfImage table.now }
 {
+    let _ = table.parents();
     let _ = table.image();
 }
 
@@ -52,8 +44,6 @@ pub fn publish_table<S: Shelf>(
     table: &Mixed<'_>,
 ) -> Result<(), PublishFault>
     requires held { (S.history shelf.old).ours ≡ true }
-    requires few { length loaded.now.docket.items ≤ 512 }
-    requires whole { docket_refusal loaded.now.docket.items ≡ None }
     requires docket { table.now.docket ≡ docket_of loaded.now.docket.items }
     requires nodes { table.now.bytes ≡ loaded.now.nodes.items }
     // It is put over the record that stood, wholly or in part, whatever is answered but that it can't be encoded.
@@ -84,18 +74,8 @@ pub fn publish_table<S: Shelf>(
     // What is lent lies in the image as the image has it.
     ensures lent { IsLentRight table.now }
 {
-    lent(table);
-    match plan(table) {
-        Way::Rewrite => {
-            let new = encode(alloc, table, Way::Rewrite)?;
-            publish(shelf, loaded, &new)?;
-            Ok(())
-        }
-        Way::Append => {
-            over(table);
-            let new = encode(alloc, table, Way::Append)?;
-            publish_behind(shelf, loaded, &new)?;
-            Ok(())
-        }
-    }
+    over(table);
+    let new = encode(alloc, table, plan(table))?;
+    publish(shelf, loaded, &new)?;
+    Ok(())
 }

@@ -7,7 +7,7 @@ ghost use Rattle.hg_shelf.specs.Asks.{AsksNothing};
 ghost use Rattle.hg_shelf.specs.Images.{Goes, course, last_scene};
 ghost use Rattle.hg_shelf.specs.Polite.{Undisturbed};
 ghost use Rattle.hg_shelf.specs.Rules.{Perhaps, TornAt, content, moved, overwritten, without};
-ghost use Rattle.hg_save.specs.Leads.{ButFor, IsDone, IsHeld, IsSure, IsWhole, Leads, OnceBy, OwnSteps, StepBy};
+ghost use Rattle.hg_save.specs.Leads.{IsDone, IsHeld, IsSure, IsWhole, Leads, OnceBy, OwnSteps, StepBy};
 ghost use Rattle.hg_save.specs.Record.{data_name};
 
 use hg_base::Failed;
@@ -22,8 +22,6 @@ pub fn put<S: Shelf>(shelf: &mut S, name: &str, place: u64, bytes: &[u8]) -> Res
         (TornAt name.now place (length bytes.now))
         (course (S.history shelf.old) (S.images shelf.old))
         (course (S.history shelf.new) (S.images shelf.new)) }
-    ensures leads { Undisturbed (course (S.history shelf.old) (S.images shelf.old)) (course (S.history shelf.new) (S.images shelf.new))
-        → Leads (ButFor name.now) (course (S.history shelf.old) (S.images shelf.old)) (course (S.history shelf.new) (S.images shelf.new)) }
     ensures sure { Undisturbed (course (S.history shelf.old) (S.images shelf.old)) (course (S.history shelf.new) (S.images shelf.new))
         → OnOk
         result
@@ -31,10 +29,7 @@ pub fn put<S: Shelf>(shelf: &mut S, name: &str, place: u64, bytes: &[u8]) -> Res
         name.now
         (overwritten (content ((last_scene (course (S.history shelf.old) (S.images shelf.old))).files name.now)) place bytes.now)
         (course (S.history shelf.new) (S.images shelf.new))) }
-    // Each of its steps changes no other file.
-    ensures steps { Undisturbed (course (S.history shelf.old) (S.images shelf.old)) (course (S.history shelf.new) (S.images shelf.new))
-        → OwnSteps (StepBy (ButFor name.now)) (course (S.history shelf.old) (S.images shelf.old)) (course (S.history shelf.new) (S.images shelf.new)) }
-    // And this one at most where it is written and past its old end.
+    // So each of its steps does.
     ensures tears { Undisturbed (course (S.history shelf.old) (S.images shelf.old)) (course (S.history shelf.new) (S.images shelf.new))
         → OwnSteps
         (StepBy (TornAt name.now place (length bytes.now)))

@@ -4,7 +4,7 @@ use Rattle.hg_entry.specs.Table.{Table}
 use Rattle.hg_report.specs.declared.fault.Fault.{Fault}
 use Rattle.hg_save.specs.Loads.{files_at}
 use Rattle.hg_save.specs.Others.{HasData, KeepData}
-use Rattle.hg_save.proofs.SpansBehind.{keep_used}
+use Rattle.hg_save.proofs.Spans.{keep_used}
 use Rattle.hg_save.specs.Behind.{IsKeepingUsed, KeepsUsed}
 use Rattle.hg_session.proofs.GoodParts.{from_moment}
 use Rattle.hg_session.proofs.UsedSteps.{used_shorter, using_itself}

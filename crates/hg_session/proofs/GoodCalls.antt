@@ -1,36 +1,39 @@
 -- Each command leads from good records to good ones.
 use Rattle.std.proofs.Common.{ℕ, ◌≡◌, ◌≤◌, Bool, List, [], ◌∷◌, Option, Some, None, Ok, sym, ◌∙◌, subst, arith, inl, inr}
 use Rattle.std.specs.Prelude.{IfSome, IsTrue}
+use Rattle.hg_compare.specs.Tracked.{ParentRow}
+use Rattle.hg_entry.specs.Steps.{seen_clean}
 use Rattle.hg_entry.specs.Table.{Table}
 use Rattle.hg_ops.specs.declared.refusal.Refusal.{Refusal}
 use Rattle.hg_report.specs.declared.fault.Fault.{Fault}
 use Rattle.hg_save.proofs.Others.{last_record}
-use Rattle.hg_save.specs.Others.{KeepData}
+use Rattle.hg_save.specs.Others.{HasData, KeepData}
 use Rattle.hg_save.specs.Record.{reading}
 use Rattle.hg_session.proofs.Longer.{right_by_start}
 use Rattle.hg_session.specs.Acts.{AllSteps, ChangesTree, Deed, Stepping, TakesAway, makes_of, span_of, steps_of}
 use Rattle.hg_session.specs.Answered.{Ran}
 use Rattle.hg_session.specs.Call.{Call, Count, IsLeftAlone, Looked, Saved, Sink, Watched}
-use Rattle.hg_session.specs.Change.{ChangesBehind, IsUnwritten, up_to}
+use Rattle.hg_session.specs.Change.{ChangesBehind, IsUnwritten, NoneOurs, up_to}
 use Rattle.hg_session.specs.Changed.{RanChange}
-use Rattle.hg_session.specs.Good.{IsGoodIn, KeepsGood, ReadsRight, StaysGood}
+use Rattle.hg_session.specs.Good.{IsGoodIn, KeepsGood, OthersKeepStood, ReadsRight, StaysGood}
 use Rattle.hg_session.specs.Look.{IsLook}
 use Rattle.hg_session.specs.Status.{AreEarnedFor, RanStatus, noted_in}
 use Rattle.hg_session.specs.declared.acting.Changing.TheVariants as a_change
 use Rattle.hg_session.proofs.Crashes.{crash_unwritten}
 use Rattle.hg_session.proofs.GoodParents.{reparented_good}
-use Rattle.hg_session.proofs.GoodStays.{before, good_by, good_later, good_stays, one_table}
-use Rattle.hg_session.proofs.GoodParts.{data_before, from_moment}
+use Rattle.hg_session.proofs.GoodStays.{before, good_by, good_stays, one_table}
+use Rattle.hg_session.proofs.GoodParts.{stood_upto}
 use Rattle.hg_session.proofs.Makers.{asks_none}
 use Rattle.hg_session.proofs.GoodTables.{KeepsTable, added_keeps, copied_keeps, forgotten_keeps, noted_good, table_good, table_same, table_through}
 use Rattle.hg_shelf.specs.History as shelf
-use Rattle.hg_shelf.specs.Images.{Goes, Images, course}
-use Rattle.hg_shelf.specs.Polite.{KeepsPlain}
+use Rattle.hg_shelf.specs.Images.{Goes, Images, course, last_scene}
+use Rattle.hg_shelf.specs.Polite.{KeepsPlain, Undisturbed}
 use Rattle.hg_tree.proofs.Histories.{extends_same}
 use Rattle.hg_tree.specs.History as tree
 use Rattle.hg_tree.specs.Honest.{IsHonest}
+use Rattle.hg_walk.proofs.Growing.{dir_on, earned_on}
 use Rattle.hg_walk.proofs.Parts.{trusted_are_right}
-use Rattle.hg_walk.specs.Notes.{NotesData}
+use Rattle.hg_walk.specs.Notes.{AreEarned, NotesData, with_hash}
 use Rattle.hg_walk.specs.Trust.{IsTrusted}
 use Rattle.hg_walk.specs.Walking.{rows_in}
 use Rattle.hg_words.specs.declared.flags.StatusFlags.{StatusFlags}
@@ -75,17 +78,26 @@ module _ (copy : Watched tree.History) (files : Watched shelf.History) (past : s
 
 -- ---- what a status makes
 
-noted_fair : (files : Watched shelf.History) (table : Option Table) (notes : NotesData) (h : shelf.History) → KeepData h files.old.last → (from : ℕ) → from ≤ h.last → (noted_in files table notes).fair h from
-noted_fair files None notes h keeps from within = tt
-noted_fair files (Some t) notes h keeps from within = data_before (up_to from h) h (from_moment h from within) files.old.last keeps
+noted_fair : (files : Watched shelf.History) (table : Option Table) (notes : NotesData) (h : shelf.History) (from : ℕ) → KeepData (up_to from h) files.old.last → (noted_in files table notes).fair h from
+noted_fair files None notes h from keeps = tt
+noted_fair files (Some t) notes h from keeps = keeps
 
-noted_does : (looked : Looked) (table : Option Table) (notes : NotesData) → tree.Extends looked.tree.old looked.tree.new → IfSome table (λ t. AreEarnedFor looked t notes)
+-- what was earned is, over a longer history
+earned_later : (rows : List ℕ → Option ParentRow) (t : Table) (h later : tree.History) (notes : NotesData) → tree.Extends h later → AreEarned rows t h notes → AreEarned rows t later notes
+earned_later rows t h later notes past earned = record {
+  clean = λ note has entry is. earned_on rows h later past note.path (seen_clean entry note.stat note.stamp) note.stamp (earned.clean note has entry is);
+  seen = λ note has. dir_on h later past note.dir note.cache (with_hash notes.hash t.hash) t.nodes (earned.seen note has);
+  renewed = earned.renewed;
+}
+
+noted_does : (looked : Looked) (table : Option Table) (notes : NotesData) (by : tree.History) → tree.Extends looked.tree.new by → IfSome table (λ t. AreEarnedFor looked t notes)
     → IsHonest looked.tree.new → IsTrue looked.tree.old.told → KeepsPlain looked.shelf.new looked.shelf.old.last
     → (loaded made : Table) (lines : List ℕ) (changed : Bool) → (noted_in looked.shelf table notes).does loaded made lines changed
-    → IsGoodIn (shelf.now looked.shelf.old).files loaded looked.tree.old → IsGoodIn (shelf.now looked.shelf.old).files made looked.tree.new
-noted_does looked None notes past earned honest told plain loaded made lines changed does good = absurd does
-noted_does looked (Some t) notes past earned honest told plain loaded made lines changed does good =
-    noted_good (shelf.now looked.shelf.old).files t loaded made notes looked.tree.old looked.tree.new past does.0 does.1 (earned honest told plain) good
+    → IsGoodIn (shelf.now looked.shelf.old).files loaded by → IsGoodIn (shelf.now looked.shelf.old).files made by
+noted_does looked None notes by past earned honest told plain loaded made lines changed does good = absurd does
+noted_does looked (Some t) notes by past earned honest told plain loaded made lines changed does good =
+    let store = (shelf.now looked.shelf.old).files in
+    noted_good store t loaded made notes by by (extends_same by) does.0 does.1 (earned_later (rows_in t store) t looked.tree.new by notes past (earned honest told plain)) good
 
 -- ---- the working copy
 
@@ -104,11 +116,17 @@ behind_past command copy files (inr (loaded, read, is)) = changes_past command l
 
 -- ---- a call
 
+-- up to the caller's first step others alone keep the data that dockets name
+pub kept_fair : (saved : Saved) → Goes saved.old saved.new → Undisturbed saved.old saved.new → OthersKeepStood saved.new.history saved.old.history.last → HasData (last_scene saved.old).files
+    → (k : ℕ) → saved.old.history.last ≤ k → k ≤ saved.new.history.last → NoneOurs saved.new.history saved.old.history.last k → KeepData (up_to k saved.new.history) saved.old.history.last
+kept_fair saved goes calm keep there =
+    stood_upto saved.new saved.old.history.last (goes.past.told ∙ calm.told) calm.others keep (subst HasData (sym (goes.kept saved.old.history.last (omega arith)).shown) there)
+
 -- a call that writes nothing
-pub unwritten_good : (looked : Looked) (saved : Saved) → tree.Extends looked.tree.old looked.tree.new → Goes saved.old saved.new → IsUnwritten saved.old.history saved.new.history → StaysGood looked saved
-unwritten_good looked saved past goes none fair latest good =
-    good_by saved.old saved.new goes fair.calm fair.keep fair.plain looked.tree.old looked.tree.new past fair.published good None (λ r own. absurd own)
-    (crash_unwritten saved.old saved.new goes fair.calm fair.keep none latest)
+pub unwritten_good : (looked : Looked) (saved : Saved) → Goes saved.old saved.new → IsUnwritten saved.old.history saved.new.history → StaysGood looked saved
+unwritten_good looked saved goes none by past fair ground =
+    good_by saved.old saved.new goes fair.calm fair.keep fair.plain fair.parent by fair.published ground.good None (λ r own. absurd own)
+    (crash_unwritten saved.old saved.new goes fair.calm fair.keep none ground.latest)
 
 module _ (copy : Watched tree.History) (files : Watched shelf.History) (oversize locks : Count) (was now : ℕ → Images) (out err : Sink) (code : ℕ) (fault : Option Fault)
     -- reads show one of what a crash may leave
@@ -122,43 +140,42 @@ module _ (copy : Watched tree.History) (files : Watched shelf.History) (oversize
   abbrev call : Command → Call
   call command = record { command = command; looked = looked; saved = saved; locks = locks; out = out; err = err }
 
-  look_stays : (command : Command) → tree.Extends copy.old copy.new → IsLook (call command) code fault → StaysGood looked saved
-  look_stays command past is fair latest good =
-      good_by saved.old saved.new is.only.kept fair.calm fair.keep fair.plain copy.old copy.new past fair.published good None (λ r own. absurd own) (is.crash fair.calm fair.keep latest)
+  look_stays : (command : Command) → IsLook (call command) code fault → StaysGood looked saved
+  look_stays command is by past fair ground =
+      good_by saved.old saved.new is.only.kept fair.calm fair.keep fair.plain fair.parent by fair.published ground.good None (λ r own. absurd own) (is.crash fair.calm fair.keep ground.latest)
 
-  change_stays : (command : Command) → tree.Extends copy.old copy.new → RanChange (call command) code fault → StaysGood looked saved
-  change_stays command past is fair latest good =
-      good_stays saved.old saved.new is.kept fair.calm fair.keep fair.plain copy.old copy.new past fair.published good (shown (is.kept.past.told ∙ fair.calm.told)) (makes_of command copy files)
-      (λ from after within. asks_none command copy files files.new from)
-      (λ loaded made lines changed does there.
-      good_later (shelf.now files.old).files made copy.old copy.new past (made_good copy files is.kept.past fair.calm.told fair.plain command copy.old loaded made lines changed does there))
-      fault (is.safe fair.calm) (is.crash fair.calm fair.keep latest)
+  change_stays : (command : Command) → RanChange (call command) code fault → StaysGood looked saved
+  change_stays command is by past fair ground =
+      good_stays saved.old saved.new is.kept fair.calm fair.keep fair.plain fair.parent by fair.published ground.good (shown (is.kept.past.told ∙ fair.calm.told)) (makes_of command copy files)
+      (λ from after within none. asks_none command copy files files.new from)
+      (λ loaded made lines changed does there. made_good copy files is.kept.past fair.calm.told fair.plain command by loaded made lines changed does there)
+      fault (is.safe fair.calm) (is.crash fair.calm fair.keep ground.latest)
 
   status_stays : (flags : StatusFlags) → RanStatus flags (call (a_command.Status flags)) code fault → StaysGood looked saved
-  status_stays flags ran fair latest good =
-      good_stays saved.old saved.new ran.saving.kept fair.calm fair.keep fair.plain copy.old copy.new ran.tree.past fair.published good (shown (ran.saving.kept.past.told ∙ fair.calm.told)) (noted_in files ran.table ran.notes)
-      (λ from after within. noted_fair files ran.table ran.notes files.new fair.kept from within)
-      (noted_does looked ran.table ran.notes ran.tree.past ran.earned fair.honest fair.told fair.plain)
-      fault (ran.saving.safe fair.calm) (ran.crash fair.calm fair.keep latest)
+  status_stays flags ran by past fair ground =
+      good_stays saved.old saved.new ran.saving.kept fair.calm fair.keep fair.plain fair.parent by fair.published ground.good (shown (ran.saving.kept.past.told ∙ fair.calm.told)) (noted_in files ran.table ran.notes)
+      (λ from after within none. noted_fair files ran.table ran.notes files.new from (kept_fair saved ran.saving.kept fair.calm fair.kept ground.there from after within none))
+      (noted_does looked ran.table ran.notes by past ran.earned fair.honest fair.told fair.plain)
+      fault (ran.saving.safe fair.calm) (ran.crash fair.calm fair.keep ground.latest)
 
   reads_right : tree.Extends copy.old copy.new → Goes saved.old saved.new → ReadsRight looked saved
-  reads_right past goes fair apart good t read =
+  reads_right past goes fair apart ground t read =
       let start = files.old.last in
-      let keeps : KeepData (up_to read.upto files.new) start = data_before (up_to read.upto files.new) files.new (from_moment files.new read.upto read.within) start fair.kept in
+      let keeps : KeepData (up_to read.upto files.new) start = kept_fair saved goes fair.calm fair.kept ground.there read.upto read.later read.within read.none in
       let was = last_record files.old (up_to read.upto files.new) read.read.tries (Ok t) keeps read.read.tried read.read.found in
       let within : was.at ≤ files.new.last = omega (arith, was.during.to, read.within) in
       let stood =
-      before saved.old saved.new goes fair.calm fair.keep fair.plain copy.old copy.new past fair.published good was.at was.during.from within
+      before saved.old saved.new goes fair.calm fair.keep fair.plain fair.parent copy.old fair.published ground.good was.at was.during.from within
       (λ j after below. read.none j after (omega (arith, below, was.during.to))) (files.new.at was.at).files (shown (goes.past.told ∙ fair.calm.told) was.at within) in
       let same : stood.0 ≡ t = one_table (reading (files.new.at was.at).files) stood.0 t stood.1 was.reading in
       let trusted : IsTrusted (rows_in t (shelf.now files.old).files) t copy.old = subst (λ (t : Table). IsTrusted (rows_in t (shelf.now files.old).files) t copy.old) same stood.2.trusted in
       right_by_start looked t goes.past fair.plain (trusted_are_right (rows_in t (shelf.now files.old).files) t copy.old copy.new past fair.honest apart trusted)
 
   look_good : (command : Command) → tree.Extends copy.old copy.new → IsLook (call command) code fault → KeepsGood looked saved
-  look_good command past is = record { past = past; stays = look_stays command past is; right = reads_right past is.only.kept }
+  look_good command past is = record { past = past; stays = look_stays command is; right = reads_right past is.only.kept }
 
   change_good : (command : Command) → RanChange (call command) code fault → KeepsGood looked saved
-  change_good command is = let past = behind_past command copy files is.copy in record { past = past; stays = change_stays command past is; right = reads_right past is.kept }
+  change_good command is = let past = behind_past command copy files is.copy in record { past = past; stays = change_stays command is; right = reads_right past is.kept }
 
   -- what a command did keeps what is good
   pub ran_good : (command : Command) → Ran command (call command) code fault → KeepsGood looked saved

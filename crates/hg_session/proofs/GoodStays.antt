@@ -1,5 +1,5 @@
 -- Whatever a crash leaves of the record stays good throughout a call.
-use Rattle.std.proofs.Common.{ℕ, ◌≡◌, ◌≤◌, Bool, true, List, Option, Some, None, option_map, Result, Ok, refl, sym, ap, ◌∙◌, subst, arith, inl, inr}
+use Rattle.std.proofs.Common.{ℕ, ◌≡◌, ◌≤◌, Bool, true, false, cond, List, [], Option, Some, None, option_map, Result, Ok, refl, sym, ap, ◌∙◌, subst, arith, inl, inr}
 use Rattle.hg_base.specs.declared.id.Id20.{Id20}
 use Rattle.hg_compare.specs.Alike.{contents_name}
 use Rattle.hg_compare.specs.Same.{parent_row}
@@ -7,8 +7,8 @@ use Rattle.hg_compare.specs.Tracked.{ParentRow}
 use Rattle.hg_entry.specs.Table.{Table}
 use Rattle.hg_flat.specs.Parent.{manifest_at, parent_rows, row_among}
 use Rattle.hg_image.specs.Reading.{RecordFault}
-use Rattle.hg_manifest.specs.Load.{manifest_in}
-use Rattle.hg_manifest.specs.Plain.{plain_name}
+use Rattle.hg_manifest.specs.Load.{file_manifest}
+use Rattle.hg_manifest.specs.Plain.{is_null, plain_name}
 use Rattle.hg_manifest.specs.Rows.{Rows}
 use Rattle.hg_manifest.specs.declared.fault.ManifestFault.{ManifestFault}
 use Rattle.hg_manifest.specs.declared.row.FileRow.{FileRow}
@@ -20,14 +20,13 @@ use Rattle.hg_session.specs.Acts.{Makes}
 use Rattle.hg_session.specs.Call.{Saved}
 use Rattle.hg_session.specs.Change.{IsSafe, NoneOurs, Publishes}
 use Rattle.hg_session.specs.Crash.{IsCrashSafe, IsFirmFor, IsOwnRecord, published_in}
-use Rattle.hg_session.specs.Good.{IsGoodIn, IsGoodRecord, LeavesGood}
+use Rattle.hg_session.specs.Good.{HoldsParent, IsGoodIn, IsGoodRecord, IsOfParent, LeavesGood, LeavesParent}
 use Rattle.hg_session.proofs.GoodTables.{table_good, table_same}
 use Rattle.hg_shelf.specs.History.{Files, others}
 use Rattle.hg_shelf.specs.Images.{Course, Goes, last_scene, scene}
 use Rattle.hg_shelf.specs.Polite.{KeepsPlain, Undisturbed, is_plain}
 use Rattle.hg_tree.specs.History as tree
 use Rattle.hg_walk.proofs.Growing.{trust_stays}
-use Rattle.hg_walk.specs.Trust.{IsTrusted}
 use Rattle.hg_walk.specs.Walking.{first_id, rows_in}
 
 -- what records two tables records one
@@ -39,38 +38,69 @@ one_table r a b first second =
 
 -- ---- the plain store
 
-trusted_alike : (rows more : List ℕ → Option ParentRow) (t : Table) (h : tree.History) → ((path : List ℕ) → more path ≡ rows path) → IsTrusted rows t h → IsTrusted more t h
-trusted_alike rows more t h same trusted = record {
-  entries = λ path entry stamp is could.
-      let earned = trusted.entries path entry stamp is could in
-      record { row = earned.row; is = same path ∙ earned.is; flag = earned.flag; seen = earned.seen };
-  caches = trusted.caches;
+-- a manifest that is there in some files is the same in others that hold it, and so is each row with contents
+module _ (id : Id20) (f g : Files) (holds : HoldsParent id f g) where
+  abbrev read_as : Rows → Result Rows ManifestFault
+  read_as rows = Ok rows
+
+  manifest_held : (rows : Rows) → manifest_at f id ≡ Ok rows → manifest_at g id ≡ Ok rows
+  manifest_held rows is = by (is_null id.0) refl
+    where
+      by_file : (file : Option (List ℕ)) → f (plain_name id.0) ≡ file → is_null id.0 ≡ false → file_manifest id file ≡ read_as rows → manifest_at g id ≡ read_as rows
+      by_file None there some read = absurd (cc read)
+      by_file (Some bytes) there some read =
+          ap (λ (t : Bool). cond t (Ok []) (file_manifest id (g (plain_name id.0)))) some ∙ ap (file_manifest id) (holds (plain_name id.0) bytes (inl refl) there) ∙ read
+
+      by : (null : Bool) → is_null id.0 ≡ null → manifest_at g id ≡ read_as rows
+      by true null =
+          ap (λ (t : Bool). cond t (Ok []) (file_manifest id (g (plain_name id.0)))) null
+          ∙ sym (ap (λ (t : Bool). cond t (Ok []) (file_manifest id (f (plain_name id.0)))) null) ∙ is
+      by false some =
+          by_file (f (plain_name id.0)) refl some (sym (ap (λ (t : Bool). cond t (Ok []) (file_manifest id (f (plain_name id.0)))) some) ∙ is)
+
+  row_held : (rows : Rows) → manifest_at f id ≡ Ok rows → (path : List ℕ) (row : ParentRow) (bytes : List ℕ) → row.bytes ≡ Some bytes → parent_rows f id path ≡ Some row → parent_rows g id path ≡ Some row
+  row_held rows is path row bytes some has = by (row_among (manifest_at f id) path) refl has
+    where
+      by : (found : Option FileRow) → row_among (manifest_at f id) path ≡ found → option_map (λ (r : FileRow). parent_row r (f (contents_name r.id.0))) found ≡ Some row → parent_rows g id path ≡ Some row
+      by None none same = absurd (cc same)
+      by (Some r) there same =
+          let own : parent_row r (f (contents_name r.id.0)) ≡ row = cc same in
+          let held : f (contents_name r.id.0) ≡ Some bytes = ap (λ (p : ParentRow). p.bytes) own ∙ some in
+          let other : g (contents_name r.id.0) ≡ f (contents_name r.id.0) = holds (contents_name r.id.0) bytes (inr (path, r, there, refl)) held ∙ sym held in
+          ap (λ (m : Result Rows ManifestFault). option_map (λ (r : FileRow). parent_row r (g (contents_name r.id.0))) (row_among m path)) (manifest_held rows is ∙ sym is)
+          ∙ ap (option_map (λ (r : FileRow). parent_row r (g (contents_name r.id.0)))) there
+          ∙ ap (λ (file : Option (List ℕ)). Some (parent_row r file)) other ∙ ap Some own
+
+-- what is good by a plain store is by one that holds what its first parent needs
+pub good_held : (f g : Files) (t : Table) (h : tree.History) → HoldsParent (first_id t) f g → IsGoodIn f t h → IsGoodIn g t h
+good_held f g t h holds good = record {
+  consistent = record {
+    files = good.consistent.files;
+    read = manifest_held (first_id t) f g holds good.consistent.files good.consistent.read;
+    first = good.consistent.first;
+    second = good.consistent.second;
+  };
+  trusted = record {
+    entries = λ path entry stamp is could.
+        let earned = good.trusted.entries path entry stamp is could in
+        record {
+          row = earned.row;
+          is = row_held (first_id t) f g holds good.consistent.files good.consistent.read path earned.row _ earned.seen.so.bytes earned.is;
+          flag = earned.flag;
+          seen = earned.seen;
+        };
+    caches = good.trusted.caches;
+  };
 }
 
-module _ (f g : Files) (alike : (name : List ℕ) → is_plain name ≡ true → g name ≡ f name) where
-  manifest_alike : (id : Id20) → manifest_at g id ≡ manifest_at f id
-  manifest_alike id = ap (manifest_in id) (alike (plain_name id.0) refl)
+-- all that decides a parent is plain
+plain_of : (files : Files) (id : Id20) (name : List ℕ) → IsOfParent files id name → is_plain name ≡ true
+plain_of files id name (inl same) = let plain : is_plain (plain_name id.0) ≡ true = refl in ap is_plain same ∙ plain
+plain_of files id name (inr (path, row, there, same)) = let plain : is_plain (contents_name row.id.0) ≡ true = refl in ap is_plain same ∙ plain
 
-  row_alike : (o : Option FileRow) → option_map (λ row. parent_row row (g (contents_name row.id.0))) o ≡ option_map (λ row. parent_row row (f (contents_name row.id.0))) o
-  row_alike None = refl
-  row_alike (Some row) = ap (λ (file : Option (List ℕ)). Some (parent_row row file)) (alike (contents_name row.id.0) refl)
-
-  rows_alike : (id : Id20) (path : List ℕ) → parent_rows g id path ≡ parent_rows f id path
-  rows_alike id path =
-      row_alike (row_among (manifest_at g id) path)
-      ∙ ap (λ (m : Result Rows ManifestFault). option_map (λ row. parent_row row (f (contents_name row.id.0))) (row_among m path)) (manifest_alike id)
-
-  -- what is good by a plain store is by one that has the same files
-  pub good_alike : (t : Table) (h : tree.History) → IsGoodIn f t h → IsGoodIn g t h
-  good_alike t h good = record {
-    consistent = record {
-      files = good.consistent.files;
-      read = manifest_alike (first_id t) ∙ good.consistent.read;
-      first = good.consistent.first;
-      second = good.consistent.second;
-    };
-    trusted = trusted_alike (rows_in t f) (rows_in t g) t h (rows_alike (first_id t)) good.trusted;
-  }
+-- what is good by a plain store is by one that has the same files
+pub good_alike : (f g : Files) → ((name : List ℕ) → is_plain name ≡ true → g name ≡ f name) → (t : Table) (h : tree.History) → IsGoodIn f t h → IsGoodIn g t h
+good_alike f g alike t h = good_held f g t h (λ name bytes of there. alike name (plain_of f (first_id t) name of) ∙ there)
 
 -- what was good is, over a longer history
 pub good_later : (files : Files) (t : Table) (h later : tree.History) → tree.Extends h later → IsGoodIn files t h → IsGoodIn files t later
@@ -79,8 +109,8 @@ good_later files t h later past good = record { consistent = good.consistent; tr
 -- ---- a call
 
 module _ (a b : Course) (goes : Goes a b) (calm : Undisturbed a b) (keep : KeepsRecords others b a.history.last) (plain : KeepsPlain b.history a.history.last)
-    (h later : tree.History) (past : tree.Extends h later)
-    (published : (t : Table) → WasPublished b a.history.last b.history.last (Some (Ok t)) → IsGoodIn (last_scene a).files t h) (good : LeavesGood h (last_scene a)) where
+    (parent : (k : ℕ) → a.history.last ≤ k → k ≤ b.history.last → LeavesParent (scene b k))
+    (h : tree.History) (published : (t : Table) → WasPublished b a.history.last b.history.last (Some (Ok t)) → IsGoodIn (last_scene a).files t h) (good : LeavesGood h (last_scene a)) where
   abbrev saved : Saved
   saved = record { old = a; new = b }
 
@@ -94,11 +124,20 @@ module _ (a b : Course) (goes : Goes a b) (calm : Undisturbed a b) (keep : Keeps
   alike_at : (k : ℕ) → start ≤ k → k ≤ b.history.last → (name : List ℕ) → is_plain name ≡ true → (scene b k).files name ≡ store name
   alike_at k after within name is = plain.each name is k after within ∙ ap (λ (f : Files). f name) (goes.kept start (omega arith)).shown
 
-  record_later : (k : ℕ) → start ≤ k → k ≤ b.history.last → (r : Option (Result Table RecordFault)) → IsGoodRecord store later r → IsGoodRecord (scene b k).files later r
-  record_later k after within r is = (is.0, is.1, good_alike store (scene b k).files (alike_at k after within) is.0 later is.2)
+  -- what a crash leaves is good by what it leaves of the plain store, where it is by that of the start
+  record_left : (k : ℕ) → start ≤ k → k ≤ b.history.last → (f : Files) → (scene b k).leaves f → IsGoodRecord store h (reading f) → IsGoodRecord f h (reading f)
+  record_left k after within f left is = (
+    is.0,
+    is.1,
+    good_held (scene b k).files f is.0 h ((parent k after within).shown f is.0 left is.1) (good_alike store (scene b k).files (alike_at k after within) is.0 h is.2),
+  )
 
-  by_end : (r : Option (Result Table RecordFault)) → IsGoodRecord store h r → IsGoodRecord store later r
-  by_end r is = (is.0, is.1, good_later store is.0 h later past is.2)
+  -- and at the start the other way round
+  by_start : (f : Files) → (last_scene a).leaves f → IsGoodRecord store h (reading f)
+  by_start f left =
+      let there = good f left in
+      let holds : HoldsParent (first_id there.0) f (scene b start).files = (parent start (omega arith) goes.past.later).left f there.0 ((goes.back start (omega arith)).left f left) there.1 in
+      (there.0, there.1, good_held f store there.0 h (subst (HoldsParent (first_id there.0) f) (goes.kept start (omega arith)).shown holds) there.2)
 
   of_others : (k : ℕ) → k ≤ b.history.last → (r : Option (Result Table RecordFault)) → WasPublished b start k r → IsGoodRecord store h r
   of_others k within r was =
@@ -109,33 +148,33 @@ module _ (a b : Course) (goes : Goes a b) (calm : Undisturbed a b) (keep : Keeps
   -- as long as the caller made no step
   pub before : (k : ℕ) → start ≤ k → k ≤ b.history.last → NoneOurs b.history start k → (f : Files) → (scene b k).leaves f → IsGoodRecord store h (reading f)
   before k after within none f left =
-      elim (left_until b start calm.others keep (IsGoodRecord store h) k after none within (λ g there. good g ((goes.kept start (omega arith)).left g there)) f left) [
+      elim (left_until b start calm.others keep (IsGoodRecord store h) k after none within (λ g there. by_start g ((goes.kept start (omega arith)).left g there)) f left) [
         | inl known ↦ known
         | inr was ↦ of_others k within (reading f) was
       ]
 
   -- at each moment, where what the call published is good
-  pub good_by : (own : Option Table) → ((r : Option (Result Table RecordFault)) → IsOwnRecord own r → IsGoodRecord store later r) → IsCrashSafe own saved
-      → (k : ℕ) → start ≤ k → k ≤ b.history.last → LeavesGood later (scene b k)
-  good_by own is_good crash k after within c left = record_later k after within (reading c) (elim (crash.each k c after within left) [
-    | inl was ↦ by_end (reading c) (let there = good was.0 was.1 in (there.0, was.2 ∙ there.1, there.2))
-    | inr (inl is) ↦ is_good (reading c) is
-    | inr (inr was) ↦ by_end (reading c) (of_others k within (reading c) was)
+  pub good_by : (own : Option Table) → ((r : Option (Result Table RecordFault)) → IsOwnRecord own r → IsGoodRecord store h r) → IsCrashSafe own saved
+      → (k : ℕ) → start ≤ k → k ≤ b.history.last → LeavesGood h (scene b k)
+  good_by own is_good crash k after within f left = record_left k after within f left (elim (crash.each k f after within left) [
+    | inl was ↦ let there = by_start was.0 was.1 in (there.0, was.2 ∙ there.1, there.2)
+    | inr (inl is) ↦ is_good (reading f) is
+    | inr (inr was) ↦ of_others k within (reading f) was
   ])
 
   module _ (shown : (k : ℕ) → k ≤ b.history.last → (scene b k).leaves (scene b k).files) (Does : Makes)
-      (fair : (from : ℕ) → start ≤ from → from ≤ b.history.last → Does.fair b.history from)
-      (makes : (loaded made : Table) (lines : List ℕ) (changed : Bool) → Does.does loaded made lines changed → IsGoodIn store loaded h → IsGoodIn store made later) where
-    own_good : (is : Publishes Does saved) → IsGoodIn store is.is.found later
+      (fair : (from : ℕ) → start ≤ from → from ≤ b.history.last → NoneOurs b.history start from → Does.fair b.history from)
+      (makes : (loaded made : Table) (lines : List ℕ) (changed : Bool) → Does.does loaded made lines changed → IsGoodIn store loaded h → IsGoodIn store made h) where
+    own_good : (is : Publishes Does saved) → IsGoodIn store is.is.found h
     own_good is =
         let from = is.stretch.from in
         let within : from ≤ b.history.last = omega (arith, is.stretch.order, is.stretch.end) in
         let stood = before from is.stretch.start within is.stretch.before (scene b from).files (shown from within) in
-        let same : stood.0 ≡ is.is.loaded = one_table (reading (scene b from).files) stood.0 is.is.loaded stood.1 (is.is.there (fair from is.stretch.start within)) in
+        let same : stood.0 ≡ is.is.loaded = one_table (reading (scene b from).files) stood.0 is.is.loaded stood.1 (is.is.there (fair from is.stretch.start within is.stretch.before)) in
         let loaded : IsGoodIn store is.is.loaded h = subst (λ (t : Table). IsGoodIn store t h) same stood.2 in
-        table_good store is.is.made is.is.found later (table_same is.is.made is.is.found is.is.is) (makes is.is.loaded is.is.made is.is.lines true is.is.does loaded)
+        table_good store is.is.made is.is.found h (table_same is.is.made is.is.found is.is.is) (makes is.is.loaded is.is.made is.is.lines true is.is.does loaded)
 
-    own_record : (fault : Option Fault) (safe : IsSafe Does saved fault) (r : Option (Result Table RecordFault)) → IsOwnRecord (published_in Does saved fault safe) r → IsGoodRecord store later r
+    own_record : (fault : Option Fault) (safe : IsSafe Does saved fault) (r : Option (Result Table RecordFault)) → IsOwnRecord (published_in Does saved fault safe) r → IsGoodRecord store h r
     own_record fault (inl none) r own = absurd own
     own_record fault (inr (may, is)) r own = (is.is.found, own, own_good is)
 
@@ -144,10 +183,10 @@ module _ (a b : Course) (goes : Goes a b) (calm : Undisturbed a b) (keep : Keeps
     firm_good fault (inl none) = tt
     firm_good fault (inr (may, is)) = λ way. (
       λ f left. let there = good f left in (there.0, there.1),
-      fair is.stretch.from is.stretch.start (omega (arith, is.stretch.order, is.stretch.end)),
+      fair is.stretch.from is.stretch.start (omega (arith, is.stretch.order, is.stretch.end)) is.stretch.before,
     )
 
     -- at each moment, where the call makes good tables of good ones
     pub good_stays : (fault : Option Fault) (safe : IsSafe Does saved fault) → (IsFirmFor Does saved fault safe → IsCrashSafe (published_in Does saved fault safe) saved)
-        → (k : ℕ) → start ≤ k → k ≤ b.history.last → LeavesGood later (scene b k)
+        → (k : ℕ) → start ≤ k → k ≤ b.history.last → LeavesGood h (scene b k)
     good_stays fault safe crash = good_by (published_in Does saved fault safe) (own_record fault safe) (crash (firm_good fault safe))

@@ -1,11 +1,12 @@
 -- What a listing did up to where it ended is so over the whole call, behind which times are saved.
 use Rattle.std.proofs.Common.{ℕ, ◌≡◌, ◌≤◌, List, map, Option, Some, None, Result, Ok, Err, IsTrue, IfSome, sym, ap, ◌∙◌, subst, inl, inr, arith}
-use Rattle.std.specs.Prelude.{IsSomeAnd}
+use Rattle.std.specs.Prelude.{IsSomeAnd, is_some}
 use Rattle.hg_base.specs.declared.id.Id20.{Id20}
 use Rattle.hg_base.specs.declared.stat.Stat.{Stat}
 use Rattle.hg_compare.specs.Alike.{contents_name, is_alike}
-use Rattle.hg_compare.specs.Tracked.{ParentRow}
-use Rattle.hg_entry.specs.Table.{Table}
+use Rattle.hg_compare.specs.Tracked.{ParentRow, tracked_letter}
+use Rattle.hg_compare.specs.declared.letter.Letter.TheVariants as a_letter
+use Rattle.hg_entry.specs.Table.{Table, marks_of}
 use Rattle.hg_flat.specs.Met.{LacksContents, Met, Shows, Status, WasRead}
 use Rattle.hg_flat.specs.Parent.{IsAsked, KeepsRow, manifest_at, row_among}
 use Rattle.hg_listing.specs.declared.fault.StatusFault.{StatusFault}
@@ -25,6 +26,7 @@ use Rattle.hg_shelf.specs.History as shelf
 use Rattle.hg_shelf.specs.History.{Extends, Files, History, IsOurs}
 use Rattle.hg_shelf.specs.Polite.{KeepsFile, KeepsPlain}
 use Rattle.hg_shelf.specs.Reads.{size_of}
+use Rattle.hg_tree.specs.History as tree
 use Rattle.hg_tree.specs.Moment.{Moment, stat_at}
 use Rattle.hg_session.proofs.Parents.{row_plain, rows_same}
 use Rattle.hg_session.proofs.Readings.{read_longer}
@@ -41,7 +43,8 @@ use Rattle.hg_session.specs.Status.{IsLoadedFirst, IsRowsText, ListingCause, lis
 use Rattle.hg_session.specs.declared.read_fault.ReadFault.{ReadFault}
 use Rattle.hg_session.specs.declared.read_fault.ReadFault.TheVariants as a_read
 use Rattle.hg_walk.specs.Right.{AreRight}
-use Rattle.hg_walk.specs.Walking.{rows_in}
+use Rattle.hg_walk.specs.Notes.{NotesData}
+use Rattle.hg_walk.specs.Walking.{AreNotedBy, first_id, rows_in}
 use Rattle.hg_words.specs.declared.flags.StatusFlags.{StatusFlags}
 
 -- ---- files that stay over a call stay over its first part
@@ -87,6 +90,26 @@ pub right_by_start : (looked : Looked) (table : Table) → Extends looked.shelf.
 right_by_start looked table past keeps right k from upto =
     subst (λ (rows : List ℕ → Option ParentRow). AreRight rows table looked.tree.old looked.tree.new)
     (ap (rows_in table) (sym (past.stay looked.shelf.old.last (omega arith)).shown) ∙ sym (rows_stay table looked.shelf.new looked.shelf.old.last k from upto keeps)) right
+
+-- ---- what was noted path by path
+
+-- over a longer history of the files below `.hg`
+module _ (wanted : Wanted) (table : Table) (notes : NotesData) (tree_old tree_new : tree.History) (end new : History) (later : Extends end new) (since : ℕ) (within : since ≤ end.last) where
+  pub noted_later : AreNotedBy wanted (rows_in table (end.at since).files) table tree_old tree_new end since notes → AreNotedBy wanted (rows_in table (new.at since).files) table tree_old tree_new new since notes
+  noted_later by = record {
+    boundary = by.boundary;
+    at = by.at;
+    from = by.from;
+    to = by.to;
+    clock = by.clock;
+    stamp = by.stamp;
+    shown = by.shown;
+    vouched = λ told path entry stat left there looks letter time.
+        by.vouched told path entry stat
+        (record { own = left.own; row = λ asked. row_shorter end new later since (first_id table) path within (left.row asked); patterns = left.patterns }) there looks
+        (subst (λ (f : Files). tracked_letter (rows_in table f path) (marks_of entry) (is_some (table.sources path)) ((tree.now tree_old).things path) ≡ Some a_letter.C) (later.stay since within).shown letter)
+        time;
+  }
 
 -- ---- faults
 

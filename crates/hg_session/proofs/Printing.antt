@@ -1,5 +1,5 @@
 -- What a listing over a table, its printing and its telling do, from what their parts do.
-use Rattle.std.proofs.Common.{ℕ, ◌≡◌, Bool, true, List, [], Result, Ok, Err, IfErr, IfOk, IsTrue, OnOk, refl, ap, ◌∙◌, subst, inl, arith}
+use Rattle.std.proofs.Common.{ℕ, ◌≡◌, Bool, true, List, [], Result, Ok, Err, IfErr, IfOk, IsTrue, OnOk, refl, sym, ap, ◌∙◌, subst, inl, arith}
 use Rattle.std.specs.Prelude.{MatchBool}
 use Rattle.hg_entry.specs.Table.{Table, flat_of}
 use Rattle.hg_flat.specs.Met.{Met}
@@ -25,11 +25,22 @@ use Rattle.hg_session.specs.Flags.{style_of, wanted_of}
 use Rattle.hg_session.specs.Listed.{AsksOver, AsksOwn, AsksPlain, IsListable, IsListedFor, IsRightFor, IsServedFor, IsUntouched, StatusCause, StatusMet, status_over}
 use Rattle.hg_session.specs.Look.{at_first, at_printing, at_telling}
 use Rattle.hg_session.specs.Put.{IsSilent}
-use Rattle.hg_session.specs.Status.{IsNotedFor, ShowsTable}
+use Rattle.hg_session.specs.Status.{IsNotedBy, IsNotedFor, ShowsTable}
 use Rattle.hg_walk.specs.Right.{AreRight}
-use Rattle.hg_walk.specs.Walking.{rows_in}
+use Rattle.hg_walk.specs.Notes.{NotesData}
+use Rattle.hg_walk.specs.Walking.{AreNotedBy, rows_in}
 use Rattle.hg_walk.specs.declared.walked.Walked.{Walked}
 use Rattle.hg_words.specs.declared.flags.StatusFlags.{StatusFlags}
+
+-- what a walk noted path by path, from its start on
+pub noted_at : (looked : Looked) (wanted : Wanted) (t : Table) (notes : NotesData) → shelf.Passes looked.shelf.old looked.shelf.new
+    → AreNotedBy wanted (rows_in t (shelf.now looked.shelf.old).files) t looked.tree.old looked.tree.new looked.shelf.new looked.shelf.old.last notes → IsNotedBy looked wanted t notes
+noted_at looked wanted t notes files by = record {
+  since = looked.shelf.old.last;
+  from = omega arith;
+  to = files.past.later;
+  by = subst (λ (f : shelf.Files). AreNotedBy wanted (rows_in t f) t looked.tree.old looked.tree.new looked.shelf.new looked.shelf.old.last notes) (sym (files.past.stay looked.shelf.old.last (omega arith)).shown) by;
+}
 
 -- warnings that were read say that the patterns were
 pub had_patterns : (wanted : Wanted) (old new : tree.History) (warnings : List Warning) → Warns wanted old new warnings → HadPatterns wanted old new

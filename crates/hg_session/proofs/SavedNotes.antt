@@ -1,5 +1,7 @@
 -- Saving what was noted with the lock round it, from what was done under the lock.
-use Rattle.std.proofs.Common.{ℕ, ◌≡◌, [], ◌∷◌, None, Result, Ok, Err, IsTrue, refl, sym, ap, ◌∙◌, subst, inl, inr, arith}
+use Rattle.std.proofs.Common.{ℕ, ◌≡◌, ◌⊎◌, List, [], ◌∷◌, ◌++◌, take, None, Result, Ok, Err, IsTrue, refl, sym, ap, ◌∙◌, subst, inl, inr, arith}
+use Rattle.std.specs.Prelude.{IfErr}
+use Rattle.std.proofs.lemmas.Bool.{cases_lt}
 use Rattle.std.proofs.lemmas.List.{append-nil}
 use Rattle.hg_base.specs.Fault.{HasCause, Rose}
 use Rattle.hg_base.specs.declared.fault.Failed.{Failed}
@@ -16,7 +18,7 @@ use Rattle.hg_session.proofs.Standing.{keep_earlier}
 use Rattle.hg_session.proofs.Widening.{calm_within, extends_up_to, held_stretch, kept_wide, safe_wide, stood_wide, unwritten_wide}
 use Rattle.hg_session.specs.Acts.{Makes}
 use Rattle.hg_session.specs.Call.{Count, Saved, Watched}
-use Rattle.hg_session.specs.Change.{IsKept, IsSafe, IsSafeHeld, up_to}
+use Rattle.hg_session.specs.Change.{IsKept, IsSafe, IsSafeHeld, IsUnwritten, up_to}
 use Rattle.hg_session.specs.Locks.{NotTaken, Refused, TakenAt}
 use Rattle.hg_session.specs.Look.{OnlyReads}
 use Rattle.hg_session.specs.Saving.{AnotherStood, CannotWrite, IsLockedToSave, IsNoted, IsNotedHeld, IsUnsaved, SavesHeld, SavesNotes, noted_makes, once_saved, save_fault}
@@ -31,6 +33,7 @@ use Rattle.hg_shelf.specs.Images.{Course, Goes}
 use Rattle.hg_shelf.specs.Lock as locks_are
 use Rattle.hg_shelf.specs.Lock.{NotesUnlock, Unlocks}
 use Rattle.hg_shelf.specs.Polite.{Undisturbed}
+use Rattle.hg_shelf.specs.declared.asked.Asked.{Asked}
 use Rattle.hg_shelf.specs.declared.asked.LockAnswer.TheVariants as an_answer
 use Rattle.hg_tree.specs.History as tree
 use Rattle.hg_walk.specs.Applying.{IsBlank}
@@ -77,6 +80,45 @@ module _ (start : History) (a b : Course) (lock : Waits a.history b.history) (be
 -- nothing was asked for
 pub asked_none : (old new : History) → new.asked ≡ old.asked → AsksFrontOf (docket_ask ∷ []) old new
 asked_none old new none = record { some = 0; made = none ∙ sym (append-nil old.asked) }
+
+-- the docket is asked for under the lock alone
+pub once_asked : (a b c d : History) → b.asked ≡ a.asked → AsksFrontOf (docket_ask ∷ []) b c → d.asked ≡ c.asked → AsksFrontOf (docket_ask ∷ []) a d
+once_asked a b c d first front last = record { some = front.some; made = last ∙ front.made ∙ ap (λ (l : List Asked). l ++ take front.some (docket_ask ∷ [])) first }
+
+-- nothing was written, where nothing was under the lock
+pub unwritten_locked : (a b c d : Course) → Waits a.history b.history → Waits c.history d.history → Goes a b → Goes b c → Goes c d → IsUnwritten b.history c.history → IsUnwritten a.history d.history
+unwritten_locked a b c d lock unlock p q r is = record {
+  none = λ j from to is_us. elim (cases_lt j c.history.last) [
+    | inl early ↦ elim (cases_lt j b.history.last) [
+      | inl first ↦ lock.none j from first (sym (q.past.who j first) ∙ sym (r.past.who j early) ∙ is_us)
+      | inr late ↦ is.none j late early (sym (r.past.who j early) ∙ is_us)
+    ]
+    | inr late ↦ unlock.none j late to is_us
+  ];
+}
+
+-- what is so of a fault under the lock is so of the one that is answered
+pub once_either : {U E : Type 0} (P Q : Type 0) (done : Result Unit SaveFault) (freed : Result U E) → (P → Q) → IfErr done (λ e. (e ≡ a_save.ShelfFailed) ⊎ P)
+    → IfErr (once_saved done freed) (λ e. (e ≡ a_save.ShelfFailed) ⊎ Q)
+once_either P Q (Err fault) freed weaker (inl same) = inl same
+once_either P Q (Err fault) freed weaker (inr is) = inr (weaker is)
+once_either P Q (Ok done) (Err failed) weaker is = inl refl
+once_either P Q (Ok done) (Ok unit) weaker is = tt
+
+pub once_cause : {U E : Type 0} (a b c d : ℕ) (done : Result Unit SaveFault) (freed : Result U E) → b ≡ a → HasCause b c done (λ e. e ≡ a_save.ShelfFailed) → HasCause c d freed (λ e. Unit {0})
+    → HasCause a d (once_saved done freed) (λ e. e ≡ a_save.ShelfFailed)
+once_cause a b c d (Err fault) freed same first second =
+    let early = first.later in
+    let late = second.later in
+    record { later = omega (arith, same, early, late); quiet = tt; rose = λ is. let rose = first.rose is in omega (arith, same, rose, late) }
+once_cause a b c d (Ok done) (Err failed) same first second =
+    let quiet : c ≡ b = first.quiet in
+    let late = second.later in
+    record { later = omega (arith, same, quiet, late); quiet = tt; rose = λ is. let rose = second.rose tt in omega (arith, same, quiet, rose) }
+once_cause a b c d (Ok done) (Ok unit) same first second =
+    let quiet : c ≡ b = first.quiet in
+    let last : d ≡ c = second.quiet in
+    record { later = omega (arith, same, quiet, last); quiet = last ∙ quiet ∙ same; rose = tt }
 
 module _ (start : History) (recorded : Table) (notes : NotesData) (a b c d : Course) (lock : Waits a.history b.history) (unlock : Waits c.history d.history) (p : Goes a b) (q : Goes b c) (r : Goes c d)
     (noted : IsTrue a.history.told → locks_are.IsNoted an_answer.Taken a.history b.history) (same : c.history.locks ≡ b.history.locks)

@@ -14,7 +14,7 @@ use Rattle.hg_shelf.specs.Polite.{KeepsPlain}
 use Rattle.hg_tree.specs.History as tree
 use Rattle.hg_session.proofs.Listings.{asks_below, asks_little, asks_load, left_by, part_of, shown_by}
 use Rattle.hg_session.proofs.Locked.{unwritten}
-use Rattle.hg_session.proofs.Longer.{plain_later, plain_shorter, rows_stay}
+use Rattle.hg_session.proofs.Longer.{noted_later, plain_later, plain_shorter, rows_stay}
 use Rattle.hg_session.specs.Call.{Count, Fails, IsLeftAlone, Looked, Saved, Sink, Watched}
 use Rattle.hg_session.specs.Flags.{wanted_of}
 use Rattle.hg_session.specs.Listed.{AsksBelow}
@@ -100,6 +100,7 @@ module _ (flags : StatusFlags) (looked : Looked) (saved : Saved) (locks : Count)
     noted = none_noted looked.tree.old looked.tree.new;
     earned = tt;
     recorded = tt;
+    noted_by = tt;
     saving = none_saved looked.shelf saved locks None (of_read fault) unsaved (record { passes = passes; kept = unsaved.kept; held = unsaved.held });
   }
     where
@@ -143,6 +144,7 @@ module _ (flags : StatusFlags) (looked : Looked) (saved : Saved) (locks : Count)
     noted = none_noted looked.tree.old looked.tree.new;
     earned = λ honest told keeps. none_earned (rows_in t (shelf.now looked.shelf.old).files) t looked.tree.new;
     recorded = tt;
+    noted_by = tt;
     saving = none_saved looked.shelf saved locks (Some t) fault unsaved reads;
   }
 
@@ -184,6 +186,14 @@ module _ (flags : StatusFlags) (looked : Looked) (saved : Saved) (locks : Count)
     noted = shows.noted.noted;
     earned = λ honest told keeps. subst (λ (rows : List ℕ → Option ParentRow). AreEarned rows t looked.tree.new notes) (rows_same notes shows keeps) (shows.noted.earned honest told (plain_part notes shows keeps));
     recorded = always result (λ own keeps. subst (λ (rows : List ℕ → Option ParentRow). IsRecorded (wanted_of flags) rows t (tree.now looked.tree.old) (applied notes t)) (rows_same notes shows keeps) (shows.noted.recorded own (plain_part notes shows keeps)));
+    noted_by = always result (λ wants.
+        let is = shows.noted.noted_by wants in
+        record {
+          since = is.since;
+          from = omega (arith, before.past.later, is.from);
+          to = omega (arith, is.to, later.later);
+          by = noted_later (wanted_of flags) t notes looked.tree.old looked.tree.new end looked.shelf.new later is.since is.to is.by;
+        });
     saving = saving;
   }
     where

@@ -15,7 +15,7 @@ use Rattle.hg_session.specs.Flags.{wanted_of}
 use Rattle.hg_session.specs.Listed.{AsksOwn}
 use Rattle.hg_session.specs.Look.{Concludes, EndsAs}
 use Rattle.hg_session.specs.Put.{IsFaultOrMemory}
-use Rattle.hg_session.specs.Status.{DoesStatus, IsLockedLast, IsRecordedFor, RanStatus, SavesLast, listed_to, noted_in, status_look}
+use Rattle.hg_session.specs.Status.{DoesStatus, IsLockedLast, IsNotedByFor, IsRecordedFor, RanStatus, SavesLast, listed_to, noted_in, status_look}
 use Rattle.hg_session.specs.declared.read_fault.ReadFault.TheVariants as a_read
 use Rattle.hg_shelf.specs.History.{History}
 use Rattle.hg_walk.specs.Notes.{NotesData}
@@ -97,6 +97,7 @@ module _ (command : Command) (flags : StatusFlags) (looked : Looked) (saved : Sa
     noted = does.noted;
     earned = does.earned;
     recorded = λ none. from_well mid tail bytes count (IsSomeAnd does.table (λ t. IsRecordedFor looked (wanted_of flags) t does.notes)) done code fault ends does.recorded none;
+    noted_by = λ none. from_well mid tail bytes count (IsSomeAnd does.table (λ t. IsNotedByFor looked (wanted_of flags) t does.notes)) done code fault ends does.noted_by none;
     saving = saving;
     crash = λ calm keep first. crash_safe saved.old saved.new saving.kept calm keep (noted_in looked.shelf does.table does.notes) first fault (saving.safe calm);
     calm = calm_by mid tail bytes count looked out done code fault ends does.calm;

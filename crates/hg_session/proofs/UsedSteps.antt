@@ -2,10 +2,9 @@
 use Rattle.std.proofs.Common.{ℕ, ◌≡◌, ◌≤◌, ◌<◌, ◌+◌, sym, ◌∙◌, subst, arith, inl, inr, IsTrue}
 use Rattle.std.proofs.lemmas.Bool.{cases_lt}
 use Rattle.hg_docket.specs.Docket.{docket_of}
-use Rattle.hg_save.proofs.Spans.{stays_itself}
+use Rattle.hg_save.proofs.Spans.{keep_used, stays_itself}
 use Rattle.hg_save.specs.Loads.{files_at}
 use Rattle.hg_save.specs.Others.{HasData, KeepData, named_file}
-use Rattle.hg_save.proofs.SpansBehind.{keep_used}
 use Rattle.hg_save.specs.Behind.{IsKeepingUsed, KeepsUsed}
 use Rattle.hg_shelf.specs.History.{Extends, Files, History, Who, others, readers, us}
 use Rattle.hg_shelf.specs.Images.{Course}

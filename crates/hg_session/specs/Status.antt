@@ -1,10 +1,11 @@
 -- What a status prints, tells and answers.
-use Rattle.std.specs.Prelude.{ℕ, ◌≡◌, ◌⊎◌, true, List, Option, Some, None, Result, Ok, Err, IfOk, IfSome, IsSomeAnd, IsTrue, MatchOption, OnOk}
+use Rattle.std.specs.Prelude.{ℕ, ◌≡◌, ◌≤◌, ◌⊎◌, true, List, Option, Some, None, Result, Ok, Err, IfOk, IfSome, IsSomeAnd, IsTrue, MatchOption, OnOk}
 use Rattle.hg_base.specs.Fault.{Rose}
 use Rattle.hg_base.specs.declared.id.Id20.{Id20}
 use Rattle.hg_base.specs.declared.stat.Stat.{Stat}
 use Rattle.hg_compare.specs.Alike.{contents_name, is_alike}
 use Rattle.hg_entry.specs.Table.{Table}
+use Rattle.hg_flat.specs.Listing.{wants_bytes}
 use Rattle.hg_flat.specs.Parent.{IsServed, manifest_at, row_of}
 use Rattle.hg_flat.specs.Patterns.{Warns, needs_patterns}
 use Rattle.hg_listing.specs.declared.fault.StatusFault.{StatusFault}
@@ -47,7 +48,7 @@ use Rattle.hg_tree.specs.Honest.{IsHonest}
 use Rattle.hg_tree.specs.Moment.{Moment, stat_at}
 use Rattle.hg_walk.specs.Applying.{IsBlank}
 use Rattle.hg_walk.specs.Notes.{AreEarned, NotesData, applied}
-use Rattle.hg_walk.specs.Walking.{AreNeeded, AreNoted, IsRecorded, rows_in}
+use Rattle.hg_walk.specs.Walking.{AreNeeded, AreNoted, AreNotedBy, IsRecorded, rows_in}
 use Rattle.hg_words.specs.declared.flags.StatusFlags.{StatusFlags}
 
 -- ---- what is printed
@@ -184,12 +185,25 @@ IsRecordedFor looked wanted table notes =
     tree.IsOurs looked.tree.old looked.tree.new → KeepsPlain looked.shelf.new looked.shelf.old.last
     → IsRecorded wanted (rows_in table (shelf.now looked.shelf.old).files) table (tree.now looked.tree.old) (applied notes table)
 
+-- whoever else steps, behind the notes the record vouches for each path that is left alone, from a moment of the call on what the first parent has of it too,
+-- that is clean at the start and has a time that may be recorded by one time that the clock showed in the call
+pub record IsNotedBy (looked : Looked) (wanted : Wanted) (table : Table) (notes : NotesData) : Type 0 where
+  pub since : ℕ
+  pub from : looked.shelf.old.last ≤ since
+  pub to : since ≤ looked.shelf.new.last
+  pub by : AreNotedBy wanted (rows_in table (looked.shelf.new.at since).files) table looked.tree.old looked.tree.new looked.shelf.new since notes
+
+-- so it is where bytes decide letters that are wanted
+abbrev pub IsNotedByFor : Looked → Wanted → Table → NotesData → Type 0
+IsNotedByFor looked wanted table notes = wants_bytes wanted ≡ true → IsNotedBy looked wanted table notes
+
 -- what a listing over a table notes, only what is needed
 pub record IsNotedFor (looked : Looked) (wanted : Wanted) (table : Table) (notes : NotesData) : Type 0 where
   pub needed : AreNeeded table notes
   pub noted : AreNoted looked.tree.old looked.tree.new notes
   pub earned : AreEarnedFor looked table notes
   pub recorded : IsRecordedFor looked wanted table notes
+  pub noted_by : IsNotedByFor looked wanted table notes
 
 -- ---- the command
 
@@ -247,6 +261,7 @@ pub record DoesStatus (flags : StatusFlags) (looked : Looked) (saved : Saved) (l
   pub noted : AreNoted looked.tree.old looked.tree.new notes
   pub earned : IfSome table (λ t. AreEarnedFor looked t notes)
   pub recorded : OnOk result (IsSomeAnd table (λ t. IsRecordedFor looked (wanted_of flags) t notes))
+  pub noted_by : OnOk result (IsSomeAnd table (λ t. IsNotedByFor looked (wanted_of flags) t notes))
   pub saving : SavesLast looked.shelf saved locks table notes (fault_in result)
 
 -- a table was read in the call, before the caller made a step, where the files are told
@@ -279,12 +294,13 @@ pub record RanStatus (flags : StatusFlags) (call : Call) (code : ℕ) (fault : O
   pub below : IsTrue call.looked.shelf.old.told → AsksBelow call.looked (wanted_of flags) table
   -- what it noted of times: only what is needed; each time is that of a look in the call, by one time that the clock showed in it no later than at the look;
   -- it was seen with what it stands for, whatever others do in the working copy; and without a fault, where nobody else touches that, all that a second status
-  -- needs to read no clean file again
+  -- needs to read no clean file again, path by path whoever else steps
   pub notes : NotesData
   pub needed : IfSome table (λ t. AreNeeded t notes)
   pub noted : AreNoted call.looked.tree.old call.looked.tree.new notes
   pub earned : IfSome table (λ t. AreEarnedFor call.looked t notes)
   pub recorded : fault ≡ None → IsSomeAnd table (λ t. IsRecordedFor call.looked (wanted_of flags) t notes)
+  pub noted_by : fault ≡ None → IsSomeAnd table (λ t. IsNotedByFor call.looked (wanted_of flags) t notes)
   -- what became of that
   pub saving : SavesLast call.looked.shelf call.saved call.locks table notes fault
   -- and where others keep to how a record is published, and for an append where it is made upon firm ground: at each moment since the call's start a crash

@@ -40,8 +40,6 @@ pub(crate) fn save<S: Shelf>(
     table: &Mixed<'_>,
 ) -> Result<(), ChangeFault>
     requires held { (S.history shelf.old).ours ≡ true }
-    requires few { length loaded.now.docket.items ≤ 512 }
-    requires whole { docket_refusal loaded.now.docket.items ≡ None }
     requires docket { table.now.docket ≡ docket_of loaded.now.docket.items }
     requires nodes { table.now.bytes ≡ loaded.now.nodes.items }
     ensures still { table.now.changed ≡ false → shelf.new ≡ shelf.old }

@@ -24,8 +24,6 @@ use std::alloc::Global;
 
 // The text of all that a record has that was loaded.
 fn text_in(alloc: Global, loaded: &Loaded) -> Result<Vec<u8>, ReadFault>
-    requires few { length loaded.now.docket.items ≤ 512 }
-    requires whole { docket_refusal loaded.now.docket.items ≡ None }
     ensures { NodesFind IsBytesOf result (data_reading (docket_of loaded.now.docket.items) loaded.now.nodes.items) }
 {
     let image = loaded.open()?;

@@ -1,6 +1,6 @@
 //! Reading the record: a load, and then its nodes.
 
-ghost use Rattle.std.specs.Prelude.{◌≡◌, ◌≤◌, ◌∷◌, [], IfOk, IsTrue, None, length};
+ghost use Rattle.std.specs.Prelude.{◌≡◌, ◌∷◌, [], IfErr, IsTrue};
 ghost use Rattle.hg_base.specs.Fault.{HasCause};
 ghost use Rattle.hg_docket.specs.Docket.{docket_of, docket_refusal};
 ghost use Rattle.hg_image.specs.Reading.{data_reading};
@@ -24,10 +24,8 @@ pub(crate) fn read<S: Shelf>(alloc: Global, shelf: &mut S) -> Result<Loaded, Rea
     ensures passes { Passes (S.history shelf.old) (S.history shelf.new) }
     ensures found { IsTrue (S.history shelf.old).told
         → ((tried : Try) × LoadsOrRefuses (S.history shelf.old) (S.history shelf.new) (tried ∷ []) result) }
-    ensures few { IfOk result (λ l. length l.docket.items ≤ 512) }
-    ensures whole { IfOk result (λ l. docket_refusal l.docket.items ≡ None) }
-    ensures most { IfOk result (λ l. length l.nodes.items ≤ (docket_of l.docket.items).used) }
     ensures cause { HasCause (S.faults shelf.old) (S.faults shelf.new) result (λ e. e ≡ a_read.Failed) }
+    ensures steady { IfErr result (λ e. (e ≡ a_read.Failed → ⊥) → S.faults shelf.new ≡ S.faults shelf.old) }
     ensures asked { IsTrue (S.history shelf.old).told → AsksRecord (S.history shelf.old) (S.history shelf.new) }
     ensures kept { Goes (course (S.history shelf.old) (S.images shelf.old)) (course (S.history shelf.new) (S.images shelf.new)) }
     ensures locks { S.held shelf.new ≡ S.held shelf.old }
@@ -38,9 +36,6 @@ pub(crate) fn read<S: Shelf>(alloc: Global, shelf: &mut S) -> Result<Loaded, Rea
 
 /// The table of a record that was loaded.
 pub(crate) fn opened<'a>(loaded: &'a Loaded) -> Result<Mixed<'a>, ReadFault>
-    requires few { length loaded.now.docket.items ≤ 512 }
-    requires whole { docket_refusal loaded.now.docket.items ≡ None }
-    requires most { length loaded.now.nodes.items ≤ (docket_of loaded.now.docket.items).used }
     ensures { NodesFind
         (IsOpened loaded.now)
         result

@@ -67,8 +67,6 @@ fn save_held<S: Shelf>(
     notes: Notes,
 ) -> Result<(), SaveFault>
     requires held { (S.history shelf.old).ours ≡ true }
-    requires few { length loaded.now.docket.items ≤ 512 }
-    requires whole { docket_refusal loaded.now.docket.items ≡ None }
     requires over { mixed.old.docket ≡ docket_of loaded.now.docket.items }
     requires nodes { mixed.old.bytes ≡ loaded.now.nodes.items }
     requires unchanged { mixed.old.changed ≡ false }
@@ -122,8 +120,6 @@ pub(crate) fn save_notes<S: Shelf>(
     mixed: &mut Mixed<'_>,
     notes: Notes,
 ) -> Result<(), SaveFault>
-    requires few { length loaded.now.docket.items ≤ 512 }
-    requires whole { docket_refusal loaded.now.docket.items ≡ None }
     requires over { mixed.old.docket ≡ docket_of loaded.now.docket.items }
     requires nodes { mixed.old.bytes ≡ loaded.now.nodes.items }
     requires unchanged { mixed.old.changed ≡ false }

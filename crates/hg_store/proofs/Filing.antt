@@ -17,11 +17,12 @@ use Rattle.hg_tree.specs.declared.thing.Thing.{Thing}
 use Rattle.hg_tree.specs.declared.thing.Thing.TheVariants as a_thing
 use Rattle.hg_store.specs.Standing.{Decides, IsSettleFault, OnClash, clashes}
 use Rattle.hg_store.specs.Storing.{ButNew, IsAlone, Keeps, Leads, new_name}
-use Rattle.hg_store.specs.Taking.{Answers, AnswersSized, IsDevice, IsFlag, IsTaken, LeadsFile, SeesNone, Shows, StoresFile, StoresSized}
+use Rattle.hg_store.specs.Taking.{Answers, AnswersSized, IsDevice, IsFlag, IsTaken, LeadsFile, LeavesPlain, SeesNone, Shows, StoresFile, StoresSized}
 use Rattle.hg_store.specs.declared.fault.StoreFault.{StoreFault}
 use Rattle.hg_store.specs.declared.fault.StoreFault.TheVariants as a_fault
 use Rattle.hg_store.specs.declared.names.Plain.TheVariants as a_plain
 use Rattle.hg_store.proofs.Copying.{shows_last, shows_second}
+use Rattle.hg_store.proofs.Laying.{but_same}
 use Rattle.hg_store.proofs.Leading.{leads_same, leads_weaker}
 use Rattle.hg_store.proofs.Naming.{name_apart}
 use Rattle.hg_store.proofs.Placing.{keeps_but, keeps_same}
@@ -35,21 +36,24 @@ file_but text a b leads alone = leads_weaker ButNew (Keeps ((last_scene a).files
 pub file_same : (text : List ℕ) (a : Course) → LeadsFile text a a
 file_same text a alone = leads_same (Keeps ((last_scene a).files (contents_name (sha1 text))) (contents_name (sha1 text)) text) a (keeps_same _ _ _)
 
-pub device_answer : (path text : List ℕ) (size : ℕ) (th tn : History) (a b : Course) (fault : StoreFault) → IsDevice fault → AnswersSized path text size th tn a b (Err fault)
-device_answer path text size th tn a b a_fault.OutOfMemory is = absurd is
-device_answer path text size th tn a b (a_fault.Gone gone) is = absurd is
-device_answer path text size th tn a b (a_fault.StoreClash id) is = absurd is
-device_answer path text size th tn a b (a_fault.ManifestTooLarge most) is = absurd is
-device_answer path text size th tn a b a_fault.TreeFailed is = tt
-device_answer path text size th tn a b a_fault.ShelfFailed is = tt
+pub plain_same : (a : Course) → LeavesPlain a a
+plain_same a alone = leads_same ButNew a but_same
 
-pub gone_sized : (path text : List ℕ) (size : ℕ) (th tn : History) (a b : Course) (fault : StoreFault) → (fault ≡ a_fault.OutOfMemory) ⊎ (fault ≡ a_fault.Gone path) → SeesNone path th tn → AnswersSized path text size th tn a b (Err fault)
-gone_sized path text size th tn a b fault (inl is) none = subst (λ (f : StoreFault). AnswersSized path text size th tn a b (Err f)) (sym is) tt
-gone_sized path text size th tn a b fault (inr is) none = subst (λ (f : StoreFault). AnswersSized path text size th tn a b (Err f)) (sym is) (refl, none)
+pub device_answer : (path text : List ℕ) (size : ℕ) (th tn : History) (a b : Course) (fault : StoreFault) → IsDevice fault → LeavesPlain a b → AnswersSized path text size th tn a b (Err fault)
+device_answer path text size th tn a b a_fault.OutOfMemory is leaves = absurd is
+device_answer path text size th tn a b (a_fault.Gone gone) is leaves = absurd is
+device_answer path text size th tn a b (a_fault.StoreClash id) is leaves = absurd is
+device_answer path text size th tn a b (a_fault.ManifestTooLarge most) is leaves = absurd is
+device_answer path text size th tn a b a_fault.TreeFailed is leaves = leaves
+device_answer path text size th tn a b a_fault.ShelfFailed is leaves = inl leaves
 
-pub gone_answer : (path text : List ℕ) (th tn : History) (a b : Course) (fault : StoreFault) → (fault ≡ a_fault.OutOfMemory) ⊎ (fault ≡ a_fault.Gone path) → SeesNone path th tn → Answers path text th tn a b (Err fault)
-gone_answer path text th tn a b fault (inl is) none = subst (λ (f : StoreFault). Answers path text th tn a b (Err f)) (sym is) tt
-gone_answer path text th tn a b fault (inr is) none = subst (λ (f : StoreFault). Answers path text th tn a b (Err f)) (sym is) (refl, none)
+pub gone_sized : (path text : List ℕ) (size : ℕ) (th tn : History) (a b : Course) (fault : StoreFault) → (fault ≡ a_fault.OutOfMemory) ⊎ (fault ≡ a_fault.Gone path) → SeesNone path th tn → LeavesPlain a b → AnswersSized path text size th tn a b (Err fault)
+gone_sized path text size th tn a b fault (inl is) none leaves = subst (λ (f : StoreFault). AnswersSized path text size th tn a b (Err f)) (sym is) leaves
+gone_sized path text size th tn a b fault (inr is) none leaves = subst (λ (f : StoreFault). AnswersSized path text size th tn a b (Err f)) (sym is) (refl, none, leaves)
+
+pub gone_answer : (path text : List ℕ) (th tn : History) (a b : Course) (fault : StoreFault) → (fault ≡ a_fault.OutOfMemory) ⊎ (fault ≡ a_fault.Gone path) → SeesNone path th tn → LeavesPlain a b → Answers path text th tn a b (Err fault)
+gone_answer path text th tn a b fault (inl is) none leaves = subst (λ (f : StoreFault). Answers path text th tn a b (Err f)) (sym is) leaves
+gone_answer path text th tn a b fault (inr is) none leaves = subst (λ (f : StoreFault). Answers path text th tn a b (Err f)) (sym is) (refl, none, leaves)
 
 pub settled_answer : (path text : List ℕ) (size : ℕ) (th tn : History) (a b : Course) (id : Id20) (fault : StoreFault) → IsSettleFault id fault → id.0 ≡ sha1 text → IsTaken path text size th tn
     → (IsAlone a b → Decides {A = Id20} (clashes (sha1 text) ((last_scene a).files (contents_name (sha1 text))) text) (record { 0 = sha1 text }) (Err fault)) → (IsAlone a b → OnClash {A = Id20} ((last_scene b).files new_name ≡ None) (Err fault)) → AnswersSized path text size th tn a b (Err fault)
@@ -59,7 +63,7 @@ settled_answer path text size th tn a b id (a_fault.StoreClash named) is known t
     record { taken = taken; id_is = ap (λ (i : Id20). i.0) is ∙ known; clash = λ alone. (decides alone).1; cleared = left }
 settled_answer path text size th tn a b id (a_fault.ManifestTooLarge most) is known taken decides left = absurd is
 settled_answer path text size th tn a b id a_fault.TreeFailed is known taken decides left = absurd is
-settled_answer path text size th tn a b id a_fault.ShelfFailed is known taken decides left = tt
+settled_answer path text size th tn a b id a_fault.ShelfFailed is known taken decides left = inr taken
 
 -- ---- a row
 
@@ -71,12 +75,13 @@ shows_start {a} {b} P p is = record {
 }
 
 row_err : (path text : List ℕ) (stat : Stat) (th tn : History) (a b : Course) (fault : StoreFault) → Shows th tn (λ moment. stat_at moment path ≡ Some stat) → AnswersSized path text stat.size th tn a b (Err fault) → Answers path text th tn a b (Err fault)
-row_err path text stat th tn a b a_fault.OutOfMemory looked is = tt
+row_err path text stat th tn a b a_fault.OutOfMemory looked is = is
 row_err path text stat th tn a b (a_fault.Gone gone) looked is = is
 row_err path text stat th tn a b (a_fault.StoreClash id) looked is = record { stat = stat; looked = looked; refused = is }
 row_err path text stat th tn a b (a_fault.ManifestTooLarge most) looked is = is
-row_err path text stat th tn a b a_fault.TreeFailed looked is = tt
-row_err path text stat th tn a b a_fault.ShelfFailed looked is = tt
+row_err path text stat th tn a b a_fault.TreeFailed looked is = is
+row_err path text stat th tn a b a_fault.ShelfFailed looked (inl leaves) = inl leaves
+row_err path text stat th tn a b a_fault.ShelfFailed looked (inr taken) = inr (record { stat = stat; looked = looked; taken = taken })
 
 pub row_stores_err : (path : List ℕ) (stat : Stat) (th tn : History) (a b : Course) (fault : StoreFault) → Passes th tn → (IsTrue th.told → stat_at (now th) path ≡ Some stat) → StoresSized path stat.size th tn a b (Err fault) → StoresFile path th tn a b (Err fault)
 row_stores_err path stat th tn a b fault p looked stores = record {
@@ -110,16 +115,17 @@ answers_later c path text x y (Ok row) p is = record {
   exec = is.exec;
   kept = record { taken = taken_later path text is.stat.size p is.kept.taken; id_is = is.kept.id_is; known = is.kept.known; stored = is.kept.stored; fits = is.kept.fits };
 }
-answers_later c path text x y (Err a_fault.OutOfMemory) p is = tt
-answers_later c path text x y (Err (a_fault.Gone gone)) p is = (is.0, shows_second _ p is.1)
+answers_later c path text x y (Err a_fault.OutOfMemory) p is = is
+answers_later c path text x y (Err (a_fault.Gone gone)) p is = (is.0, shows_second _ p is.1, is.2)
 answers_later c path text x y (Err (a_fault.StoreClash id)) p is = record {
   stat = is.stat;
   looked = shows_second _ p is.looked;
   refused = record { taken = taken_later path text is.stat.size p is.refused.taken; id_is = is.refused.id_is; clash = is.refused.clash; cleared = is.refused.cleared };
 }
 answers_later c path text x y (Err (a_fault.ManifestTooLarge most)) p is = is
-answers_later c path text x y (Err a_fault.TreeFailed) p is = tt
-answers_later c path text x y (Err a_fault.ShelfFailed) p is = tt
+answers_later c path text x y (Err a_fault.TreeFailed) p is = is
+answers_later c path text x y (Err a_fault.ShelfFailed) p (inl leaves) = inl leaves
+answers_later c path text x y (Err a_fault.ShelfFailed) p (inr read) = inr (record { stat = read.stat; looked = shows_second _ p read.looked; taken = taken_later path text read.stat.size p read.taken })
 
 pub stores_later : {a b c : History} (path : List ℕ) (x y : Course) (r : Result FileRow StoreFault) → Passes a b → StoresFile path b c x y r → StoresFile path a c x y r
 stores_later path x y r p stores = record { text = stores.text; answer = answers_later _ path stores.text x y r p stores.answer; leads = stores.leads }

@@ -14,7 +14,7 @@ use Rattle.hg_shelf.specs.Images.{Course, last_scene}
 use Rattle.hg_tree.specs.History.{History, now}
 use Rattle.hg_tree.specs.Moment.{Moment, bytes_at, stat_at}
 use Rattle.hg_store.specs.Standing.{clashes}
-use Rattle.hg_store.specs.Storing.{IsAlone, IsLaid, IsStored, IsSure, Keeps, Leads, new_name}
+use Rattle.hg_store.specs.Storing.{ButNew, IsAlone, IsLaid, IsStored, IsSure, Keeps, Leads, new_name}
 use Rattle.hg_store.specs.declared.fault.StoreFault.{StoreFault}
 use Rattle.hg_store.specs.declared.fault.StoreFault.TheVariants as a_fault
 use Rattle.hg_store.specs.declared.taking.Taken.{Taken}
@@ -109,15 +109,19 @@ IsDevice (a_fault.Gone path) = ⊥
 IsDevice (a_fault.StoreClash id) = ⊥
 IsDevice (a_fault.ManifestTooLarge size) = ⊥
 
--- what storing so many bytes of a path answers, by the text that was read
+-- of the files below `.hg` at most the new one was touched
+abbrev pub LeavesPlain : Course → Course → Type 0
+LeavesPlain old new = IsAlone old new → Leads ButNew old new
+
+-- what storing so many bytes of a path answers, by the text that was read; a shelf that failed may have stored it by then
 abbrev pub AnswersSized : List ℕ → List ℕ → ℕ → History → History → Course → Course → Result Id20 StoreFault → Type 0
 AnswersSized path text size tree_old tree_new old new (Ok id) = IsKept path text size tree_old tree_new old new id.0
-AnswersSized path text size tree_old tree_new old new (Err a_fault.OutOfMemory) = Unit {0}
-AnswersSized path text size tree_old tree_new old new (Err (a_fault.Gone gone)) = (gone ≡ path) × SeesNone path tree_old tree_new
+AnswersSized path text size tree_old tree_new old new (Err a_fault.OutOfMemory) = LeavesPlain old new
+AnswersSized path text size tree_old tree_new old new (Err (a_fault.Gone gone)) = (gone ≡ path) × SeesNone path tree_old tree_new × LeavesPlain old new
 AnswersSized path text size tree_old tree_new old new (Err (a_fault.StoreClash id)) = IsRefused path text size tree_old tree_new old new id.0
 AnswersSized path text size tree_old tree_new old new (Err (a_fault.ManifestTooLarge most)) = ⊥
-AnswersSized path text size tree_old tree_new old new (Err a_fault.TreeFailed) = Unit {0}
-AnswersSized path text size tree_old tree_new old new (Err a_fault.ShelfFailed) = Unit {0}
+AnswersSized path text size tree_old tree_new old new (Err a_fault.TreeFailed) = LeavesPlain old new
+AnswersSized path text size tree_old tree_new old new (Err a_fault.ShelfFailed) = LeavesPlain old new ⊎ IsTaken path text size tree_old tree_new
 
 -- of the files below `.hg` only the new one and the plain file of what was read were touched
 abbrev pub LeadsFile : List ℕ → Course → Course → Type 0
@@ -142,15 +146,22 @@ pub record IsClash (path text : List ℕ) (tree_old tree_new : History) (old new
   pub looked : Shows tree_old tree_new (λ moment. stat_at moment path ≡ Some stat)
   pub refused : IsRefused path text stat.size tree_old tree_new old new id
 
--- what storing a path answers, by the text that it read; want of memory and a device that failed say nothing of it
+-- a path was read, as many bytes as a look stated
+pub record IsRead (path text : List ℕ) (tree_old tree_new : History) : Type 0 where
+  pub stat : Stat
+  pub looked : Shows tree_old tree_new (λ moment. stat_at moment path ≡ Some stat)
+  pub taken : IsTaken path text stat.size tree_old tree_new
+
+-- what storing a path answers, by the text that it read. Want of memory, a path that is gone and a working copy that failed come before a plain file is
+-- touched; a shelf that failed may have stored the text by then
 abbrev pub Answers : List ℕ → List ℕ → History → History → Course → Course → Result FileRow StoreFault → Type 0
 Answers path text tree_old tree_new old new (Ok row) = IsRow path text tree_old tree_new old new row
-Answers path text tree_old tree_new old new (Err a_fault.OutOfMemory) = Unit {0}
-Answers path text tree_old tree_new old new (Err (a_fault.Gone gone)) = (gone ≡ path) × Shows tree_old tree_new (λ moment. bytes_at moment path ≡ None)
+Answers path text tree_old tree_new old new (Err a_fault.OutOfMemory) = LeavesPlain old new
+Answers path text tree_old tree_new old new (Err (a_fault.Gone gone)) = (gone ≡ path) × Shows tree_old tree_new (λ moment. bytes_at moment path ≡ None) × LeavesPlain old new
 Answers path text tree_old tree_new old new (Err (a_fault.StoreClash id)) = IsClash path text tree_old tree_new old new id.0
 Answers path text tree_old tree_new old new (Err (a_fault.ManifestTooLarge size)) = ⊥
-Answers path text tree_old tree_new old new (Err a_fault.TreeFailed) = Unit {0}
-Answers path text tree_old tree_new old new (Err a_fault.ShelfFailed) = Unit {0}
+Answers path text tree_old tree_new old new (Err a_fault.TreeFailed) = LeavesPlain old new
+Answers path text tree_old tree_new old new (Err a_fault.ShelfFailed) = LeavesPlain old new ⊎ IsRead path text tree_old tree_new
 
 -- a path was stored, or wasn't
 pub record StoresFile (path : List ℕ) (tree_old tree_new : History) (old new : Course) (result : Result FileRow StoreFault) : Type 0 where

@@ -12,10 +12,10 @@ ghost use Rattle.hg_tree.specs.Moment.{stat_at};
 use crate::comparing::HALF;
 use crate::fault::StoreFault;
 use crate::names::{Plain, PlainName};
-use crate::piece::Buffer;
 use crate::settling::settle;
 use crate::taking::write_file;
 use hg_base::{Id20, Kind, Path, PathRef, Stat};
+use hg_compare::Room;
 use hg_manifest::FileRow;
 use hg_shelf::Shelf;
 use hg_tree::Tree;
@@ -38,7 +38,7 @@ fn store_sized<T: Tree, S: Shelf>(
     shelf: &mut S,
     path: PathRef<'_>,
     size: u64,
-    room: &mut Buffer,
+    room: &mut Room,
 ) -> Result<Id20, StoreFault>
     ensures stores { StoresSized path.entry.text.now size (T.history tree.old) (T.history tree.new) (course (S.history shelf.old) (S.images shelf.old)) (course (S.history shelf.new) (S.images shelf.new)) result }
     ensures tree_passes { Passes (T.history tree.old) (T.history tree.new) }
@@ -69,7 +69,7 @@ fn store_row<T: Tree, S: Shelf>(
     path: PathRef<'_>,
     stat: &Stat,
     link: bool,
-    room: &mut Buffer,
+    room: &mut Room,
 ) -> Result<FileRow, StoreFault>
     requires flag { IsFlag link stat.now.kind }
     requires looked { IsTrue (T.history tree.old).told → stat_at (now (T.history tree.old)) path.text.now ≡ Some stat.now }
@@ -100,7 +100,7 @@ pub fn store_file<T: Tree, S: Shelf>(
     tree: &mut T,
     shelf: &mut S,
     path: PathRef<'_>,
-    room: &mut Buffer,
+    room: &mut Room,
 ) -> Result<FileRow, StoreFault>
     ensures stores { StoresFile path.entry.text.now (T.history tree.old) (T.history tree.new) (course (S.history shelf.old) (S.images shelf.old)) (course (S.history shelf.new) (S.images shelf.new)) result }
     ensures tree_passes { Passes (T.history tree.old) (T.history tree.new) }

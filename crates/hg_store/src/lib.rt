@@ -13,7 +13,7 @@
 //! Other bytes under the identifier are a clash: `plain/new` is removed, and nothing else changes. The caller holds the lock of `.hg`.
 //!
 //! ```text
-//! let mut room = Buffer::new(alloc)?;
+//! let mut room = Room::new(alloc)?;
 //! let row = store_file(alloc, &mut tree, &mut shelf, path, &mut room)?;
 //! rows.push(NewRow { path: Path::of(alloc, path)?, row })?;      // paths ascending
 //! let id = store_manifest(alloc, &mut shelf, &rows, &mut room)?;
@@ -29,7 +29,6 @@ mod file;
 mod laws;
 mod manifest;
 mod names;
-mod piece;
 mod rows;
 mod settling;
 mod standing;
@@ -41,5 +40,4 @@ pub use fault::StoreFault;
 pub use file::store_file;
 pub use laws::what_is_written_is_read;
 pub use manifest::store_manifest;
-pub use piece::Buffer;
 pub use rows::{NewRow, NewRows};

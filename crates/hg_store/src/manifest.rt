@@ -10,10 +10,10 @@ ghost use Rattle.sha1.specs.Sha1.{sha1};
 
 use crate::fault::StoreFault;
 use crate::names::{Plain, digits_of};
-use crate::piece::Buffer;
 use crate::rows::{NewRow, NewRows};
 use crate::text::store_text;
 use hg_base::{Id20, OutOfMemory};
+use hg_compare::Room;
 use hg_manifest::FileRow;
 use hg_shelf::Shelf;
 use std::alloc::Global;
@@ -87,7 +87,7 @@ pub fn store_manifest<S: Shelf>(
     alloc: Global,
     shelf: &mut S,
     rows: &NewRows,
-    room: &mut Buffer,
+    room: &mut Room,
 ) -> Result<Id20, StoreFault>
     ensures answers { AnswersManifest (text_of rows.now) result }
     ensures leads { IsAlone (course (S.history shelf.old) (S.images shelf.old)) (course (S.history shelf.new) (S.images shelf.new))

@@ -10,10 +10,10 @@ ghost use Rattle.sha1.specs.Sha1.{sha1};
 use crate::comparing::HALF;
 use crate::fault::StoreFault;
 use crate::names::{Plain, PlainName};
-use crate::piece::Buffer;
 use crate::settling::settle;
 use crate::writing::write_text;
 use hg_base::Id20;
+use hg_compare::Room;
 use hg_shelf::Shelf;
 use sha1::Sha1;
 
@@ -22,7 +22,7 @@ pub(crate) fn store_text<S: Shelf>(
     shelf: &mut S,
     plain: Plain,
     text: &[u8],
-    room: &mut Buffer,
+    room: &mut Room,
 ) -> Result<Id20, StoreFault>
     ensures leads { IsAlone (course (S.history shelf.old) (S.images shelf.old)) (course (S.history shelf.new) (S.images shelf.new))
         → Leads (Keeps ((last_scene (course (S.history shelf.old) (S.images shelf.old))).files (plain_file plain (sha1 text.now))) (plain_file plain (sha1 text.now)) text.now) (course (S.history shelf.old) (S.images shelf.old)) (course (S.history shelf.new) (S.images shelf.new)) }

@@ -8,7 +8,7 @@ use Rattle.hg_compare.specs.Tracked.{tracked_letter}
 use Rattle.hg_compare.specs.declared.letter.Letter.TheVariants as a_letter
 use Rattle.hg_entry.specs.Table.{marks_of}
 use Rattle.hg_base.specs.PathText.{joined}
-use Rattle.hg_walk.specs.Laws.{RightInFirst, RightInSecond, TimelessAreRight, TrustedAreRight}
+use Rattle.hg_walk.specs.Laws.{RightInFirst, RightInSecond, TimelessAreRight, TrustedAreRight, UntakenAreRight}
 use Rattle.hg_walk.proofs.Cached.{cached_is_listed}
 use Rattle.hg_walk.proofs.Vouched.{vouched_is_clean}
 
@@ -23,6 +23,13 @@ timeless_are_right rows table old new none = record {
   clean = λ k path entry stat from upto is shown vouch.
       let v = vouch_tells entry (is_some (table.sources path)) stat vouch in absurd (some_none v.stamp (sym v.stamp_is ∙ none.entries path entry is));
   listed = λ k dir cache stat state from upto is. absurd (some_none cache (sym is ∙ none.caches dir));
+}
+
+pub untaken_are_right : UntakenAreRight
+untaken_are_right rows table old new none = record {
+  clean = λ k path entry stat from upto is shown vouch. absurd (true≢false (sym vouch ∙ none.entries k path entry stat from upto is shown));
+  listed = λ k dir cache stat state from upto is shown kind match given hashed.
+      absurd (true≢false (sym match ∙ none.caches k dir cache stat state from upto is shown kind given hashed));
 }
 
 pub right_in_first : RightInFirst

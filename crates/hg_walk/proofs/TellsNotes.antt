@@ -22,10 +22,11 @@ use Rattle.hg_entry.specs.Table.{Table, marks_of}
 use Rattle.hg_entry.specs.declared.entry.Entry.{Entry}
 use Rattle.hg_flat.specs.Listing.{is_compared_row, is_file_or_link_kind, marked_letter, wants_bytes, wants_tracked}
 use Rattle.hg_flat.specs.Met.{Status}
-use Rattle.hg_flat.specs.Parent.{is_plain_entry}
+use Rattle.hg_flat.specs.Parent.{KeepsRow, is_plain_entry}
 use Rattle.hg_flat.specs.declared.parent.Parent.{Parent}
-use Rattle.hg_flat.proofs.Faces.{stays_shown}
+use Rattle.hg_flat.proofs.Faces.{stat_alike, stays_shown}
 use Rattle.hg_flat.proofs.Letters.{compared_parts, marked_plain, there_is}
+use Rattle.hg_flat.proofs.Moved.{letter_moved}
 use Rattle.hg_flat.proofs.Tracking.{row_earlier}
 use Rattle.hg_listing.specs.declared.row.Wanted.{Wanted}
 use Rattle.hg_mixed.specs.Gathered.{path_of}
@@ -37,11 +38,12 @@ use Rattle.hg_shelf.proofs.Histories as shelf
 use Rattle.hg_tree.specs.History as trees
 use Rattle.hg_tree.specs.Moment.{Moment, stat_at}
 use Rattle.hg_tree.proofs.Faces.{past_honest}
-use Rattle.hg_tree.proofs.Spans.{now_same, ours_first, ours_second, ours_unstepped}
-use Rattle.hg_tree.proofs.Stillness.{ours_untouched}
+use Rattle.hg_tree.specs.Still.{Untouched}
+use Rattle.hg_tree.proofs.Histories.{extends_same}
+use Rattle.hg_tree.proofs.Stillness.{alike_at, alike_between, untouched_first, untouched_second}
 use Rattle.hg_walk.specs.Finding.{IsEarnedBy, IsNoted, IsNotedIfClean, Look, rows_then}
 use Rattle.hg_walk.specs.Notes.{CleanNote, IsCleanNote, clean_at}
-use Rattle.hg_walk.specs.Telling.{AreNotesOf, IsAtChild, IsChildOf, KeepsRows, ShowsNow, WasShown, copied_in, notes_of, tracked_row}
+use Rattle.hg_walk.specs.Telling.{AreNotesOf, IsAtChild, IsChildOf, ShowsNow, WasShown, copied_in, notes_of, tracked_row}
 use Rattle.hg_walk.specs.Walking.{IsNeededNote, walk_status}
 use Rattle.hg_walk.proofs.Growing.{earned_on, found, only_one}
 use Rattle.hg_walk.proofs.Tells.{child_copied, child_entry}
@@ -92,7 +94,8 @@ module _ (s : Status) (t : Table) (child : Line) (entry : Entry) (of : IsChildOf
 
 -- no letter that bytes decide is wanted, or the path isn't clean at the start
 abbrev NoneClean : Status → Table → Line → Type 0
-NoneClean s t child = trees.IsOurs s.tree_old s.tree_new → wants_bytes s.wanted ≡ true → (entry : EntryData) (stat : Stat) → IsCleanThere s t child entry stat → ⊥
+NoneClean s t child =
+    IsTrue s.tree_old.told → Untouched s.tree_new s.tree_old.last (path_of child) → wants_bytes s.wanted ≡ true → (entry : EntryData) (stat : Stat) → IsCleanThere s t child entry stat → ⊥
 
 notes_none : (s : Status) (t : Table) (boundary : Time) (child : Line) → NoneClean s t child → AreNotesOf s t boundary (child ∷ []) []
 notes_none s t boundary child none = record {
@@ -100,12 +103,14 @@ notes_none s t boundary child none = record {
   stamp = λ note has. absurd (nothing note has);
   shown = λ told note has. absurd (nothing note has);
   earned = λ honest told clock keeps note has. absurd (nothing note has);
-  recorded = λ ours keeps wants other entry stat stamp has is shown clean unvouched stamped.
-      absurd (subst (λ (o : Line). IsCleanThere s t o entry stat → ⊥) (only_one child other has) (none ours wants entry stat) (is, shown, clean));
+  recorded = λ told wants other entry stat stamp has left keeps is shown clean unvouched stamped.
+      absurd
+      (subst (λ (o : Line). Untouched s.tree_new s.tree_old.last (path_of o) → IsCleanThere s t o entry stat → ⊥) (only_one child other has) (λ alone. none told alone wants entry stat) left
+      (is, shown, clean));
 }
 
 pub notes_unwanted : (s : Status) (t : Table) (boundary : Time) (child : Line) → wants_bytes s.wanted ≡ false → AreNotesOf s t boundary (child ∷ []) []
-notes_unwanted s t boundary child none = notes_none s t boundary child (λ ours wants entry stat clean. cc (none, wants))
+notes_unwanted s t boundary child none = notes_none s t boundary child (λ told left wants entry stat clean. cc (none, wants))
 
 -- no letter is wanted that takes a look
 pub notes_unlooked : (s : Status) (t : Table) (boundary : Time) (child : Line) → wants_tracked s.wanted ≡ false → AreNotesOf s t boundary (child ∷ []) []
@@ -124,7 +129,7 @@ notes_unlooked s t boundary child none = notes_unwanted s t boundary child (by s
 pub notes_bare : (s : Status) (t : Table) (boundary : Time) (child : Line) → IsChildOf t child → child.entry ≡ None → AreNotesOf s t boundary (child ∷ []) []
 notes_bare s t boundary child of none =
     notes_none s t boundary child
-    (λ ours wants entry stat clean. let has : option_map view child.entry ≡ Some entry = of.entry ∙ clean.0 in cc (none, has))
+    (λ told left wants entry stat clean. let has : option_map view child.entry ≡ Some entry = of.entry ∙ clean.0 in cc (none, has))
 
 first_of : (w p1 p2 copied : Bool) → (w && p1 && not p2 && not copied) ≡ true → w ≡ true
 first_of true p1 p2 copied is = refl
@@ -134,15 +139,16 @@ first_of false p1 p2 copied is = absurd (cc is)
 pub notes_removed : (s : Status) (t : Table) (boundary : Time) (child : Line) (entry : Entry) → IsChildOf t child → child.entry ≡ Some entry → (view entry).w ≡ false → AreNotesOf s t boundary (child ∷ []) []
 notes_removed s t boundary child entry of is gone =
     notes_none s t boundary child
-    (λ ours wants other stat clean.
+    (λ told left wants other stat clean.
     let w = first_of (view entry).w (view entry).p1 (view entry).p2 (copied_in child) (clean_here s t child entry of is other stat clean).0 in cc (gone, w))
 
 -- a path at which a look showed nothing
 pub notes_gone : (s : Status) (t : Table) (boundary : Time) (child : Line) → trees.Passes s.tree_old s.tree_new → (IsTrue s.tree_old.told → stat_at (trees.now s.tree_new) (path_of child) ≡ None) → AreNotesOf s t boundary (child ∷ []) []
 notes_gone s t boundary child passes gone =
     notes_none s t boundary child
-    (λ ours wants other stat clean.
-    let none : stat_at (trees.now s.tree_old) (path_of child) ≡ None = ap (λ (m : Moment). stat_at m (path_of child)) (sym (now_same s.tree_old s.tree_new passes ours)) ∙ gone ours.told in
+    (λ told left wants other stat clean.
+    let alike = alike_between s.tree_old s.tree_new s.tree_new (path_of child) passes.past (extends_same s.tree_new) left in
+    let none : stat_at (trees.now s.tree_old) (path_of child) ≡ None = sym (stat_alike (trees.now s.tree_new) (trees.now s.tree_old) (path_of child) alike) ∙ gone told in
     let some = clean.1 in cc (none, some))
 
 -- a path whose marks decide its letter
@@ -150,9 +156,9 @@ pub notes_marked : (s : Status) (t : Table) (boundary : Time) (child : Line) (en
     → marked_letter (tracked_row child entry) there ≡ Some letter → AreNotesOf s t boundary (child ∷ []) []
 notes_marked s t boundary child entry there letter of is shown marked =
     notes_none s t boundary child
-    (λ ours wants other stat clean.
+    (λ told left wants other stat clean.
     let plain = clean_here s t child entry of is other stat clean in
-    marked_plain (tracked_row child entry) there letter plain.0 (sym (there_is (trees.now s.tree_old) (path_of child) there (shown ours.told)) ∙ plain.1) marked)
+    marked_plain (tracked_row child entry) there letter plain.0 (sym (there_is (trees.now s.tree_old) (path_of child) there (shown told)) ∙ plain.1) marked)
 
 -- ---- a path that is compared
 
@@ -200,12 +206,12 @@ module _ (wanted : Wanted) (t : Table) (start old new : trees.History) (begun fi
   }
 
   -- a clean path that stays is noted as the comparison says
-  noted_so : (stamp : Option StampData) → IsNotedIfClean look here parent boundary stamp → trees.IsOurs old new → KeepsRows call → (other : EntryData) (stat : Stat) → IsCleanThere call t child other stat
+  noted_so : (stamp : Option StampData) → IsNotedIfClean look here parent boundary stamp → IsTrue old.told → Untouched new old.last (path_of child) → KeepsRow later begun.last here.id (path_of child) → (other : EntryData) (stat : Stat) → IsCleanThere call t child other stat
       → vouches other (is_some (t.sources (path_of child))) stat ≡ false → (stat ≡ there) × (stamp ≡ stamp_of stat.mtime boundary)
-  noted_so stamp noted ours keeps other stat clean unvouched =
-      let same : stat ≡ there = some_is stat there (sym clean.1 ∙ shown ours.told) in (
+  noted_so stamp noted told left keeps other stat clean unvouched =
+      let same : stat ≡ there = some_is stat there (sym clean.1 ∙ shown told) in (
         same,
-        noted (record { goes = come.goes; told = ours.told; shown = shown ours.told }) (stays_shown old new (path_of child) (ours_untouched old new passes ours (path_of child))) (keeps (path_of child))
+        noted (record { goes = come.goes; told = told; shown = shown told }) (stays_shown old new (path_of child) left) keeps
             (subst (λ (e : EntryData). vouches e (copied_in child) there ≡ false) (same_entry call t child entry come.of is other clean.0)
             (subst (λ (b : Bool). vouches other b there ≡ false) (sym (child_copied t child come.of)) (subst (λ (st : Stat). vouches other (is_some (t.sources (path_of child))) st ≡ false) same unvouched)))
             (clean_here call t child entry come.of is other stat clean).2
@@ -220,13 +226,13 @@ module _ (wanted : Wanted) (t : Table) (start old new : trees.History) (begun fi
     stamp = λ note has. absurd (nothing note has);
     shown = λ told note has. absurd (nothing note has);
     earned = λ honest told clock keeps note has. absurd (nothing note has);
-    recorded = λ ours keeps wants other entry stat stamp has.
+    recorded = λ told wants other entry stat stamp has.
         subst
-        (λ (o : Line). t.entries (path_of o) ≡ Some entry → stat_at (trees.now old) (path_of o) ≡ Some stat
+        (λ (o : Line). Untouched new old.last (path_of o) → KeepsRow later begun.last here.id (path_of o) → t.entries (path_of o) ≡ Some entry → stat_at (trees.now old) (path_of o) ≡ Some stat
         → tracked_letter (rows_then call (path_of o)) (marks_of entry) (is_some (t.sources (path_of o))) ((trees.now old).things (path_of o)) ≡ Some a_letter.C
         → vouches entry (is_some (t.sources (path_of o))) stat ≡ false → stamp_of stat.mtime boundary ≡ Some stamp → clean_at [] (path_of o) ≡ Some (record { path = path_of o; stat = stat; stamp = stamp }))
         (only_one child other has)
-        (λ has seen clean unvouched stamped. let so = noted_so None if_clean ours keeps entry stat (has, seen, clean) unvouched in let none = so.1 in absurd (cc (none, stamped)));
+        (λ alone keeps has seen clean unvouched stamped. let so = noted_so None if_clean told alone keeps entry stat (has, seen, clean) unvouched in let none = so.1 in absurd (cc (none, stamped)));
   }
   notes_found (Some st) earned noted if_clean = record {
     needed = λ note has. subst (IsNeededNote t) (only_one (own_note st) note has) (needed_own st noted.unvouched);
@@ -237,14 +243,14 @@ module _ (wanted : Wanted) (t : Table) (start old new : trees.History) (begun fi
     earned = λ honest told clock keeps note has.
         subst (IsCleanNote (rows_then call) t new) (only_one (own_note st) note has)
         (λ e has. earned e (record { goes = come.goes; told = told; shown = shown told }) honest (keeps (path_of child)) clock);
-    recorded = λ ours keeps wants other entry stat stamp has.
+    recorded = λ told wants other entry stat stamp has.
         subst
-        (λ (o : Line). t.entries (path_of o) ≡ Some entry → stat_at (trees.now old) (path_of o) ≡ Some stat
+        (λ (o : Line). Untouched new old.last (path_of o) → KeepsRow later begun.last here.id (path_of o) → t.entries (path_of o) ≡ Some entry → stat_at (trees.now old) (path_of o) ≡ Some stat
         → tracked_letter (rows_then call (path_of o)) (marks_of entry) (is_some (t.sources (path_of o))) ((trees.now old).things (path_of o)) ≡ Some a_letter.C
         → vouches entry (is_some (t.sources (path_of o))) stat ≡ false → stamp_of stat.mtime boundary ≡ Some stamp → clean_at (own_note st ∷ []) (path_of o) ≡ Some (record { path = path_of o; stat = stat; stamp = stamp }))
         (only_one child other has)
-        (λ has seen clean unvouched stamped.
-        let so = noted_so (Some (stamp_view st)) if_clean ours keeps entry stat (has, seen, clean) unvouched in
+        (λ alone keeps has seen clean unvouched stamped.
+        let so = noted_so (Some (stamp_view st)) if_clean told alone keeps entry stat (has, seen, clean) unvouched in
         let stamps : stamp_view st ≡ stamp = some_is (stamp_view st) stamp (so.1 ∙ stamped) in
         ap (λ (b : Bool). cond b (Some (own_note st)) None) ((bytes_eq-Decides (path_of child) (path_of child)).1 refl)
         ∙ (λ i. Some (record { path = path_of child; stat = sym so.0 i; stamp = stamps i })));
@@ -284,37 +290,35 @@ module _ (wanted : Wanted) (t : Table) (old mid new : trees.History) (begun file
               two.earned honest (before.past.told ∙ told)
               (record { at = clock.at; within = omega (arith, clock.within, before.past.later); is = clock.is ∙ ap (λ (m : Moment). m.clock) (sym (before.past.stay clock.at clock.within)) }) keeps note there
         ];
-    recorded = λ ours keeps wants child entry stat stamp has is shown clean unvouched stamped.
-        let same : trees.now mid ≡ trees.now old = now_same old mid before (ours_first old mid new behind.past ours) in
+    recorded = λ told wants child entry stat stamp has left keeps is shown clean unvouched stamped.
+        let alike = alike_between old mid new (path_of child) before.past behind.past left in
         find-append (λ (note : CleanNote). bytes_eq note.path (path_of child)) first second
         ∙ elim (Contains-append_cases xs ys child has) [
           | inl here ↦
               ap (λ (o : Option CleanNote). option_or o (clean_at second (path_of child)))
-              (one.recorded (ours_first old mid new behind.past ours) (λ path. row_earlier files later begun.last (walk_status wanted t old new begun later).id path past within (keeps path)) wants child entry stat
-              stamp here is shown clean unvouched stamped)
+              (one.recorded told wants child entry stat stamp here (untouched_first mid new old.last (path_of child) behind.past before.past.later left)
+              (row_earlier files later begun.last (walk_status wanted t old new begun later).id (path_of child) past within keeps) is shown clean unvouched stamped)
           | inr there ↦
-              by (path_of child) stat stamp (ours_first old mid new behind.past ours) shown stamped (clean_at first (path_of child)) refl
-              (two.recorded (ours_second old mid new before.past ours) keeps wants child entry stat stamp there is (ap (λ (m : Moment). stat_at m (path_of child)) same ∙ shown)
-              (subst
-              (λ (m : Moment). tracked_letter (rows_then (walk_status wanted t old new begun later) (path_of child)) (marks_of entry) (is_some (t.sources (path_of child))) (m.things (path_of child)) ≡ Some a_letter.C)
-              (sym same) clean)
+              by (path_of child) stat stamp told left shown stamped (clean_at first (path_of child)) refl
+              (two.recorded (before.past.told ∙ told) wants child entry stat stamp there (untouched_second new old.last mid.last (path_of child) before.past.later behind.past.later left) keeps is
+              (stat_alike (trees.now mid) (trees.now old) (path_of child) alike ∙ shown)
+              (letter_moved (trees.now mid) (trees.now old) (path_of child) (rows_then (walk_status wanted t old new begun later) (path_of child)) (marks_of entry) (is_some (t.sources (path_of child))) alike ∙ clean)
               unvouched stamped)
         ];
   }
     where
-      -- where nobody else steps all notes of one path agree
-      by : (path : List ℕ) (stat : Stat) (stamp : StampData) → trees.IsOurs old mid → stat_at (trees.now old) path ≡ Some stat → stamp_of stat.mtime boundary ≡ Some stamp → (o : Option CleanNote) → clean_at first path ≡ o
+      -- all notes of a path that is left alone agree
+      by : (path : List ℕ) (stat : Stat) (stamp : StampData) → IsTrue old.told → Untouched new old.last path → stat_at (trees.now old) path ≡ Some stat → stamp_of stat.mtime boundary ≡ Some stamp → (o : Option CleanNote) → clean_at first path ≡ o
           → clean_at second path ≡ Some (record { path = path; stat = stat; stamp = stamp }) → option_or o (clean_at second path) ≡ Some (record { path = path; stat = stat; stamp = stamp })
-      by path stat stamp ours shown stamped None none last = last
-      by path stat stamp ours shown stamped (Some note) noted last =
+      by path stat stamp told left shown stamped None none last = last
+      by path stat stamp told left shown stamped (Some note) noted last =
           let at = found (λ (n : CleanNote). bytes_eq n.path path) first note noted in
           let same : note.path ≡ path = (bytes_eq-Decides note.path path).0 at.0 in
-          let was = one.shown ours.told note at.1 in
-          let still = ours_unstepped old mid before ours in
-          let k : was.at ≡ old.last = omega (arith, was.from, was.to, still) in
+          let was = one.shown told note at.1 in
+          let alike = alike_at mid old.last was.at path was.from was.to (untouched_first mid new old.last path behind.past before.past.later left) in
           let stats : note.stat ≡ stat =
           some_is note.stat stat
-          (sym was.shows ∙ ap (λ (n : ℕ). stat_at (mid.at n) note.path) k ∙ ap (λ (m : Moment). stat_at m note.path) (before.past.stay old.last (omega arith)) ∙ ap (λ (p : List ℕ). stat_at (trees.now old) p) same ∙ shown) in
+          (sym was.shows ∙ ap (stat_at (mid.at was.at)) same ∙ stat_alike (mid.at was.at) (mid.at old.last) path alike ∙ ap (λ (m : Moment). stat_at m path) (before.past.stay old.last (omega arith)) ∙ shown) in
           let stamps : note.stamp ≡ stamp = some_is note.stamp stamp (sym (one.stamp note at.1) ∙ ap (λ (st : Stat). stamp_of st.mtime boundary) stats ∙ stamped) in
           (λ i. Some (record { path = same i; stat = stats i; stamp = stamps i }))
 
@@ -324,7 +328,7 @@ notes_empty s t boundary = record {
   stamp = λ note has. absurd (nothing note has);
   shown = λ told note has. absurd (nothing note has);
   earned = λ honest told clock keeps note has. absurd (nothing note has);
-  recorded = λ ours keeps wants child entry stat stamp has. absurd (nothing child has);
+  recorded = λ told wants child entry stat stamp has. absurd (nothing child has);
 }
 
 -- what is noted behind a look is noted in the call

@@ -18,6 +18,9 @@ use Rattle.hg_entry.specs.Table.{Table, marks_of}
 use Rattle.hg_flat.specs.Listing.{wants_bytes}
 use Rattle.hg_flat.specs.Met.{Status}
 use Rattle.hg_flat.specs.Passed.{AreKnown, WasNoDir}
+use Rattle.hg_flat.specs.Judged.{IsLeftAsked}
+use Rattle.hg_flat.specs.Parent.{IsAsked, KeepsRow, is_plain_entry}
+use Rattle.hg_flat.proofs.Faces.{stat_alike}
 use Rattle.hg_flat.proofs.Leaving.{keeps_row}
 use Rattle.hg_listing.specs.declared.row.Row.{Row}
 use Rattle.hg_listing.specs.declared.row.Wanted.{Wanted}
@@ -36,7 +39,8 @@ use Rattle.hg_tree.specs.Moment.{Moment, stat_at, stat_of}
 use Rattle.hg_tree.specs.declared.thing.Placed.{Placed}
 use Rattle.hg_tree.specs.declared.thing.Thing.{Thing}
 use Rattle.hg_tree.specs.declared.thing.Thing.TheVariants as a_thing
-use Rattle.hg_tree.proofs.Spans.{ours_unstepped}
+use Rattle.hg_tree.specs.Still.{Untouched}
+use Rattle.hg_tree.proofs.Stillness.{alike_at}
 use Rattle.hg_walk.specs.Applying.{IsBlank}
 use Rattle.hg_walk.specs.Finding.{rows_then}
 use Rattle.hg_walk.specs.Notes.{AreEarned, CleanNote, NotesData, applied, clean_at, with_clean}
@@ -45,7 +49,7 @@ use Rattle.hg_walk.specs.Passing.{known_of}
 use Rattle.hg_walk.specs.Right.{AreRight}
 use Rattle.hg_walk.specs.Telling.{AreMarked, AreNotesOf, AreOf, IsMarked, KeepsRows, MarksEach, TellsEach, with_clean_notes}
 use Rattle.hg_walk.specs.Tracked.{NotesAll, TellsAll, WasClockOf}
-use Rattle.hg_walk.specs.Walking.{AreNeeded, IsRecorded, first_id, rows_in, vouches_for, walk_status}
+use Rattle.hg_walk.specs.Walking.{AreNeeded, VouchesFor, asked_unvouched, first_id, rows_in, vouches_for, walk_status}
 use Rattle.hg_walk.specs.declared.mark.Mark.{Mark}
 use Rattle.hg_walk.proofs.Rows.{marked_node, node_of, own_rows, rows_flat, shows}
 
@@ -151,44 +155,58 @@ module _ (wanted : Wanted) (held : Held) (children : List Line) (are : AreGather
     needed : AreNeeded t made
     needed = record { clean = n.needed; seen = refl; gone = refl; hash = refl }
 
+    -- a path that is clean, and for which its entry doesn't vouch, is compared
+    compared : wants_bytes wanted ≡ true → (m : Moment) (path : List ℕ) (entry : EntryData) (stat : Stat) → t.entries path ≡ Some entry → stat_at m path ≡ Some stat
+        → tracked_letter (rows_then whole path) (marks_of entry) (is_some (t.sources path)) (m.things path) ≡ Some a_letter.C → vouches entry (is_some (t.sources path)) stat ≡ false
+        → IsAsked (asked_unvouched wanted t) m path
+    compared wants m path entry stat has shown clean unvouched =
+        let marks = clean_marks (rows_then whole path) entry (is_some (t.sources path)) (m.things path) clean in
+        (λ i.
+        ((wants i && is_plain_entry (option_map marks_of (has i)) (is_some (t.sources path))) && marks.1 i) && not (vouches_for (has i) (is_some (t.sources path)) (shown i)))
+        ∙ (λ i. ((true && marks.0 i) && true) && not (unvouched i))
+
     -- the entry behind the notes vouches for what the look showed
-    vouched : trees.IsOurs old later → KeepsPlain files start.last → wants_bytes wanted ≡ true → boundary ≡ (trees.now old).clock → (path : List ℕ) (entry : EntryData) (stat : Stat) → t.entries path ≡ Some entry
+    vouched : IsTrue old.told → wants_bytes wanted ≡ true → (path : List ℕ) (entry : EntryData) (stat : Stat)
+        → IsLeftAsked (asked_unvouched wanted t) (first_id t) later old.last files start.last path → t.entries path ≡ Some entry
         → stat_at (trees.now old) path ≡ Some stat → tracked_letter (rows_then whole path) (marks_of entry) (is_some (t.sources path)) ((trees.now old).things path) ≡ Some a_letter.C
-        → (stamp : StampData) → stamp_of stat.mtime (trees.now old).clock ≡ Some stamp → (o : Option CleanNote) → clean_at notes path ≡ o → (b : Bool) → vouches entry (is_some (t.sources path)) stat ≡ b
+        → (stamp : StampData) → stamp_of stat.mtime boundary ≡ Some stamp → (o : Option CleanNote) → clean_at notes path ≡ o → (b : Bool) → vouches entry (is_some (t.sources path)) stat ≡ b
         → vouches_for (with_clean o (Some entry)) (is_some (t.sources path)) (Some stat) ≡ true
-    vouched ours plain wants clock path entry stat has shown clean stamp stamped None none true vouch = vouch
-    vouched ours plain wants clock path entry stat has shown clean stamp stamped (Some note) some true vouch =
+    vouched told wants path entry stat left has shown clean stamp stamped None none true vouch = vouch
+    vouched told wants path entry stat left has shown clean stamp stamped (Some note) some true vouch =
         let found = note_found notes path note some in
         let need = n.needed note found.0 in
-        let was = n.shown ours.told note found.0 in
-        let last : was.at ≡ old.last = omega (arith, was.from, was.to, ours_unstepped old later passes ours) in
-        let same : later.at was.at ≡ trees.now old = ap later.at last ∙ passes.past.stay old.last (omega arith) in
-        let one : Some note.stat ≡ Some stat = sym was.shows ∙ ap (λ (m : Moment). stat_at m note.path) same ∙ ap (stat_at (trees.now old)) found.1 ∙ shown in
+        let was = n.shown told note found.0 in
+        let alike = alike_at later old.last was.at path was.from was.to left.own in
+        let one : Some note.stat ≡ Some stat =
+        sym was.shows ∙ ap (stat_at (later.at was.at)) found.1 ∙ stat_alike (later.at was.at) (later.at old.last) path alike ∙ ap (λ (m : Moment). stat_at m path) (passes.past.stay old.last (omega arith)) ∙ shown in
         let entries : Some need.entry ≡ Some entry = sym need.is ∙ ap t.entries found.1 ∙ has in
         let stat_is : note.stat ≡ stat = cc one in
         let entry_is : need.entry ≡ entry = cc entries in
         absurd (true≢false (sym vouch ∙ (λ i. vouches (sym entry_is i) (is_some (t.sources (sym found.1 i))) (sym stat_is i)) ∙ need.unvouched))
-    vouched ours plain wants clock path entry stat has shown clean stamp stamped o is_o false unvouched =
+    vouched told wants path entry stat left has shown clean stamp stamped o is_o false unvouched =
         let node = node_of held children are formed path entry has in
         let child = node.0 in
         let at : path_of child ≡ path = node.3 in
-        let found = n.recorded ours (keeps plain) wants child entry stat stamp node.2 (ap t.entries at ∙ has) (ap (stat_at (trees.now old)) at ∙ shown)
+        let asked = compared wants (trees.now old) path entry stat has shown clean unvouched in
+        let keeps = left.row (subst (λ (m : Moment). IsAsked (asked_unvouched wanted t) m path) (sym (passes.past.stay old.last (omega arith))) asked) in
+        let found = n.recorded told wants child entry stat stamp node.2 (subst (Untouched later old.last) (sym at) left.own) (subst (KeepsRow files start.last (first_id t)) (sym at) keeps) (ap t.entries at ∙ has) (ap (stat_at (trees.now old)) at ∙ shown)
         ((λ i. tracked_letter (rows_then whole (at i)) (marks_of entry) (is_some (t.sources (at i))) ((trees.now old).things (at i))) ∙ clean)
-        (ap (λ (p : List ℕ). vouches entry (is_some (t.sources p)) stat) at ∙ unvouched) (ap (stamp_of stat.mtime) clock ∙ stamped) in
+        (ap (λ (p : List ℕ). vouches entry (is_some (t.sources p)) stat) at ∙ unvouched) stamped in
         let this : o ≡ Some (record { path = path_of child; stat = stat; stamp = stamp }) = sym is_o ∙ ap (clean_at notes) (sym at) ∙ found in
         let marks = clean_marks (rows_then whole path) entry (is_some (t.sources path)) ((trees.now old).things path) clean in
         ap (λ (q : Option CleanNote). vouches_for (with_clean q (Some entry)) (is_some (t.sources path)) (Some stat)) this
-        ∙ noted_vouch entry (is_some (t.sources path)) stat (trees.now old).clock stamp marks.0 (file_placed ((trees.now old).things path) stat shown marks.1) stamped
+        ∙ noted_vouch entry (is_some (t.sources path)) stat boundary stamp marks.0 (file_placed ((trees.now old).things path) stat shown marks.1) stamped
 
     some_stamp : (o : Option StampData) → is_some o ≡ true → (stamp : StampData) × (o ≡ Some stamp)
     some_stamp None none = absurd (true≢false (sym none))
     some_stamp (Some stamp) some = (stamp, refl)
 
-    recorded : trees.IsOurs old later → KeepsPlain files start.last → (wants_bytes wanted ≡ true → boundary ≡ (trees.now old).clock) → IsRecorded wanted (rows_then whole) t (trees.now old) (applied made t)
-    recorded ours plain clock wants path entry stat has shown clean some =
-        let stamp = some_stamp (stamp_of stat.mtime (trees.now old).clock) some in
+    recorded : IsTrue old.told → wants_bytes wanted ≡ true
+        → VouchesFor (IsLeftAsked (asked_unvouched wanted t) (first_id t) later old.last files start.last) (rows_then whole) t (trees.now old) boundary (applied made t)
+    recorded told wants path entry stat left has shown clean some =
+        let stamp = some_stamp (stamp_of stat.mtime boundary) some in
         (λ i. vouches_for (with_clean (clean_at notes path) (has i)) (is_some (t.sources path)) (shown i))
-        ∙ vouched ours plain wants (clock wants) path entry stat has shown clean stamp.0 stamp.1 (clean_at notes path) refl (vouches entry (is_some (t.sources path)) stat) refl
+        ∙ vouched told wants path entry stat left has shown clean stamp.0 stamp.1 (clean_at notes path) refl (vouches entry (is_some (t.sources path)) stat) refl
 
     notes_whole : NotesAll whole t boundary made
     notes_whole = record { needed = needed; stamp = n.stamp; shown = n.shown; earned = earned; recorded = recorded }

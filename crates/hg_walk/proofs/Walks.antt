@@ -4,7 +4,7 @@ use Rattle.std.specs.Prelude.{MatchBool}
 use Rattle.std.specs.List.{Contains}
 use Rattle.std.proofs.lemmas.Bool.{and_parts}
 use Rattle.hg_base.specs.declared.time.Time.{Time}
-use Rattle.hg_entry.specs.Table.{Flat, Table, flat_of}
+use Rattle.hg_entry.specs.Table.{Flat, Table, flat_of, marks_of}
 use Rattle.hg_flat.specs.Course.{IsKeptState, pieces_of}
 use Rattle.hg_flat.specs.Listing.{wants_bytes}
 use Rattle.hg_flat.specs.Others.{ListsOthers}
@@ -12,7 +12,11 @@ use Rattle.hg_flat.specs.Parent.{IsAsked, IsLeft, IsServed, asked_by}
 use Rattle.hg_flat.specs.Passed.{AreKnown, Known}
 use Rattle.hg_flat.specs.Patterns.{ignored_at}
 use Rattle.hg_flat.proofs.Fullness.{Narrows, full_of}
+use Rattle.hg_flat.specs.Judged.{IsLeftAsked}
+use Rattle.hg_flat.proofs.Faces.{stat_alike}
+use Rattle.hg_flat.proofs.Judging.{left_begun, left_ended}
 use Rattle.hg_flat.proofs.Leaving.{left_all}
+use Rattle.hg_flat.proofs.Moved.{letter_moved}
 use Rattle.hg_flat.proofs.Whole.{whole_listing, whole_served}
 use Rattle.hg_ignore.specs.State.{Piece}
 use Rattle.hg_listing.specs.Full.{IsFull, IsFullFor}
@@ -22,17 +26,19 @@ use Rattle.hg_mixed.specs.declared.line.Line.{Line}
 use Rattle.hg_mtime.specs.Stamps.{stamp_of}
 use Rattle.hg_shelf.specs.History as shelves
 use Rattle.hg_shelf.specs.Polite.{KeepsPlain}
+use Rattle.hg_shelf.proofs.Histories as shelf
 use Rattle.hg_tree.specs.History as trees
 use Rattle.hg_tree.specs.Honest.{IsHonest}
 use Rattle.hg_tree.specs.Moment.{Moment, stat_at}
 use Rattle.hg_tree.proofs.Faces.{past_honest}
-use Rattle.hg_tree.proofs.Spans.{now_same, ours_first, ours_second, passes_trans}
+use Rattle.hg_tree.proofs.Spans.{now_same, ours_first, passes_trans}
+use Rattle.hg_tree.proofs.Stillness.{alike_between}
 use Rattle.hg_walk.specs.Notes.{AreEarned, CleanNote, NotesData, applied}
 use Rattle.hg_walk.specs.Passing.{has_entry, known_of}
 use Rattle.hg_walk.specs.Right.{AreRight}
 use Rattle.hg_walk.specs.Telling.{tracked_rows}
 use Rattle.hg_walk.specs.Tracked.{IsBoundary, NotesAll, TellsAll}
-use Rattle.hg_walk.specs.Walking.{AreNoted, IsLeftBy, IsRecorded, asked_unvouched, first_id, rows_in, walk_status}
+use Rattle.hg_walk.specs.Walking.{AreNoted, AreNotedBy, IsLeftBy, IsRecorded, VouchesFor, asked_unvouched, first_id, rows_in, vouches_for, walk_status}
 use Rattle.hg_walk.specs.declared.mark.Mark.{Mark}
 use Rattle.hg_walk.proofs.Growing.{dir_on, earned_on}
 use Rattle.hg_walk.proofs.Parts.{right_in_first, right_in_second}
@@ -84,7 +90,7 @@ module _ (wanted : Wanted) (t : Table) (children : List Line) (marks : List Mark
 
   -- ---- what is noted
 
-  module _ (notes : NotesData) (boundary : Time) (all : NotesAll (walk_status wanted t mid later start files) t boundary notes) (at : trees.History) (before : trees.Passes old at) (behind : trees.Passes at mid)
+  module _ (notes : NotesData) (boundary : Time) (all : NotesAll (walk_status wanted t mid later start files) t boundary notes) (at : trees.History) (before : trees.Passes old at) (behind : trees.Passes at mid) (past : start.last ≤ files.last)
       (is : IsBoundary (wants_bytes wanted) at boundary) where
     -- where there is a note the boundary is the clock's
     clock_by : (b : Bool) → MatchBool b (IsTrue at.told → boundary ≡ (trees.now at).clock) ((time : Time) → stamp_of time boundary ≡ None) → (note : CleanNote) → Contains notes.clean note → IsTrue at.told
@@ -132,12 +138,44 @@ module _ (wanted : Wanted) (t : Table) (children : List Line) (marks : List Mark
           renewed = e.renewed;
         }
 
+    -- what is left alone over the walk is so over the look at all paths
+    left_then : (path : List ℕ) → IsLeftBy wanted t new old.last files start.last path → IsLeftAsked (asked_unvouched wanted t) (first_id t) later mid.last files start.last path
+    left_then path left =
+        left_begun (asked_unvouched wanted t) (first_id t) mid later new second.past third.past files files start.last (shelf.extends_same files) past path
+        (left_ended (asked_unvouched wanted t) (unvouched_alike wanted t) (first_id t) old mid new first.past (passes_trans mid later new second third).past files start.last path (record { own = left.own; row = left.row }))
+
+    vouched : IsTrue old.told → wants_bytes wanted ≡ true
+        → VouchesFor (IsLeftBy wanted t new old.last files start.last) (rows_in t (shelves.now start).files) t (trees.now old) boundary (applied notes t)
+    vouched told wants path entry stat left has shown clean some =
+        let alike = alike_between old mid new path first.past (passes_trans mid later new second third).past left.own in
+        let stats = stat_alike (trees.now mid) (trees.now old) path alike in
+        ap (vouches_for ((applied notes t).entries path) (is_some (t.sources path))) (sym stats)
+        ∙ all.recorded (first.past.told ∙ told) wants path entry stat (left_then path left) has (stats ∙ shown)
+        (letter_moved (trees.now mid) (trees.now old) path (rows_in t (shelves.now start).files path) (marks_of entry) (is_some (t.sources path)) alike ∙ clean) some
+
+    pub noted_by : wants_bytes wanted ≡ true → AreNotedBy wanted (rows_in t (shelves.now start).files) t old new files start.last notes
+    noted_by wants = record {
+      boundary = boundary;
+      at = at.last;
+      from = before.past.later;
+      to = ends.past.later;
+      clock = λ told. clock_true (wants_bytes wanted) wants is (before.past.told ∙ told) ∙ ap (λ (m : Moment). m.clock) (sym (ends.past.stay at.last (omega arith)));
+      stamp = all.stamp;
+      shown = λ told note has.
+          let was = all.shown (first.past.told ∙ told) note has in record {
+            at = was.at;
+            since = omega (arith, was.from, behind.past.later);
+            to = omega (arith, was.to, third.past.later);
+            so = ap (λ (m : Moment). stat_at m note.path) (third.past.stay was.at was.to) ∙ was.shows;
+          };
+      vouched = λ told. vouched told wants;
+    }
+
     pub recorded : trees.IsOurs old new → KeepsPlain files start.last → IsRecorded wanted (rows_in t (shelves.now start).files) t (trees.now old) (applied notes t)
-    recorded ours keeps =
+    recorded ours keeps wants path entry stat has shown clean some =
         let until = ours_first old later new third.past ours in
         let own : trees.IsOurs old mid = ours_first old mid later second.past until in
-        subst (λ (m : Moment). IsRecorded wanted (rows_in t (shelves.now start).files) t m (applied notes t)) (now_same old mid first own)
-        (all.recorded (ours_second old mid later first.past until) keeps
-        (λ wants.
-        clock_true (wants_bytes wanted) wants is (before.past.told ∙ ours.told)
-        ∙ ap (λ (m : Moment). m.clock) (sym (now_same at mid behind (ours_second old at mid before.past own)))))
+        let clock : boundary ≡ (trees.now old).clock =
+        clock_true (wants_bytes wanted) wants is (before.past.told ∙ ours.told) ∙ ap (λ (m : Moment). m.clock) (now_same old at before (ours_first old at mid behind.past own)) in
+        vouched ours.told wants path entry stat (left_all (flat_of t) wanted (asked_unvouched wanted t) (first_id t) old new whole ours files start.last keeps path) has shown clean
+        (ap (λ (b : Time). is_some (stamp_of stat.mtime b)) clock ∙ some)

@@ -22,7 +22,7 @@ use Rattle.hg_tree.specs.History.{Extends, History}
 use Rattle.hg_tree.specs.Honest.{IsHonest}
 use Rattle.hg_tree.specs.Moment.{Lists, is_among, stat_at}
 use Rattle.hg_walk.specs.Notes.{AreClean, AreEarned, AreSeen, CleanNote, DirNote, IsCleanNote, NotesData, applied}
-use Rattle.hg_walk.specs.Right.{AreRight, CachedAreListed, IsTimeless, VouchedAreClean}
+use Rattle.hg_walk.specs.Right.{AreRight, AreUntaken, CachedAreListed, IsTimeless, VouchedAreClean}
 use Rattle.hg_walk.specs.Seeing.{SeenDir}
 use Rattle.hg_walk.specs.Trust.{IsEarned, IsGood, IsTrusted}
 
@@ -45,6 +45,10 @@ TrustedAreRight =
 -- where no time is recorded, none is wrong: no premise on times then
 abbrev pub TimelessAreRight : Type 0
 TimelessAreRight = (rows : List ℕ → Option ParentRow) (table : Table) (old new : History) → IsTimeless table → AreRight rows table old new
+
+-- nor is one wrong where none is taken for a look during the call
+abbrev pub UntakenAreRight : Type 0
+UntakenAreRight = (rows : List ℕ → Option ParentRow) (table : Table) (old new : History) → AreUntaken table old new → AreRight rows table old new
 
 -- what is right over a call is right over its first part, and over its second
 abbrev pub RightInFirst : Type 0

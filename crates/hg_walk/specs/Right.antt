@@ -1,5 +1,5 @@
 -- What a walk needs of recorded times, whatever the reason for it: where one is taken for a look, it says what the look would have shown.
-use Rattle.std.specs.Prelude.{ℕ, ◌≡◌, ◌≤◌, ◌⊎◌, true, IsTrue, List, Option, Some, None, codes, is_some}
+use Rattle.std.specs.Prelude.{ℕ, ◌≡◌, ◌≤◌, ◌⊎◌, true, false, IsTrue, List, Option, Some, None, codes, is_some}
 use Rattle.hg_base.specs.PathText.{is_component, joined}
 use Rattle.hg_base.specs.declared.stat.Kind.TheVariants as a_kind
 use Rattle.hg_base.specs.declared.stat.Stat.{Stat}
@@ -32,6 +32,14 @@ CachedAreListed table old new =
 pub record AreRight (rows : List ℕ → Option ParentRow) (table : Table) (old new : History) : Type 0 where
   pub clean : VouchedAreClean rows table old new
   pub listed : CachedAreListed table old new
+
+-- over a call no time is taken for a look: no entry vouches for what stands at its path, and no cached directory shows the recorded time under patterns with
+-- the recorded hash
+pub record AreUntaken (table : Table) (old new : History) : Type 0 where
+  pub entries : (k : ℕ) (path : List ℕ) (entry : EntryData) (stat : Stat) → old.last ≤ k → k ≤ new.last → table.entries path ≡ Some entry
+      → stat_at (new.at k) path ≡ Some stat → vouches entry (is_some (table.sources path)) stat ≡ false
+  pub caches : (k : ℕ) (dir : List ℕ) (cache : CacheData) (stat : Stat) (state : List Piece) → old.last ≤ k → k ≤ new.last → table.caches dir ≡ Some cache
+      → stat_at (new.at k) dir ≡ Some stat → stat.kind ≡ a_kind.Dir → Texts new state → Hash state ≡ table.hash → matches cache.stamp stat.mtime ≡ false
 
 -- no time of a record is ever taken for a look
 pub record IsTimeless (table : Table) : Type 0 where

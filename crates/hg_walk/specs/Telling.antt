@@ -30,6 +30,7 @@ use Rattle.hg_shelf.specs.History as shelves
 use Rattle.hg_tree.specs.History as trees
 use Rattle.hg_tree.specs.Honest.{IsHonest}
 use Rattle.hg_tree.specs.Moment.{stat_at}
+use Rattle.hg_tree.specs.Still.{Untouched}
 use Rattle.hg_walk.specs.Finding.{WasClock, rows_then}
 use Rattle.hg_walk.specs.Marks.{is_no_dir, mark_of, stands}
 use Rattle.hg_walk.specs.Notes.{AreClean, CleanNote, NotesData, clean_at}
@@ -116,15 +117,16 @@ pub record WasShown (old new : trees.History) (path : List ℕ) (stat : Stat) : 
 abbrev pub KeepsRows : Status → Type 0
 KeepsRows s = (path : List ℕ) → KeepsRow s.shelf_new s.shelf_old.last s.id path
 
--- what is noted of children: needed times alone, each by the boundary and from a look in the call; whatever others do they are earned, and where
--- nobody else steps no clean path is left out whose time may be noted
+-- what is noted of children: needed times alone, each by the boundary and from a look in the call; whatever others do they are earned, and no clean path
+-- is left out that is left alone, nor what the first parent has of it, and whose time may be noted
 pub record AreNotesOf (s : Status) (t : Table) (boundary : Time) (children : List Line) (notes : List CleanNote) : Type 0 where
   pub needed : (note : CleanNote) → Contains notes note → IsNeededNote t note
   pub stamp : (note : CleanNote) → Contains notes note → stamp_of note.stat.mtime boundary ≡ Some note.stamp
   pub shown : IsTrue s.tree_old.told → (note : CleanNote) → Contains notes note → WasShown s.tree_old s.tree_new note.path note.stat
   pub earned : IsHonest s.tree_new → IsTrue s.tree_old.told → WasClock s.tree_old boundary → KeepsRows s → AreClean (rows_then s) t s.tree_new notes
-  pub recorded : trees.IsOurs s.tree_old s.tree_new → KeepsRows s → wants_bytes s.wanted ≡ true
-      → (child : Line) (entry : EntryData) (stat : Stat) (stamp : StampData) → Contains children child → t.entries (path_of child) ≡ Some entry
+  pub recorded : IsTrue s.tree_old.told → wants_bytes s.wanted ≡ true
+      → (child : Line) (entry : EntryData) (stat : Stat) (stamp : StampData) → Contains children child → Untouched s.tree_new s.tree_old.last (path_of child)
+      → KeepsRow s.shelf_new s.shelf_old.last s.id (path_of child) → t.entries (path_of child) ≡ Some entry
       → stat_at (trees.now s.tree_old) (path_of child) ≡ Some stat
       → tracked_letter (rows_then s (path_of child)) (marks_of entry) (is_some (t.sources (path_of child))) ((trees.now s.tree_old).things (path_of child)) ≡ Some a_letter.C
       → vouches entry (is_some (t.sources (path_of child))) stat ≡ false → stamp_of stat.mtime boundary ≡ Some stamp

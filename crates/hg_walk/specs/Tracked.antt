@@ -3,6 +3,7 @@ use Rattle.std.specs.Prelude.{◌≡◌, Bool, true, IsTrue, MatchBool, List, []
 use Rattle.std.specs.List.{Contains}
 use Rattle.hg_base.specs.declared.time.Time.{Time}
 use Rattle.hg_entry.specs.Table.{Table, flat_of}
+use Rattle.hg_flat.specs.Judged.{IsLeftAsked}
 use Rattle.hg_flat.specs.Kept.{HaveOwnPaths, flat_from, row_at}
 use Rattle.hg_flat.specs.Listing.{wants_bytes}
 use Rattle.hg_flat.specs.Met.{Status}
@@ -11,14 +12,14 @@ use Rattle.hg_listing.specs.declared.row.Row.{Row}
 use Rattle.hg_mixed.specs.declared.line.Line.{Line}
 use Rattle.hg_mtime.specs.Stamps.{stamp_of}
 use Rattle.hg_shelf.specs.Polite.{KeepsPlain}
-use Rattle.hg_tree.specs.History.{History, IsOurs, now}
+use Rattle.hg_tree.specs.History.{History, now}
 use Rattle.hg_tree.specs.Honest.{IsHonest}
 use Rattle.hg_walk.specs.Finding.{WasClock, rows_then}
 use Rattle.hg_walk.specs.Notes.{AreEarned, CleanNote, NotesData, applied}
 use Rattle.hg_walk.specs.Passing.{known_of}
 use Rattle.hg_walk.specs.Right.{AreRight}
 use Rattle.hg_walk.specs.Telling.{TellsEach, WasShown, tracked_rows}
-use Rattle.hg_walk.specs.Walking.{AreNeeded, IsRecorded}
+use Rattle.hg_walk.specs.Walking.{AreNeeded, VouchesFor}
 use Rattle.hg_walk.specs.declared.mark.Mark.{Mark}
 
 -- a boundary is the clock's where bytes may decide letters; else no time is before it that may be recorded
@@ -36,13 +37,13 @@ pub record TellsAll (s : Status) (t : Table) (children : List Line) (marks : Lis
 abbrev pub WasClockOf : History → Time → NotesData → Type 0
 WasClockOf h boundary notes = (note : CleanNote) → Contains notes.clean note → WasClock h boundary
 
--- what is noted of the record's times by a boundary: where that was the clock's before, it is earned, and where it is the clock's still and nobody else
--- steps, nothing is left out
+-- what is noted of the record's times by a boundary: where that was the clock's before, it is earned, and behind it the record vouches for each path that is
+-- left alone, is clean at the start, and has a time that may be recorded by the boundary
 pub record NotesAll (s : Status) (t : Table) (boundary : Time) (notes : NotesData) : Type 0 where
   pub needed : AreNeeded t notes
   pub stamp : (note : CleanNote) → Contains notes.clean note → stamp_of note.stat.mtime boundary ≡ Some note.stamp
   pub shown : IsTrue s.tree_old.told → (note : CleanNote) → Contains notes.clean note → WasShown s.tree_old s.tree_new note.path note.stat
   pub earned : IsHonest s.tree_new → IsTrue s.tree_old.told → WasClockOf s.tree_old boundary notes → KeepsPlain s.shelf_new s.shelf_old.last
       → AreEarned (rows_then s) t s.tree_new notes
-  pub recorded : IsOurs s.tree_old s.tree_new → KeepsPlain s.shelf_new s.shelf_old.last → (wants_bytes s.wanted ≡ true → boundary ≡ (now s.tree_old).clock)
-      → IsRecorded s.wanted (rows_then s) t (now s.tree_old) (applied notes t)
+  pub recorded : IsTrue s.tree_old.told → wants_bytes s.wanted ≡ true
+      → VouchesFor (IsLeftAsked s.asks s.id s.tree_new s.tree_old.last s.shelf_new s.shelf_old.last) (rows_then s) t (now s.tree_old) boundary (applied notes t)

@@ -18,7 +18,7 @@ use Rattle.hg_mtime.specs.Vouching.{vouches}
 use Rattle.hg_shelf.specs.History as shelves
 use Rattle.hg_tree.specs.History as trees
 use Rattle.hg_tree.specs.Moment.{Moment, stat_at}
-use Rattle.hg_walk.specs.Notes.{CleanNote, NotesData}
+use Rattle.hg_walk.specs.Notes.{CleanNote, NotesData, applied}
 
 -- ---- which paths are compared
 
@@ -91,6 +91,32 @@ pub record AreNoted (old new : trees.History) (notes : NotesData) : Type 0 where
   pub stamp : (note : CleanNote) → Contains notes.clean note → stamp_of note.stat.mtime boundary ≡ Some note.stamp
   pub shown : IsTrue old.told → (note : CleanNote) → Contains notes.clean note → WasMoment old new (λ moment. stat_at moment note.path ≡ Some note.stat)
   pub order : (told : IsTrue old.told) (note : CleanNote) (has : Contains notes.clean note) → (clock told note has).at ≤ (shown told note has).at
+
+-- a moment from one on shows this
+pub record WasSince (from : ℕ) (h : trees.History) (P : Moment → Type 0) : Type 0 where
+  pub at : ℕ
+  pub since : from ≤ at
+  pub to : at ≤ h.last
+  pub so : P (h.at at)
+
+-- another record vouches for each path with an entry that meets S, is clean at a moment, and has a time that may be recorded by a boundary
+abbrev pub VouchesFor : (List ℕ → Type 0) → (List ℕ → Option ParentRow) → Table → Moment → Time → Table → Type 0
+VouchesFor S rows table moment boundary after =
+    (path : List ℕ) (entry : EntryData) (stat : Stat) → S path → table.entries path ≡ Some entry → stat_at moment path ≡ Some stat
+    → tracked_letter (rows path) (marks_of entry) (is_some (table.sources path)) (moment.things path) ≡ Some a_letter.C
+    → IsTrue (is_some (stamp_of stat.mtime boundary)) → is_vouched_at after moment path ≡ true
+
+-- a boundary was the clock's at a moment of the walk; each time is noted by it and from a look behind it; and whoever else steps, behind the notes the
+-- record vouches for each path that is left alone, is clean at the start, and has a time that may be recorded by that boundary
+pub record AreNotedBy (wanted : Wanted) (rows : List ℕ → Option ParentRow) (table : Table) (old new : trees.History) (files : shelves.History) (since : ℕ) (notes : NotesData) : Type 0 where
+  pub boundary : Time
+  pub at : ℕ
+  pub from : old.last ≤ at
+  pub to : at ≤ new.last
+  pub clock : IsTrue old.told → boundary ≡ (new.at at).clock
+  pub stamp : (note : CleanNote) → Contains notes.clean note → stamp_of note.stat.mtime boundary ≡ Some note.stamp
+  pub shown : IsTrue old.told → (note : CleanNote) → Contains notes.clean note → WasSince at new (λ moment. stat_at moment note.path ≡ Some note.stat)
+  pub vouched : IsTrue old.told → VouchesFor (IsLeftBy wanted table new old.last files since) rows table (trees.now old) boundary (applied notes table)
 
 -- where bytes decide letters that are wanted, a record vouches behind the walk for each path that is clean at a moment with a time that may be recorded
 -- then: the second walk reads no byte of it

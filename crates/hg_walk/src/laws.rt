@@ -4,7 +4,7 @@ ghost use Rattle.std.specs.Prelude.{ℕ, List, Option};
 ghost use Rattle.hg_compare.specs.Tracked.{ParentRow};
 ghost use Rattle.hg_entry.specs.Table.{Table};
 ghost use Rattle.hg_tree.specs.History.{Extends, History};
-ghost use Rattle.hg_walk.specs.Laws.{CachedIsListed, ListedIsSeen, NotedIsEarned, NotedIsGood, NotesAreTrusted, OneMoreClean, OneMoreSeen, RightInFirst, RightInSecond, TimelessAreRight, TrustedAreRight, VouchedIsClean};
+ghost use Rattle.hg_walk.specs.Laws.{CachedIsListed, ListedIsSeen, NotedIsEarned, NotedIsGood, NotesAreTrusted, OneMoreClean, OneMoreSeen, RightInFirst, RightInSecond, TimelessAreRight, TrustedAreRight, UntakenAreRight, VouchedIsClean};
 ghost use Rattle.hg_walk.specs.Trust.{IsTrusted};
 ghost use Rattle.hg_walk.specs.Worked.{IsWorked};
 
@@ -20,9 +20,10 @@ pub fn trusted_are_right()
     ensures right { TrustedAreRight }
 {}
 
-/// Where no time is recorded, recorded times are right without a premise.
+/// Where no time is recorded, recorded times are right without a premise; so they are where none is taken for a look during the call.
 pub fn timeless_are_right()
-    ensures { TimelessAreRight }
+    ensures timeless { TimelessAreRight }
+    ensures untaken { UntakenAreRight }
 {}
 
 /// What is right over a call is right over its parts.

@@ -20,7 +20,7 @@ ghost use Rattle.hg_tree.specs.Honest.{IsHonest};
 ghost use Rattle.hg_walk.specs.Notes.{AreEarned, applied};
 ghost use Rattle.hg_walk.specs.Right.{AreRight};
 ghost use Rattle.hg_walk.specs.Tracked.{IsBoundary};
-ghost use Rattle.hg_walk.specs.Walking.{AreNeeded, AreNoted, IsLeftBy, IsRecorded, asked_unvouched, first_id, rows_in, walk_status};
+ghost use Rattle.hg_walk.specs.Walking.{AreNeeded, AreNoted, AreNotedBy, IsLeftBy, IsRecorded, asked_unvouched, first_id, rows_in, walk_status};
 
 use crate::tracked::{Tracked, tell_all};
 use crate::walked::Walked;
@@ -143,6 +143,20 @@ pub fn walk<T: Tree, S: Shelf, G: Regexps>(
         (table mixed.now)
         (trees.now (T.history tree.old))
         (applied walked.notes (table mixed.now))) }
+    // Whoever else steps: behind the notes the record vouches for each path that is left alone, is clean at the start, and has a time that may be recorded at
+    // one moment of the walk, whose clock is that of all notes.
+    ensures noted_by { wants_bytes wanted ≡ true
+        → IfOk
+        result
+        (λ walked. AreNotedBy
+        wanted
+        (rows_in (table mixed.now) (shelves.now (S.history shelf.old)).files)
+        (table mixed.now)
+        (T.history tree.old)
+        (T.history tree.new)
+        (S.history shelf.new)
+        (S.history shelf.old).last
+        walked.notes) }
     ensures needed { IfOk result (λ walked. AreNeeded (table mixed.now) walked.notes) }
     ensures noted { IfOk result (λ walked. AreNoted (T.history tree.old) (T.history tree.new) walked.notes) }
     ensures uncompiled { needs_patterns wanted ≡ false → regexps.new ≡ regexps.old }

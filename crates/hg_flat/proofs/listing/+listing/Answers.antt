@@ -223,6 +223,10 @@ visit-returns-clause-asked g t c = λ told since past are.
     (c.in_ok-is_nested.ensures.found
     (these_names (option_map (λ d. d.text.now) c.args.dir) (option_map (λ v. v.items) c.in_ok-names.field-0) c.in-Some.names.items c.deref.result.now (now mid)
     (ap (option_map (λ v. v.items)) c.in-Some.is) c.deref.ensures.value (c.in_ok-names.ensures.found told))) c.if-branch.false
+    (c.in_ok-is_nested.ensures.apart
+    (these_names (option_map (λ d. d.text.now) c.args.dir) (option_map (λ v. v.items) c.in_ok-names.field-0) c.in-Some.names.items c.deref.result.now (now mid)
+    (ap (option_map (λ v. v.items)) c.in-Some.is) c.deref.ensures.value (c.in_ok-names.ensures.found told))
+    (c.list.ensures.passes.past.told ∙ told) c.if-branch.false)
     (asks_one _ (option_map (λ d. d.text.now) c.args.dir) (g.T.Tree.history c.args.tree.now) (g.T.Tree.history c.list.new.self) (c.list.ensures.asked told)) (c.is_nested.ensures.asked (c.list.ensures.passes.past.told ∙ told))
     (c.look_each.ensures.asked (first.past.told ∙ told) since (passes_trans since old later past first) (known_later (g.K.Entries.known c.args.entries.now) old later since.last first.past are))
 

@@ -15,7 +15,7 @@ use Rattle.hg_flat.proofs.Calls.{all_asks, asks_first, asks_second, own_asks}
 use Rattle.hg_flat.proofs.Fullness.{full_of}
 use Rattle.hg_flat.proofs.Judging.{marks_alike}
 use Rattle.hg_flat.proofs.Leaving.{left_all}
-use Rattle.hg_flat.proofs.Refusing.{had, is_kept, state_still, warns}
+use Rattle.hg_flat.proofs.Refusing.{had, is_kept, state_given, state_still, warns}
 use Rattle.hg_flat.proofs.Spanning.{counts_listing, counts_still, if_ok_on, met_listing, met_patterns, met_whole, not_parent, of_listing_none}
 use Rattle.hg_flat.proofs.Steps.{known_none}
 use Rattle.hg_flat.proofs.Storing.{store_longer, store_none}
@@ -184,6 +184,7 @@ returns-clause-asked g c = λ told.
     let past = passes_trans old mid later c.read_patterns.ensures.passes c.add_each.ensures.passes in
     all_asks c.args.wanted (asked_by c.args.wanted (flat_in c.args.flat.now)) (pieces_of c.in_ok-ignore.ignore) old mid later new c.read_patterns.ensures.passes c.add_each.ensures.passes c.list_others.ensures.passes
     (state_still c.args.wanted old mid c.in_ok-ignore.ignore c.in_ok-ignore.ensures.kept)
+    (state_given old mid new c.read_patterns.ensures.passes (passes_trans mid later new c.add_each.ensures.passes c.list_others.ensures.passes).past c.args.wanted c.in_ok-ignore.ignore c.in_ok-ignore.ensures.kept)
     (c.read_patterns.ensures.asked told)
     (c.add_each.ensures.asked (c.read_patterns.ensures.passes.past.told ∙ told))
     (c.list_others.ensures.asked (past.past.told ∙ told) old past (known_none later old.last past.past.later))
@@ -199,6 +200,7 @@ returns-clause-asked_own g c = λ ours.
     (λ listed others.
     own_asks c.args.wanted (asked_by c.args.wanted (flat_in c.args.flat.now)) (pieces_of c.in_ok-ignore.ignore) old mid later new c.read_patterns.ensures.passes c.add_each.ensures.passes c.list_others.ensures.passes
     (state_still c.args.wanted old mid c.in_ok-ignore.ignore c.in_ok-ignore.ensures.kept)
+    (state_given old mid new c.read_patterns.ensures.passes (passes_trans mid later new c.add_each.ensures.passes c.list_others.ensures.passes).past c.args.wanted c.in_ok-ignore.ignore c.in_ok-ignore.ensures.kept)
     (c.in_ok-ignore.ensures.asked_own (ours_first old mid new (passes_trans mid later new c.add_each.ensures.passes c.list_others.ensures.passes).past ours))
     (c.add_each.ensures.asked (c.read_patterns.ensures.passes.past.told ∙ ours.told))
     (c.list_others.ensures.asked (past.past.told ∙ ours.told) old past (known_none later old.last past.past.later)))

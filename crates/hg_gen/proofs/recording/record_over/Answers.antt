@@ -22,7 +22,7 @@ returns-in-Ok c =
       table = reads.found;
       id = id;
       reads = reads.is;
-      over = goes_over [] c.fill.new.mixed c.in-Ok.encoded (ap (λ (d : Contents). d.id) docket) (c.in-Ok.ensures.written refl) reads;
+      over = goes_over [] [] c.fill.new.mixed c.in-Ok.encoded c.in-Ok.encoded.bytes.items (ap (λ (d : Contents). d.id) docket) (c.in-Ok.ensures.written refl) reads;
       is = recorded c.args.dirs _ _ _ _ _ _ c.requires.empty.docket c.requires.empty.rows c.open-mixed.ensures.table c.set_ids.ensures.table c.in_ok-fill.ensures.head.p1
           c.in_ok-fill.ensures.head.p2 c.in_ok-fill.ensures.head.hash c.in_ok-fill.ensures.entries reads.same;
     }

@@ -11,5 +11,5 @@ loop-file-init c =
     record {
       files = subst (λ (m : Memory). AreFiles 0 (now (history_of m)).things) (sym c.in_ok-tree.ensures) none_placed;
       clock = ap (λ (m : Memory). (now (history_of m)).clock) c.in_ok-tree.ensures ∙ time_same _ (seconds 2000) refl refl;
-      given = subst IsGiven (sym c.in_ok-tree.ensures) (record { due = refl; changes = tt });
+      given = subst IsGiven (sym c.in_ok-tree.ensures) (record { due = refl; failing = refl; changes = tt });
     }

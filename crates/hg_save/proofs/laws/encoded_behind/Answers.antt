@@ -1,4 +1,4 @@
-use Rattle.hg_save.proofs.Behind.{goes_behind}
+use Rattle.hg_save.proofs.Encodings.{goes_behind}
 use Rattle.hg_save.proofs.laws.encoded_behind.Goals as goal
 
 pub returns : goal.returns

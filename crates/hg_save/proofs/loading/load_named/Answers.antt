@@ -1,5 +1,5 @@
-use Rattle.std.proofs.Common.{◌≡◌, ◌++◌, List, subst, ℕ, sym, refl, ap, arith, ◌∙◌}
-use Rattle.hg_docket.specs.Docket.{Contents, docket_of, view}
+use Rattle.std.proofs.Common.{◌≡◌, ◌++◌, List, subst, sym, refl, ◌∙◌}
+use Rattle.hg_docket.specs.Docket.{view}
 use Rattle.std.proofs.lemmas.Result.{err_from_is_err_and}
 use Rattle.hg_save.specs.Asked.{named_asks}
 use Rattle.hg_save.proofs.Asking.{sound_asks}
@@ -48,12 +48,3 @@ returns-in_err-extend_from_slice-clause-asked g c = λ told.
 pub returns-clause-asked : goal.returns-clause-asked
 returns-clause-asked g c = λ told.
     subst (λ (asks : List Asked). (g.S.Shelf.history c.read_data.new.shelf).asked ≡ (g.S.Shelf.history c.args.shelf.now).asked ++ asks) (sound_asks c.args.bytes.now (view c.in_ok-docket.docket) (sym c.in_ok-docket.ensures.refused) c.in_ok-docket.ensures.fields) (c.in_ok-nodes.ensures.asked told)
-
-pub returns-clause-most : goal.returns-clause-most
-returns-clause-most g c =
-    let kept : c.extend_from_slice.new.self.items ≡ c.args.bytes.now = c.in_ok-extend_from_slice.ensures.items ∙ rw c.new-kept.ensures.items refl in
-    let fields : view c.in_ok-docket.docket ≡ docket_of c.args.bytes.now = c.in_ok-docket.ensures.fields in
-    let used : (docket_of c.extend_from_slice.new.self.items).used ≡ (view c.in_ok-docket.docket).used =
-    ap (λ (l : List ℕ). (docket_of l).used) kept ∙ ap (λ (d : Contents). d.used) (sym fields) in
-    let most = c.in_ok-nodes.ensures.most in
-    omega (arith, used, most)

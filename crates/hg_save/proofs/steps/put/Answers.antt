@@ -1,13 +1,10 @@
-use Rattle.std.proofs.Common.{◌∙◌, length}
+use Rattle.std.proofs.Common.{◌∙◌}
 use Rattle.hg_shelf.specs.Images.{course}
 use Rattle.hg_shelf.proofs.Scenes.{goes_trans}
-use Rattle.hg_save.proofs.Own.{put_steps, sync_failed_steps, write_failed_steps}
+use Rattle.hg_save.proofs.Own.{tears_failed, tears_synced, tears_unsynced}
 use Rattle.hg_save.proofs.Parts.{put_leads, put_sure, sync_failed, write_failed}
 use Rattle.hg_save.proofs.Held.{held_acts, held_either, held_passes, held_then}
-use Rattle.hg_save.proofs.Stages.{leads_weaker}
-use Rattle.hg_save.specs.Leads.{ButFor}
-use Rattle.hg_shelf.specs.Rules.{Syncs, Tears, TornAt, Writes}
-use Rattle.hg_save.proofs.OwnBehind.{tears_failed, tears_synced, tears_unsynced}
+use Rattle.hg_shelf.specs.Rules.{Syncs, Tears, Writes}
 use Rattle.hg_save.proofs.steps.put.Goals as goal
 
 pub returns-in_err-write_at-clause-torn : goal.returns-in_err-write_at-clause-torn
@@ -16,22 +13,12 @@ returns-in_err-write_at-clause-torn g c = λ calm.
     (course (g.S.Shelf.history c.args.shelf.now) (g.S.Shelf.images c.args.shelf.now)) (course (g.S.Shelf.history c.write_at.new.self) (g.S.Shelf.images c.write_at.new.self))
     c.requires c.in_err-write_at.ensures.ours c.in_err-write_at.ensures.kept calm (c.in_err-write_at.ensures.torn calm.told)
 
-pub returns-in_err-write_at-clause-leads : goal.returns-in_err-write_at-clause-leads
-returns-in_err-write_at-clause-leads g c = λ calm.
-    leads_weaker (course (g.S.Shelf.history c.args.shelf.now) (g.S.Shelf.images c.args.shelf.now)) (course (g.S.Shelf.history c.write_at.new.self) (g.S.Shelf.images c.write_at.new.self))
-    (TornAt c.args.name.now c.args.place (length c.args.bytes.now)) (ButFor c.args.name.now) (λ old new is. is.elsewhere) (returns-in_err-write_at-clause-torn g c calm)
-
 pub returns-in_err-sync-clause-torn : goal.returns-in_err-sync-clause-torn
 returns-in_err-sync-clause-torn g c = λ calm.
     sync_failed c.args.name.now c.args.place c.args.bytes.now
     (course (g.S.Shelf.history c.args.shelf.now) (g.S.Shelf.images c.args.shelf.now)) (course (g.S.Shelf.history c.write_at.new.self) (g.S.Shelf.images c.write_at.new.self))
     (course (g.S.Shelf.history c.sync.new.self) (g.S.Shelf.images c.sync.new.self))
     c.requires c.in_ok-write_at.ensures.ours c.in_ok-write_at.ensures.kept c.in_err-sync.ensures.kept calm (c.in_ok-write_at.ensures.written calm.told) c.in_err-sync.ensures.unsynced
-
-pub returns-in_err-sync-clause-leads : goal.returns-in_err-sync-clause-leads
-returns-in_err-sync-clause-leads g c = λ calm.
-    leads_weaker (course (g.S.Shelf.history c.args.shelf.now) (g.S.Shelf.images c.args.shelf.now)) (course (g.S.Shelf.history c.sync.new.self) (g.S.Shelf.images c.sync.new.self))
-    (TornAt c.args.name.now c.args.place (length c.args.bytes.now)) (ButFor c.args.name.now) (λ old new is. is.elsewhere) (returns-in_err-sync-clause-torn g c calm)
 
 pub returns-in_err-sync-clause-kept : goal.returns-in_err-sync-clause-kept
 returns-in_err-sync-clause-kept g c = goes_trans _ _ _ c.in_ok-write_at.ensures.kept c.in_err-sync.ensures.kept
@@ -44,11 +31,6 @@ returns-clause-torn g c = λ calm.
     c.requires c.in_ok-write_at.ensures.ours c.in_ok-sync.ensures.ours c.in_ok-write_at.ensures.kept c.in_ok-sync.ensures.kept calm (c.in_ok-write_at.ensures.written calm.told)
     (c.in_ok-sync.ensures.synced (c.in_ok-write_at.ensures.kept.past.told ∙ calm.told))
 
-pub returns-clause-leads : goal.returns-clause-leads
-returns-clause-leads g c = λ calm.
-    leads_weaker (course (g.S.Shelf.history c.args.shelf.now) (g.S.Shelf.images c.args.shelf.now)) (course (g.S.Shelf.history c.sync.new.self) (g.S.Shelf.images c.sync.new.self))
-    (TornAt c.args.name.now c.args.place (length c.args.bytes.now)) (ButFor c.args.name.now) (λ old new is. is.elsewhere) (returns-clause-torn g c calm)
-
 pub returns-clause-sure : goal.returns-clause-sure
 returns-clause-sure g c = λ calm.
     put_sure c.args.name.now c.args.place c.args.bytes.now
@@ -59,26 +41,6 @@ returns-clause-sure g c = λ calm.
 
 pub returns-clause-kept : goal.returns-clause-kept
 returns-clause-kept g c = goes_trans _ _ _ c.in_ok-write_at.ensures.kept c.in_ok-sync.ensures.kept
-
-pub returns-in_err-write_at-clause-steps : goal.returns-in_err-write_at-clause-steps
-returns-in_err-write_at-clause-steps g c = λ calm.
-    write_failed_steps c.args.name.now c.args.place c.args.bytes.now
-    (course (g.S.Shelf.history c.args.shelf.now) (g.S.Shelf.images c.args.shelf.now)) (course (g.S.Shelf.history c.write_at.new.self) (g.S.Shelf.images c.write_at.new.self))
-    c.requires (c.in_err-write_at.ensures.torn calm.told)
-
-pub returns-in_err-sync-clause-steps : goal.returns-in_err-sync-clause-steps
-returns-in_err-sync-clause-steps g c = λ calm.
-    sync_failed_steps c.args.name.now c.args.place c.args.bytes.now
-    (course (g.S.Shelf.history c.args.shelf.now) (g.S.Shelf.images c.args.shelf.now)) (course (g.S.Shelf.history c.write_at.new.self) (g.S.Shelf.images c.write_at.new.self)) c.requires
-    (course (g.S.Shelf.history c.sync.new.self) (g.S.Shelf.images c.sync.new.self))
-    c.in_ok-write_at.ensures.ours c.in_err-sync.ensures.kept (c.in_ok-write_at.ensures.written calm.told) c.in_err-sync.ensures.unsynced
-
-pub returns-clause-steps : goal.returns-clause-steps
-returns-clause-steps g c = λ calm.
-    put_steps c.args.name.now c.args.place c.args.bytes.now
-    (course (g.S.Shelf.history c.args.shelf.now) (g.S.Shelf.images c.args.shelf.now)) (course (g.S.Shelf.history c.write_at.new.self) (g.S.Shelf.images c.write_at.new.self)) c.requires
-    (course (g.S.Shelf.history c.sync.new.self) (g.S.Shelf.images c.sync.new.self))
-    c.in_ok-write_at.ensures.ours c.in_ok-sync.ensures.kept (c.in_ok-write_at.ensures.written calm.told) (c.in_ok-sync.ensures.synced (c.in_ok-write_at.ensures.kept.past.told ∙ calm.told))
 
 pub returns-in_err-write_at-clause-lock : goal.returns-in_err-write_at-clause-lock
 returns-in_err-write_at-clause-lock g c = λ told. held_either (Tears c.args.name.now c.args.place c.args.bytes.now) (course (g.S.Shelf.history c.args.shelf.now) (g.S.Shelf.images c.args.shelf.now)) (course (g.S.Shelf.history c.write_at.new.self) (g.S.Shelf.images c.write_at.new.self)) c.requires (c.in_err-write_at.ensures.torn told)

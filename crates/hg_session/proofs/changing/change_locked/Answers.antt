@@ -47,7 +47,7 @@ pub returns-in_err-table-clause-met : goal.returns-in_err-table-clause-met
 returns-in_err-table-clause-met g c =
     let p = err_from_is_err_and c.from_residual-in_err-table.result c.from_residual-in_err-table.ensures.1 in
     rw (p.1, p.2)
-    (met_opened (makes_of c.args.command.now (record { old = g.T.Tree.history c.args.tree.now; new = g.T.Tree.history c.args.tree.now; before = g.T.Tree.faults c.args.tree.now; after = g.T.Tree.faults c.args.tree.now }) (record { old = g.S.Shelf.history c.args.shelf.now; new = g.S.Shelf.history c.read.new.shelf; before = g.S.Shelf.faults c.args.shelf.now; after = g.S.Shelf.faults c.read.new.shelf })) (record { old = g.T.Tree.history c.args.tree.now; new = g.T.Tree.history c.args.tree.now; before = g.T.Tree.faults c.args.tree.now; after = g.T.Tree.faults c.args.tree.now }) (record { old = g.S.Shelf.history c.args.shelf.now; new = g.S.Shelf.history c.read.new.shelf; before = g.S.Shelf.faults c.args.shelf.now; after = g.S.Shelf.faults c.read.new.shelf }) (IsOpened c.in_ok-loaded.loaded) c.in_ok-loaded.loaded c.in_err-table.field-0.0 c.in_ok-loaded.ensures.whole
+    (met_opened (makes_of c.args.command.now (record { old = g.T.Tree.history c.args.tree.now; new = g.T.Tree.history c.args.tree.now; before = g.T.Tree.faults c.args.tree.now; after = g.T.Tree.faults c.args.tree.now }) (record { old = g.S.Shelf.history c.args.shelf.now; new = g.S.Shelf.history c.read.new.shelf; before = g.S.Shelf.faults c.args.shelf.now; after = g.S.Shelf.faults c.read.new.shelf })) (record { old = g.T.Tree.history c.args.tree.now; new = g.T.Tree.history c.args.tree.now; before = g.T.Tree.faults c.args.tree.now; after = g.T.Tree.faults c.args.tree.now }) (record { old = g.S.Shelf.history c.args.shelf.now; new = g.S.Shelf.history c.read.new.shelf; before = g.S.Shelf.faults c.args.shelf.now; after = g.S.Shelf.faults c.read.new.shelf }) (IsOpened c.in_ok-loaded.loaded) c.in_ok-loaded.loaded c.in_err-table.field-0.0 c.in_ok-loaded.loaded.whole.sound
     c.in_ok-loaded.ensures.found c.in_err-table.ensures (record { history = refl; count = refl }))
 
 pub returns-in_err-table-clause-safe : goal.returns-in_err-table-clause-safe
@@ -82,7 +82,7 @@ returns-in_err-lines-clause-met g c =
     let acts = c.in_err-lines.ensures.acts in
     let wider = makes_wide part whole c.in_ok-loaded.ensures.passes.past (extends_same m.history) c.args.command.now copy in
     rw (p.1, p.2)
-    (met_acting a m m (passes_trans a.history b.history m.history c.in_ok-loaded.ensures.passes acts.below) (goes_same m) c.in_ok-loaded.loaded c.in_ok-loaded.ensures.whole
+    (met_acting a m m (passes_trans a.history b.history m.history c.in_ok-loaded.ensures.passes acts.below) (goes_same m) c.in_ok-loaded.loaded c.in_ok-loaded.loaded.whole.sound
     (loads_upto a.history b.history m.history c.in_ok-loaded.loaded acts.below.past c.in_ok-loaded.ensures.found) c.in_ok-table.ensures.0 c.in_ok-table.ensures.1
     (makes_of c.args.command.now copy whole) copy c.in_ok-table.table c.in_ok-table.ensures.2 (g.S.Shelf.faults c.args.shelf.now) (g.S.Shelf.faults c.read.new.shelf) (g.S.Shelf.faults c.act.new.shelf) c.in_err-lines.field-0.0
     c.in_ok-loaded.ensures.cause.quiet (wider.stops _ c.in_err-lines.field-0.0 (acts.stops c.in_ok-table.ensures.2.unchanged)) acts.tree_cause.rose acts.shelf_cause.rose)
@@ -105,7 +105,7 @@ returns-in_err-lines-clause-copy g c =
     let b : Course = course (g.S.Shelf.history c.read.new.shelf) (g.S.Shelf.images c.read.new.shelf) in
     let m : Course = course (g.S.Shelf.history c.act.new.shelf) (g.S.Shelf.images c.act.new.shelf) in
     let acts = c.in_err-lines.ensures.acts in
-    changes_by a m m (passes_trans a.history b.history m.history c.in_ok-loaded.ensures.passes acts.below) (goes_same m) c.in_ok-loaded.loaded c.in_ok-loaded.ensures.whole
+    changes_by a m m (passes_trans a.history b.history m.history c.in_ok-loaded.ensures.passes acts.below) (goes_same m) c.in_ok-loaded.loaded c.in_ok-loaded.loaded.whole.sound
     (loads_upto a.history b.history m.history c.in_ok-loaded.loaded acts.below.past c.in_ok-loaded.ensures.found) c.in_ok-table.ensures.0 c.in_ok-table.ensures.1 c.args.command.now
     (record { old = g.T.Tree.history c.args.tree.now; new = g.T.Tree.history c.act.new.tree; before = g.T.Tree.faults c.args.tree.now; after = g.T.Tree.faults c.act.new.tree }) c.in_ok-table.table c.in_ok-table.ensures.2 acts.tree
 
@@ -125,7 +125,7 @@ returns-in_err-lines-clause-behind g c =
     let b : Course = course (g.S.Shelf.history c.read.new.shelf) (g.S.Shelf.images c.read.new.shelf) in
     let m : Course = course (g.S.Shelf.history c.act.new.shelf) (g.S.Shelf.images c.act.new.shelf) in
     let acts = c.in_err-lines.ensures.acts in
-    inr (read_some a m m (passes_trans a.history b.history m.history c.in_ok-loaded.ensures.passes acts.below) (goes_same m) c.in_ok-loaded.loaded c.in_ok-loaded.ensures.whole
+    inr (read_some a m m (passes_trans a.history b.history m.history c.in_ok-loaded.ensures.passes acts.below) (goes_same m) c.in_ok-loaded.loaded c.in_ok-loaded.loaded.whole.sound
     (loads_upto a.history b.history m.history c.in_ok-loaded.loaded acts.below.past c.in_ok-loaded.ensures.found) c.in_ok-table.ensures.0 c.in_ok-table.ensures.1)
 
 pub returns-in_err-lines-clause-kept : goal.returns-in_err-lines-clause-kept
@@ -137,7 +137,7 @@ returns-in_err-lines-clause-asked g c = λ told.
     let b : Course = course (g.S.Shelf.history c.read.new.shelf) (g.S.Shelf.images c.read.new.shelf) in
     let m : Course = course (g.S.Shelf.history c.act.new.shelf) (g.S.Shelf.images c.act.new.shelf) in
     let acts = c.in_err-lines.ensures.acts in
-    asks_by a m m (passes_trans a.history b.history m.history c.in_ok-loaded.ensures.passes acts.below) (goes_same m) c.in_ok-loaded.loaded c.in_ok-loaded.ensures.whole
+    asks_by a m m (passes_trans a.history b.history m.history c.in_ok-loaded.ensures.passes acts.below) (goes_same m) c.in_ok-loaded.loaded c.in_ok-loaded.loaded.whole.sound
     (loads_upto a.history b.history m.history c.in_ok-loaded.loaded acts.below.past c.in_ok-loaded.ensures.found) c.in_ok-table.ensures.0 c.in_ok-table.ensures.1
     c.args.command.now _ c.in_ok-table.table c.in_ok-table.ensures.2 b.history acts.below.past refl c.in_ok-loaded.ensures.asked acts.asked c.in_ok-loaded.ensures.passes.past told
 
@@ -165,7 +165,7 @@ returns-in_err-save-clause-met g c =
     let Does : Makes = makes_of c.args.command.now copy whole in
     let acted = wider.does _ _ _ _ (acts.does c.in_ok-table.ensures.2.unchanged) in
     rw (p.1, p.2)
-    (met_writing a m d passes c.in_err-save.ensures.kept c.in_ok-loaded.loaded c.in_ok-loaded.ensures.whole loads c.in_ok-table.ensures.0 c.in_ok-table.ensures.1
+    (met_writing a m d passes c.in_err-save.ensures.kept c.in_ok-loaded.loaded c.in_ok-loaded.loaded.whole.sound loads c.in_ok-table.ensures.0 c.in_ok-table.ensures.1
     Does c.in_ok-table.table c.act.new.mixed c.in_ok-table.ensures.2 acts.image acts.lent c.in_ok-lines.lines.items acted copy
     (g.S.Shelf.faults c.args.shelf.now) (g.S.Shelf.faults c.act.new.shelf) (g.S.Shelf.faults c.save.new.shelf) c.in_err-save.field-0.0 (acts.shelf_cause.quiet ∙ c.in_ok-loaded.ensures.cause.quiet) c.in_err-save.ensures.lent c.in_err-save.ensures.met)
 
@@ -203,7 +203,7 @@ returns-in_err-save-clause-safe g c = λ calm.
     let Does : Makes = makes_of c.args.command.now copy whole in
     let acted = wider.does _ _ _ _ (acts.does c.in_ok-table.ensures.2.unchanged) in
     rw (p.1, p.2)
-    (safe_by a m d passes c.in_err-save.ensures.kept c.in_ok-loaded.loaded c.in_ok-loaded.ensures.whole loads c.in_ok-table.ensures.0 c.in_ok-table.ensures.1
+    (safe_by a m d passes c.in_err-save.ensures.kept c.in_ok-loaded.loaded c.in_ok-loaded.loaded.whole.sound loads c.in_ok-table.ensures.0 c.in_ok-table.ensures.1
     Does c.in_ok-table.table c.act.new.mixed c.in_ok-table.ensures.2 acts.image acts.lent c.in_ok-lines.lines.items acted
     c.requires calm c.in_err-save.ensures.lent (Some (of_change c.in_err-save.field-0.0))
     (c.in_err-save.ensures.safe (second_part a m d (goes_trans a b m c.in_ok-loaded.ensures.kept c.in_ok-lines.ensures.kept) calm)))
@@ -215,7 +215,7 @@ returns-in_err-save-clause-copy g c =
     let m : Course = course (g.S.Shelf.history c.act.new.shelf) (g.S.Shelf.images c.act.new.shelf) in
     let d : Course = course (g.S.Shelf.history c.save.new.shelf) (g.S.Shelf.images c.save.new.shelf) in
     let acts = c.in_ok-lines.ensures.acts in
-    changes_by a m d (passes_trans a.history b.history m.history c.in_ok-loaded.ensures.passes acts.below) c.in_err-save.ensures.kept c.in_ok-loaded.loaded c.in_ok-loaded.ensures.whole
+    changes_by a m d (passes_trans a.history b.history m.history c.in_ok-loaded.ensures.passes acts.below) c.in_err-save.ensures.kept c.in_ok-loaded.loaded c.in_ok-loaded.loaded.whole.sound
     (loads_upto a.history b.history m.history c.in_ok-loaded.loaded acts.below.past c.in_ok-loaded.ensures.found) c.in_ok-table.ensures.0 c.in_ok-table.ensures.1 c.args.command.now
     (record { old = g.T.Tree.history c.args.tree.now; new = g.T.Tree.history c.act.new.tree; before = g.T.Tree.faults c.args.tree.now; after = g.T.Tree.faults c.act.new.tree }) c.in_ok-table.table c.in_ok-table.ensures.2 acts.tree
 
@@ -228,7 +228,7 @@ returns-in_err-save-clause-behind g c =
     let acts = c.in_ok-lines.ensures.acts in
     let passes = passes_trans a.history b.history m.history c.in_ok-loaded.ensures.passes acts.below in
     let loads = loads_upto a.history b.history m.history c.in_ok-loaded.loaded acts.below.past c.in_ok-loaded.ensures.found in
-    inr (read_some a m d passes c.in_err-save.ensures.kept c.in_ok-loaded.loaded c.in_ok-loaded.ensures.whole loads c.in_ok-table.ensures.0 c.in_ok-table.ensures.1)
+    inr (read_some a m d passes c.in_err-save.ensures.kept c.in_ok-loaded.loaded c.in_ok-loaded.loaded.whole.sound loads c.in_ok-table.ensures.0 c.in_ok-table.ensures.1)
 
 pub returns-in_err-save-clause-kept : goal.returns-in_err-save-clause-kept
 returns-in_err-save-clause-kept g c =
@@ -243,7 +243,7 @@ returns-in_err-save-clause-asked g c = λ told.
     let acts = c.in_ok-lines.ensures.acts in
     let passes = passes_trans a.history b.history m.history c.in_ok-loaded.ensures.passes acts.below in
     let loads = loads_upto a.history b.history m.history c.in_ok-loaded.loaded acts.below.past c.in_ok-loaded.ensures.found in
-    asks_by a m d passes c.in_err-save.ensures.kept c.in_ok-loaded.loaded c.in_ok-loaded.ensures.whole loads c.in_ok-table.ensures.0 c.in_ok-table.ensures.1
+    asks_by a m d passes c.in_err-save.ensures.kept c.in_ok-loaded.loaded c.in_ok-loaded.loaded.whole.sound loads c.in_ok-table.ensures.0 c.in_ok-table.ensures.1
     c.args.command.now _ c.in_ok-table.table c.in_ok-table.ensures.2 b.history acts.below.past c.in_err-save.ensures.unasked.asked c.in_ok-loaded.ensures.asked acts.asked c.in_ok-loaded.ensures.passes.past told
 
 pub returns-in_err-save-clause-lock : goal.returns-in_err-save-clause-lock
@@ -282,13 +282,13 @@ returns-clause-done g c =
     let wider = makes_wide part whole c.in_ok-loaded.ensures.passes.past c.in_ok-save.ensures.kept.past c.args.command.now copy in
     let Does : Makes = makes_of c.args.command.now copy whole in
     let acted = wider.does _ _ _ _ (acts.does c.in_ok-table.ensures.2.unchanged) in
-    done_by a m d passes c.in_ok-save.ensures.kept c.in_ok-loaded.loaded c.in_ok-loaded.ensures.whole loads c.in_ok-table.ensures.0 c.in_ok-table.ensures.1
+    done_by a m d passes c.in_ok-save.ensures.kept c.in_ok-loaded.loaded c.in_ok-loaded.loaded.whole.sound loads c.in_ok-table.ensures.0 c.in_ok-table.ensures.1
     Does c.in_ok-table.table c.act.new.mixed c.in_ok-table.ensures.2 acts.image acts.lent c.in_ok-lines.lines.items acted
     (g.S.Shelf.faults c.args.shelf.now) (g.S.Shelf.faults c.save.new.shelf) c.requires (acts.same c.in_ok-table.ensures.2.unchanged) c.in_ok-save.ensures.fits c.in_ok-save.ensures.lent
     (λ none. ap (λ s. course (g.S.Shelf.history s) (g.S.Shelf.images s)) (c.in_ok-save.ensures.still none))
     (λ calm. c.in_ok-save.ensures.recorded (second_part a m d (goes_trans a b m c.in_ok-loaded.ensures.kept c.in_ok-lines.ensures.kept) calm)
     (λ way.
-    used_there a m d passes c.in_ok-save.ensures.kept c.in_ok-loaded.loaded c.in_ok-loaded.ensures.whole loads c.in_ok-table.ensures.0 c.in_ok-table.ensures.1
+    used_there a m d passes c.in_ok-save.ensures.kept c.in_ok-loaded.loaded c.in_ok-loaded.loaded.whole.sound loads c.in_ok-table.ensures.0 c.in_ok-table.ensures.1
     Does c.in_ok-table.table c.act.new.mixed c.in_ok-table.ensures.2 acts.image acts.lent c.in_ok-lines.lines.items acted
     c.requires calm))
 
@@ -307,7 +307,7 @@ returns-clause-safe g c = λ calm.
     let wider = makes_wide part whole c.in_ok-loaded.ensures.passes.past c.in_ok-save.ensures.kept.past c.args.command.now copy in
     let Does : Makes = makes_of c.args.command.now copy whole in
     let acted = wider.does _ _ _ _ (acts.does c.in_ok-table.ensures.2.unchanged) in
-    (safe_by a m d passes c.in_ok-save.ensures.kept c.in_ok-loaded.loaded c.in_ok-loaded.ensures.whole loads c.in_ok-table.ensures.0 c.in_ok-table.ensures.1
+    (safe_by a m d passes c.in_ok-save.ensures.kept c.in_ok-loaded.loaded c.in_ok-loaded.loaded.whole.sound loads c.in_ok-table.ensures.0 c.in_ok-table.ensures.1
     Does c.in_ok-table.table c.act.new.mixed c.in_ok-table.ensures.2 acts.image acts.lent c.in_ok-lines.lines.items acted
     c.requires calm c.in_ok-save.ensures.lent None
     (c.in_ok-save.ensures.safe (second_part a m d (goes_trans a b m c.in_ok-loaded.ensures.kept c.in_ok-lines.ensures.kept) calm)))
@@ -319,7 +319,7 @@ returns-clause-copy g c =
     let m : Course = course (g.S.Shelf.history c.act.new.shelf) (g.S.Shelf.images c.act.new.shelf) in
     let d : Course = course (g.S.Shelf.history c.save.new.shelf) (g.S.Shelf.images c.save.new.shelf) in
     let acts = c.in_ok-lines.ensures.acts in
-    changes_by a m d (passes_trans a.history b.history m.history c.in_ok-loaded.ensures.passes acts.below) c.in_ok-save.ensures.kept c.in_ok-loaded.loaded c.in_ok-loaded.ensures.whole
+    changes_by a m d (passes_trans a.history b.history m.history c.in_ok-loaded.ensures.passes acts.below) c.in_ok-save.ensures.kept c.in_ok-loaded.loaded c.in_ok-loaded.loaded.whole.sound
     (loads_upto a.history b.history m.history c.in_ok-loaded.loaded acts.below.past c.in_ok-loaded.ensures.found) c.in_ok-table.ensures.0 c.in_ok-table.ensures.1 c.args.command.now
     (record { old = g.T.Tree.history c.args.tree.now; new = g.T.Tree.history c.act.new.tree; before = g.T.Tree.faults c.args.tree.now; after = g.T.Tree.faults c.act.new.tree }) c.in_ok-table.table c.in_ok-table.ensures.2 acts.tree
 
@@ -332,7 +332,7 @@ returns-clause-behind g c =
     let acts = c.in_ok-lines.ensures.acts in
     let passes = passes_trans a.history b.history m.history c.in_ok-loaded.ensures.passes acts.below in
     let loads = loads_upto a.history b.history m.history c.in_ok-loaded.loaded acts.below.past c.in_ok-loaded.ensures.found in
-    inr (read_some a m d passes c.in_ok-save.ensures.kept c.in_ok-loaded.loaded c.in_ok-loaded.ensures.whole loads c.in_ok-table.ensures.0 c.in_ok-table.ensures.1)
+    inr (read_some a m d passes c.in_ok-save.ensures.kept c.in_ok-loaded.loaded c.in_ok-loaded.loaded.whole.sound loads c.in_ok-table.ensures.0 c.in_ok-table.ensures.1)
 
 pub returns-clause-kept : goal.returns-clause-kept
 returns-clause-kept g c =
@@ -347,7 +347,7 @@ returns-clause-asked g c = λ told.
     let acts = c.in_ok-lines.ensures.acts in
     let passes = passes_trans a.history b.history m.history c.in_ok-loaded.ensures.passes acts.below in
     let loads = loads_upto a.history b.history m.history c.in_ok-loaded.loaded acts.below.past c.in_ok-loaded.ensures.found in
-    asks_by a m d passes c.in_ok-save.ensures.kept c.in_ok-loaded.loaded c.in_ok-loaded.ensures.whole loads c.in_ok-table.ensures.0 c.in_ok-table.ensures.1
+    asks_by a m d passes c.in_ok-save.ensures.kept c.in_ok-loaded.loaded c.in_ok-loaded.loaded.whole.sound loads c.in_ok-table.ensures.0 c.in_ok-table.ensures.1
     c.args.command.now _ c.in_ok-table.table c.in_ok-table.ensures.2 b.history acts.below.past c.in_ok-save.ensures.unasked.asked c.in_ok-loaded.ensures.asked acts.asked c.in_ok-loaded.ensures.passes.past told
 
 pub returns-clause-lock : goal.returns-clause-lock

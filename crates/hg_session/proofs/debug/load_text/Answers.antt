@@ -15,7 +15,7 @@ returns-in_err-loaded-clause-found g c = λ told.
 pub returns-clause-found : goal.returns-clause-found
 returns-clause-found g c = λ told.
     let m = c.in_ok-loaded.ensures.found told in
-    (m.0, read_by IsBytesOf (g.S.Shelf.history c.args.shelf.now) (g.S.Shelf.history c.load.new.shelf) m.0 c.in_ok-loaded.loaded c.text_in.result c.in_ok-loaded.ensures.whole c.text_in.ensures m.1)
+    (m.0, read_by IsBytesOf (g.S.Shelf.history c.args.shelf.now) (g.S.Shelf.history c.load.new.shelf) m.0 c.in_ok-loaded.loaded c.text_in.result c.in_ok-loaded.loaded.whole.sound c.text_in.ensures m.1)
 
 pub returns-clause-cause : goal.returns-clause-cause
 returns-clause-cause g c =

@@ -50,7 +50,7 @@ returns-in_err-mixed g c =
     let fault = c.in_err-mixed.field-0.0 in
     let docket = docket_of c.in_ok-loaded.loaded.docket.items in
     let nodes = data_reading docket c.in_ok-loaded.loaded.nodes.items in
-    let found = opened_as looked.shelf.old looked.shelf.new c.in_ok-loaded.loaded (Err fault) c.in_ok-loaded.ensures.whole c.in_err-mixed.ensures c.in_ok-loaded.ensures.found in
+    let found = opened_as looked.shelf.old looked.shelf.new c.in_ok-loaded.loaded (Err fault) c.in_ok-loaded.loaded.whole.sound c.in_err-mixed.ensures c.in_ok-loaded.ensures.found in
     rw (p.1, p.2) (does_unread c.args.flags looked saved locks _ _ alone (passes_same looked.tree.old) c.read.ensures.passes unsaved fault
     (met_reading (IsOpened c.in_ok-loaded.loaded) looked.shelf fault found (cause_still (IsOpened c.in_ok-loaded.loaded) looked.shelf.before looked.shelf.after (Err fault) nodes c.in_ok-loaded.ensures.cause.quiet c.in_err-mixed.ensures).rose)
     c.read.ensures.asked (record { bytes = refl; count = refl }) (record { bytes = refl; count = refl }))
@@ -68,7 +68,7 @@ returns-in_err-notes g c =
     let start = g.S.Shelf.history c.args.shelf.now in
     let behind = g.S.Shelf.history c.read.new.shelf in
     let end = g.S.Shelf.history c.show.new.shelf in
-    let found = opened_as start behind c.in_ok-loaded.loaded (Ok c.in_ok-mixed.mixed) c.in_ok-loaded.ensures.whole c.in_ok-mixed.ensures c.in_ok-loaded.ensures.found in
+    let found = opened_as start behind c.in_ok-loaded.loaded (Ok c.in_ok-mixed.mixed) c.in_ok-loaded.loaded.whole.sound c.in_ok-mixed.ensures c.in_ok-loaded.ensures.found in
     let t = table c.in_ok-mixed.mixed in
     let loaded = loaded_table (listed_to end looked).shelf behind c.in_ok-loaded.loaded c.in_ok-mixed.mixed c.show.ensures.only.passes.past found (c.in_ok-mixed.ensures.0, c.in_ok-mixed.ensures.2) in
     let only = passes_trans start behind end c.read.ensures.passes c.show.ensures.only.passes in
@@ -94,7 +94,7 @@ returns-in_err-save_notes g c =
     let start = g.S.Shelf.history c.args.shelf.now in
     let behind = g.S.Shelf.history c.read.new.shelf in
     let end = g.S.Shelf.history c.show.new.shelf in
-    let found = opened_as start behind c.in_ok-loaded.loaded (Ok c.in_ok-mixed.mixed) c.in_ok-loaded.ensures.whole c.in_ok-mixed.ensures c.in_ok-loaded.ensures.found in
+    let found = opened_as start behind c.in_ok-loaded.loaded (Ok c.in_ok-mixed.mixed) c.in_ok-loaded.loaded.whole.sound c.in_ok-mixed.ensures c.in_ok-loaded.ensures.found in
     let t = table c.in_ok-mixed.mixed in
     let loaded = loaded_table (listed_to end looked).shelf behind c.in_ok-loaded.loaded c.in_ok-mixed.mixed c.show.ensures.only.passes.past found (c.in_ok-mixed.ensures.0, c.in_ok-mixed.ensures.2) in
     let only = passes_trans start behind end c.read.ensures.passes c.show.ensures.only.passes in
@@ -132,7 +132,7 @@ returns g c =
     let start = g.S.Shelf.history c.args.shelf.now in
     let behind = g.S.Shelf.history c.read.new.shelf in
     let end = g.S.Shelf.history c.show.new.shelf in
-    let found = opened_as start behind c.in_ok-loaded.loaded (Ok c.in_ok-mixed.mixed) c.in_ok-loaded.ensures.whole c.in_ok-mixed.ensures c.in_ok-loaded.ensures.found in
+    let found = opened_as start behind c.in_ok-loaded.loaded (Ok c.in_ok-mixed.mixed) c.in_ok-loaded.loaded.whole.sound c.in_ok-mixed.ensures c.in_ok-loaded.ensures.found in
     let t = table c.in_ok-mixed.mixed in
     let loaded = loaded_table (listed_to end looked).shelf behind c.in_ok-loaded.loaded c.in_ok-mixed.mixed c.show.ensures.only.passes.past found (c.in_ok-mixed.ensures.0, c.in_ok-mixed.ensures.2) in
     let only = passes_trans start behind end c.read.ensures.passes c.show.ensures.only.passes in

@@ -2,7 +2,8 @@
 use Rattle.std.proofs.Common.{IsTrue, sym, ◌∙◌, true≢false}
 use Rattle.hg_session.proofs.Freed.{refused_same, taken_same}
 use Rattle.hg_session.proofs.Locks.{not_taken_by, noted_taken, refused_by, taken_by}
-use Rattle.hg_session.proofs.SavedNotes.{asked_none, saves_blank, saves_locked, saves_not_taken, saves_refused}
+use Rattle.hg_session.proofs.SavedNotes.{asked_none, once_asked, once_cause, once_either, unwritten_locked, saves_blank, saves_locked, saves_not_taken, saves_refused}
+use Rattle.hg_session.specs.Change.{IsUnwritten}
 use Rattle.hg_session.specs.Locks.{TakenAt}
 use Rattle.hg_session.specs.Saving.{IsOpenedSince}
 use Rattle.hg_shelf.proofs.Histories.{extends_trans}
@@ -80,3 +81,42 @@ returns-in-Err-clause-asked g c = λ told. asked_none (g.S.Shelf.history c.args.
 
 pub returns-in-Ok-false-clause-asked : goal.returns-in-Ok-false-clause-asked
 returns-in-Ok-false-clause-asked g c = λ told. asked_none (g.S.Shelf.history c.args.shelf.now) (g.S.Shelf.history c.lock.new.self) c.lock.ensures.unasked
+
+pub returns-in-Err-clause-blank : goal.returns-in-Err-clause-blank
+returns-in-Err-clause-blank g c = λ blank. absurd (true≢false (sym (c.is_empty.ensures.1 blank) ∙ c.if-is_empty.false))
+
+pub returns-in-Err-clause-blank_ok : goal.returns-in-Err-clause-blank_ok
+returns-in-Err-clause-blank_ok g c = λ blank. absurd (true≢false (sym (c.is_empty.ensures.1 blank) ∙ c.if-is_empty.false))
+
+pub returns-in-Err-clause-cause : goal.returns-in-Err-clause-cause
+returns-in-Err-clause-cause g c = record { later = c.in-Err.ensures.cause.later; quiet = tt; rose = λ is. c.in-Err.ensures.cause.rose tt }
+
+pub returns-in-Ok-true-clause-blank : goal.returns-in-Ok-true-clause-blank
+returns-in-Ok-true-clause-blank g c = λ blank. absurd (true≢false (sym (c.is_empty.ensures.1 blank) ∙ c.if-is_empty.false))
+
+pub returns-in-Ok-true-clause-blank_ok : goal.returns-in-Ok-true-clause-blank_ok
+returns-in-Ok-true-clause-blank_ok g c = λ blank. absurd (true≢false (sym (c.is_empty.ensures.1 blank) ∙ c.if-is_empty.false))
+
+pub returns-in-Ok-false-clause-blank : goal.returns-in-Ok-false-clause-blank
+returns-in-Ok-false-clause-blank g c = λ blank. absurd (true≢false (sym (c.is_empty.ensures.1 blank) ∙ c.if-is_empty.false))
+
+pub returns-in-Ok-true-clause-unwritten : goal.returns-in-Ok-true-clause-unwritten
+returns-in-Ok-true-clause-unwritten g c =
+    let a : Course = course (g.S.Shelf.history c.args.shelf.now) (g.S.Shelf.images c.args.shelf.now) in
+    let b : Course = course (g.S.Shelf.history c.lock.new.self) (g.S.Shelf.images c.lock.new.self) in
+    let x : Course = course (g.S.Shelf.history c.save_held-done.new.shelf) (g.S.Shelf.images c.save_held-done.new.shelf) in
+    let d : Course = course (g.S.Shelf.history c.unlock-freed.new.self) (g.S.Shelf.images c.unlock-freed.new.self) in
+    rw c.first_fault.ensures
+    (once_either (IsUnwritten b.history x.history) (IsUnwritten a.history d.history) c.save_held-done.result c.unlock-freed.result
+    (unwritten_locked a b x d c.lock.ensures.waits c.unlock-freed.ensures.waits c.lock.ensures.kept c.save_held-done.ensures.kept c.unlock-freed.ensures.kept) c.save_held-done.ensures.unwritten)
+
+pub returns-in-Ok-true-clause-asked : goal.returns-in-Ok-true-clause-asked
+returns-in-Ok-true-clause-asked g c = λ told.
+    once_asked (g.S.Shelf.history c.args.shelf.now) (g.S.Shelf.history c.lock.new.self) (g.S.Shelf.history c.save_held-done.new.shelf) (g.S.Shelf.history c.unlock-freed.new.self)
+    c.lock.ensures.unasked (c.save_held-done.ensures.asked (c.lock.ensures.waits.past.told ∙ told)) c.unlock-freed.ensures.unasked
+
+pub returns-in-Ok-true-clause-cause : goal.returns-in-Ok-true-clause-cause
+returns-in-Ok-true-clause-cause g c =
+    rw c.first_fault.ensures
+    (once_cause (g.S.Shelf.faults c.args.shelf.now) (g.S.Shelf.faults c.lock.new.self) (g.S.Shelf.faults c.save_held-done.new.shelf) (g.S.Shelf.faults c.unlock-freed.new.self)
+    c.save_held-done.result c.unlock-freed.result c.in-Ok-true.ensures.cause.quiet c.save_held-done.ensures.cause c.unlock-freed.ensures.cause)

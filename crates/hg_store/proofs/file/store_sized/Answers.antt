@@ -12,14 +12,14 @@ use Rattle.hg_store.proofs.file.store_sized.Goals as goal
 pub returns-in-Err-clause-stores : goal.returns-in-Err-clause-stores
 returns-in-Err-clause-stores g c = record {
   text = [];
-  answer = device_answer c.args.path.text.now [] c.args.size _ _ _ _ c.in-Err.fault c.in-Err.ensures.kind;
+  answer = device_answer c.args.path.text.now [] c.args.size _ _ _ _ c.in-Err.fault c.in-Err.ensures.kind c.write_file.ensures.leads;
   leads = file_but [] _ _ c.write_file.ensures.leads;
 }
 
 pub returns-in-Ok-None-clause-stores : goal.returns-in-Ok-None-clause-stores
 returns-in-Ok-None-clause-stores g c = record {
   text = [];
-  answer = gone_sized c.args.path.text.now [] c.args.size _ _ _ _ c.gone.result c.gone.ensures (rw c.in-Ok-None.field-0-is at c.in-Ok-None.ensures.written);
+  answer = gone_sized c.args.path.text.now [] c.args.size _ _ _ _ c.gone.result c.gone.ensures (rw c.in-Ok-None.field-0-is at c.in-Ok-None.ensures.written) c.write_file.ensures.leads;
   leads = file_but [] _ _ c.write_file.ensures.leads;
 }
 

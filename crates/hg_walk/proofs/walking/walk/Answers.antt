@@ -6,7 +6,7 @@ use Rattle.hg_flat.specs.Course.{pieces_of}
 use Rattle.hg_flat.specs.Patterns.{Warns}
 use Rattle.hg_flat.proofs.Asking.{never_each}
 use Rattle.hg_flat.proofs.Calls.{all_asks, asks_first, asks_second, own_asks}
-use Rattle.hg_flat.proofs.Refusing.{had, is_kept, state_still, warns}
+use Rattle.hg_flat.proofs.Refusing.{had, is_kept, state_given, state_still, warns}
 use Rattle.hg_flat.proofs.Spanning.{counts_listing, counts_still, met_listing, met_patterns, met_whole, not_parent, of_listing_none}
 use Rattle.hg_flat.proofs.Storing.{store_longer, store_none}
 use Rattle.hg_mixed.specs.Held.{table}
@@ -14,7 +14,7 @@ use Rattle.hg_walk.specs.Passing.{known_of}
 use Rattle.hg_walk.specs.Walking.{asked_unvouched, first_id, walk_status}
 use Rattle.hg_walk.specs.declared.walked.Walked.{Walked}
 use Rattle.hg_walk.proofs.Starts.{asks_behind, kept_behind, lacks_behind, own_behind}
-use Rattle.hg_walk.proofs.Walks.{earned, full, known_earlier, noted, recorded, served, still}
+use Rattle.hg_walk.proofs.Walks.{earned, full, known_earlier, noted, noted_by, recorded, served, still}
 use Rattle.hg_walk.proofs.walking.walk.Goals as goal
 
 pub returns-clause-still : goal.returns-clause-still
@@ -63,7 +63,7 @@ returns-clause-noted g c =
     let start = g.S.Shelf.history c.args.shelf.now in
     let files = g.S.Shelf.history c.tell_all.new.shelf in
     let t = table c.args.mixed.now in
-    noted c.args.wanted t c.in_ok-tracked.tracked.keeper.children.items c.in_ok-tracked.tracked.keeper.marks.items c.in_ok-tracked.tracked.rows.items old mid later new (passes_trans old at mid c.boundary_of.ensures.passes c.read_patterns.ensures.passes) c.tell_all.ensures.passes c.list_others.ensures.passes start files c.in_ok-tracked.tracked.notes c.in_ok-boundary.boundary c.in_ok-tracked.ensures.noted at c.boundary_of.ensures.passes c.read_patterns.ensures.passes c.in_ok-boundary.ensures.boundary
+    noted c.args.wanted t c.in_ok-tracked.tracked.keeper.children.items c.in_ok-tracked.tracked.keeper.marks.items c.in_ok-tracked.tracked.rows.items old mid later new (passes_trans old at mid c.boundary_of.ensures.passes c.read_patterns.ensures.passes) c.tell_all.ensures.passes c.list_others.ensures.passes start files c.in_ok-tracked.tracked.notes c.in_ok-boundary.boundary c.in_ok-tracked.ensures.noted at c.boundary_of.ensures.passes c.read_patterns.ensures.passes c.tell_all.ensures.passes_shelf.past.later c.in_ok-boundary.ensures.boundary
 
 pub returns-clause-earned : goal.returns-clause-earned
 returns-clause-earned g c =
@@ -75,7 +75,7 @@ returns-clause-earned g c =
     let start = g.S.Shelf.history c.args.shelf.now in
     let files = g.S.Shelf.history c.tell_all.new.shelf in
     let t = table c.args.mixed.now in
-    earned c.args.wanted t c.in_ok-tracked.tracked.keeper.children.items c.in_ok-tracked.tracked.keeper.marks.items c.in_ok-tracked.tracked.rows.items old mid later new (passes_trans old at mid c.boundary_of.ensures.passes c.read_patterns.ensures.passes) c.tell_all.ensures.passes c.list_others.ensures.passes start files c.in_ok-tracked.tracked.notes c.in_ok-boundary.boundary c.in_ok-tracked.ensures.noted at c.boundary_of.ensures.passes c.read_patterns.ensures.passes c.in_ok-boundary.ensures.boundary
+    earned c.args.wanted t c.in_ok-tracked.tracked.keeper.children.items c.in_ok-tracked.tracked.keeper.marks.items c.in_ok-tracked.tracked.rows.items old mid later new (passes_trans old at mid c.boundary_of.ensures.passes c.read_patterns.ensures.passes) c.tell_all.ensures.passes c.list_others.ensures.passes start files c.in_ok-tracked.tracked.notes c.in_ok-boundary.boundary c.in_ok-tracked.ensures.noted at c.boundary_of.ensures.passes c.read_patterns.ensures.passes c.tell_all.ensures.passes_shelf.past.later c.in_ok-boundary.ensures.boundary
 
 pub returns-clause-recorded : goal.returns-clause-recorded
 returns-clause-recorded g c =
@@ -87,7 +87,19 @@ returns-clause-recorded g c =
     let start = g.S.Shelf.history c.args.shelf.now in
     let files = g.S.Shelf.history c.tell_all.new.shelf in
     let t = table c.args.mixed.now in
-    recorded c.args.wanted t c.in_ok-tracked.tracked.keeper.children.items c.in_ok-tracked.tracked.keeper.marks.items c.in_ok-tracked.tracked.rows.items old mid later new (passes_trans old at mid c.boundary_of.ensures.passes c.read_patterns.ensures.passes) c.tell_all.ensures.passes c.list_others.ensures.passes start files c.in_ok-tracked.tracked.notes c.in_ok-boundary.boundary c.in_ok-tracked.ensures.noted at c.boundary_of.ensures.passes c.read_patterns.ensures.passes c.in_ok-boundary.ensures.boundary
+    recorded c.args.wanted t c.in_ok-tracked.tracked.keeper.children.items c.in_ok-tracked.tracked.keeper.marks.items c.in_ok-tracked.tracked.rows.items old mid later new (passes_trans old at mid c.boundary_of.ensures.passes c.read_patterns.ensures.passes) c.tell_all.ensures.passes c.list_others.ensures.passes start files c.in_ok-tracked.tracked.notes c.in_ok-boundary.boundary c.in_ok-tracked.ensures.noted at c.boundary_of.ensures.passes c.read_patterns.ensures.passes c.tell_all.ensures.passes_shelf.past.later c.in_ok-boundary.ensures.boundary
+
+pub returns-clause-noted_by : goal.returns-clause-noted_by
+returns-clause-noted_by g c = λ wants.
+    let old = g.T.Tree.history c.args.tree.now in
+    let at = g.T.Tree.history c.boundary_of.new.tree in
+    let mid = g.T.Tree.history c.read_patterns.new.tree in
+    let later = g.T.Tree.history c.tell_all.new.tree in
+    let new = g.T.Tree.history c.list_others.new.tree in
+    let start = g.S.Shelf.history c.args.shelf.now in
+    let files = g.S.Shelf.history c.tell_all.new.shelf in
+    let t = table c.args.mixed.now in
+    noted_by c.args.wanted t c.in_ok-tracked.tracked.keeper.children.items c.in_ok-tracked.tracked.keeper.marks.items c.in_ok-tracked.tracked.rows.items old mid later new (passes_trans old at mid c.boundary_of.ensures.passes c.read_patterns.ensures.passes) c.tell_all.ensures.passes c.list_others.ensures.passes start files c.in_ok-tracked.tracked.notes c.in_ok-boundary.boundary c.in_ok-tracked.ensures.noted at c.boundary_of.ensures.passes c.read_patterns.ensures.passes c.tell_all.ensures.passes_shelf.past.later c.in_ok-boundary.ensures.boundary wants
 
 -- ---- the patterns
 
@@ -216,6 +228,7 @@ returns-in_err-listed-clause-asked g c =
     let asks = asked_unvouched c.args.wanted (table c.args.mixed.now) in
     λ told.
     all_asks c.args.wanted asks (pieces_of c.in_ok-ignore.ignore) old mid later new (passes_trans old at mid c.boundary_of.ensures.passes c.read_patterns.ensures.passes) c.tell_all.ensures.passes c.list_others.ensures.passes (state_still c.args.wanted old mid c.in_ok-ignore.ignore (kept_behind old at mid c.boundary_of.ensures.passes c.read_patterns.ensures.passes c.args.wanted c.in_ok-ignore.ignore c.in_ok-ignore.ensures.kept))
+    (state_given old mid new (passes_trans old at mid c.boundary_of.ensures.passes c.read_patterns.ensures.passes) (passes_trans mid later new c.tell_all.ensures.passes c.list_others.ensures.passes).past c.args.wanted c.in_ok-ignore.ignore (kept_behind old at mid c.boundary_of.ensures.passes c.read_patterns.ensures.passes c.args.wanted c.in_ok-ignore.ignore c.in_ok-ignore.ensures.kept))
     (asks_behind old at mid c.boundary_of.ensures.passes c.read_patterns.ensures.passes c.args.wanted (c.boundary_of.ensures.asked told) (c.read_patterns.ensures.asked (c.boundary_of.ensures.passes.past.told ∙ told))) (c.tell_all.ensures.asked ((c.read_patterns.ensures.passes.past.told ∙ c.boundary_of.ensures.passes.past.told) ∙ told)) (c.list_others.ensures.asked (c.tell_all.ensures.passes.past.told ∙ (c.read_patterns.ensures.passes.past.told ∙ c.boundary_of.ensures.passes.past.told) ∙ told) old (passes_trans old mid later (passes_trans old at mid c.boundary_of.ensures.passes c.read_patterns.ensures.passes) c.tell_all.ensures.passes)
     (known_earlier (known_of c.in_ok-tracked.tracked.keeper.children.items c.in_ok-tracked.tracked.keeper.marks.items) later mid.last old.last (passes_trans old at mid c.boundary_of.ensures.passes c.read_patterns.ensures.passes).past.later c.in_ok-tracked.ensures.told.known))
 
@@ -229,6 +242,7 @@ returns-clause-asked g c =
     let asks = asked_unvouched c.args.wanted (table c.args.mixed.now) in
     λ told.
     all_asks c.args.wanted asks (pieces_of c.in_ok-ignore.ignore) old mid later new (passes_trans old at mid c.boundary_of.ensures.passes c.read_patterns.ensures.passes) c.tell_all.ensures.passes c.list_others.ensures.passes (state_still c.args.wanted old mid c.in_ok-ignore.ignore (kept_behind old at mid c.boundary_of.ensures.passes c.read_patterns.ensures.passes c.args.wanted c.in_ok-ignore.ignore c.in_ok-ignore.ensures.kept))
+    (state_given old mid new (passes_trans old at mid c.boundary_of.ensures.passes c.read_patterns.ensures.passes) (passes_trans mid later new c.tell_all.ensures.passes c.list_others.ensures.passes).past c.args.wanted c.in_ok-ignore.ignore (kept_behind old at mid c.boundary_of.ensures.passes c.read_patterns.ensures.passes c.args.wanted c.in_ok-ignore.ignore c.in_ok-ignore.ensures.kept))
     (asks_behind old at mid c.boundary_of.ensures.passes c.read_patterns.ensures.passes c.args.wanted (c.boundary_of.ensures.asked told) (c.read_patterns.ensures.asked (c.boundary_of.ensures.passes.past.told ∙ told))) (c.tell_all.ensures.asked ((c.read_patterns.ensures.passes.past.told ∙ c.boundary_of.ensures.passes.past.told) ∙ told)) (c.list_others.ensures.asked (c.tell_all.ensures.passes.past.told ∙ (c.read_patterns.ensures.passes.past.told ∙ c.boundary_of.ensures.passes.past.told) ∙ told) old (passes_trans old mid later (passes_trans old at mid c.boundary_of.ensures.passes c.read_patterns.ensures.passes) c.tell_all.ensures.passes)
     (known_earlier (known_of c.in_ok-tracked.tracked.keeper.children.items c.in_ok-tracked.tracked.keeper.marks.items) later mid.last old.last (passes_trans old at mid c.boundary_of.ensures.passes c.read_patterns.ensures.passes).past.later c.in_ok-tracked.ensures.told.known))
 
@@ -242,6 +256,7 @@ returns-clause-asked_own g c =
     let asks = asked_unvouched c.args.wanted (table c.args.mixed.now) in
     λ ours.
     own_asks c.args.wanted asks (pieces_of c.in_ok-ignore.ignore) old mid later new (passes_trans old at mid c.boundary_of.ensures.passes c.read_patterns.ensures.passes) c.tell_all.ensures.passes c.list_others.ensures.passes (state_still c.args.wanted old mid c.in_ok-ignore.ignore (kept_behind old at mid c.boundary_of.ensures.passes c.read_patterns.ensures.passes c.args.wanted c.in_ok-ignore.ignore c.in_ok-ignore.ensures.kept))
+    (state_given old mid new (passes_trans old at mid c.boundary_of.ensures.passes c.read_patterns.ensures.passes) (passes_trans mid later new c.tell_all.ensures.passes c.list_others.ensures.passes).past c.args.wanted c.in_ok-ignore.ignore (kept_behind old at mid c.boundary_of.ensures.passes c.read_patterns.ensures.passes c.args.wanted c.in_ok-ignore.ignore c.in_ok-ignore.ensures.kept))
     (own_behind old at mid c.boundary_of.ensures.passes c.read_patterns.ensures.passes c.args.wanted (c.boundary_of.ensures.asked ours.told) (ours_first old mid new (passes_trans mid later new c.tell_all.ensures.passes c.list_others.ensures.passes).past ours)
     (c.in_ok-ignore.ensures.asked_own (ours_second old at mid c.boundary_of.ensures.passes.past (ours_first old mid new (passes_trans mid later new c.tell_all.ensures.passes c.list_others.ensures.passes).past ours))))
     (c.tell_all.ensures.asked ((c.read_patterns.ensures.passes.past.told ∙ c.boundary_of.ensures.passes.past.told) ∙ ours.told)) (c.list_others.ensures.asked (c.tell_all.ensures.passes.past.told ∙ (c.read_patterns.ensures.passes.past.told ∙ c.boundary_of.ensures.passes.past.told) ∙ ours.told) old (passes_trans old mid later (passes_trans old at mid c.boundary_of.ensures.passes c.read_patterns.ensures.passes) c.tell_all.ensures.passes)

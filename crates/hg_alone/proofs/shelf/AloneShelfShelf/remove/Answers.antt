@@ -8,8 +8,8 @@ use Rattle.hg_alone.proofs.shelf.AloneShelfShelf.remove.Goals as goal
 
 pub invariant_of-self : goal.invariant_of-self
 invariant_of-self c =
-    let own = acted c.args.self.now.shelf (record { due = c.args.self.now.alone; changes = c.args.self.now.own }) c.remove.new.self (a_step.Removed c.args.name.now) c.remove.result c.remove.ensures.acted c.remove.ensures.failed in
-    record { alone = own.due; own = own.changes }
+    let own = acted c.args.self.now.shelf (record { due = c.args.self.now.alone; failing = c.args.self.now.calm; changes = c.args.self.now.own }) c.remove.new.self (a_step.Removed c.args.name.now) c.remove.result c.remove.ensures.acted c.remove.ensures.failed in
+    record { alone = own.due; calm = own.failing; own = own.changes }
 
 pub returns-clause-removed : goal.returns-clause-removed
 returns-clause-removed c =

@@ -8,8 +8,8 @@ use Rattle.hg_alone.proofs.shelf.AloneShelfShelf.rename.Goals as goal
 
 pub invariant_of-self : goal.invariant_of-self
 invariant_of-self c =
-    let own = acted c.args.self.now.shelf (record { due = c.args.self.now.alone; changes = c.args.self.now.own }) c.rename.new.self (a_step.Renamed c.args.from.now c.args.to.now) c.rename.result c.rename.ensures.acted c.rename.ensures.failed in
-    record { alone = own.due; own = own.changes }
+    let own = acted c.args.self.now.shelf (record { due = c.args.self.now.alone; failing = c.args.self.now.calm; changes = c.args.self.now.own }) c.rename.new.self (a_step.Renamed c.args.from.now c.args.to.now) c.rename.result c.rename.ensures.acted c.rename.ensures.failed in
+    record { alone = own.due; calm = own.failing; own = own.changes }
 
 pub returns-clause-renamed : goal.returns-clause-renamed
 returns-clause-renamed c =

@@ -8,8 +8,8 @@ use Rattle.hg_alone.proofs.shelf.AloneShelfShelf.sync_names.Goals as goal
 
 pub invariant_of-self : goal.invariant_of-self
 invariant_of-self c =
-    let own = acted c.args.self.now.shelf (record { due = c.args.self.now.alone; changes = c.args.self.now.own }) c.sync_names.new.self (a_step.SyncedNames) c.sync_names.result c.sync_names.ensures.acted c.sync_names.ensures.failed in
-    record { alone = own.due; own = own.changes }
+    let own = acted c.args.self.now.shelf (record { due = c.args.self.now.alone; failing = c.args.self.now.calm; changes = c.args.self.now.own }) c.sync_names.new.self (a_step.SyncedNames) c.sync_names.result c.sync_names.ensures.acted c.sync_names.ensures.failed in
+    record { alone = own.due; calm = own.failing; own = own.changes }
 
 pub returns-clause-synced : goal.returns-clause-synced
 returns-clause-synced c =

@@ -8,8 +8,8 @@ use Rattle.hg_alone.proofs.shelf.AloneShelfShelf.write_at.Goals as goal
 
 pub invariant_of-self : goal.invariant_of-self
 invariant_of-self c =
-    let own = acted c.args.self.now.shelf (record { due = c.args.self.now.alone; changes = c.args.self.now.own }) c.write_at.new.self (a_step.Wrote c.args.name.now c.args.place c.args.bytes.now) c.write_at.result c.write_at.ensures.acted c.write_at.ensures.failed in
-    record { alone = own.due; own = own.changes }
+    let own = acted c.args.self.now.shelf (record { due = c.args.self.now.alone; failing = c.args.self.now.calm; changes = c.args.self.now.own }) c.write_at.new.self (a_step.Wrote c.args.name.now c.args.place c.args.bytes.now) c.write_at.result c.write_at.ensures.acted c.write_at.ensures.failed in
+    record { alone = own.due; calm = own.failing; own = own.changes }
 
 pub returns-clause-written : goal.returns-clause-written
 returns-clause-written c =

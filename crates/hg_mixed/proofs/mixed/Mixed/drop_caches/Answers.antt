@@ -5,6 +5,7 @@ use Rattle.hg_mixed.specs.Parted.{image_rows}
 use Rattle.hg_mixed.proofs.Lifted.{edit_of, kept_parted, kept_table, marks_of, no_caches_marks, no_caches_parted, no_caches_table, ok_both, ok_or_err, ok_three, unchanged}
 use Rattle.hg_mixed.proofs.Placed.{places_of, same_keeps, same_nodes, same_placed}
 use Rattle.hg_mixed.proofs.LentWhole.{ended_uncached, kept_whole, lent_still, lent_uncached, uncached_held, uncached_whole}
+use Rattle.hg_mixed.proofs.Quiet.{by_false, quiet_lends_uncached, quiet_marks, quiet_uncached}
 use Rattle.hg_docket.specs.Docket as docket
 use Rattle.hg_mixed.proofs.mixed.Mixed.drop_caches.Goals as goal
 
@@ -51,3 +52,12 @@ returns-in-Ok-clause-lent c =
     (lent_uncached _ _ _ _ _ _ c.drop_caches.new.self c.take_all.ensures.moved c.in-Ok.ensures.all ended)
     (ended_uncached _ _ _ _ _ _ c.drop_caches.new.self c.take_all.ensures.moved c.in-Ok.ensures.all ended))
     c.drop_caches.ensures.kept
+
+pub returns-then-not-has_caches-clause-table : goal.returns-then-not-has_caches-clause-table
+returns-then-not-has_caches-clause-table c = quiet_uncached c.args.self.now (by_false _ _ _ c.has_caches.ensures c.if-not-has_caches.true)
+
+pub returns-then-not-has_caches-clause-changed : goal.returns-then-not-has_caches-clause-changed
+returns-then-not-has_caches-clause-changed c = quiet_marks c.args.self.now
+
+pub returns-then-not-has_caches-clause-lent : goal.returns-then-not-has_caches-clause-lent
+returns-then-not-has_caches-clause-lent c = quiet_lends_uncached c.args.self.now (by_false _ _ _ c.has_caches.ensures c.if-not-has_caches.true)
