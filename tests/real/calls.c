@@ -2,7 +2,8 @@
 //
 //     calls FD list ROOT PROGRAM WORD ..       writes each of them to FD, a line each: NAME TEXT
 //     calls FD hold N ROOT PROGRAM WORD ..     stops the program before the Nth, counted from 1, writes a line to FD, and goes on at the
-//                                              end of the standard input
+//                                              end of the standard input; N may also be `CALL FRONT`: the first call of that name that
+//                                              touches a file whose own name begins so
 //
 // A call counts where a path that it is given has a component `.hg`, or is the folder ROOT, or where the file that it is given is such a
 // one. A path that is told from the program's current folder has that in front. Where the environment's HGTRACK_WHERE is `tree`, a call counts that
@@ -138,6 +139,14 @@ static void go_on(int with) {
     if (WSTOPSIG(status) != (SIGTRAP | 0x80)) go_on(status >> 16 ? 0 : WSTOPSIG(status));
 }
 
+// Whether a call is what `CALL FRONT` names.
+static int is_named(const char *wanted, const char *call, const char *path) {
+    size_t n = strlen(call);
+    const char *name = strrchr(path, '/');
+    name = name ? name + 1 : path;
+    return !strncmp(wanted, call, n) && wanted[n] == ' ' && !strncmp(name, wanted + n + 1, strlen(wanted + n + 1));
+}
+
 static void hold(int told) {
     char byte;
     if (write(told, "held\n", 5) != 5) exit(98);
@@ -160,8 +169,9 @@ static void start(char **words, int told) {
 int main(int count, char **words) {
     static char text[PATH_MAX];
     if (count < 5) return 98;
-    int told = atoi(words[1]), status, is_list = !strcmp(words[2], "list"), at = is_list ? 3 : 4;
-    long wanted = is_list ? 0 : atol(words[3]), seen = 0;
+    int told = atoi(words[1]), status, is_held = 0, is_list = !strcmp(words[2], "list"), at = is_list ? 3 : 4;
+    const char *wanted = is_list ? "" : words[3];
+    long number = atol(wanted), seen = 0;
     root = words[at];
     in_tree = getenv("HGTRACK_WHERE") && !strcmp(getenv("HGTRACK_WHERE"), "tree");
     start(words + at + 1, told);
@@ -176,7 +186,8 @@ int main(int count, char **words) {
         ptrace(PTRACE_GETREGS, child, 0, &regs);
         if (touches(&regs, &call, text, sizeof text)) {
             if (is_list) dprintf(told, "%s %s\n", call->name, text);
-            if (++seen == wanted) hold(told);
+            if (++seen == number) hold(told);
+            if (!is_held && !number && is_named(wanted, call->name, text)) hold(told), is_held = 1;
         }
         go_on(0);
     }

@@ -76,7 +76,7 @@ class Watcher:
         return ran.returncode, rows_of(path)
 
     def held(self, root, words, number, env=None, **given):
-        """Starts the program, and answers when it is stopped before a call of it; at `let_go` it goes on."""
+        """Starts the program, and answers when it is stopped before a call of it, which is told by its number or as `CALL FRONT`; at `let_go` it goes on."""
         reader, writer = os.pipe()
         command, env = self.command(writer, ["hold", str(number)], root, words), {**(env or os.environ), **self.where}
         at = subprocess.Popen(command, cwd=root, env=env, stdin=subprocess.PIPE, stdout=subprocess.PIPE, stderr=subprocess.PIPE, pass_fds=[writer], **given)

@@ -15,17 +15,17 @@ from turns import LOCKED
 
 EACH, SECONDS_AT_MOST = 60, 60
 
-# Exchanges two folders until it is killed, and waits in between: a while that differs from time to time.
+# Exchanges two folders until it is killed, and waits in between: a while that differs from time to time, and grows, so that a busy machine's commands end too.
 EXCHANGER = """
 import os, sys, time
 one, other, way = sys.argv[1:]
-n = 0
+n, begun = 0, time.monotonic()
 while True:
     os.rename(one, way)
     os.rename(other, one)
     os.rename(way, other)
     n = (n * 5 + 3) % 64
-    time.sleep(0.0005 + n * 0.0002)
+    time.sleep((0.0005 + n * 0.0002) * (1 + (time.monotonic() - begun) / 4))
 """
 
 
@@ -95,7 +95,7 @@ def run_links(tests):
         put_entries(root, [("f", W | P1, "")])
         put(f"{room}/elsewhere", b"one\n")
         put(f"{root}/f", b"two\n")
-        at = watcher.held(root, ["status", "-A"], number_of(watcher, root, ["status", "-A"], "openat", "f"))
+        at = watcher.held(root, ["status", "-A"], "openat f")
         replace_by_link(f"{root}/f", "../elsewhere")
         tests.compare("a link to the very contents, put in place of a file before that is opened", let_go(at), (0, lines("M f"), b""))
     watcher = watched(tests, "so no file below .hg was exchanged for a link")
@@ -103,7 +103,7 @@ def run_links(tests):
         root = f"{room}/root"
         lay_out(root, [".hg/dirstate-new", "a"])
         put(f"{room}/elsewhere", b"mine\n")
-        at = watcher.held(root, ["add", "a"], number_of(watcher, root, ["add", "a"], "openat", "dirstate-new"))
+        at = watcher.held(root, ["add", "a"], "openat dirstate-new")
         replace_by_link(f"{root}/.hg/dirstate-new", "../../elsewhere")
         wanted = (255, b"", aborted(".hg failed") + because(".hg/dirstate-new", "another file took its place"))
         tests.compare("a link in place of a file that is to be written, before that is opened", (let_go(at), read(f"{room}/elsewhere")), (wanted, b"mine\n"))
@@ -118,7 +118,7 @@ def lay_out_added(root, *lay):
 
 def within_lock(watcher, root, name):
     """An add that is held while it has the lock."""
-    return watcher.held(root, ["add", name], number_of(watcher, root, ["add", name], "rename", "dirstate-new"))
+    return watcher.held(root, ["add", name], "rename dirstate-new")
 
 
 def added(tests, root):

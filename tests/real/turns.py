@@ -15,6 +15,8 @@ from saving import read, record_of, told
 
 LOCKED = aborted("working copy is locked")
 EACH, FILES, STEPS = 200, 30, 50
+# Calls of an add under the lock, on the record. (Their numbers differ: a docket that takes the place of one of the same second gets a time of its own.)
+UNDER_LOCK = ["write dirstate.", "rename dirstate-new", "unlink dirstate."]
 
 # Adds each file that is named by itself, again while the working copy is locked. Prints how often it was, and ends with what else was said.
 ADDER = """
@@ -137,9 +139,8 @@ def run_our_lock(tests, calls):
         hg(root, "init")
         lay_out(root, ["a", "b", "c"])
         tests.run(root, ("add", "c"))
-        names = under(tests, calls, root)
-        for what, number in names.items():
-            at = calls.held(root, ["add", "a"], number)
+        for what in UNDER_LOCK:
+            at = calls.held(root, ["add", "a"], what)
             ran = hg(root, "add", "b", "--config", "ui.timeout=1")
             other = tests.run(root, ("add", "b"))
             ours = let_go(at)
@@ -147,19 +148,6 @@ def run_our_lock(tests, calls):
             tests.compare(f"hg add while ours is stopped at {what}", answer, (255, True, (255, b"", LOCKED), (0, b"", b""), b"A a\nA c\n? b\n"))
             tests.compare("and hg add then", (hg(root, "add", "b").returncode, tests.run(root)[1]), (0, b"A a\nA b\nA c\n"))
             hg(root, "forget", "a", "b")
-
-
-def under(tests, calls, root):
-    """Calls of an add under the lock, on the record: the number of the first write, of the rename and of the first file that is taken away."""
-    with tests.working_copy() as room:
-        copy = f"{room}/copy"
-        shutil.copytree(root, copy, symlinks=True)
-        names = calls.listed(copy, ["add", "a"])[1]
-    found = {}
-    for number, name in enumerate(names, 1):
-        if "/dirstate" in name:
-            found.setdefault(name.split(" ")[0], number)
-    return {it: found[it] for it in ("write", "rename", "unlink") if it in found}
 
 
 def run(tests):
