@@ -1,6 +1,6 @@
 //! The working copy in the file system.
 
-ghost use Rattle.std.specs.Prelude.{◌≡◌, IfOk, IfSome, length, option_map};
+ghost use Rattle.std.specs.Prelude.{◌≡◌, ◌⊎◌, IfErr, IfOk, IfSome, length, option_map};
 ghost use Rattle.hg_tree.specs.Moment.{AreFit, IsPlain};
 ghost use Rattle.hg_tree.specs.declared.fault.TreeFault.TheVariants as a_fault;
 ghost use Rattle.hg_base.specs.Fault.{HasCause};
@@ -282,6 +282,7 @@ fn list_at<R: Files + Env + AllocGlobal>(
 fn counted_listing<T: Drop>(faults: &mut u64, answer: Result<T, TreeFault>) -> Result<T, TreeFault>
     ensures same { result ≡ answer }
     ensures cause { HasCause faults.old faults.new result (λ e. e ≡ a_fault.Failed) }
+    ensures still { IfErr result (λ e. (e ≡ a_fault.Failed) ⊎ (faults.new ≡ faults.old)) }
 {
     match answer {
         Ok(thing) => Ok(thing),

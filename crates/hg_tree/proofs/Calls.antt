@@ -128,16 +128,16 @@ noted_passes ask old new (inr lacks) =
 
 pub listed_passes : {T : Type 0} (dir : Option (List ℕ)) (result : Result T TreeFault) (old new : Memory) → LeavesListed dir result old new → Passes (history_of old) (history_of new)
 listed_passes dir (Ok found) old new s = due_passes old new (ap (λ (m : Memory). m.start) s.1) (ap (λ (m : Memory). m.changes) s.1)
-listed_passes dir (Err a_fault.OutOfMemory) old new (inl s) = due_passes old new (ap (λ (m : Memory). m.start) s.1) (ap (λ (m : Memory). m.changes) s.1)
-listed_passes dir (Err a_fault.OutOfMemory) old new (inr s) = fails_passes old new s
+listed_passes dir (Err a_fault.OutOfMemory) old new s = due_passes old new (ap (λ (m : Memory). m.start) s.1) (ap (λ (m : Memory). m.changes) s.1)
 listed_passes dir (Err a_fault.Failed) old new (inl s) = noted_passes (an_ask.List dir) old new s
-listed_passes dir (Err a_fault.Failed) old new (inr s) = due_passes old new (ap (λ (m : Memory). m.start) s.1) (ap (λ (m : Memory). m.changes) s.1)
+listed_passes dir (Err a_fault.Failed) old new (inr (inl s)) = fails_passes old new s
+listed_passes dir (Err a_fault.Failed) old new (inr (inr s)) = due_passes old new (ap (λ (m : Memory). m.start) s.1) (ap (λ (m : Memory). m.changes) s.1)
 
 pub read_passes : {T : Type 0} (path : List ℕ) (result : Result T Failed) (old new : Memory) → LeavesRead path result old new → Passes (history_of old) (history_of new)
 read_passes path (Ok got) old new s = due_passes old new (ap (λ (m : Memory). m.start) s.1) (ap (λ (m : Memory). m.changes) s.1)
 read_passes path (Err fault) old new (inl s) = noted_passes (an_ask.Read path) old new s
 read_passes path (Err fault) old new (inr (inl s)) = fails_passes old new s
-read_passes path (Err fault) old new (inr (inr s)) = due_passes old new (ap (λ (m : Memory). m.start) s) (ap (λ (m : Memory). m.changes) s)
+read_passes path (Err fault) old new (inr (inr s)) = due_passes old new (ap (λ (m : Memory). m.start) s.1) (ap (λ (m : Memory). m.changes) s.1)
 
 pub own_failed : (what : Own) (fault : Failed) (old new : Memory) → LeavesOwn what (Err fault) old new → Passes (history_of old) (history_of new)
 own_failed what fault old new (inl s) = fails_passes old new s

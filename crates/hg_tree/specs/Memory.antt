@@ -115,24 +115,19 @@ Fails old new = ((is_due old.calls ≡ true) × (new ≡ after_failure old)) ⊎
 abbrev pub noting : Asked → Memory → Memory
 noting ask memory = record memory { asked = memory.asked ++ ask ∷ [] }
 
--- what a call leaves for whose note there is no memory, by its answer: it counts as a failure
-abbrev pub LeavesUnnoted : TreeFault → Memory → Memory → Type 0
-LeavesUnnoted a_fault.OutOfMemory old new = Fails old new
-LeavesUnnoted a_fault.Failed old new = (is_due old.calls ≡ false) × (new ≡ after_failure old)
-
 -- what a listing leaves: it is counted and noted, also where it fails because it was told to. Where there is no memory to note it, it
--- counts as a failure
+-- counts as a failure, and answers so
 abbrev pub LeavesListed : {T : Type 0} → Option (List ℕ) → Result T TreeFault → Memory → Memory → Type 0
 LeavesListed dir (Ok found) old new = (is_due old.calls ≡ false) × (new ≡ noting (an_ask.List dir) (after_call old))
-LeavesListed dir (Err a_fault.OutOfMemory) old new =
-    ((is_due old.calls ≡ false) × (new ≡ noting (an_ask.List dir) (after_call old))) ⊎ Fails old new
+LeavesListed dir (Err a_fault.OutOfMemory) old new = (is_due old.calls ≡ false) × (new ≡ noting (an_ask.List dir) (after_call old))
 LeavesListed dir (Err a_fault.Failed) old new =
-    Fails (noting (an_ask.List dir) old) new ⊎ ((is_due old.calls ≡ false) × (new ≡ after_failure old))
+    Fails (noting (an_ask.List dir) old) new ⊎ (Fails old new ⊎ ((is_due old.calls ≡ false) × (new ≡ after_failure old)))
 
 -- what a read leaves: the same
 abbrev pub LeavesRead : {T : Type 0} → List ℕ → Result T Failed → Memory → Memory → Type 0
 LeavesRead path (Ok got) old new = (is_due old.calls ≡ false) × (new ≡ noting (an_ask.Read path) (after_call old))
-LeavesRead path (Err fault) old new = Fails (noting (an_ask.Read path) old) new ⊎ (Fails old new ⊎ (new ≡ after_failure old))
+LeavesRead path (Err fault) old new =
+    Fails (noting (an_ask.Read path) old) new ⊎ (Fails old new ⊎ ((is_due old.calls ≡ false) × (new ≡ after_failure old)))
 
 -- what a call leaves that may change something: its own change stands behind what was due exactly where it answers that it was made. One
 -- that failed, as for want of memory, made none

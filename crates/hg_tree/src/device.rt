@@ -1,6 +1,6 @@
 //! The trait of working copies.
 
-ghost use Rattle.std.specs.Prelude.{◌≡◌, ◌∷◌, [], ℕ, length, IsTrue, IfOk, IfErr, OnOk, IfSome, is_ok, option_map};
+ghost use Rattle.std.specs.Prelude.{◌≡◌, ◌⊎◌, ◌∷◌, [], ℕ, length, IsTrue, IfOk, IfErr, OnOk, IfSome, is_ok, option_map};
 ghost use Rattle.hg_base.specs.Fault.{HasCause};
 ghost use Rattle.hg_base.specs.Reads.{IsWithin, ReadsBytes};
 ghost use Rattle.hg_tree.specs.declared.asked.Asked.TheVariants as an_ask;
@@ -17,7 +17,7 @@ use std::alloc::Global;
 /// A working copy that can be looked at, and in which files and links can be put and taken away.
 ///
 /// Each call answers from the last moment at its end; an `unlink` or `put` that changes something adds that change as its last step, and
-/// answers from the moment just before it. A call that fails raises the count `faults`; only such a call answers a failure.
+/// answers from the moment just before it. A call that fails raises the count `faults`, and answers so; only such a call does.
 pub trait Tree {
     ghost history: { Self → History };
 
@@ -53,7 +53,8 @@ pub trait Tree {
             (λ found. Lists (option_map (λ d. d.text.now) dir.entry) (option_map (λ v. v.items) found) (now (history self.new))) }
         ensures fit { IfOk result (λ found. IfSome found (λ names. AreFit (option_map (λ d. d.text.now) dir.entry) names.items)) }
         ensures formed { IsTrue (history self.old).told → OnOk result (AreFormed (history self.new)) }
-        ensures cause { HasCause (faults self.old) (faults self.new) result (λ e. e ≡ a_fault.Failed) };
+        ensures cause { HasCause (faults self.old) (faults self.new) result (λ e. e ≡ a_fault.Failed) }
+        ensures still { IfErr result (λ e. (e ≡ a_fault.Failed) ⊎ (faults self.new ≡ faults self.old)) };
 
     /// Fills the front of the buffer with what a file, or the target of a link, has past a place, in bytes from its start; absent where neither
     /// stands at the path. What fits isn't cut short. Links aren't followed, neither in the last component nor in an ancestor.

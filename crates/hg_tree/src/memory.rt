@@ -10,7 +10,7 @@ ghost use Rattle.hg_tree.specs.declared.fault.TreeFault.TheVariants as a_fault;
 ghost use Rattle.hg_tree.specs.Moment.{AreFit, IsPlain, Lists, bytes_at, is_file, is_short_thing, stat_at};
 ghost use Rattle.hg_tree.specs.History.{AreFormed, Asks, Extends, Passes, now};
 ghost use Rattle.hg_tree.specs.Change.{by_others};
-ghost use Rattle.hg_tree.specs.Memory.{Fails, LeavesListed, LeavesOwn, LeavesRead, LeavesUnnoted, Stops, after_call, after_due, after_failure, coming, coming_of, history_of, noting, own_put, with_own};
+ghost use Rattle.hg_tree.specs.Memory.{Fails, LeavesListed, LeavesOwn, LeavesRead, Stops, after_call, after_due, after_failure, coming, coming_of, history_of, noting, own_put, with_own};
 ghost use Rattle.hg_tree.specs.Coming.{due_at, is_short_change};
 ghost use Rattle.hg_tree.specs.Own.{CanPut, CannotPut, Puts, Unlinks, put_thing};
 ghost use Rattle.hg_tree.specs.declared.asked.Own.TheVariants as an_own;
@@ -258,13 +258,13 @@ impl MemTree {
     {
         match self.note_read(path) {
             Ok(()) => self.begin(),
-            Err(_) => Err(self.unread()),
+            Err(_) => Err(self.unnoted()),
         }
     }
 
-    // A read for whose note there is no memory is counted as one that failed.
-    fn unread(&mut self) -> Failed
-        ensures state { Fails self.old self.new ⊎ (self.new ≡ after_failure self.old) }
+    // A call for whose note there is no memory is counted as one that failed.
+    fn unnoted(&mut self) -> Failed
+        ensures state { Fails self.old self.new ⊎ ((is_due self.old.calls ≡ false) × (self.new ≡ after_failure self.old)) }
         ensures later { self.old.calls.faults ≤ self.new.calls.faults }
         ensures rose { Rose self.old.calls.faults self.new.calls.faults }
     {
@@ -287,27 +287,12 @@ impl MemTree {
     // Counts a listing and notes it, also one that fails.
     fn begin_listing(&mut self, dir: Option<PathRef<'_>>) -> Result<(), TreeFault>
         ensures state { LeavesListed (option_map (λ d. d.text.now) dir.entry) result self.old self.new }
-        ensures ended { IfErr result (λ e. e ≡ a_fault.Failed ⊎ Fails self.old self.new) }
+        ensures ended { IfErr result (λ e. e ≡ a_fault.Failed) }
         ensures cause { HasCause self.old.calls.faults self.new.calls.faults result (λ e. e ≡ a_fault.Failed) }
     {
         match self.note(dir) {
             Ok(()) => Ok(self.begin()?),
-            Err(_) => Err(self.unnoted()),
-        }
-    }
-
-    // A call for whose note there is no memory is counted as one that failed.
-    fn unnoted(&mut self) -> TreeFault
-        ensures state { LeavesUnnoted result self.old self.new }
-        ensures later { self.old.calls.faults ≤ self.new.calls.faults }
-        ensures rose { Rose self.old.calls.faults self.new.calls.faults }
-    {
-        match self.begin() {
-            Ok(()) => {
-                self.calls.fail();
-                TreeFault::Failed
-            }
-            Err(_) => TreeFault::OutOfMemory,
+            Err(_) => Err(TreeFault::from(self.unnoted())),
         }
     }
 
@@ -382,6 +367,7 @@ impl Tree for MemTree {
         ensures fit { IfOk result (λ found. IfSome found (λ names. AreFit (option_map (λ d. d.text.now) dir.entry) names.items)) }
         ensures formed { OnOk result (AreFormed (history_of self.new)) }
         ensures cause { HasCause self.old.calls.faults self.new.calls.faults result (λ e. e ≡ a_fault.Failed) }
+        ensures still { IfErr result (λ e. (e ≡ a_fault.Failed) ⊎ (self.new.calls.faults ≡ self.old.calls.faults)) }
         ensures state { LeavesListed (option_map (λ d. d.text.now) dir.entry) result self.old self.new }
     {
         self.begin_listing(dir)?;
