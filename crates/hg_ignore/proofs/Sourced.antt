@@ -1,5 +1,5 @@
 -- What is read of the file of ignore patterns.
-use Rattle.std.proofs.Common.{◌≡◌, ℕ, ◌<◌, ◌≤◌, Bool, true, false, cond, IsTrue, inl, inr, List, [], ◌∷◌, ◌++◌, length, map, Option, Some, None, option_map, Result, Ok, Err, IfOk, IfErr, OnOk, refl, sym, subst, ap, ◌∙◌, arith, append-nil, IsUtf8}
+use Rattle.std.proofs.Common.{◌≡◌, ◌⊎◌, ℕ, ◌<◌, ◌≤◌, Bool, true, false, cond, IsTrue, inl, inr, List, [], ◌∷◌, ◌++◌, length, map, Option, Some, None, option_map, Result, Ok, Err, IfOk, IfErr, OnOk, refl, sym, subst, ap, ◌∙◌, arith, append-nil, IsUtf8}
 use Rattle.std.specs.Option.{IsSomeAnd, option_and_then}
 use Rattle.std.specs.Str.{IsValidUpTo}
 use Rattle.hg_tree.specs.Moment.{Moment, stat_of, stat_at, bytes_of, is_file}
@@ -25,6 +25,17 @@ asks_may answered old new (inr p) = inl p.1
 pub asks_sure : (old new : History) → Asks true the_read old new → new.asked ≡ old.asked ++ the_read
 asks_sure old new (inl e) = e
 asks_sure old new (inr p) = absurd (cc p.0)
+
+-- a count that stood, whatever is answered
+pub stood : {A E : Type 0} (IsFailed : E → Type 0) (before now : ℕ) (r : Result A E) → now ≡ before → IfErr r (λ e. IsFailed e ⊎ (now ≡ before))
+stood IsFailed before now (Ok x) same = tt
+stood IsFailed before now (Err e) same = inr same
+
+-- and one that stood before a call
+pub stayed_behind : {A E : Type 0} (IsFailed : E → Type 0) (before mid now : ℕ) (r : Result A E) → mid ≡ before → IfErr r (λ e. IsFailed e ⊎ (now ≡ mid)) → IfErr r (λ e. IsFailed e ⊎ (now ≡ before))
+stayed_behind IsFailed before mid now (Ok x) same stayed = tt
+stayed_behind IsFailed before mid now (Err e) same (inl failed) = inl failed
+stayed_behind IsFailed before mid now (Err e) same (inr stood) = inr (stood ∙ same)
 
 -- a stat that shows a size shows a file of that size
 sized : (o : Option Placed) (size : ℕ) → Some size ≡ file_size (option_map (λ placed. stat_of placed.thing placed.mtime) o) → (is_file o ≡ true) × IsSomeAnd (option_and_then (λ placed. bytes_of placed.thing) o) (λ text. size ≡ length text)

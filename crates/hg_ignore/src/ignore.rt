@@ -1,6 +1,6 @@
 //! The ignore state of a working copy, compiled.
 
-ghost use Rattle.std.specs.Prelude.{ℕ, ◌≡◌, ◌↔◌, ◌≤◌, ◌<◌, ◌++◌, [], Some, None, IsTrue, IfOk, IfErr, OnOk, length};
+ghost use Rattle.std.specs.Prelude.{ℕ, ◌≡◌, ◌⊎◌, ◌↔◌, ◌≤◌, ◌<◌, ◌++◌, [], Some, None, IsTrue, IfOk, IfErr, OnOk, length};
 ghost use Rattle.std.specs.Str.{IsUtf8};
 ghost use Rattle.hg_base.specs.Fault.{HasCause};
 ghost use Rattle.hg_glob.specs.Many.{SomeStands};
@@ -161,6 +161,7 @@ impl Ignore {
         ensures cause { IsTrue (T.history tree.old).told → IfErr result (HasTextCause 1048576 (T.history tree.old) (T.history tree.new)) }
         ensures over { IfErr result (λ e. (size : ℕ) → e ≡ a_fault.IgnoreTooLarge size → 1048576 < size) }
         ensures faults { HasCause (T.faults tree.old) (T.faults tree.new) result (λ e. e ≡ a_fault.Failed) }
+        ensures stayed { IfErr result (λ e. (e ≡ a_fault.Failed) ⊎ (T.faults tree.new ≡ T.faults tree.old)) }
         ensures oversize { Counted (G.oversize regexps.old) (G.oversize regexps.new) result }
     {
         match read_bytes(alloc, tree, MOST) {

@@ -1,6 +1,6 @@
 //! The file of ignore patterns, as a tree has it.
 
-ghost use Rattle.std.specs.Prelude.{◌≡◌, ◌++◌, ◌≤◌, ◌<◌, ◌^◌, IsTrue, IfOk, IfErr, IfSome, OnOk, length, option_map};
+ghost use Rattle.std.specs.Prelude.{◌≡◌, ◌⊎◌, ◌++◌, ◌≤◌, ◌<◌, ◌^◌, IsTrue, IfOk, IfErr, IfSome, OnOk, length, option_map};
 ghost use Rattle.hg_base.specs.Fault.{HasCause};
 ghost use Rattle.hg_tree.specs.History.{Passes, now};
 ghost use Rattle.hg_ignore.specs.Source as source;
@@ -43,6 +43,7 @@ fn read_file<T: Tree>(
     ensures large { IsTrue (T.history tree.old).told → IfErr result (HasReadCause most (T.history tree.new)) }
     ensures kind { IfErr result (IsOfReading most) }
     ensures cause { HasCause (T.faults tree.old) (T.faults tree.new) result (λ e. e ≡ a_fault.Failed) }
+    ensures stayed { IfErr result (λ e. (e ≡ a_fault.Failed) ⊎ (T.faults tree.new ≡ T.faults tree.old)) }
 {
     let mut bytes = vec![in alloc; 0u8; most + 1]?;
     match tree.read(PathRef { text: FILE }, 0, bytes.as_mut_slice()) {
@@ -73,6 +74,7 @@ pub fn read_bytes<T: Tree>(
     ensures size { IsTrue (T.history tree.old).told → IfErr result (HasSizeCause most (T.history tree.old) (T.history tree.new)) }
     ensures kind { IfErr result (IsOfReading most) }
     ensures cause { HasCause (T.faults tree.old) (T.faults tree.new) result (λ e. e ≡ a_fault.Failed) }
+    ensures stayed { IfErr result (λ e. (e ≡ a_fault.Failed) ⊎ (T.faults tree.new ≡ T.faults tree.old)) }
 {
     match tree.stat(PathRef { text: FILE }) {
         Err(_) => Err(IgnoreFault::Failed),

@@ -1,6 +1,6 @@
 -- What stands behind the faults of a plain status.
-use Rattle.std.specs.Prelude.{ℕ, ◌≡◌, Result}
-use Rattle.hg_base.specs.Fault.{HasCause}
+use Rattle.std.specs.Prelude.{ℕ, ◌≡◌, ◌≤◌, ◌⊎◌, Result, IfErr, OnOk}
+use Rattle.hg_base.specs.Fault.{Rose}
 use Rattle.hg_tree.specs.declared.fault.TreeFault.{TreeFault}
 use Rattle.hg_tree.specs.declared.fault.TreeFault.TheVariants as a_tree_fault
 use Rattle.hg_ignore.specs.declared.fault.IgnoreFault.{IgnoreFault}
@@ -43,14 +43,22 @@ of_compare (a_compare_fault.NoContents id) = a_fault.NoContents id
 of_compare a_compare_fault.TreeFailed = a_fault.TreeFailed
 of_compare a_compare_fault.ShelfFailed = a_fault.ShelfFailed
 
--- the tree's count rose where a listing failed, and stands still without a fault
-abbrev pub HasListingCause : {T : Type 0} → ℕ → ℕ → Result T TreeFault → Type 0
-HasListingCause before now result = HasCause before now result (λ e. e ≡ a_tree_fault.Failed)
+-- what a call says of a device's count: it never falls, rose where the device is named as the cause, and stands as it stood with every other answer
+pub record TellsFailing {T E : Type 0} (before now : ℕ) (result : Result T E) (IsFailed : E → Type 0) : Type 0 where
+  pub later : before ≤ now
+  pub quiet : OnOk result (now ≡ before)
+  pub rose : IfErr result (λ e. IsFailed e → Rose before now)
+  -- where it rose, the device is named as the cause
+  pub stayed : IfErr result (λ e. IsFailed e ⊎ (now ≡ before))
 
--- the tree's count rose wherever it is named as the cause, and stands still without a fault
+-- the tree's count rose where a listing failed, and stands still with every other answer
+abbrev pub HasListingCause : {T : Type 0} → ℕ → ℕ → Result T TreeFault → Type 0
+HasListingCause before now result = TellsFailing before now result (λ e. e ≡ a_tree_fault.Failed)
+
+-- the tree's count rose wherever it is named as the cause, and stands still with every other answer
 abbrev pub HasStatusCause : {T : Type 0} → ℕ → ℕ → Result T StatusFault → Type 0
-HasStatusCause before now result = HasCause before now result (λ e. e ≡ a_fault.TreeFailed)
+HasStatusCause before now result = TellsFailing before now result (λ e. e ≡ a_fault.TreeFailed)
 
 -- and so did the count of the files below `.hg`
 abbrev pub HasShelfCause : {T : Type 0} → ℕ → ℕ → Result T StatusFault → Type 0
-HasShelfCause before now result = HasCause before now result (λ e. e ≡ a_fault.ShelfFailed)
+HasShelfCause before now result = TellsFailing before now result (λ e. e ≡ a_fault.ShelfFailed)

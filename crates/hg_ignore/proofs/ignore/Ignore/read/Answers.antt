@@ -1,7 +1,8 @@
-use Rattle.std.proofs.Common.{List, ℕ, Some, sym, subst}
+use Rattle.std.proofs.Common.{List, ℕ, Some, sym, subst, ◌≡◌}
 use Rattle.hg_ignore.specs.Source.{BytesDuring}
 use Rattle.hg_ignore.specs.State.{Piece}
-use Rattle.hg_ignore.proofs.Sourced.{absent_during, asked_for, asks_still, cause_of_size, counted_still, state_still, states_during, states_still, texts_all}
+use Rattle.hg_ignore.specs.declared.fault.IgnoreFault.TheVariants as a_fault
+use Rattle.hg_ignore.proofs.Sourced.{absent_during, asked_for, asks_still, cause_of_size, counted_still, state_still, states_during, states_still, stood, texts_all}
 use Rattle.hg_ignore.proofs.ignore.Ignore.read.Goals as goal
 
 pub returns-in-Err-clause-oversize : goal.returns-in-Err-clause-oversize
@@ -34,3 +35,6 @@ returns-in-Err-clause-cause g c = λ told. cause_of_size 1048576 (g.T.Tree.histo
 pub returns-in-Ok-Some-clause-texts : goal.returns-in-Ok-Some-clause-texts
 returns-in-Ok-Some-clause-texts g c =
     texts_all (λ i. i) c.as_slice.result.now c.of_bytes.result (rw c.as_slice.ensures.value (rw c.in-Ok-Some.field-0-is at c.in-Ok-Some.ensures.within)) c.of_bytes.ensures.state c.of_bytes.ensures.utf8
+
+pub returns-in-Ok-Some-clause-stayed : goal.returns-in-Ok-Some-clause-stayed
+returns-in-Ok-Some-clause-stayed g c = stood (λ e. e ≡ a_fault.Failed) (g.T.Tree.faults c.args.tree.now) (g.T.Tree.faults c.read_bytes.new.tree) c.of_bytes.result c.in-Ok-Some.ensures.cause.quiet
