@@ -7,7 +7,7 @@ use hg_base::OutOfMemory;
 use std::alloc::{AllocError, AllocFailed};
 
 /// Why an ignore text isn't read. Lines are counted from 1.
-#[derive(Clone, Copy, Debug, PartialEq, Eq)]
+#[derive(Debug, Drop, PartialEq, Eq)]
 pub enum IgnoreFault {
     /// No memory for the text or what its lines say.
     OutOfMemory,

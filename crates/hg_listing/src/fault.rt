@@ -8,7 +8,7 @@ use hg_tree::TreeFault;
 use std::alloc::{AllocError, AllocFailed};
 
 /// Why a status could not be listed.
-#[derive(Clone, Copy, Debug, PartialEq, Eq)]
+#[derive(Debug, Drop, PartialEq, Eq)]
 pub enum StatusFault {
     /// There was no memory.
     OutOfMemory,
