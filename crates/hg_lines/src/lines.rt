@@ -1,6 +1,6 @@
 //! Reading line by line.
 
-ghost use Rattle.std.specs.Prelude.{◌≡◌, ◌+◌, ◌≤◌, ◌<◌, ◌==◌, [], false, length, take, drop, IfOk, IfErr, IfSome, OnOk, OnErr, MatchBool};
+ghost use Rattle.std.specs.Prelude.{◌≡◌, ◌+◌, ◌≤◌, ◌<◌, ◌⊎◌, ◌==◌, [], false, length, take, drop, IfOk, IfErr, IfSome, OnOk, OnErr, MatchBool};
 ghost use Rattle.hg_base.specs.Fault.{HasCause};
 ghost use Rattle.hg_lines.specs.Script.{Answers, IsLine, IsStill, ReadsFrom, all_of, has_end, held, start};
 ghost use Rattle.hg_lines.specs.Steps.{Ends, HasEnd, IsRefused, IsText, Refuses, passed};
@@ -129,6 +129,7 @@ impl Lines {
         ensures ok { IfOk result (λ ends. MatchBool ends (HasEnd self.new) ((self.new.piece ≡ []) × IfSome (I.left input.new) (λ rest. rest ≡ []))) }
         ensures err { IfErr result (IsRefused self.new) }
         ensures cause { HasCause (I.faults input.old) (I.faults input.new) result (λ e. e ≡ a_fault.Failed) }
+        ensures stayed { IfErr result (λ e. (e ≡ a_fault.Failed) ⊎ (I.faults input.new ≡ I.faults input.old)) }
     {
         while self.refill(input)? {
             if self.gather()? {
@@ -195,6 +196,7 @@ impl Lines {
         ensures answers { Answers self.old self.new result }
         ensures reads { ReadsFrom self.old (all_of self.old (I.left input.old)) self.new (all_of self.new (I.left input.new)) result }
         ensures cause { HasCause (I.faults input.old) (I.faults input.new) result (λ e. e ≡ a_fault.Failed) }
+        ensures stayed { IfErr result (λ e. (e ≡ a_fault.Failed) ⊎ (I.faults input.new ≡ I.faults input.old)) }
     {
         if self.reach(input)? {
             return Ok(Some(self.hand(1)?));
