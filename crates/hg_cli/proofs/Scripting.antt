@@ -125,6 +125,19 @@ input_failed (a_line.Line n) answered is so failed = absurd (not_input answered 
 input_failed (a_line.Text n) answered is so failed = absurd (not_input answered (a_fault.ScriptText n) is (λ e. cc e) failed)
 input_failed (a_line.TooLarge size) answered is so failed = absurd (not_input answered (a_fault.ScriptTooLarge size) is (λ e. cc e) failed)
 
+-- where it didn't fail its count stayed, and else the answer says that it did
+pub input_stayed : (met : LineFault) (answered : Option Fault) (before mid now : ℕ) → IsFaultOrMemory answered (of_line met) → (met ≡ a_line.Failed) ⊎ (now ≡ mid) → mid ≡ before
+    → (now ≡ before) ⊎ IsFaultOrMemory answered a_fault.InFailed
+input_stayed met answered before mid now is (inl failed) so = inr (subst (λ (m : LineFault). IsFaultOrMemory answered (of_line m)) failed is)
+input_stayed met answered before mid now is (inr stayed) so = inl (stayed ∙ so)
+
+-- so it stayed where nothing is answered
+pub input_quiet : {P : Type 0} (answered : Option Fault) → P ⊎ IsFaultOrMemory answered a_fault.InFailed → answered ≡ None → P
+input_quiet answered (inl stayed) none = stayed
+input_quiet answered (inr failed) none =
+    let both : true ≡ false = sym (some_fault answered a_fault.InFailed failed) ∙ ap is_some none in
+    absurd (cc both)
+
 -- a line's turn, by its number and its text
 pub does_line : {D : Type 0} (seen : D → D → Seen) (n number : ℕ) (text line : List ℕ) (old new : D) (code : ℕ) (fault : Option Fault) → n ≡ number → text ≡ line → DoesWords seen n (words_of text) old new code fault
     → DoesWords seen number (words_of line) old new code fault

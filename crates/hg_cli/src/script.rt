@@ -1,6 +1,6 @@
 //! A script: commands that are read from the input, a line each.
 
-ghost use Rattle.std.specs.Prelude.{◌≡◌, Some};
+ghost use Rattle.std.specs.Prelude.{◌≡◌, ◌⊎◌, Some, None};
 ghost use Rattle.hg_base.specs.Fault.{Rose};
 ghost use Rattle.hg_cli.specs.Run.{IsRun};
 ghost use Rattle.hg_cli.specs.Script.{Does, DoesWords, of_line, seen};
@@ -8,6 +8,7 @@ ghost use Rattle.hg_lines.specs.Script as lines_are;
 ghost use Rattle.hg_lines.specs.Turns.{RunsScript};
 ghost use Rattle.hg_report.specs.declared.fault.Fault.TheVariants as a_fault;
 ghost use Rattle.hg_session.specs.Call.{counted, saved_by, watched};
+ghost use Rattle.hg_session.specs.Put.{IsFaultOrMemory};
 
 use crate::carrying::carry;
 use hg_base::Words;
@@ -187,6 +188,8 @@ pub(crate) fn script<T: Tree, S: Shelf, G: Regexps, I: Source, O: Sink, E: Sink>
         result.status
         result.fault }
     ensures failing { result.fault ≡ Some a_fault.InFailed → Rose (I.faults input.old) (I.faults input.new) }
+    ensures quiet { result.fault ≡ None → I.faults input.new ≡ I.faults input.old }
+    ensures stayed { (I.faults input.new ≡ I.faults input.old) ⊎ IsFaultOrMemory result.fault a_fault.InFailed }
 {
     let mut lines = match Lines::new(alloc) {
         Ok(lines) => lines,

@@ -1,9 +1,10 @@
 //! The top call: one command over a working copy, the files below `.hg`, and the standard streams.
 
-ghost use Rattle.std.specs.Prelude.{◌≡◌, false, Some};
+ghost use Rattle.std.specs.Prelude.{◌≡◌, ◌⊎◌, false, Some, None};
 ghost use Rattle.hg_base.specs.Fault.{Rose};
 ghost use Rattle.hg_cli.specs.Script.{RunsWords, is_script};
 ghost use Rattle.hg_report.specs.declared.fault.Fault.TheVariants as a_fault;
+ghost use Rattle.hg_session.specs.Put.{IsFaultOrMemory};
 
 use crate::carrying::carry;
 use crate::script::script;
@@ -57,6 +58,10 @@ pub fn run<T: Tree, S: Shelf, G: Regexps, I: Source, O: Sink, E: Sink>(
         result.fault }
     // The input is told to have failed only where its count of failures rose.
     ensures failing { result.fault ≡ Some a_fault.InFailed → Rose (I.faults input.old) (I.faults input.new) }
+    // Without a fault it stands as it stood.
+    ensures quiet { result.fault ≡ None → I.faults input.new ≡ I.faults input.old }
+    // Where it doesn't, the fault is that the input failed, or want of memory in its place.
+    ensures stayed { (I.faults input.new ≡ I.faults input.old) ⊎ IsFaultOrMemory result.fault a_fault.InFailed }
     // Nobody looks at the input but a script.
     ensures unread { is_script words.now ≡ false → input.new ≡ input.old }
 {

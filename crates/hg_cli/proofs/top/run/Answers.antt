@@ -1,7 +1,7 @@
 use Rattle.hg_cli.proofs.Carried.{loadable}
 use Rattle.hg_cli.proofs.Scripting.{carried, carried_other, unread}
 use Rattle.hg_cli.proofs.top.run.Goals as goal
-use Rattle.std.proofs.Common.{refl, rules}
+use Rattle.std.proofs.Common.{refl, rules, inl}
 
 pub carry-requires : goal.carry-requires
 carry-requires g c = loadable c.args.words.now c.in-Ok.given c.in-Ok.ensures.ok
@@ -61,5 +61,7 @@ returns-in-Ok g c =
           (c.args.tree.now, c.args.shelf.now, c.args.regexps.now, c.args.out.now, c.args.err.now)
           (c.carry.new.tree, c.carry.new.shelf, c.carry.new.regexps, c.carry.new.out, c.carry.new.err)
           c.carry.result.status c.carry.result.fault c.in-Ok.given c.carry.ensures failed);
+      quiet = λ none. refl;
+      stayed = inl refl;
       unread = λ other. refl;
     }
