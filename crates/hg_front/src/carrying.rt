@@ -1,11 +1,12 @@
 //! A command from its words to what it ends with.
 
-ghost use Rattle.std.specs.Prelude.{◌≡◌, false, IfErr, IfOk, Some};
+ghost use Rattle.std.specs.Prelude.{◌≡◌, ◌⊎◌, false, IfErr, IfOk, Some, None};
 ghost use Rattle.std.specs.Option.{option_map};
 ghost use Rattle.hg_base.specs.Fault.{Rose};
 ghost use Rattle.hg_cli.specs.Script.{RunsWords, is_script};
 ghost use Rattle.hg_front.specs.Carried.{IsCarried, IsNotBegun, status_of};
 ghost use Rattle.hg_report.specs.declared.fault.Fault.TheVariants as a_fault;
+ghost use Rattle.hg_session.specs.Put.{IsFaultOrMemory};
 
 use crate::further::without_memory;
 use crate::placing::{Placed, place, unreached};
@@ -75,6 +76,10 @@ pub fn carry<T: Tree, S: Shelf, G: Regexps, I: Source, O: Sink, E: Sink>(
     ensures stopped { IfErr result (λ status. (status ≡ 255) × (tree.new ≡ tree.old) × (shelf.new ≡ shelf.old) × (out.new ≡ out.old) × (input.new ≡ input.old)) }
     // The input is told to have failed only where its count of failures rose.
     ensures failing { IfOk result (λ ran. ran.outcome.fault ≡ Some a_fault.InFailed → Rose (I.faults input.old) (I.faults input.new)) }
+    // Without a fault it stands as it stood.
+    ensures quiet { IfOk result (λ ran. ran.outcome.fault ≡ None → I.faults input.new ≡ I.faults input.old) }
+    // Where it doesn't, the fault is that the input failed, or want of memory in its place.
+    ensures stayed { IfOk result (λ ran. (I.faults input.new ≡ I.faults input.old) ⊎ IsFaultOrMemory ran.outcome.fault a_fault.InFailed) }
     // Nobody looks at the input but a script.
     ensures unread { IfOk result (λ ran. is_script ran.placed.words ≡ false → input.new ≡ input.old) }
 {
