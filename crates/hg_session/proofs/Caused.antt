@@ -36,11 +36,13 @@ use Rattle.hg_session.specs.declared.print_fault.PrintFault.TheVariants as a_pri
 use Rattle.hg_session.specs.declared.read_fault.ReadFault.{ReadFault}
 use Rattle.hg_session.specs.declared.read_fault.ReadFault.TheVariants as a_read
 use Rattle.hg_session.proofs.Crashes.{crash_unwritten, latest_safe}
+use Rattle.hg_session.proofs.Locked.{unwritten}
 use Rattle.hg_session.proofs.Looks.{joined, not_without, status_failed}
 use Rattle.hg_session.proofs.Readings.{first_read, was_loaded}
 use Rattle.hg_session.proofs.Records.{record_by}
 use Rattle.hg_session.proofs.Statuses.{ran_status}
 use Rattle.hg_shelf.specs.History as shelf
+use Rattle.hg_walk.specs.Notes.{NotesData}
 use Rattle.hg_words.specs.declared.flags.StatusFlags.{StatusFlags}
 use Rattle.hg_words.specs.declared.given.Command.{Command}
 use Rattle.hg_words.specs.declared.given.Command.TheVariants as a_command
@@ -57,6 +59,10 @@ by_reading call a_read.Failed met = met
 by_printing : (call : Call) (fault : Fault) → IsOutFault fault → Rose call.out.before call.out.after → CommandCause call fault
 by_printing call fault (inl is) failed = subst (CommandCause call) (sym is) failed
 by_printing call fault (inr is) failed = subst (CommandCause call) (sym is) tt
+
+-- nothing was written, or the shelf failed
+abbrev HadNoMemory : Call → Type 0
+HadNoMemory call = IsUnwritten call.saved.old.history call.saved.new.history ⊎ Fails call.looked.shelf
 
 module _ (call : Call) (flags : StatusFlags) (is : call.command ≡ a_command.Status flags) where
   by_status : (table : Table) → IsLoaded call.looked.shelf table → (fault : StatusFault) → StatusCause call.looked (wanted_of flags) table fault → CommandCause call (of_status fault)
@@ -79,15 +85,32 @@ module _ (call : Call) (flags : StatusFlags) (is : call.command ≡ a_command.St
   by_listing table loaded fault (inl (f, same, cause)) = subst (CommandCause call) (sym same) (by_reading call f cause)
   by_listing table loaded fault (inr (f, same, cause)) = subst (CommandCause call) (sym same) (by_some table loaded f cause)
 
-  module _ (table : Option Table) (loaded : IfSome table (IsLoaded call.looked.shelf)) where
-    left_cause : (fault : Fault) → (stage : Stage) × LeavesAt (status_look flags call.looked call.saved call.locks table) call.out call.err Tells stage fault → CommandCause call fault
+  module _ (notes : NotesData) (table : Option Table) (loaded : IfSome table (IsLoaded call.looked.shelf)) where
+    left_cause : (fault : Fault) → (stage : Stage) × LeavesAt (status_look flags call.looked call.saved call.locks table notes) call.out call.err Tells stage fault → CommandCause call fault
     left_cause fault (at_first, ((only, why), silent, line)) = by_listing table loaded fault why
     left_cause fault (at_printing, (printing, ready, front, kind, line)) = by_printing call fault kind front.failed
     left_cause fault (at_telling, (telling, ready, puts, front, same)) = subst (CommandCause call) (sym same) front.failed
-    left_cause fault (at_saving, (inl (same, failed), left)) = subst (CommandCause call) (sym same) failed
-    left_cause fault (at_saving, (inr same, left)) = subst (CommandCause call) (sym same) tt
+    left_cause fault (at_saving, (inl (failed, inl same), left)) =
+        let is : fault ≡ a_fault.ShelfFailed = cc same in
+        subst (CommandCause call) (sym is) failed
+    left_cause fault (at_saving, (inl (failed, inr memory), left)) =
+        let is : fault ≡ a_fault.OutOfMemory = cc memory in
+        subst (CommandCause call) (sym is) tt
+    left_cause fault (at_saving, (inr (same, none), left)) = subst (CommandCause call) (sym same) tt
 
-    pub status_cause : (fault : Option Fault) → Concludes (status_look flags call.looked call.saved call.locks table) call.out call.err fault → IfSome fault (CommandCause call)
+    -- want of memory comes where nothing was written, or where the shelf failed too
+    status_left : (fault : Fault) → (stage : Stage) × LeavesAt (status_look flags call.looked call.saved call.locks table notes) call.out call.err Tells stage fault → fault ≡ a_fault.OutOfMemory → HadNoMemory call
+    status_left fault (at_first, ((only, why), silent, line)) is = inl (unwritten call.saved.old.history call.saved.new.history only.passes)
+    status_left fault (at_printing, (only, ready, front, kind, line)) is = inl (unwritten call.saved.old.history call.saved.new.history only.passes)
+    status_left fault (at_telling, (only, ready, puts, front, same)) is = absurd (cc (same, is))
+    status_left fault (at_saving, (inl (failed, kind), left)) is = inr failed
+    status_left fault (at_saving, (inr (same, none), left)) is = inl none
+
+    pub status_memory : (fault : Option Fault) → Concludes (status_look flags call.looked call.saved call.locks table notes) call.out call.err fault → fault ≡ Some a_fault.OutOfMemory → HadNoMemory call
+    status_memory None looks is = absurd (cc is)
+    status_memory (Some fault) looks is = status_left fault looks.left (cc is)
+
+    pub status_cause : (fault : Option Fault) → Concludes (status_look flags call.looked call.saved call.locks table notes) call.out call.err fault → IfSome fault (CommandCause call)
     status_cause None looks = tt
     status_cause (Some fault) looks = left_cause fault looks.left
 
@@ -141,6 +164,17 @@ module _ (call : Call) (is : is_change call.command ≡ true) where
   change_left fault (at_telling, (telling, ready, puts, front, same)) = subst (CommandCause call) (sym same) front.failed
   change_left fault (at_saving, ((failed, kind), left)) = by_saving fault failed.0 kind
 
+  -- want of memory comes where nothing was written, or where the shelf failed too
+  change_memory_left : (fault : Fault) → (stage : Stage) × LeavesAt (change_look (makes_in call) call) call.out call.err Tells stage fault → fault ≡ a_fault.OutOfMemory → HadNoMemory call
+  change_memory_left fault (at_first, ((none, f, why, met), silent, line)) memory = inl none
+  change_memory_left fault (at_printing, (never, ready, front, kind, line)) memory = absurd never
+  change_memory_left fault (at_telling, (telling, ready, puts, front, same)) memory = absurd (cc (same, memory))
+  change_memory_left fault (at_saving, ((failed, kind), left)) memory = inr failed.0
+
+  changed_memory : (fault : Option Fault) → Concludes (change_look (makes_in call) call) call.out call.err fault → fault ≡ Some a_fault.OutOfMemory → HadNoMemory call
+  changed_memory None looks memory = absurd (cc memory)
+  changed_memory (Some fault) looks memory = change_memory_left fault looks.left (cc memory)
+
   changed_cause : (fault : Option Fault) → Concludes (change_look (makes_in call) call) call.out call.err fault → IfSome fault (CommandCause call)
   changed_cause None looks = tt
   changed_cause (Some fault) looks = change_left fault looks.left
@@ -151,11 +185,13 @@ looked_status : (code : ℕ) (fault : Option Fault) → MatchOption fault (code 
 looked_status code None is = inl is
 looked_status code (Some fault) is = is
 
-pub answered_looked : (call : Call) (code : ℕ) (fault : Option Fault) → Ran call.command call code fault → IsLook call code fault → IfSome fault (CommandCause call) → IsAnswered call code fault
-answered_looked call code fault ran look cause = record {
+pub answered_looked : (call : Call) (code : ℕ) (fault : Option Fault) → Ran call.command call code fault → IsLook call code fault → IsUnwritten call.saved.old.history call.saved.new.history
+    → IfSome fault (CommandCause call) → IsAnswered call code fault
+answered_looked call code fault ran look none cause = record {
   ran = ran;
   cause = cause;
   calm = look.calm;
+  memory = λ is. inl none;
   kept = look.only.kept;
   crash = λ calm keep first ground. (None, look.crash calm keep first);
   latest = λ calm keep first. (look.crash calm keep first).latest;
@@ -191,6 +227,7 @@ answered_changed call code fault is changed status = record {
   cause = changed_cause call is fault changed.shows;
   calm = λ none.
       record { tree = changed.calm_tree none; shelf = changed.calm_shelf (inl none); regexps = changed.uncounted; out = changed.silent.count; err = changed.calm_err none };
+  memory = changed_memory call is fault changed.shows;
   kept = changed.kept;
   crash = λ calm keep first ground. (
     published_in (makes_in call) call.saved fault (changed.safe calm),
@@ -215,8 +252,9 @@ answered_status command flags looked saved locks out mid tail bytes count done c
     let ran : RanStatus flags call code fault = ran_status command flags looked saved locks out mid tail bytes count done code fault does ends in
     record {
       ran = subst (λ (c : Command). Ran c call code fault) (sym is) ran;
-      cause = status_cause call flags is ran.table (some_read looked.shelf ran.table ran.loaded) fault ran.looks;
+      cause = status_cause call flags is ran.notes ran.table (some_read looked.shelf ran.table ran.loaded) fault ran.looks;
       calm = ran.calm;
+      memory = status_memory call flags is ran.notes ran.table (some_read looked.shelf ran.table ran.loaded) fault ran.looks;
       kept = ran.saving.kept;
       crash = λ calm keep first ground. (
         published_in (noted_in looked.shelf ran.table ran.notes) saved fault (ran.saving.safe calm),
@@ -235,7 +273,7 @@ pub answered_record : (call : Call) (code : ℕ) (fault : Option Fault) → call
     → MatchOption fault (code ≡ 0) (λ f. code ≡ 255) → IsAnswered call code fault
 answered_record call code fault is shows below alone uncounted calm only none status =
     let look : IsLook call code fault = look_by call code fault only none calm status in
-    answered_looked call code fault (subst (λ (c : Command). Ran c call code fault) (sym is) (record_by call only.passes fault shows below alone uncounted code look)) look
+    answered_looked call code fault (subst (λ (c : Command). Ran c call code fault) (sym is) (record_by call only.passes fault shows below alone uncounted code look)) look none
     (record_cause call fault shows.came shows.prints shows.tells)
 
 -- ---- a command that isn't built
@@ -261,5 +299,5 @@ answered_unbuilt call code fault is answered told idle passes status =
     let look : IsLook call code fault =
     look_by call code fault (record { passes = passes; kept = idle.kept; held = idle.held }) idle.unwritten (λ none. not_without fault a_fault.NotBuilt answered none)
     (status_failed code a_fault.NotBuilt fault answered status) in
-    answered_looked call code fault (ran_unbuilt call code fault (record { answered = answered; told = told; idle = idle; look = look }) call.command is) look
+    answered_looked call code fault (ran_unbuilt call code fault (record { answered = answered; told = told; idle = idle; look = look }) call.command is) look idle.unwritten
     (unbuilt_cause call fault answered is)

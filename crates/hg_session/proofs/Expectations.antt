@@ -36,18 +36,19 @@ use Rattle.hg_tree.proofs.Stillness.{ours_untouched}
 use Rattle.hg_save.specs.Record.{record_in}
 use Rattle.hg_session.specs.Call.{Count, Looked, Saved, Serves, Sink}
 use Rattle.hg_session.specs.Flags.{wanted_of}
-use Rattle.hg_session.specs.Listed.{IsAskedAt, IsListable, IsListed, IsListedFor, IsOwn, IsRightFor, IsUntouched, StatusCause, first_parent, status_over}
+use Rattle.hg_session.specs.Listed.{IsAskedAt, IsListed, IsListedFor, IsOwn, IsRightFor, IsUntouched, StatusCause, first_parent, status_over}
 use Rattle.hg_session.specs.Load.{of_read}
 use Rattle.hg_session.specs.Loaded.{IsLoaded, IsUnreadable}
 use Rattle.hg_session.specs.Look.{LeavesAt, LeftBySaving, Look, Concludes, Order, Stage, at_first, at_printing, at_saving, at_telling, saves_first, saves_last}
 use Rattle.hg_session.specs.Put.{LeavesFront, Puts, Tells}
-use Rattle.hg_session.specs.Status.{HasBadManifest, HasBadPatterns, IsExpected, IsFullText, IsReady, IsRowsText, LacksContents, ListingCause, status_look}
+use Rattle.hg_session.specs.Status.{HasBadManifest, HasBadPatterns, IsExpected, IsFullText, IsReady, IsRowsText, IsWorked, LacksContents, ListingCause, status_look}
 use Rattle.hg_session.specs.declared.read_fault.ReadFault.{ReadFault}
 use Rattle.hg_session.specs.declared.read_fault.ReadFault.TheVariants as a_read
 use Rattle.hg_session.proofs.Causes.{asked_now, gone_now, holds_now, large_now, read_now, shows_now}
 use Rattle.hg_session.proofs.Readings as readings
 use Rattle.hg_session.proofs.Refusals.{fine_now, over_now, so_now}
 use Rattle.hg_session.proofs.Parents.{row_kept}
+use Rattle.hg_walk.specs.Notes.{NotesData}
 use Rattle.hg_walk.specs.Walking.{rows_in}
 use Rattle.hg_words.specs.declared.flags.StatusFlags.{StatusFlags}
 
@@ -206,12 +207,12 @@ module _ (looked : Looked) (copy : tree.Passes looked.tree.old looked.tree.new) 
         subst (λ (f : Fault). Expects (Some f)) (sym is) (reading_expected f (readings.unreadable_now looked.shelf files.past still_shelf own.shelf.told f cause q))
     listing_expected table loaded fault (inr (f, is, cause)) p q = subst (λ (f : Fault). Expects (Some f)) (sym is) (some_expected table loaded f cause p q)
 
-    none_expected : (table : Option Table) → IfSome table (IsLoaded looked.shelf) → IsSomeAnd table (IsListable looked wanted) → Expects None
-    none_expected None loaded listable = absurd listable
-    none_expected (Some table) loaded listable = record {
+    none_expected : (notes : NotesData) (table : Option Table) → IfSome table (IsLoaded looked.shelf) → IsSomeAnd table (λ t. IsWorked looked wanted t notes) → Expects None
+    none_expected notes None loaded worked = absurd worked
+    none_expected notes (Some table) loaded worked = record {
       table = table;
-      ready = ready_now table loaded listable.patterns;
-      served = λ path asked. listable.served path (ours_left table path) asked;
+      ready = ready_now table loaded worked.listable.patterns;
+      served = λ path asked. worked.listable.served path (ours_left table path) asked;
     }
 
     rows_own : (table : Option Table) → IfSome table (IsLoaded looked.shelf) → IfSome table (IsRightFor looked) → (rows : List Row) → IsSomeAnd table (IsListedFor looked wanted rows)
@@ -225,7 +226,7 @@ module _ (looked : Looked) (copy : tree.Passes looked.tree.old looked.tree.new) 
 
 -- ---- the command
 
-module _ (flags : StatusFlags) (looked : Looked) (saved : Saved) (locks : Count) (out err : Sink) (copy : tree.Passes looked.tree.old looked.tree.new) (files : shelf.Passes looked.shelf.old looked.shelf.new)
+module _ (flags : StatusFlags) (looked : Looked) (saved : Saved) (locks : Count) (out err : Sink) (notes : NotesData) (copy : tree.Passes looked.tree.old looked.tree.new) (files : shelf.Passes looked.shelf.old looked.shelf.new)
     (table : Option Table) (loaded : IfSome table (IsLoaded looked.shelf)) where
   abbrev Expected : Option Fault → Type 0
   Expected fault = IsExpected (wanted_of flags) (shelf.now looked.shelf.old).files (tree.now looked.tree.old) fault
@@ -233,25 +234,25 @@ module _ (flags : StatusFlags) (looked : Looked) (saved : Saved) (locks : Count)
   abbrev Full : List ℕ → Type 0
   Full = IsFullText flags (shelf.now looked.shelf.old).files (tree.now looked.tree.old)
 
-  left_expected : IsOwn looked → (fault : Fault) → (stage : Stage) × LeavesAt (status_look flags looked saved locks table) out err Tells stage fault
+  left_expected : IsOwn looked → (fault : Fault) → (stage : Stage) × LeavesAt (status_look flags looked saved locks table notes) out err Tells stage fault
       → Serves looked.tree → Serves looked.shelf → Serves out → Serves err → Expected (Some fault)
   left_expected own fault (at_first, ((only, why), silent, line)) p q r w = listing_expected looked copy files own (wanted_of flags) table loaded fault why p q
   left_expected own fault (at_printing, (printing, ready, front, kind, line)) p q r w = absurd (steady_not_rose out.before out.after r front.failed)
   left_expected own fault (at_telling, (telling, ready, puts, front, is)) p q r w = absurd (steady_not_rose err.before err.after w front.failed)
-  left_expected own fault (at_saving, (inl (is, failed), left)) p q r w = absurd (steady_not_rose looked.shelf.before looked.shelf.after q failed)
-  left_expected own fault (at_saving, (inr is, left)) p q r w = subst (λ (f : Fault). Expected (Some f)) (sym is) tt
+  left_expected own fault (at_saving, (inl (failed, is), left)) p q r w = absurd (steady_not_rose looked.shelf.before looked.shelf.after q failed)
+  left_expected own fault (at_saving, (inr (is, none), left)) p q r w = subst (λ (f : Fault). Expected (Some f)) (sym is) tt
 
-  pub expected_by : (fault : Option Fault) → Concludes (status_look flags looked saved locks table) out err fault
+  pub expected_by : (fault : Option Fault) → Concludes (status_look flags looked saved locks table notes) out err fault
       → IsOwn looked → Serves looked.tree → Serves looked.shelf → Serves out → Serves err → Expected fault
-  expected_by None looks own p q r w = none_expected looked copy files own (wanted_of flags) table loaded (looks.done refl).ready
+  expected_by None looks own p q r w = none_expected looked copy files own (wanted_of flags) notes table loaded (looks.done refl).ready
   expected_by (Some fault) looks own p q r w = left_expected own fault looks.left p q r w
 
-  pub whole_own : (fault : Option Fault) → Concludes (status_look flags looked saved locks table) out err fault → fault ≡ None → IsOwn looked → IfSome table (IsRightFor looked) → Puts Full out
+  pub whole_own : (fault : Option Fault) → Concludes (status_look flags looked saved locks table notes) out err fault → fault ≡ None → IsOwn looked → IfSome table (IsRightFor looked) → Puts Full out
   whole_own fault looks none own right =
       let printed = (looks.done none).printed in
-      record { text = printed.text; is = text_own looked copy files own flags table loaded right printed.text printed.is; put = printed.put }
+      record { text = printed.text; is = text_own looked copy files own flags table loaded right printed.text printed.is; put = printed.put; calm = printed.calm }
 
-  pub front_own : (fault : Option Fault) → Concludes (status_look flags looked saved locks table) out err fault → IsOwn looked → IfSome table (IsRightFor looked) → IfSome fault (λ _. LeavesFront Full out)
+  pub front_own : (fault : Option Fault) → Concludes (status_look flags looked saved locks table notes) out err fault → IsOwn looked → IfSome table (IsRightFor looked) → IfSome fault (λ _. LeavesFront Full out)
   front_own None looks own right = tt
   front_own (Some fault) looks own right =
-      front_by (IsRowsText flags looked table) Full (text_own looked copy files own flags table loaded right) (status_look flags looked saved locks table) (λ text is. is) out err fault looks.left
+      front_by (IsRowsText flags looked table) Full (text_own looked copy files own flags table loaded right) (status_look flags looked saved locks table notes) (λ text is. is) out err fault looks.left

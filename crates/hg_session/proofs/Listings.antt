@@ -1,6 +1,7 @@
 -- What a listing behind a load says of the call up to where it ended.
-use Rattle.std.proofs.Common.{ℕ, List, [], ◌∷◌, Option, Some, IsTrue, refl, sym, ◌∙◌, subst, inl, inr, arith}
+use Rattle.std.proofs.Common.{ℕ, ◌≡◌, List, [], ◌∷◌, Option, Some, IsTrue, refl, sym, ◌∙◌, subst, inl, inr, arith}
 use Rattle.std.proofs.lemmas.List.{append-nil}
+use Rattle.hg_compare.specs.Tracked.{ParentRow}
 use Rattle.hg_entry.specs.Table.{Table}
 use Rattle.hg_listing.specs.declared.fault.StatusFault.{StatusFault}
 use Rattle.hg_listing.specs.declared.fault.StatusFault.TheVariants as a_status
@@ -11,8 +12,10 @@ use Rattle.hg_shelf.proofs.Histories.{extends_same, extends_trans}
 use Rattle.hg_save.specs.Asked.{docket_ask}
 use Rattle.hg_shelf.specs.Asks.{AsksFrontOf}
 use Rattle.hg_shelf.specs.History as shelf
+use Rattle.hg_shelf.specs.Polite.{KeepsPlain}
 use Rattle.hg_tree.specs.History as tree
 use Rattle.hg_session.proofs.Causes.{met_longer}
+use Rattle.hg_session.proofs.Longer.{plain_later, rows_stay}
 use Rattle.hg_session.proofs.Parents.{full_moved, served_moved}
 use Rattle.hg_session.specs.Call.{Count, Fails, Looked, Saved, Sink}
 use Rattle.hg_session.specs.Flags.{wanted_of}
@@ -20,9 +23,10 @@ use Rattle.hg_session.specs.Listed.{AsksBelow, AsksLittle, AsksOver, AsksPlain, 
 use Rattle.hg_session.specs.Loaded.{AsksRecord}
 use Rattle.hg_session.specs.Look.{IsShown, IsUntold, LeavesAt, Stage, at_first, at_printing, at_saving, at_telling}
 use Rattle.hg_session.specs.Put.{Puts}
-use Rattle.hg_session.specs.Status.{IsRowsText, OnlyAsksBelow, listed_to, show_look, status_look}
+use Rattle.hg_session.specs.Status.{IsRowsText, IsWorked, OnlyAsksBelow, listed_to, show_look, status_look}
 use Rattle.hg_walk.specs.Right.{VouchedAreClean}
-use Rattle.hg_walk.specs.Walking.{rows_in}
+use Rattle.hg_walk.specs.Notes.{NotesData, applied}
+use Rattle.hg_walk.specs.Walking.{IsRecorded, rows_in}
 use Rattle.hg_words.specs.declared.flags.StatusFlags.{StatusFlags}
 
 -- where the record alone was asked for
@@ -91,18 +95,37 @@ module _ (flags : StatusFlags) (looked : Looked) (behind : shelf.History) (n m :
   rows_by text is = record { rows = is.rows; listing = listed_for is.rows is.listing; is = is.is }
 
   puts_by : (out : Sink) → Puts (IsRowsText flags part (Some table)) out → Puts (IsRowsText flags looked (Some table)) out
-  puts_by out puts = record { text = puts.text; is = rows_by puts.text puts.is; put = puts.put }
+  puts_by out puts = record { text = puts.text; is = rows_by puts.text puts.is; put = puts.put; calm = puts.calm }
 
-  module _ (saved : Saved) (locks : Count) (out err : Sink) where
-    pub shown_by : IsShown (show_look flags part table) out err → IsShown (status_look flags looked saved locks (Some table)) out err
-    shown_by is = record { ready = listable_by is.ready; printed = puts_by out is.printed; told = is.told }
+  -- the plain store stays behind the load, and with it what the first parent has
+  pub plain_by : KeepsPlain looked.shelf.new looked.shelf.old.last → KeepsPlain looked.shelf.new behind.last
+  plain_by keeps = plain_later looked.shelf.new looked.shelf.old.last behind.last before.past.later after.past.later keeps
 
-    pub left_by : OnlyAsksBelow saved locks → (Fails part.shelf → Fails looked.shelf) → (fault : Fault) → (stage : Stage) × LeavesAt (show_look flags part table) out err IsUntold stage fault
-        → (stage : Stage) × LeavesAt (status_look flags looked saved locks (Some table)) out err IsUntold stage fault
+  pub rows_same : KeepsPlain looked.shelf.new looked.shelf.old.last → rows_in table (shelf.now behind).files ≡ rows_in table (shelf.now looked.shelf.old).files
+  rows_same keeps =
+      let first : shelf.Extends looked.shelf.old looked.shelf.new = extends_trans looked.shelf.old behind looked.shelf.new before.past after.past in
+      (λ i. rows_in table (sym (after.past.stay behind.last (omega arith)).shown i)) ∙ rows_stay table looked.shelf.new looked.shelf.old.last behind.last before.past.later after.past.later keeps
+      ∙ (λ i. rows_in table ((first.stay looked.shelf.old.last (omega arith)).shown i))
+
+  worked_by : (notes : NotesData) → IsWorked part wanted table notes → IsWorked looked wanted table notes
+  worked_by notes is = record {
+    listable = listable_by is.listable;
+    asked_own = is.asked_own;
+    recorded = λ own keeps.
+        subst (λ (rows : List ℕ → Option ParentRow). IsRecorded wanted rows table (tree.now looked.tree.old) (applied notes table)) (rows_same keeps) (is.recorded own (plain_by keeps));
+    noted_by = λ wants. let by = is.noted_by wants in record { since = by.since; from = omega (arith, before.past.later, by.from); to = by.to; by = by.by };
+  }
+
+  module _ (saved : Saved) (locks : Count) (out err : Sink) (notes : NotesData) where
+    pub shown_by : IsShown (show_look flags part table notes) out err → IsShown (status_look flags looked saved locks (Some table) notes) out err
+    shown_by is = record { ready = worked_by notes is.ready; printed = puts_by out is.printed; told = is.told }
+
+    pub left_by : OnlyAsksBelow saved locks → (Fails part.shelf → Fails looked.shelf) → (fault : Fault) → (stage : Stage) × LeavesAt (show_look flags part table notes) out err IsUntold stage fault
+        → (stage : Stage) × LeavesAt (status_look flags looked saved locks (Some table) notes) out err IsUntold stage fault
     left_by only failed fault (at_first, ((f, is, cause), silent, line)) = (at_first, ((only, inr (f, is, cause_by failed f cause)), silent, line))
     left_by only failed fault (at_printing, (printing, ready, front, kind, line)) =
-        (at_printing, (only, listable_by ready, record { text = front.text; is = rows_by front.text front.is; put = front.put; failed = front.failed }, kind, line))
-    left_by only failed fault (at_telling, (telling, ready, puts, front, is)) = (at_telling, (only, listable_by ready, puts_by out puts, front, is))
+        (at_printing, (only, worked_by notes ready, record { text = front.text; is = rows_by front.text front.is; put = front.put; failed = front.failed }, kind, line))
+    left_by only failed fault (at_telling, (telling, ready, puts, front, is)) = (at_telling, (only, worked_by notes ready, puts_by out puts, front, is))
     left_by only failed fault (at_saving, (never, left)) = absurd never
 
   -- what was asked for below `.hg`, up to a history behind the listing

@@ -39,7 +39,7 @@ use Rattle.hg_session.specs.Listed.{IsListable, IsListedFor, IsOwn, IsRightFor, 
 use Rattle.hg_session.specs.Loaded.{IsLoaded, IsRefused, LoadMet, MetReading}
 use Rattle.hg_session.specs.Look.{Concludes, IsShown, LeavesAt, Stage, at_first, at_printing, at_saving, at_telling}
 use Rattle.hg_session.specs.Put.{Puts, PutsFront, Tells}
-use Rattle.hg_session.specs.Status.{IsLoadedFirst, IsRowsText, ListingCause, listed_to, status_look}
+use Rattle.hg_session.specs.Status.{IsLoadedFirst, IsRowsText, IsWorked, ListingCause, listed_to, status_look}
 use Rattle.hg_session.specs.declared.read_fault.ReadFault.{ReadFault}
 use Rattle.hg_session.specs.declared.read_fault.ReadFault.TheVariants as a_read
 use Rattle.hg_walk.specs.Right.{AreRight}
@@ -272,26 +272,41 @@ module _ (flags : StatusFlags) (looked : Looked) (saved : Saved) (locks : Count)
   }
 
   puts_whole : (out : Sink) → Puts (IsRowsText flags (listed_to end looked) table) out → Puts (IsRowsText flags looked table) out
-  puts_whole out puts = record { text = puts.text; is = rows_whole puts.text puts.is; put = puts.put }
+  puts_whole out puts = record { text = puts.text; is = rows_whole puts.text puts.is; put = puts.put; calm = puts.calm }
 
   front_whole : (out : Sink) → PutsFront (IsRowsText flags (listed_to end looked) table) out → PutsFront (IsRowsText flags looked table) out
   front_whole out puts = record { text = puts.text; is = rows_whole puts.text puts.is; put = puts.put; failed = puts.failed }
 
-  ready_whole : IsSomeAnd table (IsListable (listed_to end looked) (wanted_of flags)) → IsSomeAnd table (IsListable looked (wanted_of flags))
-  ready_whole = some_whole (λ t. listable_whole (wanted_of flags) t looked end later first) table
+  worked_whole : (notes : NotesData) (t : Table) → IsWorked (listed_to end looked) (wanted_of flags) t notes → IsWorked looked (wanted_of flags) t notes
+  worked_whole notes t is = record {
+    listable = listable_whole (wanted_of flags) t looked end later first is.listable;
+    asked_own = is.asked_own;
+    recorded = λ own keeps. is.recorded own (plain_shorter end looked.shelf.new later looked.shelf.old.last first.later keeps);
+    noted_by = λ wants.
+        let by = is.noted_by wants in
+        record {
+          since = by.since;
+          from = by.from;
+          to = omega (arith, by.to, later.later);
+          by = noted_later (wanted_of flags) t notes looked.tree.old looked.tree.new end looked.shelf.new later by.since by.to by.by;
+        };
+  }
 
-  module _ (out err : Sink) where
-    left_whole : (fault : Fault) → (stage : Stage) × LeavesAt (status_look flags (listed_to end looked) saved locks table) out err Tells stage fault
-        → (stage : Stage) × LeavesAt (status_look flags looked saved locks table) out err Tells stage fault
+  module _ (out err : Sink) (notes : NotesData) where
+    ready_whole : IsSomeAnd table (λ t. IsWorked (listed_to end looked) (wanted_of flags) t notes) → IsSomeAnd table (λ t. IsWorked looked (wanted_of flags) t notes)
+    ready_whole = some_whole (worked_whole notes) table
+
+    left_whole : (fault : Fault) → (stage : Stage) × LeavesAt (status_look flags (listed_to end looked) saved locks table notes) out err Tells stage fault
+        → (stage : Stage) × LeavesAt (status_look flags looked saved locks table notes) out err Tells stage fault
     left_whole fault (at_first, ((only, why), silent, line)) = (at_first, ((only, why_whole fault why), silent, line))
     left_whole fault (at_printing, (only, ready, front, kind, line)) = (at_printing, (only, ready_whole ready, front_whole out front, kind, line))
     left_whole fault (at_telling, (only, ready, puts, front, is)) = (at_telling, (only, ready_whole ready, puts_whole out puts, front, is))
     left_whole fault (at_saving, (saving, (ready, puts, behind))) = (at_saving, (saving, (ready_whole ready, puts_whole out puts, behind)))
 
-    shown_whole : IsShown (status_look flags (listed_to end looked) saved locks table) out err → IsShown (status_look flags looked saved locks table) out err
+    shown_whole : IsShown (status_look flags (listed_to end looked) saved locks table notes) out err → IsShown (status_look flags looked saved locks table notes) out err
     shown_whole is = record { ready = ready_whole is.ready; printed = puts_whole out is.printed; told = is.told }
 
-    pub concludes_whole : (fault : Option Fault) → Concludes (status_look flags (listed_to end looked) saved locks table) out err fault → Concludes (status_look flags looked saved locks table) out err fault
+    pub concludes_whole : (fault : Option Fault) → Concludes (status_look flags (listed_to end looked) saved locks table notes) out err fault → Concludes (status_look flags looked saved locks table notes) out err fault
     concludes_whole None is = record { done = λ none. shown_whole (is.done none); left = tt }
     concludes_whole (Some fault) is = record { done = λ none. absurd (cc none); left = left_whole fault is.left }
 

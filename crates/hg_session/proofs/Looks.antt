@@ -29,7 +29,7 @@ module _ (mid tail : Sink) (bytes : tail.old ≡ mid.new) (count : tail.before �
   joined = record { old = mid.old; new = tail.new; before = mid.before; after = tail.after }
 
   puts_joined : (IsText : List ℕ → Type 0) → IsSilent tail → Puts IsText mid → Puts IsText joined
-  puts_joined IsText silent puts = record { text = puts.text; is = puts.is; put = silent.bytes ∙ bytes ∙ puts.put }
+  puts_joined IsText silent puts = record { text = puts.text; is = puts.is; put = silent.bytes ∙ bytes ∙ puts.put; calm = silent.count ∙ count ∙ puts.calm }
 
   front_joined : (IsText : List ℕ → Type 0) → IsSilent tail → PutsFront IsText mid → PutsFront IsText joined
   front_joined IsText silent puts = record {

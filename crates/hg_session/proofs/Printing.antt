@@ -1,6 +1,7 @@
 -- What a listing over a table, its printing and its telling do, from what their parts do.
-use Rattle.std.proofs.Common.{ℕ, ◌≡◌, Bool, true, List, [], Result, Ok, Err, IfErr, IfOk, IsTrue, OnOk, refl, sym, ap, ◌∙◌, subst, inl, arith}
+use Rattle.std.proofs.Common.{ℕ, ◌≡◌, Bool, true, List, [], Option, None, Result, Ok, Err, IfErr, IfOk, IsTrue, OnOk, refl, sym, ap, ◌∙◌, subst, inl, arith}
 use Rattle.std.specs.Prelude.{MatchBool}
+use Rattle.hg_compare.specs.Tracked.{ParentRow}
 use Rattle.hg_entry.specs.Table.{Table, flat_of}
 use Rattle.hg_flat.specs.Met.{Met}
 use Rattle.hg_flat.specs.Patterns.{CountsOversize, HadPatterns, Warns, ignored_at, is_of_parent}
@@ -20,15 +21,16 @@ use Rattle.hg_report.specs.declared.status.Style.{Style}
 use Rattle.hg_shelf.specs.History as shelf
 use Rattle.hg_stream.specs.Stream.{Grown, GrownByFront}
 use Rattle.hg_tree.specs.History as tree
+use Rattle.hg_tree.specs.Moment.{zero_time}
 use Rattle.hg_session.specs.Call.{Fails, Looked, Sink}
 use Rattle.hg_session.specs.Flags.{style_of, wanted_of}
-use Rattle.hg_session.specs.Listed.{AsksOver, AsksOwn, AsksPlain, IsListable, IsListedFor, IsRightFor, IsServedFor, IsUntouched, StatusCause, StatusMet, status_over}
+use Rattle.hg_session.specs.Listed.{AsksOver, AsksOwn, AsksPlain, IsListedFor, IsRightFor, IsServedFor, IsUntouched, StatusCause, StatusMet, status_over}
 use Rattle.hg_session.specs.Look.{at_first, at_printing, at_telling}
 use Rattle.hg_session.specs.Put.{IsSilent}
-use Rattle.hg_session.specs.Status.{IsNotedBy, IsNotedFor, ShowsTable}
+use Rattle.hg_session.specs.Status.{IsNotedBy, IsNotedByFor, IsNotedFor, IsRecordedFor, IsWorked, ShowsTable}
 use Rattle.hg_walk.specs.Right.{AreRight}
-use Rattle.hg_walk.specs.Notes.{NotesData}
-use Rattle.hg_walk.specs.Walking.{AreNotedBy, rows_in}
+use Rattle.hg_walk.specs.Notes.{AreEarned, NotesData}
+use Rattle.hg_walk.specs.Walking.{AreNeeded, AreNoted, AreNotedBy, rows_in}
 use Rattle.hg_walk.specs.declared.walked.Walked.{Walked}
 use Rattle.hg_words.specs.declared.flags.StatusFlags.{StatusFlags}
 
@@ -46,6 +48,33 @@ noted_at looked wanted t notes files by = record {
 pub had_patterns : (wanted : Wanted) (old new : tree.History) (warnings : List Warning) → Warns wanted old new warnings → HadPatterns wanted old new
 had_patterns wanted old new warnings warns needs = (warnings, subst (λ (b : Bool). MatchBool b (WereRead old new warnings) (warnings ≡ [])) needs warns)
 
+-- ---- nothing is noted
+
+abbrev pub no_notes : NotesData
+no_notes = record { clean = []; seen = []; gone = []; hash = None }
+
+pub none_needed : (t : Table) → AreNeeded t no_notes
+none_needed t = record { clean = λ note never. absurd (omega (arith, never.1)); seen = refl; gone = refl; hash = refl }
+
+pub none_noted : (old new : tree.History) → AreNoted old new no_notes
+none_noted old new = record {
+  boundary = zero_time;
+  clock = λ told note never. absurd (omega (arith, never.1));
+  stamp = λ note never. absurd (omega (arith, never.1));
+  shown = λ told note never. absurd (omega (arith, never.1));
+  order = λ told note never. absurd (omega (arith, never.1));
+}
+
+pub none_earned : (rows : List ℕ → Option ParentRow) (t : Table) (h : tree.History) → AreEarned rows t h no_notes
+none_earned rows t h = record { clean = λ note never. absurd (omega (arith, never.1)); seen = λ note never. absurd (omega (arith, never.1)); renewed = λ never. absurd (cc never) }
+
+none_noted_for : (looked : Looked) (t : Table) → IsNotedFor looked t no_notes
+none_noted_for looked t = record {
+  needed = none_needed t;
+  noted = none_noted looked.tree.old looked.tree.new;
+  earned = λ honest told keeps. none_earned (rows_in t (shelf.now looked.shelf.old).files) t looked.tree.new;
+}
+
 -- ---- a walk over a table
 
 -- what it answers and asks
@@ -53,15 +82,14 @@ pub record Walks (looked : Looked) (wanted : Wanted) (table : Table) (result : R
   pub tree : tree.Passes looked.tree.old looked.tree.new
   pub still : IfOk result (λ walked. IsListedFor looked wanted walked.rows table)
   pub warns : IfOk result (λ walked. Warns wanted looked.tree.old looked.tree.new walked.warnings)
-  pub listable : OnOk result (IsListable looked wanted table)
+  pub worked : IfOk result (λ walked. IsWorked looked wanted table walked.notes)
   pub cause : IfErr result (StatusCause looked wanted table)
   pub asked : IsTrue looked.tree.old.told → AsksOver table wanted looked.tree
-  pub asked_own : OnOk result (AsksOwn looked wanted table)
   pub store : IsTrue looked.shelf.old.told → AsksPlain looked wanted table looked.shelf.old looked.shelf.new
   pub calm_tree : OnOk result (looked.tree.after ≡ looked.tree.before)
   pub calm_shelf : OnOk result (looked.shelf.after ≡ looked.shelf.before)
   pub calm_regexps : OnOk result (looked.oversize.after ≡ looked.oversize.before)
-  pub noted : IfOk result (λ walked. IsNotedFor looked wanted table walked.notes)
+  pub noted : IfOk result (λ walked. IsNotedFor looked table walked.notes)
 
 module _ (looked : Looked) (wanted : Wanted) (table : Table) where
   -- where times are right over the call, they are by the rows at its start
@@ -92,10 +120,9 @@ module _ (looked : Looked) (wanted : Wanted) (table : Table) where
       tree = copy;
       still = tt;
       warns = tt;
-      listable = tt;
+      worked = tt;
       cause = cause;
       asked = asked;
-      asked_own = tt;
       store = store;
       calm_tree = tt;
       calm_shelf = tt;
@@ -107,15 +134,20 @@ module _ (looked : Looked) (wanted : Wanted) (table : Table) where
         → (AreRight (rows_in table (shelf.now looked.shelf.old).files) table looked.tree.old looked.tree.new
         → IsFullFor (IsUntouched looked wanted table) (flat_of table) (tree.now looked.tree.old) (rows_in table (shelf.now looked.shelf.old).files) (ignored_at (tree.now looked.tree.old)) wanted walked.rows)
         → Warns wanted looked.tree.old looked.tree.new walked.warnings → IsServedFor looked wanted table → AsksOwn looked wanted table → looked.tree.after ≡ looked.tree.before → looked.shelf.after ≡ looked.shelf.before
-        → looked.oversize.after ≡ looked.oversize.before → IsNotedFor looked wanted table walked.notes → Walks looked wanted table (Ok walked)
-    walks_ok walked still warns served asked_own calm_tree calm_shelf calm_regexps noted = record {
+        → looked.oversize.after ≡ looked.oversize.before → IsNotedFor looked table walked.notes → IsRecordedFor looked wanted table walked.notes → IsNotedByFor looked wanted table walked.notes
+        → Walks looked wanted table (Ok walked)
+    walks_ok walked still warns served asked_own calm_tree calm_shelf calm_regexps noted recorded noted_by = record {
       tree = copy;
       still = λ right. still (right_now files right);
       warns = warns;
-      listable = record { patterns = had_patterns wanted looked.tree.old looked.tree.new walked.warnings warns; served = served };
+      worked = record {
+        listable = record { patterns = had_patterns wanted looked.tree.old looked.tree.new walked.warnings warns; served = served };
+        asked_own = asked_own;
+        recorded = recorded;
+        noted_by = noted_by;
+      };
       cause = tt;
       asked = asked;
-      asked_own = asked_own;
       store = store;
       calm_tree = calm_tree;
       calm_shelf = calm_shelf;
@@ -146,12 +178,13 @@ module _ (flags : StatusFlags) (looked : Looked) (table : Table) (out err : Sink
   pub met_walking : (fault : StatusFault) → Walks looked wanted table (Err fault) → IsSilent out → IsSilent err → ShowsTable flags looked table out err (Err (of_status fault))
   met_walking fault walks still silent = record {
     tree = walks.tree;
+    notes = no_notes;
+    noted = none_noted_for looked table;
+    answered = tt;
     shows = record { done = tt; left = (at_first, ((fault, refl, walks.cause), still, record { told = walk_told fault; silent = silent })) };
     asked = walks.asked;
-    asked_own = tt;
     store = walks.store;
     calm = tt;
-    noted = tt;
   }
 
   module _ (walked : Walked) (walks : Walks looked wanted table (Ok walked)) where
@@ -159,25 +192,29 @@ module _ (flags : StatusFlags) (looked : Looked) (table : Table) (out err : Sink
     pub met_memory : IsSilent out → IsSilent err → ShowsTable flags looked table out err (Err a_fault.OutOfMemory)
     met_memory still silent = record {
       tree = walks.tree;
+      notes = no_notes;
+      noted = none_noted_for looked table;
+      answered = tt;
       shows = record { done = tt; left = (at_first, ((a_status.OutOfMemory, refl, tt), still, record { told = refl; silent = silent })) };
       asked = walks.asked;
-      asked_own = tt;
       store = walks.store;
       calm = tt;
-      noted = tt;
     }
 
     module _ (text : List ℕ) (is : text ≡ text_of (style_of flags) walked.rows) where
       pub met_printing : GrownByFront out.old out.new text → Fails out → IsSilent err → ShowsTable flags looked table out err (Err a_fault.OutFailed)
       met_printing grown failed silent = record {
         tree = walks.tree;
+        notes = walked.notes;
+        noted = walks.noted;
+        answered = tt;
         shows = record {
           done = tt;
           left = (
             at_printing,
             (
               tt,
-              walks.listable,
+              walks.worked,
               record { text = text; is = record { rows = walked.rows; listing = walks.still; is = is }; put = grown; failed = failed },
               inl refl,
               record { told = refl; silent = silent },
@@ -185,50 +222,50 @@ module _ (flags : StatusFlags) (looked : Looked) (table : Table) (out err : Sink
           );
         };
         asked = walks.asked;
-        asked_own = tt;
         store = walks.store;
         calm = tt;
-        noted = tt;
       }
 
-      module _ (lines : List ℕ) (warns : lines ≡ warnings_text walked.warnings) (printed : Grown out.old out.new text) where
+      module _ (lines : List ℕ) (warns : lines ≡ warnings_text walked.warnings) (printed : Grown out.old out.new text) (calm_out : out.after ≡ out.before) where
         pub met_warning : GrownByFront err.old err.new lines → Fails err → ShowsTable flags looked table out err (Err a_fault.ErrFailed)
         met_warning begun failed = record {
           tree = walks.tree;
+          notes = walked.notes;
+          noted = walks.noted;
+          answered = tt;
           shows = record {
             done = tt;
             left = (
               at_telling,
               (
                 tt,
-                walks.listable,
-                record { text = text; is = record { rows = walked.rows; listing = walks.still; is = is }; put = printed },
+                walks.worked,
+                record { text = text; is = record { rows = walked.rows; listing = walks.still; is = is }; put = printed; calm = calm_out },
                 record { text = lines; is = record { warnings = walked.warnings; are = walks.warns; is = warns }; put = begun; failed = failed },
                 refl,
               ),
             );
           };
           asked = walks.asked;
-          asked_own = tt;
           store = walks.store;
           calm = tt;
-          noted = tt;
         }
 
-        pub did_show : out.after ≡ out.before → Grown err.old err.new lines → err.after ≡ err.before → ShowsTable flags looked table out err (Ok walked.notes)
-        did_show calm_out told calm_err = record {
+        pub did_show : Grown err.old err.new lines → err.after ≡ err.before → ShowsTable flags looked table out err (Ok walked.notes)
+        did_show told calm_err = record {
           tree = walks.tree;
+          notes = walked.notes;
+          noted = walks.noted;
+          answered = refl;
           shows = record {
             done = record {
-              ready = walks.listable;
-              printed = record { text = text; is = record { rows = walked.rows; listing = walks.still; is = is }; put = printed };
-              told = record { text = lines; is = record { warnings = walked.warnings; are = walks.warns; is = warns }; put = told };
+              ready = walks.worked;
+              printed = record { text = text; is = record { rows = walked.rows; listing = walks.still; is = is }; put = printed; calm = calm_out };
+              told = record { text = lines; is = record { warnings = walked.warnings; are = walks.warns; is = warns }; put = told; calm = calm_err };
             };
             left = tt;
           };
           asked = walks.asked;
-          asked_own = walks.asked_own;
           store = walks.store;
           calm = record { tree = walks.calm_tree; shelf = walks.calm_shelf; regexps = walks.calm_regexps; out = calm_out; err = calm_err };
-          noted = walks.noted;
         }

@@ -250,7 +250,7 @@ module _ (command : Command) (copy : Watched tree.History) (a b : Course) (befor
       → RanChange call status None
   ran_done locked status stretch lines done grown is safe calm_tree calm_shelf calm_err unheld well = record {
     shows = record {
-      done = λ none. record { ready = tt; printed = puts_none out silent; told = record { text = lines; is = change_text stretch lines done; put = grown } };
+      done = λ none. record { ready = tt; printed = puts_none out silent; told = record { text = lines; is = change_text stretch lines done; put = grown; calm = calm_err } };
       left = tt;
     };
     ends = λ none. is;

@@ -23,7 +23,7 @@ grown_none None = refl
 grown_none (Some bytes) = ap Some (sym (append-nil bytes))
 
 pub puts_none : (err : Sink) → IsSilent err → Puts IsEmpty err
-puts_none err silent = record { text = []; is = refl; put = silent.bytes ∙ grown_none err.old }
+puts_none err silent = record { text = []; is = refl; put = silent.bytes ∙ grown_none err.old; calm = silent.count }
 
 module _ (call : Call) (files : shelf.Passes call.looked.shelf.old call.looked.shelf.new) where
   abbrev there : shelf.Files
@@ -49,7 +49,7 @@ module _ (call : Call) (files : shelf.Passes call.looked.shelf.old call.looked.s
 
   whole_own : (fault : Option Fault) (came : Result Unit PrintFault) → Prints call.looked.shelf call.out came → AnswersPrinting call.err came fault → fault ≡ None
       → shelf.IsOurs call.looked.shelf.old call.looked.shelf.new → Puts (IsTextIn there) call.out
-  whole_own fault (Ok done) prints answers none own = record { text = prints.text; is = text_own own prints.text prints.is; put = prints.put }
+  whole_own fault (Ok done) prints answers none own = record { text = prints.text; is = text_own own prints.text prints.is; put = prints.put; calm = prints.calm }
   whole_own fault (Err met) prints (is, told) none own = not_without fault (of_print met) is none
 
   front_met : (met : PrintFault) → Prints call.looked.shelf call.out (Err met) → shelf.IsOurs call.looked.shelf.old call.looked.shelf.new → LeavesFront (IsTextIn there) call.out

@@ -1,21 +1,19 @@
 -- What a status did that ended so, from what was done before the line of its fault, and how that ends.
 use Rattle.std.proofs.Common.{ℕ, ◌≡◌, Option, Some, None, Result, refl, inl, inr}
-use Rattle.std.specs.Prelude.{IsSomeAnd}
 use Rattle.hg_entry.specs.Table.{Table}
 use Rattle.hg_report.specs.declared.fault.Fault.{Fault}
 use Rattle.hg_report.specs.declared.fault.Fault.TheVariants as a_fault
 use Rattle.hg_session.proofs.Crashes.{crash_safe}
 use Rattle.hg_session.proofs.Expectations.{expected_by, front_own, whole_own}
 use Rattle.hg_session.proofs.Longer.{concludes_whole, loaded_whole, own_listed, right_some}
-use Rattle.hg_session.proofs.Looks.{answer_is, calm_by, from_well, joined, looks_by}
+use Rattle.hg_session.proofs.Looks.{answer_is, calm_by, joined, looks_by}
 use Rattle.hg_session.specs.Acts.{Makes}
 use Rattle.hg_session.specs.Call.{Call, Count, Looked, Saved, Sink, Watched}
 use Rattle.hg_session.specs.Change.{IsSafe}
 use Rattle.hg_session.specs.Flags.{wanted_of}
-use Rattle.hg_session.specs.Listed.{AsksOwn}
-use Rattle.hg_session.specs.Look.{Concludes, EndsAs}
+use Rattle.hg_session.specs.Look.{Concludes, EndsAs, Look}
 use Rattle.hg_session.specs.Put.{IsFaultOrMemory}
-use Rattle.hg_session.specs.Status.{DoesStatus, IsLockedLast, IsNotedByFor, IsRecordedFor, RanStatus, SavesLast, listed_to, noted_in, status_look}
+use Rattle.hg_session.specs.Status.{DoesStatus, IsLockedLast, MetSaving, RanStatus, SavesLast, listed_to, noted_in, status_look}
 use Rattle.hg_session.specs.declared.read_fault.ReadFault.TheVariants as a_read
 use Rattle.hg_shelf.specs.History.{History}
 use Rattle.hg_walk.specs.Notes.{NotesData}
@@ -42,7 +40,7 @@ saves_memory files saved locks table notes fault is = record {
 
     locked_memory : (t : Option Table) → IsLockedLast files saved locks t notes (Some fault) → IsLockedLast files saved locks t notes (Some a_fault.OutOfMemory)
     locked_memory None only = only
-    locked_memory (Some t) (inl uncalled) = inl uncalled
+    locked_memory (Some t) (inl (due, only)) = inl (tt, only)
     locked_memory (Some t) (inr (inl was)) = absurd (cc was.answer)
     locked_memory (Some t) (inr (inr (inl was))) =
         inr (inr (inl (record { told = was.told; ours = was.ours; uncounted = was.uncounted; failed = was.failed; unwritten = was.unwritten; answer = told_memory was.answer })))
@@ -66,11 +64,18 @@ module _ (command : Command) (flags : StatusFlags) (looked : Looked) (saved : Sa
   abbrev listed : Looked
   listed = listed_to does.end looked
 
-  memory_before : (f : Fault) → (status_look flags listed saved locks does.table).Before f → (status_look flags listed saved locks does.table).Before a_fault.OutOfMemory
+  abbrev look : Look
+  look = status_look flags listed saved locks does.table does.notes
+
+  memory_before : (f : Fault) → look.Before f → look.Before a_fault.OutOfMemory
   memory_before f before = (before.0, inl (a_read.OutOfMemory, refl, tt))
 
-  concludes : Concludes (status_look flags listed saved locks does.table) out call.err fault
-  concludes = looks_by mid tail bytes count (status_look flags listed saved locks does.table) out memory_before (λ f is. inr refl) done code fault does.shows ends
+  memory_saving : (f : Fault) → MetSaving looked.shelf saved f → MetSaving looked.shelf saved a_fault.OutOfMemory
+  memory_saving f (inl (failed, is)) = inl (failed, inr refl)
+  memory_saving f (inr (is, none)) = inr (refl, none)
+
+  concludes : Concludes look out call.err fault
+  concludes = looks_by mid tail bytes count look out memory_before memory_saving done code fault does.shows ends
 
   saving : SavesLast looked.shelf saved locks does.table does.notes fault
   saving = answer_is mid tail bytes count (SavesLast looked.shelf saved locks does.table does.notes) (saves_memory looked.shelf saved locks does.table does.notes) done code fault ends does.saving
@@ -79,25 +84,22 @@ module _ (command : Command) (flags : StatusFlags) (looked : Looked) (saved : Sa
   ran_status = record {
     table = does.table;
     loaded = loaded_whole flags looked saved locks does.table does.end does.passes.past does.later does.passes does.loaded;
-    looks = concludes_whole flags looked saved locks does.table does.end does.passes.past does.later out call.err fault concludes;
+    notes = does.notes;
+    looks = concludes_whole flags looked saved locks does.table does.end does.passes.past does.later out call.err does.notes fault concludes;
     whole = λ none own right.
-        whole_own flags listed saved locks out call.err does.tree does.passes does.table does.loaded fault concludes none (own_listed looked does.end does.later own)
+        whole_own flags listed saved locks out call.err does.notes does.tree does.passes does.table does.loaded fault concludes none (own_listed looked does.end does.later own)
         (right_some looked does.end does.later (wanted_of flags) does.table right);
     front = λ own right.
-        front_own flags listed saved locks out call.err does.tree does.passes does.table does.loaded fault concludes (own_listed looked does.end does.later own)
+        front_own flags listed saved locks out call.err does.notes does.tree does.passes does.table does.loaded fault concludes (own_listed looked does.end does.later own)
         (right_some looked does.end does.later (wanted_of flags) does.table right);
     complete = λ own p q r w.
-        expected_by flags listed saved locks out call.err does.tree does.passes does.table does.loaded fault concludes (own_listed looked does.end does.later own) p q r w;
+        expected_by flags listed saved locks out call.err does.notes does.tree does.passes does.table does.loaded fault concludes (own_listed looked does.end does.later own) p q r w;
     tree = does.tree;
     asked = does.asked;
-    asked_own = λ none. from_well mid tail bytes count (IsSomeAnd does.table (AsksOwn looked (wanted_of flags))) done code fault ends does.asked_own none;
     below = does.below;
-    notes = does.notes;
     needed = does.needed;
     noted = does.noted;
     earned = does.earned;
-    recorded = λ none. from_well mid tail bytes count (IsSomeAnd does.table (λ t. IsRecordedFor looked (wanted_of flags) t does.notes)) done code fault ends does.recorded none;
-    noted_by = λ none. from_well mid tail bytes count (IsSomeAnd does.table (λ t. IsNotedByFor looked (wanted_of flags) t does.notes)) done code fault ends does.noted_by none;
     saving = saving;
     crash = λ calm keep first. crash_safe saved.old saved.new saving.kept calm keep (noted_in looked.shelf does.table does.notes) first fault (saving.safe calm);
     calm = calm_by mid tail bytes count looked out done code fault ends does.calm;

@@ -1,10 +1,10 @@
 -- What is promised of a call: one record of facts over what happened in it, a sentence a field.
-use Rattle.std.specs.Prelude.{ℕ, ◌≡◌, ◌⊎◌, None, Option, IfSome, MatchOption}
+use Rattle.std.specs.Prelude.{ℕ, ◌≡◌, ◌⊎◌, None, Option, Some, IfSome, MatchOption}
 use Rattle.hg_report.specs.declared.fault.Fault.{Fault}
 use Rattle.hg_report.specs.declared.fault.Fault.TheVariants as a_fault
 use Rattle.hg_save.specs.Others.{KeepsRecords}
 use Rattle.hg_save.specs.Saved.{IsLatest}
-use Rattle.hg_session.specs.Call.{Call, Count, IsLeftAlone, Looked, Saved, Sink}
+use Rattle.hg_session.specs.Call.{Call, Count, Fails, IsLeftAlone, Looked, Saved, Sink}
 use Rattle.hg_session.specs.Cause.{CommandCause}
 use Rattle.hg_session.specs.Change.{IsUnwritten}
 use Rattle.hg_session.specs.Changed.{RanChange}
@@ -57,6 +57,8 @@ pub record IsAnswered (call : Call) (code : ℕ) (fault : Option Fault) : Type 0
   pub cause : IfSome fault (CommandCause call)
   -- where a device failed there is a fault
   pub calm : fault ≡ None → IsCalm call.looked call.out call.err
+  -- want of memory is told only where nothing was written, or where the shelf failed too
+  pub memory : fault ≡ Some a_fault.OutOfMemory → IsUnwritten call.saved.old.history call.saved.new.history ⊎ Fails call.looked.shelf
   -- the moments so far stay, with what a crash may leave of them
   pub kept : Goes call.saved.old call.saved.new
   -- at each moment of the call a crash leaves a record of what it might have left at the start, of what the call published, or of what others

@@ -11,11 +11,12 @@ use Rattle.hg_stream.specs.Stream.{Grown, GrownByFront}
 abbrev pub IsEmpty : List ℕ → Type 0
 IsEmpty text = text ≡ []
 
--- a text was put
+-- a text was put, and the sink never failed
 pub record Puts (IsText : List ℕ → Type 0) (sink : Sink) : Type 0 where
   pub text : List ℕ
   pub is : IsText text
   pub put : Grown sink.old sink.new text
+  pub calm : sink.after ≡ sink.before
 
 -- a front of one was, and the sink failed
 pub record PutsFront (IsText : List ℕ → Type 0) (sink : Sink) : Type 0 where

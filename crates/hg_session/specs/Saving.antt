@@ -157,10 +157,15 @@ pub record WasNotGivenBack (start : History) (files : Watched History) (saved : 
   pub failed : Fails files
   pub first : (IsFaultOrMemory fault a_fault.ShelfFailed × (IsNotedHeld start recorded notes saved ⊎ FailsTwice files)) ⊎ (fault ≡ Some a_fault.OutOfMemory)
 
--- nothing was noted, and it wasn't called for; or it was called for once, and one of these came of it
+-- nothing was to be saved: without a fault nothing was noted
+abbrev pub IsNotDue : NotesData → Option Fault → Type 0
+IsNotDue notes None = IsBlank notes
+IsNotDue notes (Some fault) = Unit {0}
+
+-- nothing was to be saved, and it wasn't called for; or it was called for once, and one of these came of it
 abbrev pub IsLockedToSave : History → Watched History → Saved → Count → Table → NotesData → Option Fault → Type 0
 IsLockedToSave start files saved locks recorded notes fault =
-    (IsBlank notes × OnlyReads files saved locks)
+    (IsNotDue notes fault × OnlyReads files saved locks)
     ⊎ (WasPassedOver files locks fault ⊎ (WasNotGot files locks fault ⊎ (WasReturned files locks ⊎ WasNotGivenBack start files saved locks recorded notes fault)))
 
 -- ---- all of it

@@ -30,14 +30,14 @@ use Rattle.hg_save.specs.Record.{record_in}
 use Rattle.hg_save.specs.Saved.{IsLatest}
 use Rattle.hg_session.specs.Acts.{AskNothing, Makes}
 use Rattle.hg_session.specs.Call.{Call, Count, Fails, Looked, Saved, Serves, Sink, Watched}
-use Rattle.hg_session.specs.Change.{IsReadFirst, IsSafe}
+use Rattle.hg_session.specs.Change.{IsReadFirst, IsSafe, IsUnwritten}
 use Rattle.hg_session.specs.Crash.{IsCrashSafe, IsFirmFor, published_in}
 use Rattle.hg_session.specs.Flags.{style_of, wanted_of}
 use Rattle.hg_session.specs.Listed.{AsksBelow, AsksLittle, AsksOver, AsksOwn, AsksPlain, IsAskedAt, IsListable, IsListed, IsListedFor, IsOwn, IsRightFor, StatusCause, first_parent}
 use Rattle.hg_session.specs.Load.{of_read}
 use Rattle.hg_session.specs.Loaded.{IsLoaded, IsUnreadable, MetReading}
 use Rattle.hg_session.specs.Look.{IsCalm, Look, Concludes, OnlyReads, Shows, fault_in, saves_last}
-use Rattle.hg_session.specs.Put.{LeavesFront, Puts}
+use Rattle.hg_session.specs.Put.{IsFaultOrMemory, LeavesFront, Puts}
 use Rattle.hg_session.specs.Saving.{IsLockedToSave, IsNotedHeld, noted_makes}
 use Rattle.hg_session.specs.declared.read_fault.ReadFault.{ReadFault}
 use Rattle.hg_shelf.specs.History as shelf
@@ -50,6 +50,46 @@ use Rattle.hg_walk.specs.Applying.{IsBlank}
 use Rattle.hg_walk.specs.Notes.{AreEarned, NotesData, applied}
 use Rattle.hg_walk.specs.Walking.{AreNeeded, AreNoted, AreNotedBy, IsRecorded, rows_in}
 use Rattle.hg_words.specs.declared.flags.StatusFlags.{StatusFlags}
+
+-- ---- what is noted of times, and saved
+
+-- whatever others do in the working copy, each time that was noted was seen with what it stands for, where times are honest and the plain store stays
+abbrev pub AreEarnedFor : Looked → Table → NotesData → Type 0
+AreEarnedFor looked table notes =
+    IsHonest looked.tree.new → IsTrue looked.tree.old.told → KeepsPlain looked.shelf.new looked.shelf.old.last
+    → AreEarned (rows_in table (shelf.now looked.shelf.old).files) table looked.tree.new notes
+
+-- where nobody else touches the working copy and the plain store stays, all was noted that a second status needs to read no clean file again
+abbrev pub IsRecordedFor : Looked → Wanted → Table → NotesData → Type 0
+IsRecordedFor looked wanted table notes =
+    tree.IsOurs looked.tree.old looked.tree.new → KeepsPlain looked.shelf.new looked.shelf.old.last
+    → IsRecorded wanted (rows_in table (shelf.now looked.shelf.old).files) table (tree.now looked.tree.old) (applied notes table)
+
+-- whoever else steps, behind the notes the record vouches for each path that is left alone, from a moment of the call on what the first parent has of it too,
+-- that is clean at the start and has a time that may be recorded by one time that the clock showed in the call
+pub record IsNotedBy (looked : Looked) (wanted : Wanted) (table : Table) (notes : NotesData) : Type 0 where
+  pub since : ℕ
+  pub from : looked.shelf.old.last ≤ since
+  pub to : since ≤ looked.shelf.new.last
+  pub by : AreNotedBy wanted (rows_in table (looked.shelf.new.at since).files) table looked.tree.old looked.tree.new looked.shelf.new since notes
+
+-- so it is where bytes decide letters that are wanted
+abbrev pub IsNotedByFor : Looked → Wanted → Table → NotesData → Type 0
+IsNotedByFor looked wanted table notes = wants_bytes wanted ≡ true → IsNotedBy looked wanted table notes
+
+-- what a listing over a table notes, only what is needed
+pub record IsNotedFor (looked : Looked) (table : Table) (notes : NotesData) : Type 0 where
+  pub needed : AreNeeded table notes
+  pub noted : AreNoted looked.tree.old looked.tree.new notes
+  pub earned : AreEarnedFor looked table notes
+
+-- what a listing over a table came to once it met no fault: the patterns were read and what was compared was there; where nobody else steps, the patterns were
+-- read exactly where they are needed and stand there; and all was noted that a second status needs, path by path whoever else steps
+pub record IsWorked (looked : Looked) (wanted : Wanted) (table : Table) (notes : NotesData) : Type 0 where
+  pub listable : IsListable looked wanted table
+  pub asked_own : AsksOwn looked wanted table
+  pub recorded : IsRecordedFor looked wanted table notes
+  pub noted_by : IsNotedByFor looked wanted table notes
 
 -- ---- what is printed
 
@@ -86,25 +126,30 @@ pub record OnlyAsksBelow (saved : Saved) (locks : Count) : Type 0 where
   pub kept : Goes saved.old saved.new
   pub held : locks.after ≡ locks.before
 
+-- why saving met a fault: the shelf failed, for whose line there may be no memory, or there was none and nothing was written
+abbrev pub MetSaving : Watched shelf.History → Saved → Fault → Type 0
+MetSaving files saved fault =
+    (Fails files × IsFaultOrMemory (Some fault) a_fault.ShelfFailed) ⊎ ((fault ≡ a_fault.OutOfMemory) × IsUnwritten saved.old.history saved.new.history)
+
 -- a status lists by the table that was read, where one was, prints the rows, then tells the warnings, and saves the times that it noted last: where it meets
--- a fault before that, it has only asked below `.hg`, and called for no lock
-abbrev pub status_look : StatusFlags → Looked → Saved → Count → Option Table → Look
-status_look flags looked saved locks table = record {
+-- a fault before that, it has only asked below `.hg`, and called for no lock; once it listed, what that came to holds whatever it meets behind it
+abbrev pub status_look : StatusFlags → Looked → Saved → Count → Option Table → NotesData → Look
+status_look flags looked saved locks table notes = record {
   Before = λ fault. OnlyAsksBelow saved locks × ListingCause looked (wanted_of flags) table fault;
-  Ready = IsSomeAnd table (IsListable looked (wanted_of flags));
+  Ready = IsSomeAnd table (λ t. IsWorked looked (wanted_of flags) t notes);
   Printing = OnlyAsksBelow saved locks;
   Text = IsRowsText flags looked table;
   Telling = OnlyAsksBelow saved locks;
   Told = IsWarningText (wanted_of flags) looked.tree;
-  Saving = λ fault. ((fault ≡ a_fault.ShelfFailed) × Fails looked.shelf) ⊎ (fault ≡ a_fault.OutOfMemory);
+  Saving = MetSaving looked.shelf saved;
   order = saves_last;
 }
 
 -- the part of it that lists, prints and tells, over a table that was read before
-abbrev pub show_look : StatusFlags → Looked → Table → Look
-show_look flags looked table = record {
+abbrev pub show_look : StatusFlags → Looked → Table → NotesData → Look
+show_look flags looked table notes = record {
   Before = λ fault. (f : StatusFault) × (fault ≡ of_status f) × StatusCause looked (wanted_of flags) table f;
-  Ready = IsListable looked (wanted_of flags) table;
+  Ready = IsWorked looked (wanted_of flags) table notes;
   Printing = Unit {0};
   Text = IsRowsText flags looked (Some table);
   Telling = Unit {0};
@@ -171,51 +216,18 @@ IsExpected wanted files moment (Some (a_fault.RegexpTooBig line)) = HasBadPatter
 IsExpected wanted files moment (Some (a_fault.BadInclude line)) = HasBadPatterns wanted files moment (an_ignore_fault.BadInclude line)
 IsExpected wanted files moment (Some fault) = IsUnreadable files fault
 
--- ---- what is noted of times, and saved
-
--- whatever others do in the working copy, each time that was noted was seen with what it stands for, where times are honest and the plain store stays
-abbrev pub AreEarnedFor : Looked → Table → NotesData → Type 0
-AreEarnedFor looked table notes =
-    IsHonest looked.tree.new → IsTrue looked.tree.old.told → KeepsPlain looked.shelf.new looked.shelf.old.last
-    → AreEarned (rows_in table (shelf.now looked.shelf.old).files) table looked.tree.new notes
-
--- where nobody else touches the working copy and the plain store stays, all was noted that a second status needs to read no clean file again
-abbrev pub IsRecordedFor : Looked → Wanted → Table → NotesData → Type 0
-IsRecordedFor looked wanted table notes =
-    tree.IsOurs looked.tree.old looked.tree.new → KeepsPlain looked.shelf.new looked.shelf.old.last
-    → IsRecorded wanted (rows_in table (shelf.now looked.shelf.old).files) table (tree.now looked.tree.old) (applied notes table)
-
--- whoever else steps, behind the notes the record vouches for each path that is left alone, from a moment of the call on what the first parent has of it too,
--- that is clean at the start and has a time that may be recorded by one time that the clock showed in the call
-pub record IsNotedBy (looked : Looked) (wanted : Wanted) (table : Table) (notes : NotesData) : Type 0 where
-  pub since : ℕ
-  pub from : looked.shelf.old.last ≤ since
-  pub to : since ≤ looked.shelf.new.last
-  pub by : AreNotedBy wanted (rows_in table (looked.shelf.new.at since).files) table looked.tree.old looked.tree.new looked.shelf.new since notes
-
--- so it is where bytes decide letters that are wanted
-abbrev pub IsNotedByFor : Looked → Wanted → Table → NotesData → Type 0
-IsNotedByFor looked wanted table notes = wants_bytes wanted ≡ true → IsNotedBy looked wanted table notes
-
--- what a listing over a table notes, only what is needed
-pub record IsNotedFor (looked : Looked) (wanted : Wanted) (table : Table) (notes : NotesData) : Type 0 where
-  pub needed : AreNeeded table notes
-  pub noted : AreNoted looked.tree.old looked.tree.new notes
-  pub earned : AreEarnedFor looked table notes
-  pub recorded : IsRecordedFor looked wanted table notes
-  pub noted_by : IsNotedByFor looked wanted table notes
-
 -- ---- the command
 
 -- a listing over a table, its text and its warnings, and what is noted, or a fault, before its line is told
 pub record ShowsTable (flags : StatusFlags) (looked : Looked) (table : Table) (out err : Sink) (result : Result NotesData Fault) : Type 0 where
   pub tree : tree.Passes looked.tree.old looked.tree.new
-  pub shows : Shows (show_look flags looked table) out err result
+  pub notes : NotesData
+  pub noted : IsNotedFor looked table notes
+  pub shows : Shows (show_look flags looked table notes) out err result
+  pub answered : IfOk result (λ is. is ≡ notes)
   pub asked : IsTrue looked.tree.old.told → AsksOver table (wanted_of flags) looked.tree
-  pub asked_own : OnOk result (AsksOwn looked (wanted_of flags) table)
   pub store : IsTrue looked.shelf.old.told → AsksPlain looked (wanted_of flags) table looked.shelf.old looked.shelf.new
   pub calm : OnOk result (IsCalm looked out err)
-  pub noted : IfOk result (IsNotedFor looked (wanted_of flags) table)
 
 -- the call, with the files below `.hg` up to a history at which the listing ended, behind which times were saved
 abbrev pub listed_to : shelf.History → Looked → Looked
@@ -251,17 +263,14 @@ pub record DoesStatus (flags : StatusFlags) (looked : Looked) (saved : Saved) (l
   pub table : Option Table
   pub loaded : IfSome table (IsLoaded (listed_to end looked).shelf)
   pub tree : tree.Passes looked.tree.old looked.tree.new
-  pub shows : Shows (status_look flags (listed_to end looked) saved locks table) out err result
+  pub notes : NotesData
+  pub shows : Shows (status_look flags (listed_to end looked) saved locks table notes) out err result
   pub asked : AsksLittle looked (wanted_of flags) table
-  pub asked_own : OnOk result (IsSomeAnd table (AsksOwn looked (wanted_of flags)))
   pub below : IsTrue looked.shelf.old.told → AsksBelow looked (wanted_of flags) table
   pub calm : OnOk result (IsCalm looked out err)
-  pub notes : NotesData
   pub needed : IfSome table (λ t. AreNeeded t notes)
   pub noted : AreNoted looked.tree.old looked.tree.new notes
   pub earned : IfSome table (λ t. AreEarnedFor looked t notes)
-  pub recorded : OnOk result (IsSomeAnd table (λ t. IsRecordedFor looked (wanted_of flags) t notes))
-  pub noted_by : OnOk result (IsSomeAnd table (λ t. IsNotedByFor looked (wanted_of flags) t notes))
   pub saving : SavesLast looked.shelf saved locks table notes (fault_in result)
 
 -- a table was read in the call, before the caller made a step, where the files are told
@@ -270,12 +279,15 @@ IsLoadedFirst files table = IsTrue files.old.told → IsReadFirst files.old file
 
 -- what a status did that ended with this status and this fault, or with none
 pub record RanStatus (flags : StatusFlags) (call : Call) (code : ℕ) (fault : Option Fault) : Type 0 where
-  -- the table that was read in the call, where one was: all that follows speaks of this one
+  -- the table that was read in the call, where one was, and what was noted over it: all that follows speaks of these
   pub table : Option Table
   pub loaded : IfSome table (IsLoadedFirst call.looked.shelf)
+  pub notes : NotesData
   -- without a fault, where recorded times are right, the rows printed have each path that is left alone meanwhile exactly under its letter, and no two are of
-  -- one path, and the warnings were told behind them; and with one, why, and what stands in both streams
-  pub looks : Concludes (status_look flags call.looked call.saved call.locks table) call.out call.err fault
+  -- one path, and the warnings were told behind them; and with one, why, and what stands in both streams. Also with one that was met behind the listing
+  -- (`IsWorked`): where nobody else steps, the patterns were read exactly where they are needed and stand there; and all is noted that a second status needs to
+  -- read no clean file again, path by path whoever else steps
+  pub looks : Concludes (status_look flags call.looked call.saved call.locks table notes) call.out call.err fault
   -- where nobody else made a step, the rows are the full listing, and with a fault a front of its text stands there, or nothing
   pub whole : fault ≡ None → IsOwn call.looked → IfSome table (IsRightFor call.looked)
       → Puts (IsFullText flags (shelf.now call.looked.shelf.old).files (tree.now call.looked.tree.old)) call.out
@@ -288,19 +300,13 @@ pub record RanStatus (flags : StatusFlags) (call : Call) (code : ℕ) (fault : O
   -- lists directories only where `?` or I is wanted, each once at most; where nobody else steps visible ones alone, and without I none that is ignored
   pub tree : tree.Passes call.looked.tree.old call.looked.tree.new
   pub asked : AsksLittle call.looked (wanted_of flags) table
-  -- without a fault, and where nobody else steps, the patterns are read exactly where they are needed and stand there
-  pub asked_own : fault ≡ None → IsSomeAnd table (AsksOwn call.looked (wanted_of flags))
   -- below `.hg` it asks for the record, then for what its comparisons need, the manifest once at most, and for the docket once more before it saves times
   pub below : IsTrue call.looked.shelf.old.told → AsksBelow call.looked (wanted_of flags) table
   -- what it noted of times: only what is needed; each time is that of a look in the call, by one time that the clock showed in it no later than at the look;
-  -- it was seen with what it stands for, whatever others do in the working copy; and without a fault, where nobody else touches that, all that a second status
-  -- needs to read no clean file again, path by path whoever else steps
-  pub notes : NotesData
+  -- it was seen with what it stands for, whatever others do in the working copy
   pub needed : IfSome table (λ t. AreNeeded t notes)
   pub noted : AreNoted call.looked.tree.old call.looked.tree.new notes
   pub earned : IfSome table (λ t. AreEarnedFor call.looked t notes)
-  pub recorded : fault ≡ None → IsSomeAnd table (λ t. IsRecordedFor call.looked (wanted_of flags) t notes)
-  pub noted_by : fault ≡ None → IsSomeAnd table (λ t. IsNotedByFor call.looked (wanted_of flags) t notes)
   -- what became of that
   pub saving : SavesLast call.looked.shelf call.saved call.locks table notes fault
   -- and where others keep to how a record is published, and for an append where it is made upon firm ground: at each moment since the call's start a crash

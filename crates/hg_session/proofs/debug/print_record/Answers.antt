@@ -37,4 +37,5 @@ returns-clause-prints g c =
       text = c.in_ok-text.text.items;
       is = record { table = l.0; read = l.1; is = l.2 };
       put = subst (λ (t : List ℕ). Grown (g.O.Sink.bytes c.args.out.now) (g.O.Sink.bytes c.put_all.new.out) t) c.as_slice.ensures.value c.in-Ok.ensures.all;
+      calm = c.in-Ok.ensures.cause.quiet;
     }

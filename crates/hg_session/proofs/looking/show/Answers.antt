@@ -31,7 +31,8 @@ returns-in_err-text-clause-shows g c =
     let t = table c.args.mixed.now in
     let walks = walks_as looked c.args.flags c.wanted.result t (Ok c.in_ok-walked.walked) c.wanted.ensures (walks_ok looked c.wanted.result t c.walk.ensures.passes c.walk.ensures.passes_shelf c.walk.ensures.asked c.walk.ensures.asked_store
     c.in_ok-walked.walked c.in_ok-walked.ensures.still c.in_ok-walked.ensures.warns c.in_ok-walked.ensures.served c.in_ok-walked.ensures.asked_own c.in_ok-walked.ensures.cause.quiet c.in_ok-walked.ensures.cause_shelf.quiet c.in_ok-walked.ensures.oversize
-    (record { needed = c.in_ok-walked.ensures.needed; noted = c.in_ok-walked.ensures.noted; earned = c.in_ok-walked.ensures.earned; recorded = c.in_ok-walked.ensures.recorded; noted_by = λ wants. noted_at looked c.wanted.result t c.in_ok-walked.walked.notes c.walk.ensures.passes_shelf (c.in_ok-walked.ensures.noted_by wants) })) in
+    (record { needed = c.in_ok-walked.ensures.needed; noted = c.in_ok-walked.ensures.noted; earned = c.in_ok-walked.ensures.earned }) c.in_ok-walked.ensures.recorded
+    (λ wants. noted_at looked c.wanted.result t c.in_ok-walked.walked.notes c.walk.ensures.passes_shelf (c.in_ok-walked.ensures.noted_by wants))) in
     rw (p.1, p.2) (met_memory c.args.flags looked t _ _ c.in_ok-walked.walked walks (record { bytes = refl; count = refl }) (record { bytes = refl; count = refl }))
 
 pub returns-in_err-warnings-clause-shows : goal.returns-in_err-warnings-clause-shows
@@ -45,7 +46,8 @@ returns-in_err-warnings-clause-shows g c =
     let t = table c.args.mixed.now in
     let walks = walks_as looked c.args.flags c.wanted.result t (Ok c.in_ok-walked.walked) c.wanted.ensures (walks_ok looked c.wanted.result t c.walk.ensures.passes c.walk.ensures.passes_shelf c.walk.ensures.asked c.walk.ensures.asked_store
     c.in_ok-walked.walked c.in_ok-walked.ensures.still c.in_ok-walked.ensures.warns c.in_ok-walked.ensures.served c.in_ok-walked.ensures.asked_own c.in_ok-walked.ensures.cause.quiet c.in_ok-walked.ensures.cause_shelf.quiet c.in_ok-walked.ensures.oversize
-    (record { needed = c.in_ok-walked.ensures.needed; noted = c.in_ok-walked.ensures.noted; earned = c.in_ok-walked.ensures.earned; recorded = c.in_ok-walked.ensures.recorded; noted_by = λ wants. noted_at looked c.wanted.result t c.in_ok-walked.walked.notes c.walk.ensures.passes_shelf (c.in_ok-walked.ensures.noted_by wants) })) in
+    (record { needed = c.in_ok-walked.ensures.needed; noted = c.in_ok-walked.ensures.noted; earned = c.in_ok-walked.ensures.earned }) c.in_ok-walked.ensures.recorded
+    (λ wants. noted_at looked c.wanted.result t c.in_ok-walked.walked.notes c.walk.ensures.passes_shelf (c.in_ok-walked.ensures.noted_by wants))) in
     rw (p.1, p.2) (met_memory c.args.flags looked t _ _ c.in_ok-walked.walked walks (record { bytes = refl; count = refl }) (record { bytes = refl; count = refl }))
 
 pub returns-in-Err-clause-shows : goal.returns-in-Err-clause-shows
@@ -58,7 +60,8 @@ returns-in-Err-clause-shows g c =
     let t = table c.args.mixed.now in
     let walks = walks_as looked c.args.flags c.wanted.result t (Ok c.in_ok-walked.walked) c.wanted.ensures (walks_ok looked c.wanted.result t c.walk.ensures.passes c.walk.ensures.passes_shelf c.walk.ensures.asked c.walk.ensures.asked_store
     c.in_ok-walked.walked c.in_ok-walked.ensures.still c.in_ok-walked.ensures.warns c.in_ok-walked.ensures.served c.in_ok-walked.ensures.asked_own c.in_ok-walked.ensures.cause.quiet c.in_ok-walked.ensures.cause_shelf.quiet c.in_ok-walked.ensures.oversize
-    (record { needed = c.in_ok-walked.ensures.needed; noted = c.in_ok-walked.ensures.noted; earned = c.in_ok-walked.ensures.earned; recorded = c.in_ok-walked.ensures.recorded; noted_by = λ wants. noted_at looked c.wanted.result t c.in_ok-walked.walked.notes c.walk.ensures.passes_shelf (c.in_ok-walked.ensures.noted_by wants) })) in
+    (record { needed = c.in_ok-walked.ensures.needed; noted = c.in_ok-walked.ensures.noted; earned = c.in_ok-walked.ensures.earned }) c.in_ok-walked.ensures.recorded
+    (λ wants. noted_at looked c.wanted.result t c.in_ok-walked.walked.notes c.walk.ensures.passes_shelf (c.in_ok-walked.ensures.noted_by wants))) in
     met_printing c.args.flags looked t _ _ c.in_ok-walked.walked walks c.as_slice.result.now
     (text_as c.in_ok-walked.walked.rows _ c.style.result c.args.flags c.style.ensures (c.as_slice.ensures.value ∙ c.in_ok-text.ensures)) c.in-Err.ensures.prefix (c.in-Err.ensures.cause.rose tt)
     (record { bytes = refl; count = refl })
@@ -73,10 +76,11 @@ returns-in-Err-put_all-clause-shows g c =
     let t = table c.args.mixed.now in
     let walks = walks_as looked c.args.flags c.wanted.result t (Ok c.in_ok-walked.walked) c.wanted.ensures (walks_ok looked c.wanted.result t c.walk.ensures.passes c.walk.ensures.passes_shelf c.walk.ensures.asked c.walk.ensures.asked_store
     c.in_ok-walked.walked c.in_ok-walked.ensures.still c.in_ok-walked.ensures.warns c.in_ok-walked.ensures.served c.in_ok-walked.ensures.asked_own c.in_ok-walked.ensures.cause.quiet c.in_ok-walked.ensures.cause_shelf.quiet c.in_ok-walked.ensures.oversize
-    (record { needed = c.in_ok-walked.ensures.needed; noted = c.in_ok-walked.ensures.noted; earned = c.in_ok-walked.ensures.earned; recorded = c.in_ok-walked.ensures.recorded; noted_by = λ wants. noted_at looked c.wanted.result t c.in_ok-walked.walked.notes c.walk.ensures.passes_shelf (c.in_ok-walked.ensures.noted_by wants) })) in
+    (record { needed = c.in_ok-walked.ensures.needed; noted = c.in_ok-walked.ensures.noted; earned = c.in_ok-walked.ensures.earned }) c.in_ok-walked.ensures.recorded
+    (λ wants. noted_at looked c.wanted.result t c.in_ok-walked.walked.notes c.walk.ensures.passes_shelf (c.in_ok-walked.ensures.noted_by wants))) in
     met_warning c.args.flags looked t _ _ c.in_ok-walked.walked walks c.as_slice.result.now
     (text_as c.in_ok-walked.walked.rows _ c.style.result c.args.flags c.style.ensures (c.as_slice.ensures.value ∙ c.in_ok-text.ensures))
-    c.as_slice-in-Ok.result.now (c.as_slice-in-Ok.ensures.value ∙ c.in_ok-warnings.ensures) c.in-Ok.ensures.all c.in-Err-put_all.ensures.prefix (c.in-Err-put_all.ensures.cause.rose tt)
+    c.as_slice-in-Ok.result.now (c.as_slice-in-Ok.ensures.value ∙ c.in_ok-warnings.ensures) c.in-Ok.ensures.all c.in-Ok.ensures.cause.quiet c.in-Err-put_all.ensures.prefix (c.in-Err-put_all.ensures.cause.rose tt)
 
 pub returns-in-Ok-put_all-clause-shows : goal.returns-in-Ok-put_all-clause-shows
 returns-in-Ok-put_all-clause-shows g c =
@@ -88,7 +92,8 @@ returns-in-Ok-put_all-clause-shows g c =
     let t = table c.args.mixed.now in
     let walks = walks_as looked c.args.flags c.wanted.result t (Ok c.in_ok-walked.walked) c.wanted.ensures (walks_ok looked c.wanted.result t c.walk.ensures.passes c.walk.ensures.passes_shelf c.walk.ensures.asked c.walk.ensures.asked_store
     c.in_ok-walked.walked c.in_ok-walked.ensures.still c.in_ok-walked.ensures.warns c.in_ok-walked.ensures.served c.in_ok-walked.ensures.asked_own c.in_ok-walked.ensures.cause.quiet c.in_ok-walked.ensures.cause_shelf.quiet c.in_ok-walked.ensures.oversize
-    (record { needed = c.in_ok-walked.ensures.needed; noted = c.in_ok-walked.ensures.noted; earned = c.in_ok-walked.ensures.earned; recorded = c.in_ok-walked.ensures.recorded; noted_by = λ wants. noted_at looked c.wanted.result t c.in_ok-walked.walked.notes c.walk.ensures.passes_shelf (c.in_ok-walked.ensures.noted_by wants) })) in
+    (record { needed = c.in_ok-walked.ensures.needed; noted = c.in_ok-walked.ensures.noted; earned = c.in_ok-walked.ensures.earned }) c.in_ok-walked.ensures.recorded
+    (λ wants. noted_at looked c.wanted.result t c.in_ok-walked.walked.notes c.walk.ensures.passes_shelf (c.in_ok-walked.ensures.noted_by wants))) in
     did_show c.args.flags looked t _ _ c.in_ok-walked.walked walks c.as_slice.result.now
     (text_as c.in_ok-walked.walked.rows _ c.style.result c.args.flags c.style.ensures (c.as_slice.ensures.value ∙ c.in_ok-text.ensures))
     c.as_slice-in-Ok.result.now (c.as_slice-in-Ok.ensures.value ∙ c.in_ok-warnings.ensures) c.in-Ok.ensures.all c.in-Ok.ensures.cause.quiet

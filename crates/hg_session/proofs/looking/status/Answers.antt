@@ -1,5 +1,5 @@
 -- A status: the record, what is shown of it, and saving what was noted.
-use Rattle.std.proofs.Common.{◌∙◌, Ok, Err, refl, sym}
+use Rattle.std.proofs.Common.{◌∙◌, Ok, Err, inl, inr, refl, sym}
 use Rattle.std.proofs.lemmas.List.{append-nil}
 use Rattle.std.proofs.lemmas.Result.{err_from_is_err_and}
 use Rattle.hg_docket.specs.Docket.{docket_of}
@@ -9,10 +9,11 @@ use Rattle.hg_shelf.proofs.Histories.{extends_same, passes_trans}
 use Rattle.hg_shelf.proofs.Scenes.{goes_trans}
 use Rattle.hg_shelf.specs.Images.{course}
 use Rattle.hg_tree.proofs.Spans.{passes_same}
+use Rattle.hg_session.proofs.Locked.{unwritten_then}
 use Rattle.hg_session.proofs.NotesKept.{needed_are_news}
 use Rattle.hg_session.proofs.Readings.{cause_still, loaded_table, met_reading, met_refused, opened_as, opened_nodes, same_as}
 use Rattle.hg_session.proofs.Saves.{saves_earlier}
-use Rattle.hg_session.proofs.Stages.{does_saved, does_unread, does_unsaved, does_unshown, needed_can, save_met}
+use Rattle.hg_session.proofs.Stages.{does_saved, does_unread, does_unsaved, does_unshown, needed_can, noted_as, save_met}
 use Rattle.hg_session.specs.Anew.{IsOpened}
 use Rattle.hg_session.specs.Call.{Count, IsLeftAlone, Looked, Saved}
 use Rattle.hg_session.specs.Saving.{IsOpenedSince, of_save}
@@ -110,15 +111,18 @@ returns-in_err-save_notes g c =
       lent = c.in_ok-mixed.ensures.2.lent;
       placed = c.in_ok-mixed.ensures.2.placed;
     } in
-    let noted = c.in_ok-notes.ensures.shows.noted in
-    let news = needed_are_news t _ _ c.in_ok-notes.notes noted.needed noted.noted in
+    let noted = noted_as looked.tree t c.in_ok-notes.ensures.shows.notes c.in_ok-notes.notes c.in_ok-notes.ensures.shows.answered c.in_ok-notes.ensures.shows.noted.needed c.in_ok-notes.ensures.shows.noted.noted in
+    let news = needed_are_news t _ _ c.in_ok-notes.notes noted.0 noted.1 in
     let quiet = c.in_ok-notes.ensures.shows.calm.shelf ∙ c.in_ok-loaded.ensures.cause.quiet in
     let saving = saves_earlier saved.old (course end (g.S.Shelf.images c.show.new.shelf)) saved.new only first c.save_notes.ensures.kept t c.in_ok-notes.notes looked.shelf.before (g.S.Shelf.faults c.show.new.shelf) looked.shelf.after
     locks.before (g.S.Shelf.held c.show.new.shelf) locks.after quiet (c.show.ensures.only.held ∙ c.read.ensures.locks) _ (c.in_err-save_notes.ensures.saves start t since news) in
     let fault = c.in_err-save_notes.field-0.0 in
     rw (p.1, p.2) (does_unsaved c.args.flags looked saved locks _ _ behind end (g.S.Shelf.faults c.read.new.shelf) (g.S.Shelf.faults c.show.new.shelf) t c.read.ensures.passes c.show.ensures.only.passes
     c.save_notes.ensures.kept.past loaded c.read.ensures.asked only c.in_ok-notes.notes c.in_ok-notes.ensures.shows (of_save fault) saving c.save_notes.ensures.asked
-    (save_met fault (λ is. rw (sym quiet) (c.in_err-save_notes.ensures.cause.rose is))))
+    (save_met looked.shelf saved fault (λ is. rw (sym quiet) (c.in_err-save_notes.ensures.cause.rose is)) (elim c.in_err-save_notes.ensures.unwritten [
+      | inl is ↦ inl is
+      | inr none ↦ inr (unwritten_then saved.old (course end (g.S.Shelf.images c.show.new.shelf)) saved.new only c.save_notes.ensures.kept none)
+    ])))
 
 pub returns : goal.returns
 returns g c =
@@ -148,8 +152,8 @@ returns g c =
       lent = c.in_ok-mixed.ensures.2.lent;
       placed = c.in_ok-mixed.ensures.2.placed;
     } in
-    let noted = c.in_ok-notes.ensures.shows.noted in
-    let news = needed_are_news t _ _ c.in_ok-notes.notes noted.needed noted.noted in
+    let noted = noted_as looked.tree t c.in_ok-notes.ensures.shows.notes c.in_ok-notes.notes c.in_ok-notes.ensures.shows.answered c.in_ok-notes.ensures.shows.noted.needed c.in_ok-notes.ensures.shows.noted.noted in
+    let news = needed_are_news t _ _ c.in_ok-notes.notes noted.0 noted.1 in
     let quiet = c.in_ok-notes.ensures.shows.calm.shelf ∙ c.in_ok-loaded.ensures.cause.quiet in
     let saving = saves_earlier saved.old (course end (g.S.Shelf.images c.show.new.shelf)) saved.new only first c.save_notes.ensures.kept t c.in_ok-notes.notes looked.shelf.before (g.S.Shelf.faults c.show.new.shelf) looked.shelf.after
     locks.before (g.S.Shelf.held c.show.new.shelf) locks.after quiet (c.show.ensures.only.held ∙ c.read.ensures.locks) _ (c.in_ok-save_notes.ensures.saves start t since news) in
@@ -157,4 +161,6 @@ returns g c =
     c.save_notes.ensures.kept.past loaded c.read.ensures.asked only c.in_ok-notes.notes c.in_ok-notes.ensures.shows tt saving c.save_notes.ensures.asked (c.in_ok-save_notes.ensures.cause.quiet ∙ quiet)
 
 pub save_notes-requires-clause-can : goal.save_notes-requires-clause-can
-save_notes-requires-clause-can g c = needed_can (table c.in_ok-mixed.mixed) c.in_ok-notes.notes c.in_ok-notes.ensures.shows.noted.needed
+save_notes-requires-clause-can g c =
+    let shows = c.in_ok-notes.ensures.shows in
+    needed_can (table c.in_ok-mixed.mixed) c.in_ok-notes.notes (rw shows.answered shows.noted.needed)
