@@ -91,12 +91,12 @@ module _ (copy : Watched tree.History) (h : shelf.History) (count : ℕ) (old ne
     shelf_cause = shelf_still count result kind;
   })
 
-  pub acts_forget : (command : Command) (words : List (List ℕ)) → command ≡ a_command.Forget words
+  pub acts_forget : (command : Command) (words : List (List ℕ)) → command ≡ a_command.Forget words → IfErr result (λ e. e ≡ an_op.OutOfMemory)
       → (old.changed ≡ false → IfOk result (λ lines. IsActed (name a_change.Forget) (steps_of a_change.Forget) words copy (table old) (table new) lines.items new.changed))
       → OnOk result (KeepsLent old new) → IsLeftAlone copy → ActsOn command copy still old new result
-  acts_forget command words is does lent alone = subst (λ (c : Command). ActsOn c copy still old new result) (sym is) (record {
+  acts_forget command words is forgets does lent alone = subst (λ (c : Command). ActsOn c copy still old new result) (sym is) (record {
     does = does;
-    stops = λ unset. kind;
+    stops = λ unset. forgets;
     same = same_if (IsActed (name a_change.Forget) (steps_of a_change.Forget) words copy) (λ a b lines changed acted. acted.same) old new result does;
     lent = lent;
     image = image;

@@ -18,10 +18,10 @@ use Rattle.hg_append.specs.declared.fault.EncodeFault.TheVariants as an_encode
 use Rattle.hg_ops.specs.declared.refusal.OpFault.{OpFault}
 use Rattle.hg_ops.specs.declared.refusal.OpFault.TheVariants as an_op
 use Rattle.hg_report.specs.Cause.{of_op}
-use Rattle.hg_session.specs.Acts.{Makes}
+use Rattle.hg_session.specs.Acts.{Makes, makes_of}
 use Rattle.hg_session.specs.Call.{Call, Count, Fails, IsLeftAlone, Saved, Serves, Watched}
 use Rattle.hg_session.specs.Change.{ChangesBehind, FailsOrUnwritten, FitsFirst, IsDone, IsEarly, IsLocked, IsMade, IsReadFirst, IsReadSome, IsSafe, MayFollowWriting, AsksChange, MetChanging, MetDoing, MetLocking, MetStop, MetUnfit, NoneOurs, Stretch, makes_in, of_change, up_to}
-use Rattle.hg_session.specs.Changed.{IsChangeText, IsExpectedChange, IsMadeOf, IsStoppedFor, IsUnfitFor, RanChange, change_look, status_of}
+use Rattle.hg_session.specs.Changed.{IsChangeText, IsExpectedChange, IsMadeOf, IsStoppedFor, IsUnfitFor, RanChange, change_look, looks_at_copy, status_of}
 use Rattle.hg_session.proofs.Records.{puts_none}
 use Rattle.hg_session.specs.Look.{LeavesAt, Stage, at_first, at_saving, at_telling}
 use Rattle.hg_session.specs.Put.{IsFaultOrMemory, IsSilent, Tells, TellsLine}
@@ -38,6 +38,7 @@ use Rattle.hg_shelf.specs.Polite.{Undisturbed}
 use Rattle.hg_stream.specs.Stream.{Grown, GrownByFront}
 use Rattle.hg_tree.specs.History as tree
 use Rattle.hg_words.specs.declared.given.Command.{Command}
+use Rattle.hg_words.specs.declared.given.Command.TheVariants as a_command
 
 -- ---- where nobody else steps
 
@@ -59,6 +60,10 @@ none_own old new k own later within none = elim (cases_lt old.last k) [
 
 extends_first : (old new : History) (k : ℕ) → Extends old new → old.last ≤ k → Extends old (up_to k new)
 extends_first old new k past later = record { told = past.told; later = later; who = past.who; stay = past.stay }
+
+-- the working copy serves where it may be to blame
+abbrev ServesMet : Makes → Watched tree.History → Type 0
+ServesMet Does copy = (loaded : Table) → Does.stops loaded an_op.TreeFailed → Serves copy
 
 module _ (Does : Makes) (copy : Watched tree.History) (a b : Course) (before after : ℕ) (past : Extends a.history b.history) (own : IsOurs a.history b.history) where
   abbrev files : Watched History
@@ -138,9 +143,9 @@ module _ (Does : Makes) (copy : Watched tree.History) (a b : Course) (before aft
       unreadable_now files past (still_by (a_fault.DataGone ids) (apart (a_fault.DataGone ids) (λ is. cc is) (λ is. cc is) (λ is. cc is)) safe) own.told (a_read.DataGone ids) met q
   reading_own a_read.Failed safe met q = steady_not_rose before after q met
 
-  doing_own : (fault : OpFault) → MetDoing Does copy files fault → Serves copy → Serves files → IsExpectedChange Does there (Some (of_op fault))
+  doing_own : (fault : OpFault) → MetDoing Does copy files fault → ServesMet Does copy → Serves files → IsExpectedChange Does there (Some (of_op fault))
   doing_own an_op.OutOfMemory met p q = tt
-  doing_own an_op.TreeFailed met p q = steady_not_rose copy.before copy.after p met.1
+  doing_own an_op.TreeFailed met p q = steady_not_rose copy.before copy.after (p met.0.loaded met.0.stops) met.1
   doing_own an_op.ShelfFailed met p q = steady_not_rose before after q met.1
   doing_own (an_op.NoManifest id) met p q = stop_own (an_op.NoManifest id) met.0
   doing_own (an_op.ManifestTooLarge size) met p q = stop_own (an_op.ManifestTooLarge size) met.0
@@ -148,7 +153,7 @@ module _ (Does : Makes) (copy : Watched tree.History) (a b : Course) (before aft
   doing_own (an_op.ManifestOrder line) met p q = stop_own (an_op.ManifestOrder line) met.0
   doing_own (an_op.NoContents id) met p q = stop_own (an_op.NoContents id) met.0
 
-  pub met_own : (fault : ChangeFault) → IsSafe Does saved (Some (of_change fault)) → MetChanging Does copy files fault → Serves copy → Serves files → IsExpectedChange Does there (Some (of_change fault))
+  pub met_own : (fault : ChangeFault) → IsSafe Does saved (Some (of_change fault)) → MetChanging Does copy files fault → ServesMet Does copy → Serves files → IsExpectedChange Does there (Some (of_change fault))
   met_own (a_change_fault.Read fault) safe met p q = reading_own fault safe met.0 q
   met_own (a_change_fault.Op fault) safe met p q = doing_own fault met p q
   met_own (a_change_fault.Encode an_encode.OutOfMemory) safe met p q = tt
@@ -156,6 +161,19 @@ module _ (Does : Makes) (copy : Watched tree.History) (a b : Course) (before aft
   met_own (a_change_fault.Encode an_encode.IdsSpent) safe met p q = unfit_own an_encode.IdsSpent met
   met_own a_change_fault.Held safe met p q = absurd met
   met_own a_change_fault.ShelfFailed safe met p q = steady_not_rose before after q met.0
+
+-- a command that doesn't look at the working copy has nothing to blame on it
+serves_met : (command : Command) (copy : Watched tree.History) (files : Watched History) → (looks_at_copy command ≡ true → Serves copy) → (loaded : Table)
+    → (makes_of command copy files).stops loaded an_op.TreeFailed → Serves copy
+serves_met (a_command.Add words) copy files serves loaded stops = serves refl
+serves_met (a_command.Forget words) copy files serves loaded stops = absurd (cc stops)
+serves_met (a_command.Remove after words) copy files serves loaded stops = serves refl
+serves_met (a_command.Copy source target) copy files serves loaded stops = serves refl
+serves_met (a_command.SetParents p1 p2) copy files serves loaded stops = absurd stops
+serves_met (a_command.Status flags) copy files serves loaded stops = absurd stops
+serves_met a_command.DebugDirstate copy files serves loaded stops = absurd stops
+serves_met a_command.DebugScript copy files serves loaded stops = absurd stops
+serves_met (a_command.DebugLoad n) copy files serves loaded stops = absurd stops
 
 -- a status of lines is 0 or 1
 pub status_either : (n : ℕ) (lines : List ℕ) → n ≡ status_of lines → (n ≡ 0) ⊎ (n ≡ 1)
@@ -258,7 +276,7 @@ module _ (command : Command) (copy : Watched tree.History) (a b : Course) (befor
     crash = λ calm keep first. crash_safe a b kept calm keep Does first None (safe calm);
     held = λ rose. absurd (unheld rose);
     tree = λ rose. absurd (well rose);
-    complete = λ own p q r steady. done_own Does copy a b before after kept.past own.shelf stretch.from stretch.to lines done;
+    complete = λ quiet r steady. done_own Does copy a b before after kept.past quiet.shelf stretch.from stretch.to lines done;
     calm_tree = λ none. calm_tree;
     calm_shelf = λ well. calm_shelf;
     calm_err = λ none. calm_err;
@@ -289,7 +307,7 @@ module _ (command : Command) (copy : Watched tree.History) (a b : Course) (befor
     crash = λ calm keep first. crash_safe a b kept calm keep Does first (Some a_fault.ErrFailed) (safe_untold (safe calm));
     held = λ rose. absurd (unheld rose);
     tree = λ rose. absurd (well rose);
-    complete = λ own p q r steady. steady_not_rose err.before err.after r failed;
+    complete = λ quiet r steady. steady_not_rose err.before err.after r failed;
     calm_tree = λ none. absurd (cc none);
     calm_shelf = λ told. calm_shelf;
     calm_err = λ none. absurd (cc none);
@@ -307,7 +325,7 @@ module _ (command : Command) (copy : Watched tree.History) (a b : Course) (befor
   safe_any fault (inl none) = inl none
   safe_any fault (inr (may, is)) = inr (inr (inr refl), is)
 
-  locked_own : (fault : ChangeFault) → IsSafe Does call.saved (Some (of_change fault)) → MetLocking Does copy call.looked.shelf locks fault → IsOurs a.history b.history → Serves copy → Serves call.looked.shelf
+  locked_own : (fault : ChangeFault) → IsSafe Does call.saved (Some (of_change fault)) → MetLocking Does copy call.looked.shelf locks fault → IsOurs a.history b.history → ServesMet Does copy → Serves call.looked.shelf
       → IsSteady locks.before locks.after → IsExpectedChange Does (now a.history).files (Some (of_change fault))
   locked_own fault safe (inl met) own p q steady = met_own Does copy a b before after kept.past own fault safe met p q
   locked_own fault safe (inr (held, rose, alone)) own p q steady = absurd (steady_not_rose locks.before locks.after steady rose)
@@ -342,7 +360,7 @@ module _ (command : Command) (copy : Watched tree.History) (a b : Course) (befor
         crash = λ calm keep first. crash_safe a b kept calm keep Does first (Some (of_change fault)) (safe calm);
         held = λ rose. inl (ap (λ (f : ChangeFault). Some (of_change f)) (held rose));
         tree = λ rose. inl (ap (λ (f : ChangeFault). Some (of_change f)) (failed rose));
-        complete = λ own p q r steady. locked_own fault (safe (calm_own a b own.shelf)) met own.shelf p q steady;
+        complete = λ quiet r steady. locked_own fault (safe (calm_own a b quiet.shelf)) met quiet.shelf (serves_met command copy call.looked.shelf (λ is. (quiet.copy is).1)) quiet.serves steady;
         calm_tree = λ none. absurd (cc none);
         calm_shelf = λ told_so. elim told_so [
           | inl none ↦ absurd (cc none)
@@ -366,7 +384,7 @@ module _ (command : Command) (copy : Watched tree.History) (a b : Course) (befor
         crash = λ calm keep first. crash_safe a b kept calm keep Does first (Some a_fault.OutOfMemory) (safe_any (of_change fault) (safe calm));
         held = λ rose. inr refl;
         tree = λ rose. inr refl;
-        complete = λ own p q r steady. tt;
+        complete = λ quiet r steady. tt;
         calm_tree = λ none. absurd (cc none);
         calm_shelf = λ told_so. elim told_so [
           | inl none ↦ absurd (cc none)

@@ -201,7 +201,7 @@ IsTreeFault fault = (fault ≡ an_op_fault.OutOfMemory) ⊎ (fault ≡ an_op_fau
 -- what a command makes of the record, by what the working copy and the files below `.hg` tell of the call
 abbrev pub makes_of : Command → Watched tree.History → Watched shelf.History → Makes
 makes_of (a_command.Add words) copy files = record { does = IsActed (codes "add") (steps_of a_change.Add) words copy; stops = λ loaded fault. IsTreeFault fault; fair = AskNothing }
-makes_of (a_command.Forget words) copy files = record { does = IsActed (codes "forget") (steps_of a_change.Forget) words copy; stops = λ loaded fault. IsTreeFault fault; fair = AskNothing }
+makes_of (a_command.Forget words) copy files = record { does = IsActed (codes "forget") (steps_of a_change.Forget) words copy; stops = λ loaded fault. fault ≡ an_op_fault.OutOfMemory; fair = AskNothing }
 makes_of (a_command.Remove after words) copy files = record { does = IsRemoved after words copy files; stops = StopsRemoving after words copy files; fair = AskNothing }
 makes_of (a_command.Copy source target) copy files = record { does = IsCopied source target copy; stops = λ loaded fault. IsTreeFault fault; fair = AskNothing }
 makes_of (a_command.SetParents p1 p2) copy files = record { does = IsReparented p1 p2 files; stops = λ loaded fault. StopsParents p1 p2 files fault; fair = AskNothing }

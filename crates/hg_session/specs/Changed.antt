@@ -13,19 +13,21 @@ use Rattle.hg_save.specs.Others.{KeepsRecords}
 use Rattle.hg_save.specs.Record.{reading}
 use Rattle.hg_save.specs.Saved.{IsLatest}
 use Rattle.hg_session.specs.Acts.{Makes}
-use Rattle.hg_session.specs.Call.{Call, IsLeftAlone, Serves}
+use Rattle.hg_session.specs.Call.{Call, IsLeftAlone, Looked, Serves}
 use Rattle.hg_session.specs.Change.{AsksChange, ChangesBehind, IsDone, IsEarly, IsLocked, IsReadSome, IsSafe, IsUnwritten, MetChanging, MetLocking, Stretch, makes_in, of_change}
 use Rattle.hg_session.specs.Loaded.{IsUnreadable}
 use Rattle.hg_session.specs.Look.{Look, Concludes, saves_first}
 use Rattle.hg_session.specs.Put.{IsEmpty, IsFaultOrMemory, IsSilent}
 use Rattle.hg_session.specs.Crash.{IsCrashSafe, IsFirmFor, IsLasting, published_in}
-use Rattle.hg_session.specs.Listed.{IsOwn}
 use Rattle.hg_session.specs.Ways.{Fits, IsUnfit, stood_in}
 use Rattle.hg_session.specs.declared.change_fault.ChangeFault.{ChangeFault}
 use Rattle.hg_session.specs.declared.change_fault.ChangeFault.TheVariants as a_change_fault
 use Rattle.hg_shelf.specs.History as shelf
 use Rattle.hg_shelf.specs.Images.{Goes, last_scene, scene}
 use Rattle.hg_shelf.specs.Polite.{Undisturbed}
+use Rattle.hg_tree.specs.History as tree
+use Rattle.hg_words.specs.declared.given.Command.{Command}
+use Rattle.hg_words.specs.declared.given.Command.TheVariants as a_command
 
 -- 1 where a line is told, and else 0
 abbrev pub status_of : List ℕ → ℕ
@@ -97,6 +99,18 @@ IsExpectedChange Does files (Some fault) = IsUnreadable files fault
 
 -- ---- the command
 
+-- a command looks at the working copy
+abbrev pub looks_at_copy : Command → Bool
+looks_at_copy (a_command.Forget words) = false
+looks_at_copy (a_command.SetParents p1 p2) = false
+looks_at_copy command = true
+
+-- nobody else steps, and no count rises, of the devices that a command looks at
+pub record IsQuietFor (command : Command) (looked : Looked) : Type 0 where
+  pub copy : looks_at_copy command ≡ true → tree.IsOurs looked.tree.old looked.tree.new × Serves looked.tree
+  pub shelf : shelf.IsOurs looked.shelf.old looked.shelf.new
+  pub serves : Serves looked.shelf
+
 -- what a command that changes the record did that ended with this status and this fault, or with none
 pub record RanChange (call : Call) (status : ℕ) (fault : Option Fault) : Type 0 where
   -- without a fault each word did what it says to the record that was read, the refused ones were told, and the rest is recorded; and with one: where it
@@ -115,7 +129,7 @@ pub record RanChange (call : Call) (status : ℕ) (fault : Option Fault) : Type 
   -- and so is a tree that failed, whatever else failed behind it
   pub tree : call.looked.tree.before < call.looked.tree.after → IsFaultOrMemory fault a_fault.TreeFailed
   -- where nobody else steps, no count rises and no lock is refused, the answer is the expected one, or there was no memory
-  pub complete : IsOwn call.looked → Serves call.looked.tree → Serves call.looked.shelf → Serves call.err → IsSteady call.locks.before call.locks.after
+  pub complete : IsQuietFor call.command call.looked → Serves call.err → IsSteady call.locks.before call.locks.after
       → IsExpectedChange (makes_in call) (shelf.now call.looked.shelf.old).files fault
   -- where a device failed there is a fault, and another one than of the error stream where the shelf did
   pub calm_tree : fault ≡ None → call.looked.tree.after ≡ call.looked.tree.before

@@ -61,6 +61,7 @@ fn step<T: Tree>(
     ensures unlooked { command ≡ a_change.Forget → tree.new ≡ tree.old }
     ensures cause { HasOpCause (T.faults tree.old) (T.faults tree.new) result }
     ensures kind { IfErr result (λ e. (e ≡ an_op_fault.OutOfMemory) ⊎ (e ≡ an_op_fault.TreeFailed)) }
+    ensures forgets { command ≡ a_change.Forget → IfErr result (λ e. e ≡ an_op_fault.OutOfMemory) }
 {
     // (a table tells how it is formed where it is asked)
     let _ = mixed.parents();
@@ -119,6 +120,8 @@ fn act_words<T: Tree>(
     ensures unlooked { command ≡ a_change.Forget → tree.new ≡ tree.old }
     ensures cause { HasCause (T.faults tree.old) (T.faults tree.new) result (λ e. e ≡ an_op_fault.TreeFailed) }
     ensures kind { IfErr result (λ e. (e ≡ an_op_fault.OutOfMemory) ⊎ (e ≡ an_op_fault.TreeFailed)) }
+    // Where files are forgotten only memory may lack.
+    ensures forgets { command ≡ a_change.Forget → IfErr result (λ e. e ≡ an_op_fault.OutOfMemory) }
     // A failing working copy is told as such.
     ensures failed { T.faults tree.old < T.faults tree.new → result ≡ Err an_op_fault.TreeFailed }
 {

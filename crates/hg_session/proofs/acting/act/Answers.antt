@@ -12,7 +12,7 @@ returns-in-Add-clause-acts g c =
 pub returns-in-Forget-clause-acts : goal.returns-in-Forget-clause-acts
 returns-in-Forget-clause-acts g c =
     acts_forget _ _ _ _ _ c.act_words-in-Forget.result c.act_words-in-Forget.ensures.kind c.act_words-in-Forget.ensures.image c.act_words-in-Forget.ensures.cause c.act_words-in-Forget.ensures.failed
-    c.args.command.now c.in-Forget.files c.in-Forget.is c.act_words-in-Forget.ensures.acts c.act_words-in-Forget.ensures.lent
+    c.args.command.now c.in-Forget.files c.in-Forget.is (c.act_words-in-Forget.ensures.forgets refl) c.act_words-in-Forget.ensures.acts c.act_words-in-Forget.ensures.lent
     (record { history = ap (λ t. g.T.Tree.history t) (c.act_words-in-Forget.ensures.unlooked refl); count = ap (λ t. g.T.Tree.faults t) (c.act_words-in-Forget.ensures.unlooked refl) })
 
 pub returns-in-Remove-clause-acts : goal.returns-in-Remove-clause-acts
