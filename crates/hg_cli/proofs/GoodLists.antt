@@ -119,7 +119,7 @@ module _ {T S G O E : Type 0} (views : Views T S G O E)
         goes = answered.kept;
         ground = λ by past fair ground.
             let safe = answered.crash fair.calm fair.keep ground.latest (firm_by (seen views old new).looked (seen views old new).saved by answered.kept fair ground) in
-            ground_by (seen views old new).looked (seen views old new).saved safe.0 by answered.kept fair ground safe.1
+            ground_by (seen views old new).looked (seen views old new).saved safe.0 by answered.kept fair ground safe.2
             (good.stays by past fair ground (shelf_course views new.1).history.last answered.kept.past.later (omega arith));
         good = good.stays;
       }

@@ -1,16 +1,17 @@
 -- What a run answers by its words, and what holds of lists of runs.
+use Rattle.std.proofs.Common.{inl, inr}
 use Rattle.std.specs.Prelude.{ℕ, ◌≡◌, ◌⊎◌, List, Option, Ok, Err, IfSome, IsTrue}
 use Rattle.hg_base.specs.Runs.{RunsEach}
-use Rattle.hg_entry.specs.Table.{Table}
 use Rattle.hg_cli.specs.Load.{IsLoaded}
 use Rattle.hg_report.specs.Cause.{of_words}
 use Rattle.hg_report.specs.declared.fault.Fault.{Fault}
 use Rattle.hg_save.specs.Others.{HasData, KeepData, KeepsRecords}
 use Rattle.hg_save.specs.Saved.{IsLatest}
 use Rattle.hg_save.specs.Behind.{KeepsUsed}
-use Rattle.hg_session.specs.Answered.{IsAnswered, IsIdle}
+use Rattle.hg_session.specs.Acts.{Makes, makes_nothing}
+use Rattle.hg_session.specs.Answered.{IsAnswered, IsIdle, made_by}
 use Rattle.hg_session.specs.Call.{Count, Looked, Saved, Sink}
-use Rattle.hg_session.specs.Crash.{IsCrashSafe, LeavesSound}
+use Rattle.hg_session.specs.Crash.{IsSafeBy, LeavesSound}
 use Rattle.hg_session.specs.Put.{IsFaultOrMemory, Tells}
 use Rattle.hg_shelf.specs.History.{others, us}
 use Rattle.hg_shelf.specs.Images.{Course, last_scene}
@@ -44,6 +45,26 @@ IsRun words looked saved locks out err code fault =
     ((command : Command) × (command_of words ≡ Ok command) × Carries command looked saved locks out err code fault)
     ⊎ IsUnread words looked saved locks out err code fault
 
+-- what a command made of the record
+abbrev pub made_carried : (command : Command) (looked : Looked) (saved : Saved) (locks : Count) (out err : Sink) (code : ℕ) (fault : Option Fault)
+    → Carries command looked saved locks out err code fault → Makes
+made_carried (a_command.Status flags) looked saved locks out err code fault is = made_by (a_command.Status flags) _ code fault is.ran
+made_carried (a_command.Add files) looked saved locks out err code fault is = made_by (a_command.Add files) _ code fault is.ran
+made_carried (a_command.Forget files) looked saved locks out err code fault is = made_by (a_command.Forget files) _ code fault is.ran
+made_carried (a_command.Remove after files) looked saved locks out err code fault is = made_by (a_command.Remove after files) _ code fault is.ran
+made_carried (a_command.Copy source target) looked saved locks out err code fault is = made_by (a_command.Copy source target) _ code fault is.ran
+made_carried (a_command.SetParents p1 p2) looked saved locks out err code fault is = made_by (a_command.SetParents p1 p2) _ code fault is.ran
+made_carried a_command.DebugDirstate looked saved locks out err code fault is = makes_nothing
+made_carried a_command.DebugScript looked saved locks out err code fault is = makes_nothing
+made_carried (a_command.DebugLoad n) looked saved locks out err code fault is = makes_nothing
+
+-- what a run made of it
+abbrev pub made_run : {words : List (List ℕ)} {looked : Looked} {saved : Saved} {locks : Count} {out err : Sink} {code : ℕ} {fault : Option Fault}
+    → IsRun words looked saved locks out err code fault → Makes
+made_run {looked = looked} {saved = saved} {locks = locks} {out = out} {err = err} {code = code} {fault = fault} (inl (command, is, carried)) =
+    made_carried command looked saved locks out err code fault carried
+made_run (inr unread) = makes_nothing
+
 -- ---- lists of runs, each over the files that the one before it left
 
 -- the files below `.hg` with what a crash may leave of them, before and after
@@ -63,9 +84,10 @@ pub record OthersKeep (first last : Course) : Type 0 where
   pub keep : KeepsRecords others last first.history.last
   pub kept : KeepData last.history first.history.last ⊎ KeepsUsed others last.history first.history.last
 
--- at each moment of a run a crash leaves a record of what it might have left at its start, of what it published, or of what others published since
+-- at each moment of a run a crash leaves a record of what it might have left at its start, of what it published of what its command made, or of what others
+-- published since
 abbrev pub IsSafe : {S : Type 0} → (S → Course) → List (List ℕ) → S → S → Type 0
-IsSafe course_of words old new = (own : Option Table) × IsCrashSafe own (saved_over course_of old new)
+IsSafe course_of words old new = (runs : Runs course_of words old new) × IsSafeBy (made_run runs.6) (saved_over course_of old new)
 
 -- at the end of a course whatever a crash may leave is a sound record, none of its dockets is ahead of the one that stands, and the data file that this one
 -- names is there

@@ -1,5 +1,5 @@
 -- The cause of a fault in the table of all commands, from the stage at which a command met it; and the whole answer of a call.
-use Rattle.std.proofs.Common.{ℕ, ◌≡◌, true, false, Option, Some, None, Result, Ok, Err, IfSome, IsTrue, sym, subst, inl, inr, true≢false}
+use Rattle.std.proofs.Common.{ℕ, ◌≡◌, true, false, Option, Some, None, Result, Ok, Err, IfSome, IsTrue, refl, sym, subst, inl, inr, true≢false}
 use Rattle.std.specs.Option.{MatchOption}
 use Rattle.std.specs.Prelude.{IsSomeAnd, ◌⊎◌}
 use Rattle.hg_append.specs.declared.fault.EncodeFault.TheVariants as an_encode_fault
@@ -14,13 +14,14 @@ use Rattle.hg_report.specs.declared.fault.Fault.{Fault}
 use Rattle.hg_report.specs.declared.fault.Fault.TheVariants as a_fault
 use Rattle.hg_session.proofs.Firm.{firm_for, noted_upto}
 use Rattle.hg_session.proofs.Makers.{asks_none}
-use Rattle.hg_session.specs.Answered.{IsAnswered, IsIdle, IsUnbuilt, Ran}
+use Rattle.hg_session.specs.Acts.{Makes}
+use Rattle.hg_session.specs.Answered.{IsAnswered, IsIdle, IsUnbuilt, Ran, made_by}
 use Rattle.hg_session.specs.Call.{Call, Count, Fails, IsLeftAlone, Looked, Saved, Sink, Watched}
 use Rattle.hg_session.specs.Cause.{CommandCause}
-use Rattle.hg_session.specs.Change.{IsUnwritten, MetChanging, MetDoing, MetLocking, makes_in, of_change}
+use Rattle.hg_session.specs.Change.{IsSafe, IsUnwritten, MetChanging, MetDoing, MetLocking, makes_in, of_change}
 use Rattle.hg_session.specs.Changed.{RanChange, change_look}
 use Rattle.hg_session.specs.Commands.{is_change, is_done}
-use Rattle.hg_session.specs.Crash.{published_in}
+use Rattle.hg_session.specs.Crash.{IsOwnOf, published_in}
 use Rattle.hg_session.specs.Debug.{AnswersPrinting, Prints, ShowsRecord}
 use Rattle.hg_session.specs.Flags.{wanted_of}
 use Rattle.hg_session.specs.Listed.{StatusCause}
@@ -193,7 +194,7 @@ answered_looked call code fault ran look none cause = record {
   calm = look.calm;
   memory = λ is. inl none;
   kept = look.only.kept;
-  crash = λ calm keep first ground. (None, look.crash calm keep first);
+  crash = λ calm keep first ground. (None, tt, look.crash calm keep first);
   latest = λ calm keep first. (look.crash calm keep first).latest;
   status = looked_status code fault look.status;
 }
@@ -220,6 +221,23 @@ ran_changed call code fault changed a_command.DebugDirstate is = absurd (true≢
 ran_changed call code fault changed a_command.DebugScript is = absurd (true≢false (sym is))
 ran_changed call code fault changed (a_command.DebugLoad n) is = absurd (true≢false (sym is))
 
+-- what was published is of what the command made
+own_of : (Does : Makes) (saved : Saved) (fault : Option Fault) (safe : IsSafe Does saved fault) → IsOwnOf Does saved (published_in Does saved fault safe)
+own_of Does saved fault (inl none) = tt
+own_of Does saved fault (inr (may, is)) = (is, refl)
+
+own_changed : (call : Call) (code : ℕ) (fault : Option Fault) (changed : RanChange call code fault) (command : Command) (is : is_change command ≡ true) (own : Option Table)
+    → IsOwnOf (makes_in call) call.saved own → IsOwnOf (made_by command call code fault (ran_changed call code fault changed command is)) call.saved own
+own_changed call code fault changed (a_command.Status flags) is own by = absurd (true≢false (sym is))
+own_changed call code fault changed (a_command.Add files) is own by = by
+own_changed call code fault changed (a_command.Forget files) is own by = by
+own_changed call code fault changed (a_command.Remove after files) is own by = by
+own_changed call code fault changed (a_command.Copy source target) is own by = by
+own_changed call code fault changed (a_command.SetParents p1 p2) is own by = by
+own_changed call code fault changed a_command.DebugDirstate is own by = absurd (true≢false (sym is))
+own_changed call code fault changed a_command.DebugScript is own by = absurd (true≢false (sym is))
+own_changed call code fault changed (a_command.DebugLoad n) is own by = absurd (true≢false (sym is))
+
 pub answered_changed : (call : Call) (code : ℕ) (fault : Option Fault) → is_change call.command ≡ true → RanChange call code fault → MatchOption fault ((code ≡ 0) ⊎ (code ≡ 1)) (λ f. code ≡ 255)
     → IsAnswered call code fault
 answered_changed call code fault is changed status = record {
@@ -231,6 +249,7 @@ answered_changed call code fault is changed status = record {
   kept = changed.kept;
   crash = λ calm keep first ground. (
     published_in (makes_in call) call.saved fault (changed.safe calm),
+    own_changed call code fault changed call.command is (published_in (makes_in call) call.saved fault (changed.safe calm)) (own_of (makes_in call) call.saved fault (changed.safe calm)),
     changed.crash calm keep first
         (firm_for call.saved.old call.saved.new ground (makes_in call) fault (changed.safe calm)
         (λ k later within none. asks_none call.command call.looked.tree call.looked.shelf call.saved.new.history k)),
@@ -248,23 +267,25 @@ pub answered_status : (command : Command) (flags : StatusFlags) (looked : Looked
     (done : Result Unit Fault) (code : ℕ) (fault : Option Fault) → looked.shelf.old.last ≡ saved.old.history.last → command ≡ a_command.Status flags → DoesStatus flags looked saved locks out mid done
     → EndsAs tail done code fault → IsAnswered (record { command = command; looked = looked; saved = saved; locks = locks; out = out; err = joined mid tail bytes count }) code fault
 answered_status command flags looked saved locks out mid tail bytes count done code fault same is does ends =
-    let call : Call = record { command = command; looked = looked; saved = saved; locks = locks; out = out; err = joined mid tail bytes count } in
-    let ran : RanStatus flags call code fault = ran_status command flags looked saved locks out mid tail bytes count done code fault does ends in
-    record {
-      ran = subst (λ (c : Command). Ran c call code fault) (sym is) ran;
-      cause = status_cause call flags is ran.notes ran.table (some_read looked.shelf ran.table ran.loaded) fault ran.looks;
+    let at : Command → Call = λ c. record { command = c; looked = looked; saved = saved; locks = locks; out = out; err = joined mid tail bytes count } in
+    let call : Call = at (a_command.Status flags) in
+    let ran : RanStatus flags call code fault = ran_status (a_command.Status flags) flags looked saved locks out mid tail bytes count done code fault does ends in
+    subst (λ (c : Command). IsAnswered (at c) code fault) (sym is) (record {
+      ran = ran;
+      cause = status_cause call flags refl ran.notes ran.table (some_read looked.shelf ran.table ran.loaded) fault ran.looks;
       calm = ran.calm;
-      memory = status_memory call flags is ran.notes ran.table (some_read looked.shelf ran.table ran.loaded) fault ran.looks;
+      memory = status_memory call flags refl ran.notes ran.table (some_read looked.shelf ran.table ran.loaded) fault ran.looks;
       kept = ran.saving.kept;
       crash = λ calm keep first ground. (
         published_in (noted_in looked.shelf ran.table ran.notes) saved fault (ran.saving.safe calm),
+        own_of (noted_in looked.shelf ran.table ran.notes) saved fault (ran.saving.safe calm),
         ran.crash calm keep first
             (firm_for saved.old saved.new ground (noted_in looked.shelf ran.table ran.notes) fault (ran.saving.safe calm)
             (noted_upto saved.old saved.new ground looked.shelf same ran.table ran.notes)),
       );
       latest = λ calm keep first. latest_safe saved.old saved.new ran.saving.kept calm keep (noted_in looked.shelf ran.table ran.notes) first fault (ran.saving.safe calm);
       status = looked_status code fault ran.status;
-    }
+    })
 
 -- the command that prints the record
 pub answered_record : (call : Call) (code : ℕ) (fault : Option Fault) → call.command ≡ a_command.DebugDirstate → ShowsRecord call.looked.shelf call.out call.err fault

@@ -48,6 +48,10 @@ pub record Makes : Type 1 where
 abbrev pub AskNothing : shelf.History → ℕ → Type 0
 AskNothing h at = Unit {0}
 
+-- a command that makes nothing of the record
+abbrev pub makes_nothing : Makes
+makes_nothing = record { does = λ loaded made lines changed. ⊥; stops = λ loaded fault. ⊥; fair = AskNothing }
+
 -- the files of a moment record it
 abbrev pub StandsAt : Course → ℕ → Table → Type 0
 StandsAt c at loaded = reading (scene c at).files ≡ Some (Ok loaded)

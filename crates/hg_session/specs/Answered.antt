@@ -4,15 +4,16 @@ use Rattle.hg_report.specs.declared.fault.Fault.{Fault}
 use Rattle.hg_report.specs.declared.fault.Fault.TheVariants as a_fault
 use Rattle.hg_save.specs.Others.{KeepsRecords}
 use Rattle.hg_save.specs.Saved.{IsLatest}
+use Rattle.hg_session.specs.Acts.{Makes, makes_nothing}
 use Rattle.hg_session.specs.Call.{Call, Count, Fails, IsLeftAlone, Looked, Saved, Sink}
 use Rattle.hg_session.specs.Cause.{CommandCause}
-use Rattle.hg_session.specs.Change.{IsUnwritten}
+use Rattle.hg_session.specs.Change.{IsUnwritten, makes_in}
 use Rattle.hg_session.specs.Changed.{RanChange}
 use Rattle.hg_session.specs.Crash.{IsSafeFromCrashes}
 use Rattle.hg_session.specs.Debug.{RanRecord}
 use Rattle.hg_session.specs.Look.{IsCalm, IsLook}
 use Rattle.hg_session.specs.Put.{IsFaultOrMemory, IsSilent, Tells}
-use Rattle.hg_session.specs.Status.{RanStatus}
+use Rattle.hg_session.specs.Status.{RanStatus, noted_in}
 use Rattle.hg_shelf.specs.History.{others}
 use Rattle.hg_shelf.specs.Images.{Goes, last_scene}
 use Rattle.hg_shelf.specs.Polite.{Undisturbed}
@@ -49,6 +50,18 @@ Ran a_command.DebugDirstate call code fault = RanRecord call code fault
 Ran a_command.DebugScript call code fault = IsUnbuilt call code fault
 Ran (a_command.DebugLoad n) call code fault = IsUnbuilt call code fault
 
+-- what a command makes of the record
+abbrev pub made_by : (command : Command) (call : Call) (code : ℕ) (fault : Option Fault) → Ran command call code fault → Makes
+made_by (a_command.Status flags) call code fault ran = noted_in call.looked.shelf ran.table ran.notes
+made_by (a_command.Add files) call code fault ran = makes_in call
+made_by (a_command.Forget files) call code fault ran = makes_in call
+made_by (a_command.Remove after files) call code fault ran = makes_in call
+made_by (a_command.Copy source target) call code fault ran = makes_in call
+made_by (a_command.SetParents p1 p2) call code fault ran = makes_in call
+made_by a_command.DebugDirstate call code fault ran = makes_nothing
+made_by a_command.DebugScript call code fault ran = makes_nothing
+made_by (a_command.DebugLoad n) call code fault ran = makes_nothing
+
 -- a call ended with this status and this fault, or with none
 pub record IsAnswered (call : Call) (code : ℕ) (fault : Option Fault) : Type 0 where
   -- what its command did
@@ -61,9 +74,9 @@ pub record IsAnswered (call : Call) (code : ℕ) (fault : Option Fault) : Type 0
   pub memory : fault ≡ Some a_fault.OutOfMemory → IsUnwritten call.saved.old.history call.saved.new.history ⊎ Fails call.looked.shelf
   -- the moments so far stay, with what a crash may leave of them
   pub kept : Goes call.saved.old call.saved.new
-  -- at each moment of the call a crash leaves a record of what it might have left at the start, of what the call published, or of what others
-  -- published since; and the premises hold at the end, so that this can be said of the next call
-  pub crash : IsSafeFromCrashes call.saved
+  -- at each moment of the call a crash leaves a record of what it might have left at the start, of what the call published of what its command made, or of what
+  -- others published since; and the premises hold at the end, so that this can be said of the next call
+  pub crash : IsSafeFromCrashes (made_by call.command call code fault ran) call.saved
   -- the premise on identifiers holds at the end upon any ground
   pub latest : Undisturbed call.saved.old call.saved.new → KeepsRecords others call.saved.new call.saved.old.history.last → IsLatest (last_scene call.saved.old)
       → IsLatest (last_scene call.saved.new)

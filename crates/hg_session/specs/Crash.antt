@@ -1,5 +1,5 @@
 -- What a crash may leave at each moment of a call, also where others publish before or behind its change.
-use Rattle.std.specs.Prelude.{ℕ, ◌≡◌, ◌⊎◌, ◌≤◌, Option, Some, None, Result, Ok, IsSomeAnd}
+use Rattle.std.specs.Prelude.{ℕ, ◌≡◌, ◌⊎◌, ◌≤◌, Option, Some, None, Result, Ok, IfSome, IsSomeAnd}
 use Rattle.std.proofs.Common.{inl, inr}
 use Rattle.hg_append.specs.declared.way.Way.TheVariants as a_way
 use Rattle.hg_append.specs.Loss.{plan_of}
@@ -13,7 +13,7 @@ use Rattle.hg_save.specs.Saved.{IsLatest}
 use Rattle.hg_save.specs.Behind.{KeepsUsed}
 use Rattle.hg_session.specs.Acts.{Makes}
 use Rattle.hg_session.specs.Call.{Saved}
-use Rattle.hg_session.specs.Change.{IsKept, IsSafe, IsUnwritten, NoneOurs, up_to}
+use Rattle.hg_session.specs.Change.{IsKept, IsSafe, IsUnwritten, NoneOurs, Publishes, up_to}
 use Rattle.hg_session.specs.Ways.{Stood}
 use Rattle.hg_shelf.specs.History.{Files, others, us}
 use Rattle.hg_shelf.specs.Images.{Scene, last_scene, scene}
@@ -60,11 +60,20 @@ pub record IsFirmGround (saved : Saved) : Type 0 where
   pub kept : (k : ℕ) → saved.old.history.last ≤ k → k ≤ saved.new.history.last → NoneOurs saved.new.history saved.old.history.last k
       → KeepData (up_to k saved.new.history) saved.old.history.last
 
--- where others keep to how a record is published, and no docket that a crash might have left at the start was ahead of the one that stood, upon firm ground
-abbrev pub IsSafeFromCrashes : Saved → Type 0
-IsSafeFromCrashes saved =
+-- a table, where there is one, was published in the call, of what a command made
+abbrev pub IsOwnOf : Makes → Saved → Option Table → Type 0
+IsOwnOf Does saved own = IfSome own (λ table. (is : Publishes Does saved) × (is.is.found ≡ table))
+
+-- a crash leaves no record but what it might have left at the start, what was published in the call of what a command made, or what others published
+abbrev pub IsSafeBy : Makes → Saved → Type 0
+IsSafeBy Does saved = (own : Option Table) × IsOwnOf Does saved own × IsCrashSafe own saved
+
+-- so it is where others keep to how a record is published, and no docket that a crash might have left at the start was ahead of the one that stood, upon firm
+-- ground
+abbrev pub IsSafeFromCrashes : Makes → Saved → Type 0
+IsSafeFromCrashes Does saved =
     Undisturbed saved.old saved.new → KeepsRecords others saved.new saved.old.history.last → IsLatest (last_scene saved.old) → IsFirmGround saved
-    → (own : Option Table) × IsCrashSafe own saved
+    → IsSafeBy Does saved
 
 -- from a moment to the call's end, whatever a crash leaves records what was made, or what others published since
 pub record Lasts (saved : Saved) (to : ℕ) (found : Table) : Type 0 where

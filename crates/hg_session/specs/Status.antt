@@ -28,7 +28,7 @@ use Rattle.hg_report.specs.declared.fault.Fault.TheVariants as a_fault
 use Rattle.hg_save.specs.Others.{KeepsRecords}
 use Rattle.hg_save.specs.Record.{record_in}
 use Rattle.hg_save.specs.Saved.{IsLatest}
-use Rattle.hg_session.specs.Acts.{AskNothing, Makes}
+use Rattle.hg_session.specs.Acts.{Makes, makes_nothing}
 use Rattle.hg_session.specs.Call.{Call, Count, Fails, Looked, Saved, Serves, Sink, Watched}
 use Rattle.hg_session.specs.Change.{IsReadFirst, IsSafe, IsUnwritten}
 use Rattle.hg_session.specs.Crash.{IsCrashSafe, IsFirmFor, published_in}
@@ -235,7 +235,7 @@ listed_to end looked = record looked { shelf = record looked.shelf { new = end }
 
 -- what a status makes of the record: where a table was read, it with the notes
 abbrev pub noted_in : Watched shelf.History → Option Table → NotesData → Makes
-noted_in files None notes = record { does = λ loaded made lines changed. ⊥; stops = λ loaded fault. ⊥; fair = AskNothing }
+noted_in files None notes = makes_nothing
 noted_in files (Some table) notes = noted_makes files table notes
 
 -- what came of the lock: where no table was read it wasn't called for
