@@ -60,7 +60,7 @@ same_steps c =
 module _ {T S G O E : Type 0} (views : Views T S G O E) where
   stopped_or_run : (is : Bool) (met : Fault) (words : List (List ℕ)) (part : Seen) (code : ℕ) (fault : Option Fault)
       (does : MatchBool is (IsStopped met part code fault) (IsRun words part.looked part.saved part.locks part.out part.err code fault))
-      → Steps (made_if {A = IsStopped met part code fault} {B = IsRun words part.looked part.saved part.locks part.out part.err code fault} (λ run. made_run run) is does) part.saved
+      → Steps (made_if (IsStopped met part code fault) (IsRun words part.looked part.saved part.locks part.out part.err code fault) (λ run. made_run run) is does) part.saved
   stopped_or_run true met words part code fault does = idle_steps part.looked part.saved part.locks part.out does.idle
   stopped_or_run false met words part code fault does = run_steps words part.looked part.saved part.locks part.out part.err code fault does
 

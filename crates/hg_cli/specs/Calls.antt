@@ -44,9 +44,9 @@ abbrev pub IsSafeBetween : {T S G O E : Type 0} → Views T S G O E → Makes �
 IsSafeBetween views Does old new = IsSafeBy Does (saved_over (shelf_course views) old.1 new.1)
 
 -- what was made of the record where something was run, and not stopped before
-abbrev pub made_if : {A B : Type 0} → (B → Makes) → (is : Bool) → MatchBool is A B → Makes
-made_if made true does = makes_nothing
-made_if made false does = made does
+abbrev pub made_if : (A B : Type 0) → (B → Makes) → (is : Bool) → MatchBool is A B → Makes
+made_if A B made true does = makes_nothing
+made_if A B made false does = made does
 
 -- what the words of a line made of it, and what a turn did
 abbrev pub made_words : {D : Type 0} (seen : D → D → Seen) (number : ℕ) (words : List (List ℕ)) (old new : D) (code : ℕ) (fault : Option Fault)
@@ -54,7 +54,7 @@ abbrev pub made_words : {D : Type 0} (seen : D → D → Seen) (number : ℕ) (w
 made_words seen number [] old new code fault does = makes_nothing
 made_words seen number (name ∷ words) old new code fault does =
     let part : Seen = seen old new in
-    made_if {A = IsStopped (a_fault.ScriptNested number) part code fault} {B = IsRun (name ∷ words) part.looked part.saved part.locks part.out part.err code fault} (λ run. made_run run)
+    made_if (IsStopped (a_fault.ScriptNested number) part code fault) (IsRun (name ∷ words) part.looked part.saved part.locks part.out part.err code fault) (λ run. made_run run)
     (bytes_eq name script_name) does
 
 abbrev pub made_turn : {D : Type 0} (seen : D → D → Seen) (turn : Turn) (old new : D) (code : ℕ) (fault : Option Fault) → Does seen turn old new code fault → Makes
