@@ -28,7 +28,7 @@ use Rattle.hg_session.specs.Listed.{StatusCause}
 use Rattle.hg_session.specs.Load.{of_print, of_read}
 use Rattle.hg_session.specs.Loaded.{AsksRecord, IsLoaded, MetReading}
 use Rattle.hg_session.specs.Look.{EndsAs, IsCalm, IsLook, IsOutFault, LeavesAt, Concludes, OnlyReads, Stage, at_first, at_printing, at_saving, at_telling}
-use Rattle.hg_session.specs.Put.{IsFaultOrMemory, Tells}
+use Rattle.hg_session.specs.Put.{IsFaultOrMemory, OnStream, Tells}
 use Rattle.hg_session.specs.Status.{DoesStatus, IsLoadedFirst, ListingCause, RanStatus, noted_in, status_look}
 use Rattle.hg_session.specs.declared.change_fault.ChangeFault.{ChangeFault}
 use Rattle.hg_session.specs.declared.change_fault.ChangeFault.TheVariants as a_change_fault
@@ -39,6 +39,7 @@ use Rattle.hg_session.specs.declared.read_fault.ReadFault.TheVariants as a_read
 use Rattle.hg_session.proofs.Crashes.{crash_unwritten, latest_safe}
 use Rattle.hg_session.proofs.Locked.{unwritten}
 use Rattle.hg_session.proofs.Looks.{joined, not_without, status_failed}
+use Rattle.hg_session.proofs.Printing.{never_rose}
 use Rattle.hg_session.proofs.Readings.{first_read, was_loaded}
 use Rattle.hg_session.proofs.Records.{record_by}
 use Rattle.hg_session.proofs.Statuses.{ran_status}
@@ -187,17 +188,23 @@ looked_status code None is = inl is
 looked_status code (Some fault) is = is
 
 pub answered_looked : (call : Call) (code : ℕ) (fault : Option Fault) → Ran call.command call code fault → IsLook call code fault → IsUnwritten call.saved.old.history call.saved.new.history
-    → IfSome fault (CommandCause call) → IsAnswered call code fault
-answered_looked call code fault ran look none cause = record {
+    → IsLeftAlone call.looked.tree → OnStream fault (call.looked.shelf.after ≡ call.looked.shelf.before) → IfSome fault (CommandCause call) → IsAnswered call code fault
+answered_looked call code fault ran look none alone streams cause = record {
   ran = ran;
   cause = cause;
   calm = look.calm;
+  streams = streams;
+  tree = λ rose. absurd (never_rose call.looked.tree.before call.looked.tree.after alone.count rose);
   memory = λ is. inl none;
   kept = look.only.kept;
   crash = λ calm keep first ground. (None, tt, look.crash calm keep first);
   latest = λ calm keep first. (look.crash calm keep first).latest;
   status = looked_status code fault look.status;
 }
+
+on_stream : {Is : Type 0} (fault : Option Fault) → Is → OnStream fault Is
+on_stream None is = tt
+on_stream (Some fault) is = λ stream. is
 
 -- a call that only looked
 look_by : (call : Call) (code : ℕ) (fault : Option Fault) → OnlyReads call.looked.shelf call.saved call.locks → IsUnwritten call.saved.old.history call.saved.new.history
@@ -244,7 +251,9 @@ answered_changed call code fault is changed status = record {
   ran = ran_changed call code fault changed call.command is;
   cause = changed_cause call is fault changed.shows;
   calm = λ none.
-      record { tree = changed.calm_tree none; shelf = changed.calm_shelf (inl none); regexps = changed.uncounted; out = changed.silent.count; err = changed.calm_err none };
+      record { tree = changed.calm_tree none; shelf = changed.calm_shelf none; regexps = changed.uncounted; out = changed.silent.count; err = changed.calm_err none };
+  streams = changed.streams;
+  tree = changed.tree;
   memory = changed_memory call is fault changed.shows;
   kept = changed.kept;
   crash = λ calm keep first ground. (
@@ -274,6 +283,8 @@ answered_status command flags looked saved locks out mid tail bytes count done c
       ran = ran;
       cause = status_cause call flags refl ran.notes ran.table (some_read looked.shelf ran.table ran.loaded) fault ran.looks;
       calm = ran.calm;
+      streams = ran.streams;
+      tree = ran.tree_failed;
       memory = status_memory call flags refl ran.notes ran.table (some_read looked.shelf ran.table ran.loaded) fault ran.looks;
       kept = ran.saving.kept;
       crash = λ calm keep first ground. (
@@ -291,10 +302,10 @@ answered_status command flags looked saved locks out mid tail bytes count done c
 pub answered_record : (call : Call) (code : ℕ) (fault : Option Fault) → call.command ≡ a_command.DebugDirstate → ShowsRecord call.looked.shelf call.out call.err fault
     → (IsTrue call.looked.shelf.old.told → AsksRecord call.looked.shelf.old call.looked.shelf.new) → IsLeftAlone call.looked.tree → call.looked.oversize.after ≡ call.looked.oversize.before
     → (fault ≡ None → IsCalm call.looked call.out call.err) → OnlyReads call.looked.shelf call.saved call.locks → IsUnwritten call.saved.old.history call.saved.new.history
-    → MatchOption fault (code ≡ 0) (λ f. code ≡ 255) → IsAnswered call code fault
-answered_record call code fault is shows below alone uncounted calm only none status =
+    → MatchOption fault (code ≡ 0) (λ f. code ≡ 255) → OnStream fault (call.looked.shelf.after ≡ call.looked.shelf.before) → IsAnswered call code fault
+answered_record call code fault is shows below alone uncounted calm only none status streams =
     let look : IsLook call code fault = look_by call code fault only none calm status in
-    answered_looked call code fault (subst (λ (c : Command). Ran c call code fault) (sym is) (record_by call only.passes fault shows below alone uncounted code look)) look none
+    answered_looked call code fault (subst (λ (c : Command). Ran c call code fault) (sym is) (record_by call only.passes fault shows below alone uncounted code look)) look none alone streams
     (record_cause call fault shows.came shows.prints shows.tells)
 
 -- ---- a command that isn't built
@@ -320,5 +331,5 @@ answered_unbuilt call code fault is answered told idle passes status =
     let look : IsLook call code fault =
     look_by call code fault (record { passes = passes; kept = idle.kept; held = idle.held }) idle.unwritten (λ none. not_without fault a_fault.NotBuilt answered none)
     (status_failed code a_fault.NotBuilt fault answered status) in
-    answered_looked call code fault (ran_unbuilt call code fault (record { answered = answered; told = told; idle = idle; look = look }) call.command is) look idle.unwritten
+    answered_looked call code fault (ran_unbuilt call code fault (record { answered = answered; told = told; idle = idle; look = look }) call.command is) look idle.unwritten idle.copy (on_stream fault idle.files_count)
     (unbuilt_cause call fault answered is)

@@ -1,5 +1,5 @@
 -- What a listing over a table, its printing and its telling do, from what their parts do.
-use Rattle.std.proofs.Common.{ℕ, ◌≡◌, Bool, true, List, [], Option, None, Result, Ok, Err, IfErr, IfOk, IsTrue, OnOk, refl, sym, ap, ◌∙◌, subst, inl, arith}
+use Rattle.std.proofs.Common.{ℕ, ◌≡◌, ◌<◌, ◌⊎◌, Bool, true, false, List, [], Option, Some, None, Result, Ok, Err, IfErr, IfOk, IsTrue, OnOk, refl, sym, ap, ◌∙◌, subst, inl, inr, arith, true≢false}
 use Rattle.std.specs.Prelude.{MatchBool}
 use Rattle.hg_compare.specs.Tracked.{ParentRow}
 use Rattle.hg_entry.specs.Table.{Table, flat_of}
@@ -26,7 +26,7 @@ use Rattle.hg_session.specs.Call.{Fails, Looked, Sink}
 use Rattle.hg_session.specs.Flags.{style_of, wanted_of}
 use Rattle.hg_session.specs.Listed.{AsksOver, AsksOwn, AsksPlain, IsListedFor, IsRightFor, IsServedFor, IsUntouched, StatusCause, StatusMet, status_over}
 use Rattle.hg_session.specs.Look.{at_first, at_printing, at_telling}
-use Rattle.hg_session.specs.Put.{IsSilent}
+use Rattle.hg_session.specs.Put.{IsSilent, is_stream}
 use Rattle.hg_session.specs.Status.{IsNotedBy, IsNotedByFor, IsNotedFor, IsRecordedFor, IsWorked, ShowsTable}
 use Rattle.hg_walk.specs.Right.{AreRight}
 use Rattle.hg_walk.specs.Notes.{AreEarned, NotesData}
@@ -89,6 +89,7 @@ pub record Walks (looked : Looked) (wanted : Wanted) (table : Table) (result : R
   pub calm_tree : OnOk result (looked.tree.after ≡ looked.tree.before)
   pub calm_shelf : OnOk result (looked.shelf.after ≡ looked.shelf.before)
   pub calm_regexps : OnOk result (looked.oversize.after ≡ looked.oversize.before)
+  pub stayed : IfErr result (λ e. (e ≡ a_status.TreeFailed) ⊎ (looked.tree.after ≡ looked.tree.before))
   pub noted : IfOk result (λ walked. IsNotedFor looked table walked.notes)
 
 module _ (looked : Looked) (wanted : Wanted) (table : Table) where
@@ -115,8 +116,8 @@ module _ (looked : Looked) (wanted : Wanted) (table : Table) where
 
   module _ (copy : tree.Passes looked.tree.old looked.tree.new) (files : shelf.Passes looked.shelf.old looked.shelf.new) (asked : IsTrue looked.tree.old.told → AsksOver table wanted looked.tree)
       (store : IsTrue looked.shelf.old.told → AsksPlain looked wanted table looked.shelf.old looked.shelf.new) where
-    pub walks_err : (fault : StatusFault) → StatusCause looked wanted table fault → Walks looked wanted table (Err fault)
-    walks_err fault cause = record {
+    pub walks_err : (fault : StatusFault) → StatusCause looked wanted table fault → (fault ≡ a_status.TreeFailed) ⊎ (looked.tree.after ≡ looked.tree.before) → Walks looked wanted table (Err fault)
+    walks_err fault cause stayed = record {
       tree = copy;
       still = tt;
       warns = tt;
@@ -127,6 +128,7 @@ module _ (looked : Looked) (wanted : Wanted) (table : Table) where
       calm_tree = tt;
       calm_shelf = tt;
       calm_regexps = tt;
+      stayed = stayed;
       noted = tt;
     }
 
@@ -152,6 +154,7 @@ module _ (looked : Looked) (wanted : Wanted) (table : Table) where
       calm_tree = calm_tree;
       calm_shelf = calm_shelf;
       calm_regexps = calm_regexps;
+      stayed = tt;
       noted = noted;
     }
 
@@ -165,6 +168,27 @@ walks_as looked flags wanted table result is walks = subst (λ (w : Wanted). Wal
 walk_told : (fault : StatusFault) → has_line (of_status fault) ≡ true
 walk_told a_status.OutOfMemory = refl
 walk_told fault = refl
+
+-- nor is it one of a stream
+no_stream : (fault : StatusFault) → is_stream (of_status fault) ≡ false
+no_stream a_status.OutOfMemory = refl
+no_stream a_status.TreeFailed = refl
+no_stream a_status.ShelfFailed = refl
+no_stream (a_status.NoManifest id) = refl
+no_stream (a_status.ManifestTooLarge size) = refl
+no_stream (a_status.ManifestLine line) = refl
+no_stream (a_status.ManifestOrder line) = refl
+no_stream (a_status.NoContents id) = refl
+no_stream (a_status.IgnoreTooLarge size) = refl
+no_stream (a_status.IgnoreText at) = refl
+no_stream (a_status.BadGlob line) = refl
+no_stream (a_status.BadRegexp line) = refl
+no_stream (a_status.RegexpTooBig line) = refl
+no_stream (a_status.BadInclude line) = refl
+
+-- a count that stands didn't rise
+pub never_rose : (before after : ℕ) → after ≡ before → before < after → ⊥
+never_rose before after same rose = omega (arith, same, rose)
 
 pub text_as : (rows : List Row) (text : List ℕ) (style : Style) (flags : StatusFlags) → style ≡ style_of flags → text ≡ text_of style rows → text ≡ text_of (style_of flags) rows
 text_as rows text style flags is same = same ∙ ap (λ (s : Style). text_of s rows) is
@@ -185,6 +209,11 @@ module _ (flags : StatusFlags) (looked : Looked) (table : Table) (out err : Sink
     asked = walks.asked;
     store = walks.store;
     calm = tt;
+    streams = λ is. absurd (true≢false (sym is ∙ no_stream fault));
+    tree_failed = λ rose. elim walks.stayed [
+      | inl is ↦ ap (λ (f : StatusFault). Some (of_status f)) is
+      | inr same ↦ absurd (never_rose looked.tree.before looked.tree.after same rose)
+    ];
   }
 
   module _ (walked : Walked) (walks : Walks looked wanted table (Ok walked)) where
@@ -199,6 +228,8 @@ module _ (flags : StatusFlags) (looked : Looked) (table : Table) (out err : Sink
       asked = walks.asked;
       store = walks.store;
       calm = tt;
+      streams = λ is. absurd (true≢false (sym is));
+      tree_failed = λ rose. absurd (never_rose looked.tree.before looked.tree.after walks.calm_tree rose);
     }
 
     module _ (text : List ℕ) (is : text ≡ text_of (style_of flags) walked.rows) where
@@ -224,6 +255,8 @@ module _ (flags : StatusFlags) (looked : Looked) (table : Table) (out err : Sink
         asked = walks.asked;
         store = walks.store;
         calm = tt;
+        streams = λ is. walks.calm_shelf;
+        tree_failed = λ rose. absurd (never_rose looked.tree.before looked.tree.after walks.calm_tree rose);
       }
 
       module _ (lines : List ℕ) (warns : lines ≡ warnings_text walked.warnings) (printed : Grown out.old out.new text) (calm_out : out.after ≡ out.before) where
@@ -249,6 +282,8 @@ module _ (flags : StatusFlags) (looked : Looked) (table : Table) (out err : Sink
           asked = walks.asked;
           store = walks.store;
           calm = tt;
+          streams = λ is. walks.calm_shelf;
+          tree_failed = λ rose. absurd (never_rose looked.tree.before looked.tree.after walks.calm_tree rose);
         }
 
         pub did_show : Grown err.old err.new lines → err.after ≡ err.before → ShowsTable flags looked table out err (Ok walked.notes)
@@ -268,4 +303,6 @@ module _ (flags : StatusFlags) (looked : Looked) (table : Table) (out err : Sink
           asked = walks.asked;
           store = walks.store;
           calm = record { tree = walks.calm_tree; shelf = walks.calm_shelf; regexps = walks.calm_regexps; out = calm_out; err = calm_err };
+          streams = tt;
+          tree_failed = λ rose. absurd (never_rose looked.tree.before looked.tree.after walks.calm_tree rose);
         }

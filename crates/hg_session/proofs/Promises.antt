@@ -24,7 +24,7 @@ use Rattle.hg_session.specs.Change.{ChangesBehind, FailsOrUnwritten, FitsFirst, 
 use Rattle.hg_session.specs.Changed.{IsChangeText, IsExpectedChange, IsMadeOf, IsStoppedFor, IsUnfitFor, RanChange, change_look, looks_at_copy, status_of}
 use Rattle.hg_session.proofs.Records.{puts_none}
 use Rattle.hg_session.specs.Look.{LeavesAt, Stage, at_first, at_saving, at_telling}
-use Rattle.hg_session.specs.Put.{IsFaultOrMemory, IsSilent, Tells, TellsLine}
+use Rattle.hg_session.specs.Put.{IsFaultOrMemory, IsSilent, Tells, TellsLine, is_stream}
 use Rattle.hg_session.specs.Load.{of_read}
 use Rattle.hg_session.specs.Loaded.{MetReading}
 use Rattle.hg_session.specs.Ways.{Fits, IsUnfit, Stood, stood_by, stood_in}
@@ -181,25 +181,25 @@ status_either n [] is = inl is
 status_either n (byte ∷ lines) is = inr is
 
 -- a fault of what the command met is told as another than those of the streams
-not_err : (fault : ChangeFault) → of_change fault ≡ a_fault.ErrFailed → ⊥
-not_err (a_change_fault.Read a_read.OutOfMemory) is = cc is
-not_err (a_change_fault.Read (a_read.Docket fault)) is = cc is
-not_err (a_change_fault.Read (a_read.Node fault)) is = cc is
-not_err (a_change_fault.Read (a_read.DataGone ids)) is = cc is
-not_err (a_change_fault.Read a_read.Failed) is = cc is
-not_err (a_change_fault.Op an_op.OutOfMemory) is = cc is
-not_err (a_change_fault.Op an_op.TreeFailed) is = cc is
-not_err (a_change_fault.Op an_op.ShelfFailed) is = cc is
-not_err (a_change_fault.Op (an_op.NoManifest id)) is = cc is
-not_err (a_change_fault.Op (an_op.ManifestTooLarge size)) is = cc is
-not_err (a_change_fault.Op (an_op.ManifestLine line)) is = cc is
-not_err (a_change_fault.Op (an_op.ManifestOrder line)) is = cc is
-not_err (a_change_fault.Op (an_op.NoContents id)) is = cc is
-not_err (a_change_fault.Encode an_encode.OutOfMemory) is = cc is
-not_err (a_change_fault.Encode (an_encode.TooLarge size)) is = cc is
-not_err (a_change_fault.Encode an_encode.IdsSpent) is = cc is
-not_err a_change_fault.Held is = cc is
-not_err a_change_fault.ShelfFailed is = cc is
+no_stream : (fault : ChangeFault) → is_stream (of_change fault) ≡ false
+no_stream (a_change_fault.Read a_read.OutOfMemory) = refl
+no_stream (a_change_fault.Read (a_read.Docket fault)) = refl
+no_stream (a_change_fault.Read (a_read.Node fault)) = refl
+no_stream (a_change_fault.Read (a_read.DataGone ids)) = refl
+no_stream (a_change_fault.Read a_read.Failed) = refl
+no_stream (a_change_fault.Op an_op.OutOfMemory) = refl
+no_stream (a_change_fault.Op an_op.TreeFailed) = refl
+no_stream (a_change_fault.Op an_op.ShelfFailed) = refl
+no_stream (a_change_fault.Op (an_op.NoManifest id)) = refl
+no_stream (a_change_fault.Op (an_op.ManifestTooLarge size)) = refl
+no_stream (a_change_fault.Op (an_op.ManifestLine line)) = refl
+no_stream (a_change_fault.Op (an_op.ManifestOrder line)) = refl
+no_stream (a_change_fault.Op (an_op.NoContents id)) = refl
+no_stream (a_change_fault.Encode an_encode.OutOfMemory) = refl
+no_stream (a_change_fault.Encode (an_encode.TooLarge size)) = refl
+no_stream (a_change_fault.Encode an_encode.IdsSpent) = refl
+no_stream a_change_fault.Held = refl
+no_stream a_change_fault.ShelfFailed = refl
 
 -- ---- the whole command
 
@@ -278,7 +278,8 @@ module _ (command : Command) (copy : Watched tree.History) (a b : Course) (befor
     tree = λ rose. absurd (well rose);
     complete = λ quiet r steady. done_own Does copy a b before after kept.past quiet.shelf stretch.from stretch.to lines done;
     calm_tree = λ none. calm_tree;
-    calm_shelf = λ well. calm_shelf;
+    calm_shelf = λ none. calm_shelf;
+    streams = tt;
     calm_err = λ none. calm_err;
     silent = silent;
     uncounted = uncounted;
@@ -309,7 +310,8 @@ module _ (command : Command) (copy : Watched tree.History) (a b : Course) (befor
     tree = λ rose. absurd (well rose);
     complete = λ quiet r steady. steady_not_rose err.before err.after r failed;
     calm_tree = λ none. absurd (cc none);
-    calm_shelf = λ told. calm_shelf;
+    calm_shelf = λ none. absurd (cc none);
+    streams = λ is. calm_shelf;
     calm_err = λ none. absurd (cc none);
     silent = silent;
     uncounted = uncounted;
@@ -362,10 +364,8 @@ module _ (command : Command) (copy : Watched tree.History) (a b : Course) (befor
         tree = λ rose. inl (ap (λ (f : ChangeFault). Some (of_change f)) (failed rose));
         complete = λ quiet r steady. locked_own fault (safe (calm_own a b quiet.shelf)) met quiet.shelf (serves_met command copy call.looked.shelf (λ is. (quiet.copy is).1)) quiet.serves steady;
         calm_tree = λ none. absurd (cc none);
-        calm_shelf = λ told_so. elim told_so [
-          | inl none ↦ absurd (cc none)
-          | inr is ↦ absurd (not_err fault (cc is))
-        ];
+        calm_shelf = λ none. absurd (cc none);
+        streams = λ is. absurd (true≢false (sym is ∙ no_stream fault));
         calm_err = λ none. absurd (cc none);
         silent = silent;
         uncounted = uncounted;
@@ -386,10 +386,8 @@ module _ (command : Command) (copy : Watched tree.History) (a b : Course) (befor
         tree = λ rose. inr refl;
         complete = λ quiet r steady. tt;
         calm_tree = λ none. absurd (cc none);
-        calm_shelf = λ told_so. elim told_so [
-          | inl none ↦ absurd (cc none)
-          | inr is ↦ absurd (cc is)
-        ];
+        calm_shelf = λ none. absurd (cc none);
+        streams = λ is. absurd (true≢false (sym is));
         calm_err = λ none. absurd (cc none);
         silent = silent;
         uncounted = uncounted;

@@ -74,3 +74,13 @@ module _ (call : Call) (files : shelf.Passes call.looked.shelf.old call.looked.s
     uncounted = uncounted;
     look = look;
   }
+
+-- the fault of a stream is that of standard output
+pub stream_print : {Is : Type 0} (fault : PrintFault) (answered : Option Fault) → IsFaultOrMemory answered (of_print fault) → (fault ≡ a_print.OutFailed → Is) → OnStream answered Is
+stream_print a_print.OutFailed answered either so = subst_stream answered (so refl)
+  where
+    subst_stream : {Is : Type 0} (o : Option Fault) → Is → OnStream o Is
+    subst_stream None is = tt
+    subst_stream (Some f) is = λ stream. is
+stream_print {Is} (a_print.Read fault) answered (inl same) so = subst (λ (o : Option Fault). OnStream o Is) (sym same) (λ is. absurd (true≢false (sym is ∙ read_stream fault)))
+stream_print {Is} (a_print.Read fault) answered (inr memory) so = subst (λ (o : Option Fault). OnStream o Is) (sym memory) (λ is. absurd (true≢false (sym is)))

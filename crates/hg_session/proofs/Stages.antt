@@ -1,5 +1,5 @@
 -- What a status does, exit by exit: the record wasn't read, it wasn't shown, or what was noted was saved or not.
-use Rattle.std.proofs.Common.{ℕ, ◌≡◌, ◌⊎◌, Bool, true, false, List, [], ◌∷◌, Option, Some, None, Result, Ok, Err, IsTrue, OnOk, refl, sym, ap, subst, inl, inr, arith}
+use Rattle.std.proofs.Common.{ℕ, ◌≡◌, ◌<◌, ◌⊎◌, Bool, true, false, List, [], ◌∷◌, Option, Some, None, Result, Ok, Err, IsTrue, OnOk, refl, sym, ap, ◌∙◌, subst, inl, inr, arith, true≢false}
 use Rattle.std.specs.List.{Contains}
 use Rattle.hg_compare.specs.Tracked.{ParentRow}
 use Rattle.hg_entry.specs.Table.{Table}
@@ -15,7 +15,7 @@ use Rattle.hg_tree.specs.History as tree
 use Rattle.hg_session.proofs.Listings.{asks_below, asks_little, asks_load, left_by, part_of, plain_by, rows_same, shown_by}
 use Rattle.hg_session.proofs.Locked.{unwritten}
 use Rattle.hg_session.proofs.Longer.{plain_shorter}
-use Rattle.hg_session.proofs.Printing.{no_notes, none_noted}
+use Rattle.hg_session.proofs.Printing.{never_rose, no_notes, none_noted}
 use Rattle.hg_session.specs.Call.{Count, Fails, IsLeftAlone, Looked, Saved, Sink, Watched}
 use Rattle.hg_session.specs.Change.{IsUnwritten}
 use Rattle.hg_session.specs.Flags.{wanted_of}
@@ -23,7 +23,7 @@ use Rattle.hg_session.specs.Listed.{AsksBelow}
 use Rattle.hg_session.specs.Load.{of_read}
 use Rattle.hg_session.specs.Loaded.{AsksRecord, IsLoaded, MetReading}
 use Rattle.hg_session.specs.Look.{IsCalm, IsShown, OnlyReads, Shows, at_first, at_saving, fault_in}
-use Rattle.hg_session.specs.Put.{IsSilent}
+use Rattle.hg_session.specs.Put.{IsSilent, OnStream, is_stream}
 use Rattle.hg_session.specs.Saving.{of_save}
 use Rattle.hg_session.specs.Status.{AreEarnedFor, DoesStatus, IsLockedLast, MetSaving, OnlyAsksBelow, SavesLast, ShowsTable, listed_to, status_look}
 use Rattle.hg_session.specs.declared.read_fault.ReadFault.{ReadFault}
@@ -57,6 +57,17 @@ abbrev line_of_some : Option Fault → Bool
 line_of_some None = false
 line_of_some (Some fault) = has_line fault
 
+abbrev stream_of_some : Option Fault → Bool
+stream_of_some None = false
+stream_of_some (Some fault) = is_stream fault
+
+read_stream : (fault : ReadFault) → is_stream (of_read fault) ≡ false
+read_stream a_read.OutOfMemory = refl
+read_stream (a_read.Docket f) = refl
+read_stream (a_read.Node f) = refl
+read_stream (a_read.DataGone ids) = refl
+read_stream a_read.Failed = refl
+
 read_told : (fault : ReadFault) → has_line (of_read fault) ≡ true
 read_told a_read.OutOfMemory = refl
 read_told (a_read.Docket f) = refl
@@ -80,6 +91,8 @@ module _ (flags : StatusFlags) (looked : Looked) (saved : Saved) (locks : Count)
     asked = λ told. inl (ap_asked copy);
     below = asks_load looked (wanted_of flags) None load;
     calm = tt;
+    streams = λ is. absurd (true≢false (sym is ∙ read_stream fault));
+    tree_failed = λ rose. absurd (never_rose looked.tree.before looked.tree.after copy.count rose);
     notes = no_notes;
     needed = tt;
     noted = none_noted looked.tree.old looked.tree.new;
@@ -118,8 +131,9 @@ module _ (flags : StatusFlags) (looked : Looked) (saved : Saved) (locks : Count)
         (shows.noted.earned honest told (plain_by flags listed behind n m t shows.tree before after (short keeps)))
 
     does_by : (result : Result Unit Fault) → SavesLast looked.shelf saved locks (Some t) shows.notes (fault_in result) → Asks
-        → Shows (status_look flags listed saved locks (Some t) shows.notes) out err result → OnOk result (IsCalm looked out err) → DoesStatus flags looked saved locks out err result
-    does_by result saving asks all calm = record {
+        → Shows (status_look flags listed saved locks (Some t) shows.notes) out err result → OnOk result (IsCalm looked out err) → OnStream (fault_in result) (looked.shelf.after ≡ looked.shelf.before)
+        → (looked.tree.before < looked.tree.after → fault_in result ≡ Some a_fault.TreeFailed) → DoesStatus flags looked saved locks out err result
+    does_by result saving asks all calm streams tree_failed = record {
       end = end;
       passes = only;
       later = later;
@@ -131,6 +145,8 @@ module _ (flags : StatusFlags) (looked : Looked) (saved : Saved) (locks : Count)
       asked = asks_little looked (wanted_of flags) t shows.asked;
       below = below_by asks answer shows;
       calm = calm;
+      streams = streams;
+      tree_failed = tree_failed;
       needed = shows.noted.needed;
       noted = shows.noted.noted;
       earned = earned_by;
@@ -138,11 +154,12 @@ module _ (flags : StatusFlags) (looked : Looked) (saved : Saved) (locks : Count)
     }
 
   -- but not shown
-  pub does_unshown : Asks → OnlyAsksBelow saved locks → OnlyReads looked.shelf saved locks → (Fails part.shelf → Fails looked.shelf) → (fault : Fault) → ShowsTable flags part t out err (Err fault)
-      → DoesStatus flags looked saved locks out err (Err fault)
-  does_unshown asks unsaved reads failed fault shows =
+  pub does_unshown : Asks → OnlyAsksBelow saved locks → OnlyReads looked.shelf saved locks → (Fails part.shelf → Fails looked.shelf) → (part.shelf.after ≡ part.shelf.before → looked.shelf.after ≡ looked.shelf.before)
+      → (fault : Fault) → ShowsTable flags part t out err (Err fault) → DoesStatus flags looked saved locks out err (Err fault)
+  does_unshown asks unsaved reads failed calm fault shows =
       does_by (Err fault) shows (Err fault) (none_saved looked.shelf saved locks (Some t) shows.notes fault unsaved reads) asks
       (record { done = tt; left = left_by flags listed behind n m t shows.tree before after saved locks out err shows.notes unsaved failed fault shows.shows.left }) tt
+      (λ is. calm (shows.streams is)) shows.tree_failed
 
   -- ---- it was shown
 
@@ -159,7 +176,8 @@ module _ (flags : StatusFlags) (looked : Looked) (saved : Saved) (locks : Count)
       → looked.shelf.after ≡ looked.shelf.before → DoesStatus flags looked saved locks out err (Ok u)
   does_saved notes shows u saving asks calm =
       does_by (Ok notes) shows (Ok u) (saves_noted notes shows None saving) asks (record { done = shown notes shows; left = tt })
-      (record { tree = shows.calm.tree; shelf = calm; regexps = shows.calm.regexps; out = shows.calm.out; err = shows.calm.err })
+      (record { tree = shows.calm.tree; shelf = calm; regexps = shows.calm.regexps; out = shows.calm.out; err = shows.calm.err }) tt
+      (λ rose. absurd (never_rose looked.tree.before looked.tree.after shows.calm.tree rose))
 
   -- saving met a fault
   pub does_unsaved : (notes : NotesData) (shows : ShowsTable flags part t out err (Ok notes)) (fault : Fault) → SavesLast looked.shelf saved locks (Some t) notes (Some fault) → Asks
@@ -179,8 +197,13 @@ module _ (flags : StatusFlags) (looked : Looked) (saved : Saved) (locks : Count)
             ),
           ),
         );
-      }) tt
+      }) tt (λ is. absurd (true≢false (sym is ∙ not_stream fault met))) (λ rose. absurd (never_rose looked.tree.before looked.tree.after shows.calm.tree rose))
     where
+      not_stream : (f : Fault) → MetSaving looked.shelf saved f → is_stream f ≡ false
+      not_stream f (inl (failed, inl is)) = ap stream_of_some is
+      not_stream f (inl (failed, inr is)) = ap stream_of_some is
+      not_stream f (inr (is, none)) = subst (λ (x : Fault). is_stream x ≡ false) (sym is) refl
+
       has : (f : Fault) → MetSaving looked.shelf saved f → has_line f ≡ true
       has f (inl (failed, inl is)) = ap line_of_some is
       has f (inl (failed, inr is)) = ap line_of_some is

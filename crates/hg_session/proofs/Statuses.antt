@@ -1,5 +1,5 @@
 -- What a status did that ended so, from what was done before the line of its fault, and how that ends.
-use Rattle.std.proofs.Common.{ℕ, ◌≡◌, Option, Some, None, Result, refl, inl, inr}
+use Rattle.std.proofs.Common.{ℕ, ◌≡◌, ◌<◌, Option, Some, None, Result, refl, sym, inl, inr, true≢false}
 use Rattle.hg_entry.specs.Table.{Table}
 use Rattle.hg_report.specs.declared.fault.Fault.{Fault}
 use Rattle.hg_report.specs.declared.fault.Fault.TheVariants as a_fault
@@ -12,7 +12,7 @@ use Rattle.hg_session.specs.Call.{Call, Count, Looked, Saved, Sink, Watched}
 use Rattle.hg_session.specs.Change.{IsSafe}
 use Rattle.hg_session.specs.Flags.{wanted_of}
 use Rattle.hg_session.specs.Look.{Concludes, EndsAs, Look}
-use Rattle.hg_session.specs.Put.{IsFaultOrMemory}
+use Rattle.hg_session.specs.Put.{IsFaultOrMemory, OnStream}
 use Rattle.hg_session.specs.Status.{DoesStatus, IsLockedLast, MetSaving, RanStatus, SavesLast, listed_to, noted_in, status_look}
 use Rattle.hg_session.specs.declared.read_fault.ReadFault.TheVariants as a_read
 use Rattle.hg_shelf.specs.History.{History}
@@ -103,5 +103,9 @@ module _ (command : Command) (flags : StatusFlags) (looked : Looked) (saved : Sa
     saving = saving;
     crash = λ calm keep first. crash_safe saved.old saved.new saving.kept calm keep (noted_in looked.shelf does.table does.notes) first fault (saving.safe calm);
     calm = calm_by mid tail bytes count looked out done code fault ends does.calm;
+    streams =
+        answer_is mid tail bytes count (λ f. OnStream f (looked.shelf.after ≡ looked.shelf.before)) (λ f has is. absurd (true≢false (sym is))) done code fault ends does.streams;
+    tree_failed =
+        answer_is mid tail bytes count (λ f. looked.tree.before < looked.tree.after → IsFaultOrMemory f a_fault.TreeFailed) (λ f has rose. inr refl) done code fault ends (λ rose. inl (does.tree_failed rose));
     status = ends.status;
   }

@@ -1,5 +1,5 @@
 -- What is promised of a call: one record of facts over what happened in it, a sentence a field.
-use Rattle.std.specs.Prelude.{ℕ, ◌≡◌, ◌⊎◌, None, Option, Some, IfSome, MatchOption}
+use Rattle.std.specs.Prelude.{ℕ, ◌≡◌, ◌⊎◌, ◌<◌, None, Option, Some, IfSome, MatchOption}
 use Rattle.hg_report.specs.declared.fault.Fault.{Fault}
 use Rattle.hg_report.specs.declared.fault.Fault.TheVariants as a_fault
 use Rattle.hg_save.specs.Others.{KeepsRecords}
@@ -12,7 +12,7 @@ use Rattle.hg_session.specs.Changed.{RanChange}
 use Rattle.hg_session.specs.Crash.{IsSafeFromCrashes}
 use Rattle.hg_session.specs.Debug.{RanRecord}
 use Rattle.hg_session.specs.Look.{IsCalm, IsLook}
-use Rattle.hg_session.specs.Put.{IsFaultOrMemory, IsSilent, Tells}
+use Rattle.hg_session.specs.Put.{IsFaultOrMemory, IsSilent, OnStream, Tells}
 use Rattle.hg_session.specs.Status.{RanStatus, noted_in}
 use Rattle.hg_shelf.specs.History.{others}
 use Rattle.hg_shelf.specs.Images.{Goes, last_scene}
@@ -70,6 +70,10 @@ pub record IsAnswered (call : Call) (code : ℕ) (fault : Option Fault) : Type 0
   pub cause : IfSome fault (CommandCause call)
   -- where a device failed there is a fault
   pub calm : fault ≡ None → IsCalm call.looked call.out call.err
+  -- a stream is told to have failed only where the shelf never did
+  pub streams : OnStream fault (call.looked.shelf.after ≡ call.looked.shelf.before)
+  -- a working copy that failed is told as such, whatever else failed behind it
+  pub tree : call.looked.tree.before < call.looked.tree.after → IsFaultOrMemory fault a_fault.TreeFailed
   -- want of memory is told only where nothing was written, or where the shelf failed too
   pub memory : fault ≡ Some a_fault.OutOfMemory → IsUnwritten call.saved.old.history call.saved.new.history ⊎ Fails call.looked.shelf
   -- the moments so far stay, with what a crash may leave of them

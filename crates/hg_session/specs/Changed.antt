@@ -17,7 +17,7 @@ use Rattle.hg_session.specs.Call.{Call, IsLeftAlone, Looked, Serves}
 use Rattle.hg_session.specs.Change.{AsksChange, ChangesBehind, IsDone, IsEarly, IsLocked, IsReadSome, IsSafe, IsUnwritten, MetChanging, MetLocking, Stretch, makes_in, of_change}
 use Rattle.hg_session.specs.Loaded.{IsUnreadable}
 use Rattle.hg_session.specs.Look.{Look, Concludes, saves_first}
-use Rattle.hg_session.specs.Put.{IsEmpty, IsFaultOrMemory, IsSilent}
+use Rattle.hg_session.specs.Put.{IsEmpty, IsFaultOrMemory, IsSilent, OnStream}
 use Rattle.hg_session.specs.Crash.{IsCrashSafe, IsFirmFor, IsLasting, published_in}
 use Rattle.hg_session.specs.Ways.{Fits, IsUnfit, stood_in}
 use Rattle.hg_session.specs.declared.change_fault.ChangeFault.{ChangeFault}
@@ -131,9 +131,10 @@ pub record RanChange (call : Call) (status : ℕ) (fault : Option Fault) : Type 
   -- where nobody else steps, no count rises and no lock is refused, the answer is the expected one, or there was no memory
   pub complete : IsQuietFor call.command call.looked → Serves call.err → IsSteady call.locks.before call.locks.after
       → IsExpectedChange (makes_in call) (shelf.now call.looked.shelf.old).files fault
-  -- where a device failed there is a fault, and another one than of the error stream where the shelf did
+  -- where a device failed there is a fault, and another one than of a stream where the shelf did
   pub calm_tree : fault ≡ None → call.looked.tree.after ≡ call.looked.tree.before
-  pub calm_shelf : (fault ≡ None) ⊎ (fault ≡ Some a_fault.ErrFailed) → call.looked.shelf.after ≡ call.looked.shelf.before
+  pub calm_shelf : fault ≡ None → call.looked.shelf.after ≡ call.looked.shelf.before
+  pub streams : OnStream fault (call.looked.shelf.after ≡ call.looked.shelf.before)
   pub calm_err : fault ≡ None → call.err.after ≡ call.err.before
   -- nothing is printed, and no regexp compiled
   pub silent : IsSilent call.out

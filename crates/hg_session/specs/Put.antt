@@ -1,5 +1,5 @@
 -- What was put into a sink, and what is told of a fault.
-use Rattle.std.specs.Prelude.{ℕ, ◌≡◌, ◌⊎◌, List, [], Option, Some}
+use Rattle.std.specs.Prelude.{ℕ, ◌≡◌, ◌⊎◌, Bool, true, false, List, [], Option, Some, IfSome}
 use Rattle.hg_base.specs.Fault.{Rose}
 use Rattle.hg_report.specs.Fault.{line_of}
 use Rattle.hg_report.specs.declared.fault.Fault.{Fault}
@@ -53,6 +53,16 @@ TellsLine old new before after fault = IsTold old new before after (line_of faul
 -- the same of a sink
 abbrev pub Tells : Sink → Fault → Type 0
 Tells err fault = TellsLine err.old err.new err.before err.after fault
+
+-- a fault of a stream that was written to
+abbrev pub is_stream : Fault → Bool
+is_stream a_fault.OutFailed = true
+is_stream a_fault.ErrFailed = true
+is_stream fault = false
+
+-- where a stream failed, this holds
+abbrev pub OnStream : Option Fault → Type 0 → Type 0
+OnStream fault Is = IfSome fault (λ f. is_stream f ≡ true → Is)
 
 -- the fault answered is the one that was met, or want of memory for its text
 abbrev pub IsFaultOrMemory : Option Fault → Fault → Type 0

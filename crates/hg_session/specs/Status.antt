@@ -1,5 +1,5 @@
 -- What a status prints, tells and answers.
-use Rattle.std.specs.Prelude.{ℕ, ◌≡◌, ◌≤◌, ◌⊎◌, true, List, Option, Some, None, Result, Ok, Err, IfOk, IfSome, IsSomeAnd, IsTrue, MatchOption, OnOk}
+use Rattle.std.specs.Prelude.{ℕ, ◌≡◌, ◌≤◌, ◌<◌, ◌⊎◌, true, List, Option, Some, None, Result, Ok, Err, IfOk, IfSome, IsSomeAnd, IsTrue, MatchOption, OnOk}
 use Rattle.hg_base.specs.Fault.{Rose}
 use Rattle.hg_base.specs.declared.id.Id20.{Id20}
 use Rattle.hg_base.specs.declared.stat.Stat.{Stat}
@@ -37,7 +37,7 @@ use Rattle.hg_session.specs.Listed.{AsksBelow, AsksLittle, AsksOver, AsksOwn, As
 use Rattle.hg_session.specs.Load.{of_read}
 use Rattle.hg_session.specs.Loaded.{IsLoaded, IsUnreadable, MetReading}
 use Rattle.hg_session.specs.Look.{IsCalm, Look, Concludes, OnlyReads, Shows, fault_in, saves_last}
-use Rattle.hg_session.specs.Put.{IsFaultOrMemory, LeavesFront, Puts}
+use Rattle.hg_session.specs.Put.{IsFaultOrMemory, LeavesFront, OnStream, Puts}
 use Rattle.hg_session.specs.Saving.{IsLockedToSave, IsNotedHeld, noted_makes}
 use Rattle.hg_session.specs.declared.read_fault.ReadFault.{ReadFault}
 use Rattle.hg_shelf.specs.History as shelf
@@ -228,6 +228,8 @@ pub record ShowsTable (flags : StatusFlags) (looked : Looked) (table : Table) (o
   pub asked : IsTrue looked.tree.old.told → AsksOver table (wanted_of flags) looked.tree
   pub store : IsTrue looked.shelf.old.told → AsksPlain looked (wanted_of flags) table looked.shelf.old looked.shelf.new
   pub calm : OnOk result (IsCalm looked out err)
+  pub streams : OnStream (fault_in result) (looked.shelf.after ≡ looked.shelf.before)
+  pub tree_failed : looked.tree.before < looked.tree.after → fault_in result ≡ Some a_fault.TreeFailed
 
 -- the call, with the files below `.hg` up to a history at which the listing ended, behind which times were saved
 abbrev pub listed_to : shelf.History → Looked → Looked
@@ -268,6 +270,8 @@ pub record DoesStatus (flags : StatusFlags) (looked : Looked) (saved : Saved) (l
   pub asked : AsksLittle looked (wanted_of flags) table
   pub below : IsTrue looked.shelf.old.told → AsksBelow looked (wanted_of flags) table
   pub calm : OnOk result (IsCalm looked out err)
+  pub streams : OnStream (fault_in result) (looked.shelf.after ≡ looked.shelf.before)
+  pub tree_failed : looked.tree.before < looked.tree.after → fault_in result ≡ Some a_fault.TreeFailed
   pub needed : IfSome table (λ t. AreNeeded t notes)
   pub noted : AreNoted looked.tree.old looked.tree.new notes
   pub earned : IfSome table (λ t. AreEarnedFor looked t notes)
@@ -313,7 +317,9 @@ pub record RanStatus (flags : StatusFlags) (call : Call) (code : ℕ) (fault : O
   -- leaves a record of what it might have left then, of what the call published, or of what others published since
   pub crash : (calm : Undisturbed call.saved.old call.saved.new) → KeepsRecords shelf.others call.saved.new call.saved.old.history.last → IsLatest (last_scene call.saved.old)
       → IsFirmFor (noted_in call.looked.shelf table notes) call.saved fault (saving.safe calm) → IsCrashSafe (published_in (noted_in call.looked.shelf table notes) call.saved fault (saving.safe calm)) call.saved
-  -- where a device failed, or a regexp was too big, there is a fault
+  -- where a device failed, or a regexp was too big, there is a fault; another one than of a stream where the shelf did, and that of the working copy where it did
   pub calm : fault ≡ None → IsCalm call.looked call.out call.err
+  pub streams : OnStream fault (call.looked.shelf.after ≡ call.looked.shelf.before)
+  pub tree_failed : call.looked.tree.before < call.looked.tree.after → IsFaultOrMemory fault a_fault.TreeFailed
   -- the status is 0 without a fault, and 255 with one
   pub status : MatchOption fault (code ≡ 0) (λ f. code ≡ 255)

@@ -1,6 +1,6 @@
 //! The text of the record: the dirstate is loaded, and all that it records is printed.
 
-ghost use Rattle.std.specs.Prelude.{◌≡◌, ◌≤◌, ◌∷◌, [], IsTrue, IfOk, MatchOption, None, OnOk, length};
+ghost use Rattle.std.specs.Prelude.{◌≡◌, ◌≤◌, ◌∷◌, [], IsTrue, IfOk, MatchOption, None, IfErr, OnOk, length};
 ghost use Rattle.hg_base.specs.Fault.{HasCause};
 ghost use Rattle.hg_docket.specs.Docket.{docket_of, docket_refusal};
 ghost use Rattle.hg_entry.specs.Table.{Table};
@@ -8,8 +8,10 @@ ghost use Rattle.hg_image.specs.Reading.{data_reading};
 ghost use Rattle.hg_session.specs.Call.{counted, saved_by, watched};
 ghost use Rattle.hg_session.specs.Debug.{Prints, ShowsRecord};
 ghost use Rattle.hg_session.specs.Look.{OnlyReads};
+ghost use Rattle.hg_session.specs.Put.{OnStream};
 ghost use Rattle.hg_save.specs.Loads.{Try};
 ghost use Rattle.hg_session.specs.Loaded.{AsksRecord, IsBytesOf, NodesFind, Reads};
+ghost use Rattle.hg_session.specs.declared.print_fault.PrintFault.TheVariants as a_print;
 ghost use Rattle.hg_session.specs.declared.read_fault.ReadFault.TheVariants as a_fault;
 
 use crate::ending::{Outcome, failed};
@@ -56,6 +58,7 @@ fn print_record<S: Shelf, O: Sink>(
     ensures prints { Prints (watched S.history S.faults shelf.old shelf.new) (watched O.bytes O.faults out.old out.new) result }
     ensures below { IsTrue (S.history shelf.old).told → AsksRecord (S.history shelf.old) (S.history shelf.new) }
     ensures calm_shelf { OnOk result (S.faults shelf.new ≡ S.faults shelf.old) }
+    ensures streams { IfErr result (λ e. e ≡ a_print.OutFailed → S.faults shelf.new ≡ S.faults shelf.old) }
     ensures calm_out { OnOk result (O.faults out.new ≡ O.faults out.old) }
     ensures only { OnlyReads
         (watched S.history S.faults shelf.old shelf.new)
@@ -83,6 +86,7 @@ pub(crate) fn show_record<S: Shelf, O: Sink, E: Sink>(
         result.fault }
     ensures below { IsTrue (S.history shelf.old).told → AsksRecord (S.history shelf.old) (S.history shelf.new) }
     ensures calm_shelf { result.fault ≡ None → S.faults shelf.new ≡ S.faults shelf.old }
+    ensures streams { OnStream result.fault (S.faults shelf.new ≡ S.faults shelf.old) }
     ensures calm_out { result.fault ≡ None → O.faults out.new ≡ O.faults out.old }
     ensures calm_err { result.fault ≡ None → E.faults err.new ≡ E.faults err.old }
     ensures only { OnlyReads

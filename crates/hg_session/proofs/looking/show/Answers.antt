@@ -17,7 +17,7 @@ returns-in_err-walked-clause-shows g c =
     let t = table c.args.mixed.now in
     let fault = c.in_err-walked.field-0.0 in
     let walks = walks_as looked c.args.flags c.wanted.result t (Err fault) c.wanted.ensures (walks_err looked c.wanted.result t c.walk.ensures.passes c.walk.ensures.passes_shelf c.walk.ensures.asked c.walk.ensures.asked_store fault
-    (cause_of looked c.wanted.result t fault c.in_err-walked.ensures.behind c.in_err-walked.ensures.cause.rose c.in_err-walked.ensures.cause_shelf.rose c.in_err-walked.ensures.oversize c.in_err-walked.ensures.met)) in
+    (cause_of looked c.wanted.result t fault c.in_err-walked.ensures.behind c.in_err-walked.ensures.cause.rose c.in_err-walked.ensures.cause_shelf.rose c.in_err-walked.ensures.oversize c.in_err-walked.ensures.met) c.in_err-walked.ensures.cause.stayed) in
     rw (p.1, p.2) (met_walking c.args.flags looked t _ _ fault walks (record { bytes = refl; count = refl }) (record { bytes = refl; count = refl }))
 
 pub returns-in_err-text-clause-shows : goal.returns-in_err-text-clause-shows

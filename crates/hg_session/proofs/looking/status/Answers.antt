@@ -80,6 +80,7 @@ returns-in_err-notes g c =
     } in
     rw (p.1, p.2) (does_unshown c.args.flags looked saved locks _ _ behind end (g.S.Shelf.faults c.read.new.shelf) (g.S.Shelf.faults c.show.new.shelf) t c.read.ensures.passes c.show.ensures.only.passes
     (extends_same end) loaded c.read.ensures.asked only (λ told. record { some = 0; made = sym (append-nil end.asked) }) unsaved (record { passes = unsaved.passes; kept = unsaved.kept; held = unsaved.held }) (λ failed. rw (sym c.in_ok-loaded.ensures.cause.quiet) failed)
+    (λ same. same ∙ c.in_ok-loaded.ensures.cause.quiet)
     c.in_err-notes.field-0.0 c.in_err-notes.ensures.shows)
 
 pub returns-in_err-save_notes : goal.returns-in_err-save_notes
