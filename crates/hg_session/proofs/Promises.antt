@@ -1,5 +1,5 @@
 -- What a command that changes the record promises, from what was done under the lock and told behind it.
-use Rattle.std.proofs.Common.{ℕ, ◌≡◌, ◌<◌, ◌≤◌, Bool, true, List, [], ◌∷◌, Option, Some, None, Ok, IfSome, IsTrue, refl, sym, ap, ◌∙◌, subst, arith, inl, inr, ◌⊎◌}
+use Rattle.std.proofs.Common.{ℕ, ◌≡◌, ◌<◌, ◌≤◌, Bool, true, false, List, [], ◌∷◌, Option, Some, None, Ok, IfSome, IsTrue, refl, sym, ap, ◌∙◌, subst, arith, inl, inr, ◌⊎◌, true≢false}
 use Rattle.std.proofs.lemmas.Bool.{cases_lt}
 use Rattle.hg_base.proofs.Faults.{steady_not_rose}
 use Rattle.hg_base.specs.Fault.{IsSteady}

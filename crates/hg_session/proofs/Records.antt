@@ -1,5 +1,5 @@
 -- What the command that prints the record did, from how it ended.
-use Rattle.std.proofs.Common.{ℕ, ◌≡◌, List, [], Option, Some, None, Result, Ok, Err, IfSome, IsTrue, refl, sym, ap, ◌∙◌, subst, inl, inr}
+use Rattle.std.proofs.Common.{ℕ, ◌≡◌, false, List, [], Option, Some, None, Result, Ok, Err, IfSome, IsTrue, refl, sym, ap, ◌∙◌, subst, inl, inr, true≢false}
 use Rattle.std.proofs.lemmas.List.{append-nil}
 use Rattle.hg_base.proofs.Faults.{steady_not_rose}
 use Rattle.hg_report.specs.declared.fault.Fault.{Fault}
@@ -9,11 +9,13 @@ use Rattle.hg_shelf.proofs.Histories as shelves
 use Rattle.hg_session.specs.Loaded.{AsksRecord}
 use Rattle.hg_session.specs.Call.{Call, IsLeftAlone, Serves, Sink}
 use Rattle.hg_session.specs.Debug.{AnswersPrinting, HasText, IsExpectedOf, IsTextIn, Prints, RanRecord, ShowsRecord}
-use Rattle.hg_session.specs.Load.{of_print}
+use Rattle.hg_session.specs.Load.{of_print, of_read}
 use Rattle.hg_session.specs.Look.{IsLook}
-use Rattle.hg_session.specs.Put.{IsEmpty, IsSilent, LeavesFront, Puts}
+use Rattle.hg_session.specs.Put.{IsEmpty, IsFaultOrMemory, IsSilent, LeavesFront, OnStream, Puts, is_stream}
 use Rattle.hg_session.specs.declared.print_fault.PrintFault.{PrintFault}
 use Rattle.hg_session.specs.declared.print_fault.PrintFault.TheVariants as a_print
+use Rattle.hg_session.specs.declared.read_fault.ReadFault.{ReadFault}
+use Rattle.hg_session.specs.declared.read_fault.ReadFault.TheVariants as a_read
 use Rattle.hg_session.proofs.Looks.{not_without}
 use Rattle.hg_session.proofs.Readings.{read_now, unreadable_now}
 
@@ -75,6 +77,14 @@ module _ (call : Call) (files : shelf.Passes call.looked.shelf.old call.looked.s
     look = look;
   }
 
+-- a fault of reading isn't one of a stream
+pub read_stream : (fault : ReadFault) → is_stream (of_read fault) ≡ false
+read_stream a_read.OutOfMemory = refl
+read_stream (a_read.Docket f) = refl
+read_stream (a_read.Node f) = refl
+read_stream (a_read.DataGone ids) = refl
+read_stream a_read.Failed = refl
+
 -- the fault of a stream is that of standard output
 pub stream_print : {Is : Type 0} (fault : PrintFault) (answered : Option Fault) → IsFaultOrMemory answered (of_print fault) → (fault ≡ a_print.OutFailed → Is) → OnStream answered Is
 stream_print a_print.OutFailed answered either so = subst_stream answered (so refl)
@@ -82,5 +92,5 @@ stream_print a_print.OutFailed answered either so = subst_stream answered (so re
     subst_stream : {Is : Type 0} (o : Option Fault) → Is → OnStream o Is
     subst_stream None is = tt
     subst_stream (Some f) is = λ stream. is
-stream_print {Is} (a_print.Read fault) answered (inl same) so = subst (λ (o : Option Fault). OnStream o Is) (sym same) (λ is. absurd (true≢false (sym is ∙ read_stream fault)))
-stream_print {Is} (a_print.Read fault) answered (inr memory) so = subst (λ (o : Option Fault). OnStream o Is) (sym memory) (λ is. absurd (true≢false (sym is)))
+stream_print {Is = Is} (a_print.Read fault) answered (inl same) so = subst (λ (o : Option Fault). OnStream o Is) (sym same) (λ is. absurd (true≢false (sym is ∙ read_stream fault)))
+stream_print {Is = Is} (a_print.Read fault) answered (inr memory) so = subst (λ (o : Option Fault). OnStream o Is) (sym memory) (λ is. absurd (true≢false (sym is)))

@@ -16,6 +16,7 @@ use Rattle.hg_session.proofs.Listings.{asks_below, asks_little, asks_load, left_
 use Rattle.hg_session.proofs.Locked.{unwritten}
 use Rattle.hg_session.proofs.Longer.{plain_shorter}
 use Rattle.hg_session.proofs.Printing.{never_rose, no_notes, none_noted}
+use Rattle.hg_session.proofs.Records.{read_stream}
 use Rattle.hg_session.specs.Call.{Count, Fails, IsLeftAlone, Looked, Saved, Sink, Watched}
 use Rattle.hg_session.specs.Change.{IsUnwritten}
 use Rattle.hg_session.specs.Flags.{wanted_of}
@@ -60,13 +61,6 @@ line_of_some (Some fault) = has_line fault
 abbrev stream_of_some : Option Fault → Bool
 stream_of_some None = false
 stream_of_some (Some fault) = is_stream fault
-
-read_stream : (fault : ReadFault) → is_stream (of_read fault) ≡ false
-read_stream a_read.OutOfMemory = refl
-read_stream (a_read.Docket f) = refl
-read_stream (a_read.Node f) = refl
-read_stream (a_read.DataGone ids) = refl
-read_stream a_read.Failed = refl
 
 read_told : (fault : ReadFault) → has_line (of_read fault) ≡ true
 read_told a_read.OutOfMemory = refl
