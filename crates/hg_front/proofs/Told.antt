@@ -18,6 +18,7 @@ placed_files told folder words again command there told_is is some there_is agai
     subst (λ (t : Option (List ℕ)). IsPlaced t words (record { command = Some there; words = again })) (sym told_is)
     (record {
       told = reads ∙ ap Ok there_is ∙ sym (ap (reached folder) is);
+      untold = λ none. absurd (cc none);
       same = λ none. absurd (omega (arith, none, more));
       command = sym (ap read_as reads);
     })

@@ -1,5 +1,5 @@
 -- What a further line says behind those of a command.
-use Rattle.std.specs.Prelude.{ℕ, if◌then◌else◌, List, [], ◌∷◌, Option, Some, None, codes, ◌==◌}
+use Rattle.std.specs.Prelude.{ℕ, if◌then◌else◌, List, [], ◌∷◌, Option, Some, None, Result, Ok, Err, codes, ◌==◌}
 use Rattle.std.specs.List.{find}
 use Rattle.std.specs.Option.{option_and_then}
 use Rattle.hg_docket.specs.declared.fault.DocketFault.TheVariants as a_docket
@@ -77,3 +77,8 @@ behind_outcome status None given words told = behind_status status words
 
 abbrev pub behind : Ran → Sayings → List (Option (List ℕ))
 behind ran told = behind_outcome ran.outcome.status ran.outcome.fault ran.placed.words (refusable ran.placed) told
+
+-- behind those of a command that was run; where none was, all was said before
+abbrev pub behind_carried : Result Ran ℕ → Sayings → List (Option (List ℕ))
+behind_carried (Ok ran) told = behind ran told
+behind_carried (Err status) told = []

@@ -46,12 +46,17 @@ shown_letter word letter = if nat_le 128 letter then shown word else codes "-" +
 abbrev pub shown_flag : List Flag → List ℕ → List ℕ
 shown_flag flags word = if starts_with nat_eq word (codes "--") then shown word else option_map_or (shown_letter word) (stray_letter flags word) (shown word)
 
--- what is said of such a word; where it is `--help`, that this is asked by itself
+-- what is said of such a word
+abbrev pub no_flag_text : List ℕ → List ℕ → List ℕ
+no_flag_text command word = command ++ codes " has no flag " ++ shown_flag (flags_of command) word ++ codes ": see hgtrack " ++ command ++ codes " --help"
+
+-- of `--help`, which is asked by itself
+abbrev pub alone_text : List ℕ → List ℕ
+alone_text command = command ++ codes " --help takes no other word"
+
+-- of either
 abbrev pub flag_text : List ℕ → List ℕ → List ℕ
-flag_text command word =
-    if bytes_eq word (codes "--help")
-    then command ++ codes " --help takes no other word"
-    else command ++ codes " has no flag " ++ shown_flag (flags_of command) word ++ codes ": see hgtrack " ++ command ++ codes " --help"
+flag_text command word = if bytes_eq word (codes "--help") then alone_text command else no_flag_text command word
 
 -- where the commands are told
 abbrev pub listed : List ℕ

@@ -6,7 +6,6 @@ pub mod Guard
 pub mod Marks
 pub mod Pages
 pub mod Placed
-pub mod Printing
 pub mod Reading
 pub mod Refusing
 pub mod Requirement

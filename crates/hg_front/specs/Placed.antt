@@ -1,5 +1,5 @@
 -- What the words of a command are in the folder where it is started.
-use Rattle.std.specs.Prelude.{ℕ, ◌≡◌, ◌<◌, Bool, false, if◌then◌else◌, List, [], ◌∷◌, Option, Some, None, Result, Ok, Err, length}
+use Rattle.std.specs.Prelude.{ℕ, ◌≡◌, ◌<◌, Bool, false, if◌then◌else◌, List, [], ◌∷◌, Option, Some, None, Result, Ok, Err, is_some, length}
 use Rattle.std.specs.Option.{option_map_or, unwrap_or}
 use Rattle.hg_base.specs.PathText.{is_path}
 use Rattle.hg_words.specs.Command.{command_of}
@@ -41,8 +41,9 @@ abbrev pub changes : Placed → Bool
 changes placed = option_map_or given.changes placed.command false
 
 -- the words that are run are the given ones in the folder: they tell the given command with each file word as a path from the root; without file words
--- they are the given ones. The root is the empty text
+-- they are the given ones. The root is the empty text; where the folder can't be told there are none
 pub record IsPlaced (folder : Option (List ℕ)) (words : List (List ℕ)) (placed : Placed) : Type 0 where
   pub told : command_of placed.words ≡ reached (unwrap_or folder []) (command_of words)
+  pub untold : is_some folder ≡ false → length (files placed) ≡ 0
   pub same : length (files placed) ≡ 0 → placed.words ≡ words
   pub command : placed.command ≡ read_as (command_of placed.words)

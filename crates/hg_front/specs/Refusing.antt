@@ -1,10 +1,8 @@
 -- The two lines of a command that is refused before it begins: why, and what to do.
-use Rattle.std.specs.Prelude.{ℕ, ◌≡◌, ◌⊎◌, List, [], ◌∷◌, ◌++◌, Option, Some, None, codes}
-use Rattle.hg_report.specs.declared.fault.Fault.TheVariants as a_fault
-use Rattle.hg_session.specs.Put.{IsTold, TellsLine}
+use Rattle.std.specs.Prelude.{ℕ, List, [], ◌∷◌, ◌++◌, Option, codes}
 use Rattle.hg_front.specs.Advice.{convert}
 use Rattle.hg_front.specs.Guard.{Reason}
-use Rattle.hg_front.specs.Further.{further_line}
+use Rattle.hg_front.specs.Further.{ArePut, further_line}
 use Rattle.hg_front.specs.Shown.{shown}
 use Rattle.hg_front.specs.declared.guarding.Why.{Why}
 use Rattle.hg_front.specs.declared.guarding.Why.TheVariants as why
@@ -39,11 +37,6 @@ next why.LineBreak = codes "the manifests of Mercurial can't hold such a name: r
 abbrev pub refusal_lines : Reason → List ℕ
 refusal_lines reason = (codes "abort: " ++ front reason.0 ++ shown reason.1 ++ behind reason.0 ++ 10 ∷ []) ++ further_line (next reason.0)
 
--- they were put to the error stream, or a front of them where the stream failed; or it was told that there is no memory for them
+-- they were put to the error stream
 abbrev pub TellsRefusal : Option (List ℕ) → Option (List ℕ) → ℕ → ℕ → Reason → Type 0
-TellsRefusal old new before after reason = IsTold old new before after (refusal_lines reason) ⊎ TellsLine old new before after a_fault.OutOfMemory
-
--- a command ends with 255, once its refusal was told, exactly where it is refused; else nothing is said
-abbrev pub Stops : Option Reason → Option ℕ → Option (List ℕ) → Option (List ℕ) → ℕ → ℕ → Type 0
-Stops None answer old new before after = (answer ≡ None) × (new ≡ old)
-Stops (Some reason) answer old new before after = (answer ≡ Some 255) × TellsRefusal old new before after reason
+TellsRefusal old new before after reason = ArePut old new before after (refusal_lines reason)

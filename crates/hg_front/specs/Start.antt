@@ -1,8 +1,8 @@
 -- Whether a command begins where it is started.
 use Rattle.std.specs.Prelude.{ℕ, ◌≡◌, Bool, true, false, if◌then◌else◌, List, [], Option, Some, None, codes, option_map, string_bytes}
+use Rattle.hg_report.specs.Fault.{line_of}
 use Rattle.hg_report.specs.declared.fault.Fault.TheVariants as a_fault
-use Rattle.hg_session.specs.Put.{TellsLine}
-use Rattle.hg_front.specs.Further.{Says, TellsFault}
+use Rattle.hg_front.specs.Further.{ArePut, IsQuiet, Says, TellsFault}
 use Rattle.hg_front.specs.Guard.{Reason, refusal}
 use Rattle.hg_front.specs.Placed.{changes, files}
 use Rattle.hg_front.specs.Refusing.{TellsRefusal}
@@ -34,15 +34,15 @@ refusal_at (a_here.Inside requires) placed = refusal (option_map string_bytes re
 refusal_at (a_here.Unread unreadable) placed = None
 
 -- what is said before it is run: outside of a repository that there is none; where it can't be told what one requires, no command is
-abbrev pub SaysFirst : Here → Option (List ℕ) → Option (List ℕ) → Type 0
-SaysFirst a_here.Outside old new = Says old new (codes "no .hg here or above")
-SaysFirst (a_here.Inside requires) old new = new ≡ old
-SaysFirst (a_here.Unread unreadable) old new = ⊥
+abbrev pub SaysFirst : Here → Option (List ℕ) → Option (List ℕ) → ℕ → ℕ → Type 0
+SaysFirst a_here.Outside old new before after = Says old new before after (codes "no .hg here or above")
+SaysFirst (a_here.Inside requires) old new before after = IsQuiet old new before after
+SaysFirst (a_here.Unread unreadable) old new before after = ⊥
 
 -- a command begins there: nothing refuses it
-pub record BeginsAt (here : Here) (placed : Placed) (old new : Option (List ℕ)) : Type 0 where
+pub record BeginsAt (here : Here) (placed : Placed) (old new : Option (List ℕ)) (before after : ℕ) : Type 0 where
   pub free : refusal_at here placed ≡ None
-  pub said : SaysFirst here old new
+  pub said : SaysFirst here old new before after
 
 -- it was told for which reason a command is refused
 abbrev pub TellsReason : Option Reason → Option (List ℕ) → Option (List ℕ) → ℕ → ℕ → Type 0
@@ -51,8 +51,8 @@ TellsReason (Some reason) old new before after = TellsRefusal old new before aft
 
 -- it was told why it can't be told what the repository requires
 abbrev pub TellsUnread : Unreadable → Option (List ℕ) → Option (List ℕ) → ℕ → ℕ → Type 0
-TellsUnread an_unreadable.OutOfMemory old new before after = TellsLine old new before after a_fault.OutOfMemory
-TellsUnread (an_unreadable.Named text) old new before after = TellsFault old new before a_fault.ShelfFailed (string_bytes text)
+TellsUnread an_unreadable.OutOfMemory old new before after = ArePut old new before after (line_of a_fault.OutOfMemory)
+TellsUnread (an_unreadable.Named text) old new before after = TellsFault old new before after a_fault.ShelfFailed (string_bytes text)
 
 -- a command doesn't begin there, which was told
 abbrev pub IsStopped : Here → Placed → Option (List ℕ) → Option (List ℕ) → ℕ → ℕ → Type 0

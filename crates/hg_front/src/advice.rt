@@ -69,7 +69,7 @@ fn say_of_fault<E: Sink>(
     words: &Words,
     told: Reasons<'_>,
 )
-    ensures { SaysAny (E.bytes err.old) (E.bytes err.new) (advices.behind_given fault.now words.now (record { tree = option_map (λ text. text.now) told.entry.tree; shelf = option_map (λ text. text.now) told.entry.shelf; lock = option_map (λ text. text.now) told.entry.lock })) }
+    ensures { SaysAny (E.bytes err.old) (E.bytes err.new) (E.faults err.old) (E.faults err.new) (advices.behind_given fault.now words.now (record { tree = option_map (λ text. text.now) told.entry.tree; shelf = option_map (λ text. text.now) told.entry.shelf; lock = option_map (λ text. text.now) told.entry.lock })) }
 {
     match fault {
         Fault::Usage => say_of_usage(alloc, err, words),
@@ -97,7 +97,7 @@ fn behind_words(placed: &Placed, mark: Mark) -> Option<&'static str>
 
 // Says more of the words that a command refused, once for each kind of words that are no paths.
 fn say_of_words<E: Sink>(alloc: Global, err: &mut E, placed: &Placed)
-    ensures { SaysEach (advices.behind_status 1 (placed_words.refusable placed.now)) (E.bytes err.old) (E.bytes err.new) }
+    ensures { SaysEach (advices.behind_status 1 (placed_words.refusable placed.now)) (E.bytes err.old) (E.bytes err.new) (E.faults err.old) (E.faults err.new) }
 {
     explain(alloc, err, behind_words(placed, Mark::Nothing));
     explain(alloc, err, behind_words(placed, Mark::Absolute));
@@ -107,8 +107,8 @@ fn say_of_words<E: Sink>(alloc: Global, err: &mut E, placed: &Placed)
 
 /// Says more behind the lines of a command, where there is more to say: of its fault, of words that are no
 /// command, or of those that it refused.
-pub fn say_more<E: Sink>(alloc: Global, err: &mut E, ran: &Ran, told: Reasons<'_>)
-    ensures { SaysEach (advices.behind ran.now (record { tree = option_map (λ text. text.now) told.entry.tree; shelf = option_map (λ text. text.now) told.entry.shelf; lock = option_map (λ text. text.now) told.entry.lock })) (E.bytes err.old) (E.bytes err.new) }
+pub(crate) fn say_more<E: Sink>(alloc: Global, err: &mut E, ran: &Ran, told: Reasons<'_>)
+    ensures { SaysEach (advices.behind ran.now (record { tree = option_map (λ text. text.now) told.entry.tree; shelf = option_map (λ text. text.now) told.entry.shelf; lock = option_map (λ text. text.now) told.entry.lock })) (E.bytes err.old) (E.bytes err.new) (E.faults err.old) (E.faults err.new) }
 {
     match &ran.outcome.fault {
         Some(fault) => say_of_fault(alloc, err, fault, &ran.placed.words, told),

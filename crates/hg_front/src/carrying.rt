@@ -4,10 +4,13 @@ ghost use Rattle.std.specs.Prelude.{◌≡◌, ◌⊎◌, false, IfErr, IfOk, So
 ghost use Rattle.std.specs.Option.{option_map};
 ghost use Rattle.hg_base.specs.Fault.{Rose};
 ghost use Rattle.hg_cli.specs.Script.{RunsWords, is_script};
+ghost use Rattle.hg_front.specs.Advice.{behind_carried};
 ghost use Rattle.hg_front.specs.Carried.{IsCarried, IsNotBegun, status_of};
+ghost use Rattle.hg_front.specs.Further.{SaysEach};
 ghost use Rattle.hg_report.specs.declared.fault.Fault.TheVariants as a_fault;
 ghost use Rattle.hg_session.specs.Put.{IsFaultOrMemory};
 
+use crate::advice::{Reasons, say_more};
 use crate::further::without_memory;
 use crate::placing::{Placed, place, unreached};
 use crate::start::{Here, stopped};
@@ -45,10 +48,11 @@ pub fn carry<T: Tree, S: Shelf, G: Regexps, I: Source, O: Sink, E: Sink>(
     // It is run only where nothing refuses it there; every word reaches `run`, and what it answers of them is answered.
     ensures ran { IfOk result (IsCarried
         E.bytes
+        E.faults
         (option_map (λ f. f.now) folder.entry)
         here.now
         words
-        (E.bytes err.old)
+        err.old
         (λ given begun code fault. RunsWords
         (record {
           tree = T.history;
@@ -73,7 +77,7 @@ pub fn carry<T: Tree, S: Shelf, G: Regexps, I: Source, O: Sink, E: Sink>(
     // Else something does, which is told, or its words can't be paths.
     ensures refused { IfErr result (λ status. IsNotBegun (option_map (λ f. f.now) folder.entry) here.now words (E.bytes err.old) (E.bytes err.new) (E.faults err.old) (E.faults err.new)) }
     // Then nothing is looked at, saved or put to `out`.
-    ensures stopped { IfErr result (λ status. (status ≡ 255) × (tree.new ≡ tree.old) × (shelf.new ≡ shelf.old) × (out.new ≡ out.old) × (input.new ≡ input.old)) }
+    ensures stopped { IfErr result (λ status. (status ≡ 255) × (tree.new ≡ tree.old) × (shelf.new ≡ shelf.old) × (regexps.new ≡ regexps.old) × (out.new ≡ out.old) × (input.new ≡ input.old)) }
     // The input is told to have failed only where its count of failures rose.
     ensures failing { IfOk result (λ ran. ran.outcome.fault ≡ Some a_fault.InFailed → Rose (I.faults input.old) (I.faults input.new)) }
     // Without a fault it stands as it stood.
@@ -88,7 +92,7 @@ pub fn carry<T: Tree, S: Shelf, G: Regexps, I: Source, O: Sink, E: Sink>(
         Err(Fault::TreeFailed) => {
             return Err(unreached(alloc, err, ".: no path to the current folder"));
         }
-        Err(_) => return Err(without_memory(alloc, err)),
+        Err(_) => return Err(without_memory(err)),
     };
     if let Some(status) = stopped(alloc, here, &placed, err) {
         return Err(status);
@@ -97,12 +101,16 @@ pub fn carry<T: Tree, S: Shelf, G: Regexps, I: Source, O: Sink, E: Sink>(
     Ok(Ran { placed, outcome })
 }
 
-/// What the program ends with, once a command was carried.
-pub fn status_of_carried(carried: &Result<Ran, u8>) -> u8
-    ensures { result ≡ status_of carried.now }
+/// What the program ends with, once a command was carried and more was said behind its lines.
+pub fn end<E: Sink>(alloc: Global, err: &mut E, carried: &Result<Ran, u8>, told: Reasons<'_>) -> u8
+    ensures status { result ≡ status_of carried.now }
+    ensures said { SaysEach (behind_carried carried.now (record { tree = option_map (λ text. text.now) told.entry.tree; shelf = option_map (λ text. text.now) told.entry.shelf; lock = option_map (λ text. text.now) told.entry.lock })) (E.bytes err.old) (E.bytes err.new) (E.faults err.old) (E.faults err.new) }
 {
     match carried {
-        Ok(ran) => ran.outcome.status,
+        Ok(ran) => {
+            say_more(alloc, err, ran, told);
+            ran.outcome.status
+        }
         Err(status) => *status,
     }
 }

@@ -1,16 +1,19 @@
 //! Words with a dash in front that are no flags of their command.
 
-ghost use Rattle.std.specs.Prelude.{◌≡◌, IfOk, OnOk, drop, ◌++◌};
+ghost use Rattle.std.specs.Prelude.{◌≡◌, OnErr, OnOk, codes, drop, ◌++◌};
 ghost use Rattle.std.specs.List.{find};
 ghost use Rattle.std.specs.Option.{option_map};
+ghost use Rattle.hg_base.specs.Fault.{HasCause};
 ghost use Rattle.hg_front.specs.Flags as flags;
 ghost use Rattle.hg_front.specs.Further.{Says, further_line};
+ghost use Rattle.hg_front.specs.Shown.{shown_byte};
+ghost use Rattle.hg_stream.specs.Stream.{Grown, GrownByFront};
 
 use crate::further::{put, say};
-use crate::refusing::{put_byte, put_name, put_text};
+use crate::pieces::{put_byte, put_name, put_pieces};
 use crate::requirement::is_listed;
-use hg_base::{OutOfMemory, Words};
-use hg_stream::Sink;
+use hg_base::{Failed, Words};
+use hg_stream::{MemSink, Sink};
 use std::alloc::Global;
 
 const STATUS_NAMES: &str =
@@ -86,60 +89,94 @@ fn stray<'a>(command: &str, words: &'a Words) -> Option<&'a str>
 }
 
 // Puts the name of what is no flag: a dash and a letter, or else the whole word.
-fn put_flag(line: &mut Vec<u8>, command: &str, word: &str) -> Result<(), OutOfMemory>
-    ensures { OnOk result (line.new.items ≡ line.old.items ++ flags.shown_flag (flags.flags_of command.now) word.now) }
+fn put_flag<O: Sink>(out: &mut O, command: &str, word: &str) -> Result<(), Failed>
+    ensures all { OnOk result (Grown (O.bytes out.old) (O.bytes out.new) (flags.shown_flag (flags.flags_of command.now) word.now)) }
+    ensures prefix { OnErr result (GrownByFront (O.bytes out.old) (O.bytes out.new) (flags.shown_flag (flags.flags_of command.now) word.now)) }
+    ensures cause { HasCause (O.faults out.old) (O.faults out.new) result (λ e. Unit {0}) }
 {
     if word.starts_with("--") {
-        return put_name(line, word);
+        return put_name(out, word);
     }
     match stray_letter(command, word) {
-        Some(letter) => put_letter(line, word, letter),
-        None => put_name(line, word),
+        Some(letter) => put_letter(out, word, letter),
+        None => put_name(out, word),
     }
 }
 
-fn put_letter(line: &mut Vec<u8>, word: &str, letter: u8) -> Result<(), OutOfMemory>
-    ensures { OnOk result (line.new.items ≡ line.old.items ++ flags.shown_letter word.now letter) }
+fn put_letter<O: Sink>(out: &mut O, word: &str, letter: u8) -> Result<(), Failed>
+    ensures all { OnOk result (Grown (O.bytes out.old) (O.bytes out.new) (flags.shown_letter word.now letter)) }
+    ensures prefix { OnErr result (GrownByFront (O.bytes out.old) (O.bytes out.new) (flags.shown_letter word.now letter)) }
+    ensures cause { HasCause (O.faults out.old) (O.faults out.new) result (λ e. Unit {0}) }
 {
     if letter >= 128 {
-        return put_name(line, word);
+        put_name(out, word)
+    } else {
+        put_dashed(out, letter)
     }
-    put_text(line, "-")?;
-    put_byte(line, letter)
 }
 
-// Puts what is said of it.
-fn put_stray(line: &mut Vec<u8>, command: &str, word: &str) -> Result<(), OutOfMemory>
-    ensures { OnOk result (line.new.items ≡ line.old.items ++ flags.flag_text command.now word.now) }
+fn put_dashed<O: Sink>(out: &mut O, letter: u8) -> Result<(), Failed>
+    ensures all { OnOk result (Grown (O.bytes out.old) (O.bytes out.new) (codes "-" ++ shown_byte letter)) }
+    ensures prefix { OnErr result (GrownByFront (O.bytes out.old) (O.bytes out.new) (codes "-" ++ shown_byte letter)) }
+    ensures cause { HasCause (O.faults out.old) (O.faults out.new) result (λ e. Unit {0}) }
 {
-    put_text(line, command)?;
+    put_pieces(out, &["-"])?;
+    put_byte(out, letter)
+}
+
+// Puts the line of a word that isn't made of flags.
+fn put_no_flag<O: Sink>(out: &mut O, command: &str, word: &str) -> Result<(), Failed>
+    ensures all { OnOk result (Grown (O.bytes out.old) (O.bytes out.new) (further_line (flags.no_flag_text command.now word.now))) }
+    ensures prefix { OnErr result (GrownByFront (O.bytes out.old) (O.bytes out.new) (further_line (flags.no_flag_text command.now word.now))) }
+    ensures cause { HasCause (O.faults out.old) (O.faults out.new) result (λ e. Unit {0}) }
+{
+    put_pieces(out, &["hgtrack: ", command, " has no flag "])?;
+    put_flag(out, command, word)?;
+    put_pieces(out, &[": see hgtrack ", command, " --help\n"])
+}
+
+// Puts that of `--help` among other words.
+fn put_help<O: Sink>(out: &mut O, command: &str) -> Result<(), Failed>
+    ensures all { OnOk result (Grown (O.bytes out.old) (O.bytes out.new) (further_line (flags.alone_text command.now))) }
+    ensures prefix { OnErr result (GrownByFront (O.bytes out.old) (O.bytes out.new) (further_line (flags.alone_text command.now))) }
+    ensures cause { HasCause (O.faults out.old) (O.faults out.new) result (λ e. Unit {0}) }
+{
+    put_pieces(
+        out,
+        &["hgtrack: ", command, " --help takes no other word\n"],
+    )
+}
+
+// Puts the line of such a word.
+fn put_stray<O: Sink>(out: &mut O, command: &str, word: &str) -> Result<(), Failed>
+    ensures all { OnOk result (Grown (O.bytes out.old) (O.bytes out.new) (further_line (flags.flag_text command.now word.now))) }
+    ensures prefix { OnErr result (GrownByFront (O.bytes out.old) (O.bytes out.new) (further_line (flags.flag_text command.now word.now))) }
+    ensures cause { HasCause (O.faults out.old) (O.faults out.new) result (λ e. Unit {0}) }
+{
     if word == "--help" {
-        return put_text(line, " --help takes no other word");
+        put_help(out, command)
+    } else {
+        put_no_flag(out, command, word)
     }
-    put_text(line, " has no flag ")?;
-    put_flag(line, command, word)?;
-    put_text(line, ": see hgtrack ")?;
-    put_text(line, command)?;
-    put_text(line, " --help")
 }
 
-fn flag_line(alloc: Global, command: &str, word: &str) -> Result<Vec<u8>, OutOfMemory>
-    ensures { IfOk result (λ line. line.items ≡ further_line (flags.flag_text command.now word.now)) }
+// Prints it in pieces, which takes no memory.
+fn say_flag_in_pieces<E: Sink>(err: &mut E, command: &str, word: &str)
+    ensures { Says (E.bytes err.old) (E.bytes err.new) (E.faults err.old) (E.faults err.new) (flags.flag_text command.now word.now) }
 {
-    let mut line = Vec::new(alloc);
-    put_text(&mut line, "hgtrack: ")?;
-    put_stray(&mut line, command, word)?;
-    put_text(&mut line, "\n")?;
-    Ok(line)
-}
-
-#[tactic(auto, using(crate::proofs::Fronts::nothing_is_front))]
-fn say_flag<E: Sink>(alloc: Global, err: &mut E, command: &str, word: &str)
-    ensures { Says (E.bytes err.old) (E.bytes err.new) (flags.flag_text command.now word.now) }
-{
-    match flag_line(alloc, command, word) {
-        Ok(line) => put(err, line.as_slice()),
+    match put_stray(err, command, word) {
+        Ok(()) => {}
         Err(_) => {}
+    }
+}
+
+fn say_flag<E: Sink>(alloc: Global, err: &mut E, command: &str, word: &str)
+    ensures { Says (E.bytes err.old) (E.bytes err.new) (E.faults err.old) (E.faults err.new) (flags.flag_text command.now word.now) }
+{
+    let mut line = MemSink::new(alloc, usize::MAX);
+    match put_stray(&mut line, command, word) {
+        Ok(()) => put(err, line.bytes()),
+        Err(_) => say_flag_in_pieces(err, command, word),
     }
 }
 
@@ -148,7 +185,7 @@ pub(crate) const LISTED: &str = "hgtrack --help lists the commands";
 
 /// Says more of words that are wrong behind the name of a command: which is no flag, and else where the commands are told.
 pub(crate) fn say_of_usage<E: Sink>(alloc: Global, err: &mut E, words: &Words)
-    ensures { Says (E.bytes err.old) (E.bytes err.new) (flags.usage_advice words.now) }
+    ensures { Says (E.bytes err.old) (E.bytes err.new) (E.faults err.old) (E.faults err.new) (flags.usage_advice words.now) }
 {
     if words.len() == 0 {
         say(alloc, err, LISTED);

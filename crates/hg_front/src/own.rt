@@ -3,16 +3,16 @@
 ghost use Rattle.std.specs.Prelude.{◌≡◌, ◌⊎◌, ◌++◌, IfOk, OnOk, string_bytes};
 ghost use Rattle.std.specs.Option.{option_map};
 ghost use Rattle.hg_base.specs.Fault.{Rose};
-ghost use Rattle.hg_front.specs.Printing.{TellsEither};
+ghost use Rattle.hg_front.specs.Further.{TellsMet};
 ghost use Rattle.hg_front.specs.Words as own;
 ghost use Rattle.hg_report.specs.declared.fault.Fault.TheVariants as a_fault;
 ghost use Rattle.hg_stream.specs.Stream.{Grown, GrownByFront};
 ghost use Rattle.hg_words.specs.Help.{help_of};
 
+use crate::further::tell;
 use crate::pages::page_of;
 use hg_base::Words;
 use hg_report::Fault;
-use hg_session::failed;
 use hg_stream::{Sink, put_all};
 use hg_words::{HelpRow, help_rows};
 use std::alloc::{AllocError, Global};
@@ -148,12 +148,15 @@ pub fn own_text(alloc: Global, words: &Words) -> Result<Option<String>, AllocErr
 
 /// Prints a text of the program's own. Where that fails, it ends as a command does whose output failed.
 pub fn print<O: Sink, E: Sink>(alloc: Global, out: &mut O, err: &mut E, text: &str) -> u8
-    ensures { ((result ≡ 0) × Grown (O.bytes out.old) (O.bytes out.new) text.now × (E.bytes err.new ≡ E.bytes err.old))
+    ensures { ((result ≡ 0) × Grown (O.bytes out.old) (O.bytes out.new) text.now × (err.new ≡ err.old))
         ⊎ ((result ≡ 255) × GrownByFront (O.bytes out.old) (O.bytes out.new) text.now × Rose (O.faults out.old) (O.faults out.new)
-        × TellsEither (E.bytes err.old) (E.bytes err.new) (E.faults err.old) (E.faults err.new) a_fault.OutFailed a_fault.OutOfMemory) }
+        × TellsMet (E.bytes err.old) (E.bytes err.new) (E.faults err.old) (E.faults err.new) a_fault.OutFailed) }
 {
     match put_all(out, text.as_bytes()) {
         Ok(()) => 0,
-        Err(_) => failed(alloc, Fault::OutFailed, err).status,
+        Err(_) => {
+            tell(alloc, err, &Fault::OutFailed);
+            255
+        }
     }
 }

@@ -38,7 +38,7 @@ pub fn unread(kind: ErrorKind) -> Fault
 /// Ends a command whose words aren't text.
 pub fn unreadable<E: Sink>(alloc: Global, err: &mut E) -> u8
     ensures status { result ≡ 255 }
-    ensures told { TellsFault (E.bytes err.old) (E.bytes err.new) (E.faults err.old) a_fault.Usage listed }
+    ensures told { TellsFault (E.bytes err.old) (E.bytes err.new) (E.faults err.old) (E.faults err.new) a_fault.Usage listed }
 {
     failed_because(alloc, Fault::Usage, err, LISTED)
 }
@@ -90,7 +90,7 @@ fn place_in(
 /// The root couldn't be gone to, and maybe not back from, or a path from the root couldn't be told.
 pub fn unreached<E: Sink>(alloc: Global, err: &mut E, reason: &str) -> u8
     ensures status { result ≡ 255 }
-    ensures told { TellsFault (E.bytes err.old) (E.bytes err.new) (E.faults err.old) a_fault.TreeFailed reason.now }
+    ensures told { TellsFault (E.bytes err.old) (E.bytes err.new) (E.faults err.old) (E.faults err.new) a_fault.TreeFailed reason.now }
 {
     failed_because(alloc, Fault::TreeFailed, err, reason)
 }

@@ -1,17 +1,17 @@
 //! The two lines of a command that is refused before it begins: why, and what to do.
 
-ghost use Rattle.std.specs.Prelude.{◌≡◌, ◌++◌, IfOk, OnOk};
+ghost use Rattle.std.specs.Prelude.{◌≡◌, OnErr, OnOk};
+ghost use Rattle.hg_base.specs.Fault.{HasCause};
 ghost use Rattle.hg_front.specs.Refusing as refusals;
 ghost use Rattle.hg_front.specs.Refusing.{TellsRefusal, refusal_lines};
-ghost use Rattle.hg_front.specs.Shown.{shown, shown_byte};
-ghost use Rattle.hg_session.specs.Put.{IsTold};
+ghost use Rattle.hg_stream.specs.Stream.{Grown, GrownByFront};
 
 use crate::advice::CONVERT;
+use crate::further::put;
 use crate::guarding::{Refused, Why};
-use hg_base::OutOfMemory;
-use hg_report::Fault;
-use hg_session::failed;
-use hg_stream::{Sink, put_all};
+use crate::pieces::{put_name, put_pieces};
+use hg_base::Failed;
+use hg_stream::{MemSink, Sink};
 use std::alloc::Global;
 
 fn front(why: Why) -> &'static str
@@ -51,57 +51,25 @@ fn next(why: Why) -> &'static str
     }
 }
 
-/// Puts a text.
-pub(crate) fn put_text(line: &mut Vec<u8>, text: &str) -> Result<(), OutOfMemory>
-    ensures { OnOk result (line.new.items ≡ line.old.items ++ text.now) }
+// Puts the two lines.
+fn put_refusal<O: Sink>(out: &mut O, refused: Refused<'_>) -> Result<(), Failed>
+    ensures all { OnOk result (Grown (O.bytes out.old) (O.bytes out.new) (refusal_lines (refused.entry.why, refused.entry.what.now))) }
+    ensures prefix { OnErr result (GrownByFront (O.bytes out.old) (O.bytes out.new) (refusal_lines (refused.entry.why, refused.entry.what.now))) }
+    ensures cause { HasCause (O.faults out.old) (O.faults out.new) result (λ e. Unit {0}) }
 {
-    line.extend_from_slice(text.as_bytes())?;
-    Ok(())
+    put_pieces(out, &["abort: ", front(refused.why)])?;
+    put_name(out, refused.what)?;
+    put_pieces(
+        out,
+        &[behind(refused.why), "\nhgtrack: ", next(refused.why), "\n"],
+    )
 }
 
-/// Puts a byte of a name, which ends no line.
-pub(crate) fn put_byte(line: &mut Vec<u8>, byte: u8) -> Result<(), OutOfMemory>
-    ensures { OnOk result (line.new.items ≡ line.old.items ++ shown_byte byte) }
+// Puts them to the error stream in pieces, which takes no memory; that it failed isn't told anywhere.
+fn refuse_in_pieces<E: Sink>(err: &mut E, refused: Refused<'_>)
+    ensures { TellsRefusal (E.bytes err.old) (E.bytes err.new) (E.faults err.old) (E.faults err.new) (refused.entry.why, refused.entry.what.now) }
 {
-    match byte {
-        b'\n' => put_text(line, "\\x0a"),
-        b'\r' => put_text(line, "\\x0d"),
-        _ => {
-            line.push(byte)?;
-            Ok(())
-        }
-    }
-}
-
-/// Puts a name, in which nothing ends the line.
-pub(crate) fn put_name(line: &mut Vec<u8>, name: &str) -> Result<(), OutOfMemory>
-    ensures { OnOk result (line.new.items ≡ line.old.items ++ shown name.now) }
-{
-    for byte in name.as_bytes() {
-        put_byte(line, *byte)?;
-    }
-    Ok(())
-}
-
-fn refusal_text(alloc: Global, refused: Refused<'_>) -> Result<Vec<u8>, OutOfMemory>
-    ensures { IfOk result (λ text. text.items ≡ refusal_lines (refused.entry.why, refused.entry.what.now)) }
-{
-    let mut text = Vec::new(alloc);
-    put_text(&mut text, "abort: ")?;
-    put_text(&mut text, front(refused.why))?;
-    put_name(&mut text, refused.what)?;
-    put_text(&mut text, behind(refused.why))?;
-    put_text(&mut text, "\nhgtrack: ")?;
-    put_text(&mut text, next(refused.why))?;
-    put_text(&mut text, "\n")?;
-    Ok(text)
-}
-
-// Puts lines to the error stream; that it failed isn't told anywhere else.
-fn tell<E: Sink>(err: &mut E, lines: &[u8])
-    ensures { IsTold (E.bytes err.old) (E.bytes err.new) (E.faults err.old) (E.faults err.new) lines.now }
-{
-    match put_all(err, lines) {
+    match put_refusal(err, refused) {
         Ok(()) => {}
         Err(_) => {}
     }
@@ -112,11 +80,10 @@ pub(crate) fn refuse<E: Sink>(alloc: Global, err: &mut E, refused: Refused<'_>) 
     ensures status { result ≡ 255 }
     ensures told { TellsRefusal (E.bytes err.old) (E.bytes err.new) (E.faults err.old) (E.faults err.new) (refused.entry.why, refused.entry.what.now) }
 {
-    match refusal_text(alloc, refused) {
-        Ok(text) => {
-            tell(err, text.as_slice());
-            255
-        }
-        Err(_) => failed(alloc, Fault::OutOfMemory, err).status,
+    let mut lines = MemSink::new(alloc, usize::MAX);
+    match put_refusal(&mut lines, refused) {
+        Ok(()) => put(err, lines.bytes()),
+        Err(_) => refuse_in_pieces(err, refused),
     }
+    255
 }

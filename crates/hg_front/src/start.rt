@@ -46,7 +46,7 @@ pub(crate) fn stopped<E: Sink>(
     err: &mut E,
 ) -> Option<u8>
     ensures status { IfSome result (λ status. status ≡ 255) }
-    ensures begins { IfNone result (BeginsAt here.now placed.now (E.bytes err.old) (E.bytes err.new)) }
+    ensures begins { IfNone result (BeginsAt here.now placed.now (E.bytes err.old) (E.bytes err.new) (E.faults err.old) (E.faults err.new)) }
     ensures stopped { IfSome result (λ status. IsStopped here.now placed.now (E.bytes err.old) (E.bytes err.new) (E.faults err.old) (E.faults err.new)) }
 {
     match here {
@@ -59,7 +59,7 @@ pub(crate) fn stopped<E: Sink>(
 // Outside of a repository a command that changes something is refused; of any other it is said that the current folder is its root.
 fn stopped_outside<E: Sink>(alloc: Global, placed: &Placed, err: &mut E) -> Option<u8>
     ensures status { IfSome result (λ status. status ≡ 255) }
-    ensures begins { IfNone result (BeginsAt starts.outside placed.now (E.bytes err.old) (E.bytes err.new)) }
+    ensures begins { IfNone result (BeginsAt starts.outside placed.now (E.bytes err.old) (E.bytes err.new) (E.faults err.old) (E.faults err.new)) }
     ensures stopped { IfSome result (λ status. IsStopped starts.outside placed.now (E.bytes err.old) (E.bytes err.new) (E.faults err.old) (E.faults err.new)) }
 {
     if changes(placed) {
@@ -81,7 +81,7 @@ fn stopped_inside<E: Sink>(
     err: &mut E,
 ) -> Option<u8>
     ensures status { IfSome result (λ status. status ≡ 255) }
-    ensures begins { IfNone result (BeginsAt (starts.inside texts.now) placed.now (E.bytes err.old) (E.bytes err.new)) }
+    ensures begins { IfNone result (BeginsAt (starts.inside texts.now) placed.now (E.bytes err.old) (E.bytes err.new) (E.faults err.old) (E.faults err.new)) }
     ensures stopped { IfSome result (λ status. IsStopped (starts.inside texts.now) placed.now (E.bytes err.old) (E.bytes err.new) (E.faults err.old) (E.faults err.new)) }
 {
     let own = texts.own.as_deref();
@@ -98,7 +98,7 @@ fn unanswered<E: Sink>(alloc: Global, why: &Unreadable, err: &mut E) -> u8
     ensures told { starts.TellsUnread why.now (E.bytes err.old) (E.bytes err.new) (E.faults err.old) (E.faults err.new) }
 {
     match why {
-        Unreadable::OutOfMemory => without_memory(alloc, err),
+        Unreadable::OutOfMemory => without_memory(err),
         Unreadable::Named(text) => failed_because(alloc, Fault::ShelfFailed, err, text.as_str()),
     }
 }

@@ -17,10 +17,7 @@
 
 use hg_base::{Text, Words};
 use hg_disk::{RealShelf, RealTree, Root, Start, enter_root, open_streams};
-use hg_front::{
-    Reasons, begun_at, carry, own_text, print, say_more, status_of_carried, unreached, unread,
-    unreadable,
-};
+use hg_front::{Reasons, begun_at, carry, end, own_text, print, unreached, unread, unreadable};
 use hg_ignore::Builds;
 use hg_report::Fault;
 use hg_session::failed;
@@ -72,7 +69,7 @@ fn started<O: Sink, E: Sink>(rt: &HostRuntime, words: Words, out: &mut O, err: &
     }
 }
 
-// Carries a command to the devices of the working copy whose root is the current folder, and says more where there is more to say.
+// Carries a command to the devices of the working copy whose root is the current folder, and answers what that ends with.
 fn command<O: Sink, E: Sink>(
     rt: &HostRuntime,
     folder: Option<&str>,
@@ -99,15 +96,13 @@ fn command<O: Sink, E: Sink>(
         out,
         err,
     );
-    if let Ok(ran) = &carried {
-        let told = Reasons {
-            tree: tree.failure(),
-            shelf: shelf.failure(),
-            lock: shelf.refusal(),
-        };
-        say_more(alloc, err, ran, told);
-    }
+    let told = Reasons {
+        tree: tree.failure(),
+        shelf: shelf.failure(),
+        lock: shelf.refusal(),
+    };
+    let status = end(alloc, err, &carried, told);
     // The system closes its files at the end of the process: of a close that fails nothing would be told.
     mem::forget(shelf);
-    status_of_carried(&carried)
+    status
 }
