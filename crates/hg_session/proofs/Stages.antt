@@ -33,7 +33,7 @@ use Rattle.hg_session.specs.declared.save_fault.SaveFault.{SaveFault}
 use Rattle.hg_session.specs.declared.save_fault.SaveFault.TheVariants as a_save
 use Rattle.hg_walk.specs.Applying.{CanApply}
 use Rattle.hg_walk.specs.Notes.{AreEarned, DirNote, NotesData}
-use Rattle.hg_walk.specs.Walking.{AreNeeded, AreNoted, rows_in}
+use Rattle.hg_walk.specs.Walking.{AreNeeded, AreNoted}
 use Rattle.hg_words.specs.declared.flags.StatusFlags.{StatusFlags}
 
 -- ---- nothing is saved
