@@ -27,11 +27,11 @@ use Rattle.hg_save.proofs.Loads.{found_longer, last_within, tries_longer}
 use Rattle.hg_session.specs.Acts.{AsksBehind, ChangesTree, Makes}
 use Rattle.hg_session.specs.Anew.{IsOpened, IsOverwritten, IsRecorded, LoadsOrRefuses, MetWriting, WritesOnly}
 use Rattle.hg_session.specs.Call.{Fails, IsLeftAlone, Watched}
-use Rattle.hg_session.specs.Change.{AsksChange, ChangesBehind, FitsFirst, IsDone, IsKept, IsMade, IsPublished, IsReadFirst, IsReadSome, IsSafeHeld, IsToBlame, IsUnwritten, MetChanging, MetUnfit, up_to}
+use Rattle.hg_session.specs.Change.{AsksChange, ChangesBehind, IsDone, IsKept, IsMade, IsPublished, IsReadFirst, IsReadSome, IsSafeHeld, IsToBlame, IsUnwritten, MetChanging, MetUnfit, stood_read, up_to}
 use Rattle.hg_session.specs.Load.{by_load}
 use Rattle.hg_session.specs.Loaded.{AsksRecord, NodesFind, Refuses}
 use Rattle.hg_session.specs.Kept.{KeepsLent}
-use Rattle.hg_session.specs.Ways.{CanWrite, IsMadeOver, LendsUnchanged, stood_by, stood_in}
+use Rattle.hg_session.specs.Ways.{CanWrite, Fits, IsMadeOver, LendsUnchanged, stood_by, stood_in}
 use Rattle.hg_session.specs.declared.change_fault.ChangeFault.{ChangeFault}
 use Rattle.hg_session.specs.declared.change_fault.ChangeFault.TheVariants as a_change_fault
 use Rattle.hg_session.specs.declared.read_fault.ReadFault.{ReadFault}
@@ -156,19 +156,8 @@ module _ (a b c : Course) (passes : Passes a.history b.history) (goes : Goes b c
         }
 
     -- what can be written could be over the record that was read
-    pub fits_first : CanWrite held → IsTrue a.history.told → FitsFirst a.history c.history (table held)
-    fits_first can told =
-        let within = tried_within told in
-        record {
-          tried = (loads told).1.tried.last;
-          is = record {
-            docket = record { from = within.docket.from; to = omega (arith, within.docket.to, goes.past.later) };
-            file = record { from = within.file.from; to = omega (arith, within.file.to, goes.past.later) };
-            order = within.order;
-          };
-          none = λ k from to. none_front a b c passes goes k from (omega (arith, to, within.file.to));
-          fits = record { held = held; over = over_read told; can = can };
-        }
+    pub fits_first : CanWrite held → (told : IsTrue a.history.told) → Fits (stood_read (read_first told)) (table held)
+    fits_first can told = record { held = held; over = over_read told; can = can }
 
   -- ---- what the words made of it
 

@@ -20,7 +20,7 @@ use Rattle.hg_ops.specs.declared.refusal.OpFault.TheVariants as an_op
 use Rattle.hg_report.specs.Cause.{of_op}
 use Rattle.hg_session.specs.Acts.{Makes, makes_of}
 use Rattle.hg_session.specs.Call.{Call, Count, Fails, IsLeftAlone, Saved, Serves, Watched}
-use Rattle.hg_session.specs.Change.{ChangesBehind, FailsOrUnwritten, FitsFirst, IsDone, IsEarly, IsLocked, IsMade, IsReadFirst, IsReadSome, IsSafe, MayFollowWriting, AsksChange, MetChanging, MetDoing, MetLocking, MetStop, MetUnfit, NoneOurs, Stretch, makes_in, of_change, up_to}
+use Rattle.hg_session.specs.Change.{ChangesBehind, FailsOrUnwritten, IsDone, IsEarly, IsLocked, IsMade, IsReadFirst, IsReadSome, IsSafe, MayFollowWriting, AsksChange, MetChanging, MetDoing, MetLocking, MetStop, MetUnfit, NoneOurs, Stretch, makes_in, of_change, up_to}
 use Rattle.hg_session.specs.Changed.{IsChangeText, IsExpectedChange, IsMadeOf, IsStoppedFor, IsUnfitFor, RanChange, change_look, looks_at_copy, status_of}
 use Rattle.hg_session.proofs.Records.{puts_none}
 use Rattle.hg_session.specs.Look.{LeavesAt, Stage, at_first, at_saving, at_telling}
@@ -94,21 +94,21 @@ module _ (Does : Makes) (copy : Watched tree.History) (a b : Course) (before aft
       let file : files_at b.history tried.file ≡ there = ap (files_at b.history) last ∙ same in
       λ i. record { docket = docket_in (docket i); file = named_file (docket_in (docket i)) (file i) }
 
-  fits_own : (made : Table) → FitsFirst a.history b.history made → Fits (stood_in there) made
-  fits_own made is = subst (λ (stood : Stood). Fits stood made) (stood_own is.tried is.is.docket.from is.is.order is.is.file.to is.none) is.fits
+  -- the docket and the data file that were read stand there
+  read_stood : (loaded : Table) (read : IsReadFirst a.history b.history loaded) → stood_by b.history read.read.tried.last ≡ stood_in there
+  read_stood loaded read =
+      let within = last_within a.history (up_to read.upto b.history) read.read.tries read.read.tried in
+      stood_own read.read.tried.last within.docket.from within.order (omega (arith, within.file.to, read.within)) (λ k from to. read.none k from (omega (arith, to, within.file.to)))
 
   unfit_own : (fault : EncodeFault) → MetUnfit Does files fault → IsUnfitFor Does there fault
   unfit_own fault met =
       let read : IsReadFirst a.history b.history met.is.loaded = met.is.read own.told in
-      let within = last_within a.history (up_to read.upto b.history) read.read.tries read.read.tried in
       record {
         made = met.made;
         lines = met.lines;
         is = made_own met.made met.lines true met.is;
         unfit =
-            subst (λ (stood : Stood). IsUnfit stood met.made fault)
-            (stood_own read.read.tried.last within.docket.from within.order (omega (arith, within.file.to, read.within)) (λ k from to. read.none k from (omega (arith, to, within.file.to))))
-            (met.unfit own.told);
+            subst (λ (stood : Stood). IsUnfit stood met.made fault) (read_stood met.is.loaded read) (met.unfit own.told);
       }
 
   pub done_own : (from to : ℕ) (lines : List ℕ) → IsDone Does files saved from to lines → IsExpectedChange Does there None
@@ -117,7 +117,7 @@ module _ (Does : Makes) (copy : Watched tree.History) (a b : Course) (before aft
     lines = lines;
     changed = done.changed;
     is = made_own done.made lines done.changed done.is;
-    fits = elim (done.fits own.told) [ inl same ↦ inl same | inr fits ↦ inr (fits_own done.made fits) ];
+    fits = elim (done.fits own.told) [ inl same ↦ inl same | inr fits ↦ inr (subst (λ (stood : Stood). Fits stood done.made) (read_stood done.is.loaded (done.is.read own.told)) fits) ];
   }
 
   -- a fault that can't be met once something was written

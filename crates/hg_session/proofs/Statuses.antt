@@ -1,22 +1,26 @@
 -- What a status did that ended so, from what was done before the line of its fault, and how that ends.
-use Rattle.std.proofs.Common.{ℕ, ◌≡◌, ◌<◌, Option, Some, None, Result, refl, sym, inl, inr, true≢false}
+use Rattle.std.proofs.Common.{ℕ, ◌≡◌, ◌<◌, Option, Some, None, Result, IfSome, refl, sym, inl, inr, true≢false}
 use Rattle.hg_entry.specs.Table.{Table}
 use Rattle.hg_report.specs.declared.fault.Fault.{Fault}
 use Rattle.hg_report.specs.declared.fault.Fault.TheVariants as a_fault
-use Rattle.hg_session.proofs.Crashes.{crash_safe}
+use Rattle.hg_save.specs.Others.{KeepsRecords}
+use Rattle.hg_session.proofs.Crashes.{crash_safe, lasting}
 use Rattle.hg_session.proofs.Expectations.{expected_by, front_own, whole_own}
 use Rattle.hg_session.proofs.Longer.{concludes_whole, loaded_whole, own_listed, right_some}
 use Rattle.hg_session.proofs.Looks.{answer_is, calm_by, joined, looks_by}
 use Rattle.hg_session.specs.Acts.{Makes}
 use Rattle.hg_session.specs.Call.{Call, Count, Looked, Saved, Sink, Watched}
-use Rattle.hg_session.specs.Change.{IsSafe}
+use Rattle.hg_session.specs.Change.{IsSafe, Stretch}
 use Rattle.hg_session.specs.Flags.{wanted_of}
 use Rattle.hg_session.specs.Look.{Concludes, EndsAs, Look}
 use Rattle.hg_session.specs.Put.{IsFaultOrMemory, OnStream}
 use Rattle.hg_session.specs.Status.{DoesStatus, IsLockedLast, MetSaving, RanStatus, SavesLast, listed_to, noted_in, status_look}
 use Rattle.hg_session.specs.declared.read_fault.ReadFault.TheVariants as a_read
-use Rattle.hg_shelf.specs.History.{History}
-use Rattle.hg_walk.specs.Notes.{NotesData}
+use Rattle.hg_session.specs.Saving.{IsNoted, IsNotedHeld, LastsNoted}
+use Rattle.hg_session.specs.Ways.{stood_by}
+use Rattle.hg_shelf.specs.History.{History, others}
+use Rattle.hg_shelf.specs.Polite.{Undisturbed}
+use Rattle.hg_walk.specs.Notes.{NotesData, applied}
 use Rattle.hg_words.specs.declared.given.Command.{Command}
 use Rattle.hg_words.specs.declared.flags.StatusFlags.{StatusFlags}
 
@@ -80,6 +84,18 @@ module _ (command : Command) (flags : StatusFlags) (looked : Looked) (saved : Sa
   saving : SavesLast looked.shelf saved locks does.table does.notes fault
   saving = answer_is mid tail bytes count (SavesLast looked.shelf saved locks does.table does.notes) (saves_memory looked.shelf saved locks does.table does.notes) done code fault ends does.saving
 
+  lasts_noted : (calm : Undisturbed saved.old saved.new) → KeepsRecords others saved.new saved.old.history.last → (t : Table) (stretch : Stretch saved.old.history saved.new.history)
+      (noted : IsNoted looked.shelf.old t does.notes saved stretch.from stretch.to) → LastsNoted looked.shelf.old t does.notes saved stretch.from stretch.to noted
+  lasts_noted calm keep t stretch (inl unsaved) = tt
+  lasts_noted calm keep t stretch (inr over) = λ fair.
+      lasting saved.old saved.new saving.kept calm keep (stood_by saved.new.history over.tried) t (applied does.notes t) stretch (over.kept fair)
+
+  lasts_some : (calm : Undisturbed saved.old saved.new) → KeepsRecords others saved.new saved.old.history.last → (o : Option Table)
+      → IfSome o (λ t. (noted : IsNotedHeld looked.shelf.old t does.notes saved)
+      → LastsNoted looked.shelf.old t does.notes saved (noted calm).0.from (noted calm).0.to (noted calm).1)
+  lasts_some calm keep None = tt
+  lasts_some calm keep (Some t) = λ noted. lasts_noted calm keep t (noted calm).0 (noted calm).1
+
   pub ran_status : RanStatus flags call code fault
   ran_status = record {
     table = does.table;
@@ -101,6 +117,7 @@ module _ (command : Command) (flags : StatusFlags) (looked : Looked) (saved : Sa
     noted = does.noted;
     earned = does.earned;
     saving = saving;
+    lasts = λ calm keep. lasts_some calm keep does.table;
     crash = λ calm keep first. crash_safe saved.old saved.new saving.kept calm keep (noted_in looked.shelf does.table does.notes) first fault (saving.safe calm);
     calm = calm_by mid tail bytes count looked out done code fault ends does.calm;
     streams =

@@ -26,7 +26,7 @@ use Rattle.hg_save.specs.Saved.{IsExact, IsLatest, ReadsAsBeforeOr, WritesOnly, 
 use Rattle.hg_save.specs.Behind.{IsSolid}
 use Rattle.hg_session.specs.Acts.{Makes}
 use Rattle.hg_session.specs.Call.{Watched}
-use Rattle.hg_session.specs.Change.{AsksChange, ChangesBehind, FitsFirst, IsDone, IsFirm, IsKept, IsMade, IsPublished, IsReadFirst, IsSafe, IsSafeHeld, IsUnwritten, IsToBlame, IsWritten, MetChanging, MetMade, MetStop, MetUnfit, NoneOurs, Stretch, up_to}
+use Rattle.hg_session.specs.Change.{AsksChange, ChangesBehind, IsDone, IsFirm, IsKept, IsMade, IsPublished, IsReadFirst, IsSafe, IsSafeHeld, IsUnwritten, IsToBlame, IsWritten, MetChanging, MetMade, MetStop, MetUnfit, NoneOurs, Stretch, up_to}
 use Rattle.hg_session.specs.Ways.{Fits, IsUnfit, KeepsBy, KeepsUnchanged, Stood, stood_by, stood_in}
 use Rattle.hg_session.specs.Loaded.{LoadMet, MetReading, IsRefused}
 use Rattle.hg_session.specs.Locks.{TakenAt}
@@ -228,17 +228,11 @@ module _ (a b c d : Course) (lock : Waits a.history b.history) (unlock : Waits c
     abbrev made_wide : (made : Table) (lines : List ℕ) (changed : Bool) → IsMade Part part made lines changed → IsMade Whole whole made lines changed
     made_wide made lines changed is = record { loaded = is.loaded; read = λ told. read_wide is.loaded (is.read (told_part told)); does = wide.does is.loaded made lines changed is.does }
 
-    fits_wide : (made : Table) → FitsFirst b.history c.history made → FitsFirst a.history d.history made
-    fits_wide made is = record {
-      tried = is.tried;
-      is = record {
-        docket = record { from = omega (arith, later, is.is.docket.from); to = omega (arith, is.is.docket.to, r.past.later) };
-        file = record { from = omega (arith, later, is.is.file.from); to = omega (arith, is.is.file.to, r.past.later) };
-        order = is.is.order;
-      };
-      none = none_wide is.tried.file is.is.file.to is.none;
-      fits = subst (λ (stood : Stood). Fits stood made) (sym (stood_wide is.tried is.is.docket.to is.is.file.to)) is.fits;
-    }
+    -- what was read is the same, seen from the end
+    stood_read_wide : (loaded : Table) (read : IsReadFirst b.history c.history loaded) → stood_by d.history read.read.tried.last ≡ stood_by c.history read.read.tried.last
+    stood_read_wide loaded read =
+        let within = last_within b.history (up_to read.upto c.history) read.read.tries read.read.tried in
+        stood_wide read.read.tried.last (omega (arith, within.docket.to, read.within)) (omega (arith, within.file.to, read.within))
 
     pub kept_wide : (stood : Stood) (loaded made : Table) → IsKept stood loaded made (record { old = b; new = c }) b.history.last c.history.last
         → IsKept stood loaded made (record { old = a; new = d }) b.history.last c.history.last
@@ -263,7 +257,7 @@ module _ (a b c d : Course) (lock : Waits a.history b.history) (unlock : Waits c
       made = done.made;
       changed = done.changed;
       is = made_wide done.made lines done.changed done.is;
-      fits = λ told. elim (done.fits (told_part told)) [ inl same ↦ inl same | inr fits ↦ inr (fits_wide done.made fits) ];
+      fits = λ told. elim (done.fits (told_part told)) [ inl same ↦ inl same | inr fits ↦ inr (subst (λ (stood : Stood). Fits stood done.made) (sym (stood_read_wide done.is.loaded (done.is.read (told_part told)))) fits) ];
       kept = λ calm.
           subst (λ (f : Files). IsKept (stood_in f) done.is.loaded done.made (record { old = a; new = d }) b.history.last c.history.last) (sym (to_end b.history.last q.past.later).shown)
           (kept_wide (stood_in (scene c b.history.last).files) done.is.loaded done.made (done.kept (calm_within calm)));

@@ -18,7 +18,6 @@ use Rattle.hg_append.specs.declared.fault.EncodeFault.TheVariants as an_encode_f
 use Rattle.hg_report.specs.Cause.{of_encode, of_op}
 use Rattle.hg_report.specs.declared.fault.Fault.{Fault}
 use Rattle.hg_report.specs.declared.fault.Fault.TheVariants as a_fault
-use Rattle.hg_save.specs.Loads.{IsTry, Try}
 use Rattle.hg_save.specs.Others.{IsFrontOf, KeepsRecords, named_file}
 use Rattle.hg_save.specs.Record.{data_name, docket_in, reading}
 use Rattle.hg_save.specs.Saved.{IsExact, IsLatest, ReadsAsBeforeOr, WritesOnly}
@@ -172,19 +171,12 @@ pub record IsKept (stood : Stood) (loaded made : Table) (saved : Saved) (from to
   -- the new bytes stand there exactly, over what stood at the first
   pub bytes : IsWritten stood made found (scene saved.new from).files (scene saved.new to) ⊎ IsUnwritten saved.old.history saved.new.history
 
--- it could be written over a record that stood in the call before the caller made a step: the docket at one moment, the data file at that or a later one
-pub record FitsFirst (old new : shelf.History) (made : Table) : Type 0 where
-  pub tried : Try
-  pub is : IsTry old new tried
-  pub none : NoneOurs new old.last tried.file
-  pub fits : Fits (stood_by new tried) made
-
 -- it was done between two moments, and what it made is recorded
 pub record IsDone (Does : Makes) (files : Watched shelf.History) (saved : Saved) (from to : ℕ) (lines : List ℕ) : Type 0 where
   pub made : Table
   pub changed : Bool
   pub is : IsMade Does files made lines changed
-  pub fits : IsTrue files.old.told → ((changed ≡ false) × IsSame made is.loaded) ⊎ FitsFirst files.old files.new made
+  pub fits : (told : IsTrue files.old.told) → ((changed ≡ false) × IsSame made is.loaded) ⊎ Fits (stood_read (is.read told)) made
   pub kept : Undisturbed saved.old saved.new → IsKept (stood_in (scene saved.new from).files) is.loaded made saved from to
   -- where nothing was changed nothing is written
   pub idle : changed ≡ false → IsUnwritten saved.old.history saved.new.history

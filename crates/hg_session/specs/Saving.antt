@@ -1,5 +1,6 @@
 -- What a status saves of what it noted, and what comes of it.
 use Rattle.std.specs.Prelude.{ℕ, ◌≡◌, ◌⊎◌, ◌≤◌, List, [], ◌∷◌, Option, Some, None, Result, Ok, Err, IsTrue}
+use Rattle.std.proofs.Common.{inl, inr}
 use Rattle.hg_append.specs.declared.fault.EncodeFault.{EncodeFault}
 use Rattle.hg_append.specs.declared.fault.EncodeFault.TheVariants as an_encode
 use Rattle.hg_append.specs.declared.way.Way.TheVariants as a_way
@@ -21,6 +22,7 @@ use Rattle.hg_save.specs.declared.loaded.Loaded.{Loaded}
 use Rattle.hg_session.specs.Acts.{Makes}
 use Rattle.hg_session.specs.Call.{Count, Fails, FailsTwice, Saved, Watched}
 use Rattle.hg_session.specs.Change.{IsKept, IsSafe, IsSafeHeld, IsUnwritten, Stretch, WasReturned, up_to}
+use Rattle.hg_session.specs.Crash.{IsLasting}
 use Rattle.hg_session.specs.Locks.{NotReturned, NotTaken, Refused}
 use Rattle.hg_session.specs.Look.{OnlyReads}
 use Rattle.hg_session.specs.Put.{IsFaultOrMemory}
@@ -120,6 +122,14 @@ pub record IsNotedOver (start : History) (recorded : Table) (notes : NotesData) 
 abbrev pub IsNoted : History → Table → NotesData → Saved → ℕ → ℕ → Type 0
 IsNoted start recorded notes saved from to =
     (IsUnsaved start recorded notes saved from to × IsUnwritten saved.old.history saved.new.history) ⊎ IsNotedOver start recorded notes saved from to
+
+-- from the second moment to the call's end, whatever a crash leaves records what was saved, or what others published since; where it was appended, others were
+-- asked to keep what was read
+abbrev pub LastsNoted : (start : History) (recorded : Table) (notes : NotesData) (saved : Saved) (from to : ℕ) → IsNoted start recorded notes saved from to → Type 0
+LastsNoted start recorded notes saved from to (inl unsaved) = Unit {0}
+LastsNoted start recorded notes saved from to (inr over) =
+    (fair : plan_of over.held ≡ a_way.Append → KeepData (up_to from saved.new.history) start.last)
+    → IsLasting (stood_by saved.new.history over.tried) recorded (applied notes recorded) saved from to (over.kept fair)
 
 -- so it is where the lock is held all along, and where others only read meanwhile
 pub record SavesHeld (start : History) (files : Watched History) (saved : Saved) (recorded : Table) (notes : NotesData) (fault : Option Fault) : Type 0 where

@@ -38,7 +38,7 @@ use Rattle.hg_session.specs.Load.{of_read}
 use Rattle.hg_session.specs.Loaded.{IsLoaded, IsUnreadable, MetReading}
 use Rattle.hg_session.specs.Look.{IsCalm, Look, Concludes, OnlyReads, Shows, fault_in, saves_last}
 use Rattle.hg_session.specs.Put.{IsFaultOrMemory, LeavesFront, OnStream, Puts}
-use Rattle.hg_session.specs.Saving.{IsLockedToSave, IsNotedHeld, noted_makes}
+use Rattle.hg_session.specs.Saving.{IsLockedToSave, IsNotedHeld, LastsNoted, noted_makes}
 use Rattle.hg_session.specs.declared.read_fault.ReadFault.{ReadFault}
 use Rattle.hg_shelf.specs.History as shelf
 use Rattle.hg_shelf.specs.Images.{Goes, last_scene}
@@ -313,6 +313,10 @@ pub record RanStatus (flags : StatusFlags) (call : Call) (code : ℕ) (fault : O
   pub earned : IfSome table (λ t. AreEarnedFor call.looked t notes)
   -- what became of that
   pub saving : SavesLast call.looked.shelf call.saved call.locks table notes fault
+  -- and from where the lock was given back on, a crash leaves what was saved, or what others published since
+  pub lasts : (calm : Undisturbed call.saved.old call.saved.new) → KeepsRecords shelf.others call.saved.new call.saved.old.history.last
+      → IfSome table (λ t. (noted : IsNotedHeld call.looked.shelf.old t notes call.saved)
+      → LastsNoted call.looked.shelf.old t notes call.saved (noted calm).0.from (noted calm).0.to (noted calm).1)
   -- and where others keep to how a record is published, and for an append where it is made upon firm ground: at each moment since the call's start a crash
   -- leaves a record of what it might have left then, of what the call published, or of what others published since
   pub crash : (calm : Undisturbed call.saved.old call.saved.new) → KeepsRecords shelf.others call.saved.new call.saved.old.history.last → IsLatest (last_scene call.saved.old)
