@@ -134,7 +134,7 @@ StopsLoad dirs out fault = ((fault ≡ a_fault.OutOfMemory) × IsSilent out) ⊎
 
 -- what a load printed and told that ended with this status and this fault, or with none
 pub record Loads (dirs : ℕ) (out err : Sink) (code : ℕ) (fault : Option Fault) : Type 0 where
-  pub done : fault ≡ None → (code ≡ 0) × Puts (IsLoadText dirs) out × (out.after ≡ out.before) × IsSilent err
+  pub done : fault ≡ None → (code ≡ 0) × Puts (IsLoadText dirs) out × IsSilent err
   pub left : IfSome fault (λ f. (code ≡ 255) × StopsLoad dirs out f × Tells err f)
 
 -- and that it left all else as it was

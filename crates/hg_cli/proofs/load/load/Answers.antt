@@ -26,8 +26,8 @@ returns g c =
           text = _;
           is = c.in-Ok.ensures;
           put = subst (λ (t : List ℕ). Grown (g.O.Sink.bytes c.args.out.now) (g.O.Sink.bytes c.put_all.new.out) t) c.as_bytes.ensures.value c.in-Ok-put_all.ensures.all;
+          calm = c.in-Ok-put_all.ensures.cause.quiet;
         },
-        c.in-Ok-put_all.ensures.cause.quiet,
         record { bytes = refl; count = refl },
       );
       left = tt;
