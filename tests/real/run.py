@@ -19,7 +19,7 @@ from folder import MEMORY, Tests, stray
 
 PARTS = """
 cases listings commits damage outside standing meanwhile mercurial records parents stores hooks mixed ignoring refusing repository saving appends shared syncs
-turns beside exchanged failing pages working stopping scripts times edges locks closed
+turns beside exchanged failing memory pages working stopping scripts times edges locks closed
 """.split()
 
 
