@@ -8,7 +8,7 @@ from folder import aborted, because, further, lay_out, lines, put, put_record
 from dirstate import written
 from saving import NO_WAY, told
 
-# What may be told in place of the command's own lines: that there is no memory, and of a device that had none, which, with its reason.
+# What may be told in place of the command's own lines: that there is no memory, or which device failed for want of it. A further line may say where.
 LACKS = aborted("out of memory")
 FAILED = [aborted("working copy failed"), aborted(".hg failed"), LACKS]
 ALLOCATIONS = 2000
@@ -44,14 +44,13 @@ ROWS = [
 
 
 def is_told(ran, whole):
-    """Whether what was answered says that there was no memory: the line of a fault, and behind it a whole line with a name and the reason at most. A front of the
-    command's own text may stand in standard output, and a line that it says first on the error stream."""
+    """Whether what was answered says that there was no memory: the line of a fault, and behind it at most one whole further line. A front of the command's own
+    text may stand in standard output, and on the error stream a line that it says first."""
     status, out, err = ran
     first = further("no .hg here or above")
     rest = err.removeprefix(first) if whole[2].startswith(first) else err
     if status != 255 or not whole[1].startswith(out):
         return False
-    # (behind the warnings of a status, or its whole text, what it noted may not be saved)
     fault = next((it for it in FAILED if rest.startswith(it)), None)
     if fault is None:
         return False
