@@ -166,10 +166,10 @@ noted_stays ask old new h = record { start = h.start; changes = h.changes; due =
 module _ (old : Memory) (alone : old.due ≡ []) (new : Memory) where
   pub listed : {T : Type 0} (dir : Option (List ℕ)) (r : Result T TreeFault) → LeavesListed dir r old new → Stays old new
   listed dir (Ok x) h = as_noted old alone new (an_ask.List dir) h.1
-  listed dir (Err a_fault.OutOfMemory) h = as_noted old alone new (an_ask.List dir) h.1
-  listed dir (Err a_fault.Failed) (inl h) = noted_stays (an_ask.List dir) old new (as_failed (noting (an_ask.List dir) old) alone new h)
-  listed dir (Err a_fault.Failed) (inr (inl h)) = as_failed old alone new h
-  listed dir (Err a_fault.Failed) (inr (inr h)) = as_failure old alone new h.1
+  listed dir (Err a_fault.OutOfMemory) (inl same) =
+      record { start = ap (λ (m : Memory). m.start) same; changes = ap (λ (m : Memory). m.changes) same; due = ap (λ (m : Memory). m.due) same ∙ alone }
+  listed dir (Err a_fault.OutOfMemory) (inr h) = as_noted old alone new (an_ask.List dir) h.1
+  listed dir (Err a_fault.Failed) h = noted_stays (an_ask.List dir) old new (as_failed (noting (an_ask.List dir) old) alone new h)
 
   pub read : {T : Type 0} (path : List ℕ) (r : Result T Failed) → LeavesRead path r old new → Stays old new
   read path (Ok x) h = as_noted old alone new (an_ask.Read path) h.1

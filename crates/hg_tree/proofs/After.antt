@@ -9,7 +9,6 @@ use Rattle.hg_base.proofs.Children.{below_parent, same_dir}
 use Rattle.hg_base.specs.declared.time.Time.{Time}
 use Rattle.hg_tree.specs.declared.thing.Thing.{Thing}
 use Rattle.hg_tree.specs.declared.asked.Change.{Change}
-use Rattle.hg_tree.specs.declared.asked.Change.TheVariants as the_change
 use Rattle.hg_tree.specs.declared.asked.Own.{Own}
 use Rattle.hg_tree.specs.declared.asked.Own.TheVariants as an_own
 use Rattle.hg_tree.specs.declared.asked.Outside.TheVariants as a_change

@@ -21,6 +21,7 @@ use Rattle.hg_tree.specs.Moment.{Moment, bytes_at, empty_at}
 use Rattle.hg_tree.specs.Own.{Acts, CanPut, IsPut, IsUnlink}
 use Rattle.hg_tree.proofs.After.{replayed_push}
 use Rattle.hg_tree.proofs.Shown.{now_is}
+use Rattle.hg_tree.proofs.Spans.{passes_same}
 
 -- others make each of some changes
 abbrev pub AreOthers : List Change → Type 0
@@ -128,10 +129,9 @@ noted_passes ask old new (inr lacks) =
 
 pub listed_passes : {T : Type 0} (dir : Option (List ℕ)) (result : Result T TreeFault) (old new : Memory) → LeavesListed dir result old new → Passes (history_of old) (history_of new)
 listed_passes dir (Ok found) old new s = due_passes old new (ap (λ (m : Memory). m.start) s.1) (ap (λ (m : Memory). m.changes) s.1)
-listed_passes dir (Err a_fault.OutOfMemory) old new s = due_passes old new (ap (λ (m : Memory). m.start) s.1) (ap (λ (m : Memory). m.changes) s.1)
-listed_passes dir (Err a_fault.Failed) old new (inl s) = noted_passes (an_ask.List dir) old new s
-listed_passes dir (Err a_fault.Failed) old new (inr (inl s)) = fails_passes old new s
-listed_passes dir (Err a_fault.Failed) old new (inr (inr s)) = due_passes old new (ap (λ (m : Memory). m.start) s.1) (ap (λ (m : Memory). m.changes) s.1)
+listed_passes dir (Err a_fault.OutOfMemory) old new (inl same) = subst (λ (m : Memory). Passes (history_of old) (history_of m)) (sym same) (passes_same (history_of old))
+listed_passes dir (Err a_fault.OutOfMemory) old new (inr s) = due_passes old new (ap (λ (m : Memory). m.start) s.1) (ap (λ (m : Memory). m.changes) s.1)
+listed_passes dir (Err a_fault.Failed) old new s = noted_passes (an_ask.List dir) old new s
 
 pub read_passes : {T : Type 0} (path : List ℕ) (result : Result T Failed) (old new : Memory) → LeavesRead path result old new → Passes (history_of old) (history_of new)
 read_passes path (Ok got) old new s = due_passes old new (ap (λ (m : Memory). m.start) s.1) (ap (λ (m : Memory). m.changes) s.1)

@@ -115,15 +115,13 @@ Fails old new = ((is_due old.calls ≡ true) × (new ≡ after_failure old)) ⊎
 abbrev pub noting : Asked → Memory → Memory
 noting ask memory = record memory { asked = memory.asked ++ ask ∷ [] }
 
--- what a listing leaves: it is counted and noted, also where it fails because it was told to. Where there is no memory to note it, it
--- counts as a failure, and answers so
+-- what a listing leaves: it is counted and noted, also where it fails. Where there is no memory to note it, it answers so, and isn't made
 abbrev pub LeavesListed : {T : Type 0} → Option (List ℕ) → Result T TreeFault → Memory → Memory → Type 0
 LeavesListed dir (Ok found) old new = (is_due old.calls ≡ false) × (new ≡ noting (an_ask.List dir) (after_call old))
-LeavesListed dir (Err a_fault.OutOfMemory) old new = (is_due old.calls ≡ false) × (new ≡ noting (an_ask.List dir) (after_call old))
-LeavesListed dir (Err a_fault.Failed) old new =
-    Fails (noting (an_ask.List dir) old) new ⊎ (Fails old new ⊎ ((is_due old.calls ≡ false) × (new ≡ after_failure old)))
+LeavesListed dir (Err a_fault.OutOfMemory) old new = (new ≡ old) ⊎ ((is_due old.calls ≡ false) × (new ≡ noting (an_ask.List dir) (after_call old)))
+LeavesListed dir (Err a_fault.Failed) old new = Fails (noting (an_ask.List dir) old) new
 
--- what a read leaves: the same
+-- what a read leaves: it is counted and noted. Where there is no memory to note it, it counts as a failure, and answers so
 abbrev pub LeavesRead : {T : Type 0} → List ℕ → Result T Failed → Memory → Memory → Type 0
 LeavesRead path (Ok got) old new = (is_due old.calls ≡ false) × (new ≡ noting (an_ask.Read path) (after_call old))
 LeavesRead path (Err fault) old new =

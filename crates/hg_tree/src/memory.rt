@@ -287,13 +287,11 @@ impl MemTree {
     // Counts a listing and notes it, also one that fails.
     fn begin_listing(&mut self, dir: Option<PathRef<'_>>) -> Result<(), TreeFault>
         ensures state { LeavesListed (option_map (λ d. d.text.now) dir.entry) result self.old self.new }
-        ensures ended { IfErr result (λ e. e ≡ a_fault.Failed) }
         ensures cause { HasCause self.old.calls.faults self.new.calls.faults result (λ e. e ≡ a_fault.Failed) }
+        ensures still { IfErr result (λ e. (e ≡ a_fault.Failed) ⊎ (self.new.calls.faults ≡ self.old.calls.faults)) }
     {
-        match self.note(dir) {
-            Ok(()) => Ok(self.begin()?),
-            Err(_) => Err(TreeFault::from(self.unnoted())),
-        }
+        self.note(dir)?;
+        Ok(self.begin()?)
     }
 
     fn names(
